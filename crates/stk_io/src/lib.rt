@@ -1,0 +1,39 @@
+//! What the program reads from and writes to.
+//!
+//! The program's work is generic over a [`Source`] and a [`Sink`], and its contracts speak of what
+//! these tell and count. Both traits describe the outside by members that only contracts see.
+//!
+//! - **Told.** A source tells the bytes that it has left, and a sink the bytes that were written to
+//!   it. Each is `Some` of a list where the bytes are known, as in memory, and `None` where they
+//!   are not, as at a terminal or a socket. What was told once is told from then on. A promise that
+//!   names bytes holds where they are told, and says nothing of an object that tells nothing.
+//! - **The count of faults.** Each object counts how often it failed. The count never falls. A call
+//!   answers `Failed` only where the count rose in that call, and each other answer, want of memory
+//!   among them, leaves the count as it was. So where a run ends with the first `Failed`, the count
+//!   that rose is that of the object that failed. A count has 64 bits and stays at its last value,
+//!   2^64 - 1, at which it is taken to have risen.
+//! - **Clean.** A sink is clean where all that was written was flushed. A write that takes a piece
+//!   makes it unclean, a flush that succeeds makes it clean, and a call that fails leaves it as it
+//!   was.
+//!
+//! [`MemSource`] and [`MemSink`] keep their bytes in memory and fail at chosen calls, for tests.
+//! [`SureSource`] and [`SureSink`] keep them in memory and never fail. [`StdSource`] and
+//! [`StdSink`] adapt a reader and a writer of the standard library, and tell what these tell.
+#![tactic(auto)]
+
+mod calls;
+mod memory;
+mod outside;
+mod reading;
+mod standard;
+mod sure;
+#[cfg(test)]
+mod tests;
+mod writing;
+
+pub use memory::{MemSink, MemSource};
+pub use outside::{Failed, Sink, SinkFault, Source};
+pub use reading::read_at_most;
+pub use standard::{StdSink, StdSource};
+pub use sure::{SureSink, SureSource, sure_counts_never_rise};
+pub use writing::write_all;
