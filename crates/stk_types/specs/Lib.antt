@@ -1,0 +1,9 @@
+pub mod Maybe
+pub mod Modules
+pub mod Address
+pub mod Accounts
+pub mod Padded
+pub mod Denom
+pub mod Calendar
+pub mod Moment
+pub mod Orders
