@@ -1,0 +1,4 @@
+pub mod Roundings
+pub mod Values
+pub mod Fractions
+pub mod Issues

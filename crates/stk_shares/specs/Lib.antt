@@ -1,0 +1,4 @@
+pub mod Burns
+pub mod Laws
+pub mod Shares
+pub mod Worked
