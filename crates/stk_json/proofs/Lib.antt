@@ -1,0 +1,4 @@
+pub mod ReadingLemmas
+pub mod LineLemmas
+pub mod AccountLemmas
+pub mod OnLiterals

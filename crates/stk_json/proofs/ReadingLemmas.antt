@@ -1,0 +1,62 @@
+-- The tree of a line, the keys of an object, lists by their lengths, and amounts.
+use Rattle.std.proofs.Common.{◌≡◌, List, [], ◌∷◌, String, Global, string_bytes, map, ℕ, Bool, true, false, refl, Some, None, Result, Ok, Err, cond, ◌==◌, ◌≤◌, ◌<◌, length, nat_le, ◌&&◌, arith, rules}
+use Rattle.std.specs.Str.{IsUtf8, is_utf8}
+use Rattle.std.proofs.lemmas.Str.{is_utf8-from_IsUtf8, IsUtf8-from_is_utf8}
+use Rattle.serde_json.specs.Data.{Data}
+use Rattle.serde_json.specs.Read.{read}
+use Rattle.std.specs.List.{list_all, list_any}
+use Rattle.std.specs.Map.{keys_of}
+use Rattle.serde_json.specs.View.{members_view, items_view}
+use Rattle.serde_json.specs.declared.value.Value.{Value}
+use Rattle.stk_json.specs.declared.fault.LineFault.TheVariants.{NotJson, Unbuilt}
+use Rattle.stk_json.specs.declared.fault.LineFault.{LineFault}
+use Rattle.stk_json.specs.Reading.{tree_of, or_fault, is_among, are_among, nothing_in, is_amount, spelled_after}
+use Rattle.stk_json.specs.Lists.{at_most_one}
+use Rattle.std.specs.Char.{is_ascii_digit}
+use Rattle.std.proofs.lemmas.Str.Parse.{IsNumeralModel, numerals_by_fold, parse_gives, digits_value_short}
+use Rattle.std.proofs.lemmas.Bool.{and_parts, leb-true}
+use Rattle.std.specs.Str.Parse.{ParsesUnsigned}
+
+pub tree_found : (line : List ℕ) (d : Data) → IsUtf8 line → read line ≡ Some d → tree_of line ≡ Ok d
+unfolding tree_of
+tree_found line d u r = rw (is_utf8-from_IsUtf8 line u, r) refl
+
+absent : (b : Bool) (line : List ℕ) → (b ≡ true → read line ≡ None) → or_fault NotJson (cond b (read line) None) ≡ Err NotJson
+absent true line h = rw (h refl) refl
+absent false line h = refl
+
+pub tree_absent : (line : List ℕ) → (IsUtf8 line → read line ≡ None) → tree_of line ≡ Err NotJson
+unfolding tree_of
+tree_absent line h = absent (is_utf8 line) line (λ e. h (IsUtf8-from_is_utf8 line e))
+
+pub list_any-map : {X Y : Type 0} (p : Y → Bool) (f : X → Y) (xs : List X) → list_any p (map f xs) ≡ list_any (λ x. p (f x)) xs
+list_any-map p f [] = refl
+list_any-map p f (x ∷ xs) = rw (list_any-map p f xs) refl
+
+-- the keys of a map are the names of the object
+pub are_among-keys : (names : List (List ℕ)) (es : List (String Global × Value)) → are_among names (members_view es) ≡ list_all (λ k. is_among names (string_bytes k)) (keys_of es)
+are_among-keys names [] = refl
+are_among-keys names (e ∷ es) = rw (are_among-keys names es) refl
+
+-- a list of something
+pub not_nothing : (values : List Value) → (length values == 0) ≡ false → nothing_in (items_view values) ≡ Err Unbuilt
+not_nothing [] h = absurd cc
+not_nothing (value ∷ values) h = refl
+
+-- a list of two elements or more
+pub more_than_one : {A : Type 0} (form : Data → Result A LineFault) (values : List Value) → 2 ≤ length values → at_most_one form (items_view values) ≡ Err Unbuilt
+more_than_one form [] h = absurd (omega arith)
+more_than_one form (value ∷ []) h = absurd (omega arith)
+more_than_one form (value ∷ other ∷ values) h = refl
+
+are_digits_model : IsNumeralModel (λ digits. list_all is_ascii_digit digits ≡ true) (spelled_after 0)
+are_digits_model = numerals_by_fold _ (search rules) spelled_after (search rules)
+
+-- what `parse` gives for a text of 1 to 38 digits
+pub amount_parsed : {E : Type 0} (text : List ℕ) (r : Result ℕ E) → ParsesUnsigned 128 10 text r → is_amount text ≡ true → r ≡ Ok (spelled_after 0 text)
+amount_parsed text r parsed h =
+    let parts : (nat_le 1 (length text) ≡ true) × ((nat_le (length text) 38 && list_all is_ascii_digit text) ≡ true) = and_parts _ _ h in
+    let others : (nat_le (length text) 38 ≡ true) × (list_all is_ascii_digit text ≡ true) = and_parts _ _ parts.1 in
+    let some : 0 < length text = leb-true _ _ parts.0 in
+    let short : length text ≤ 38 = leb-true _ _ others.0 in
+    parse_gives are_digits_model 128 text r parsed others.1 some (omega (arith, digits_value_short are_digits_model text 38 others.1 short))
