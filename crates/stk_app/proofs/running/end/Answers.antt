@@ -1,0 +1,12 @@
+use Rattle.std.proofs.Common.{◌∙◌, sym}
+use Rattle.stk_app.proofs.DriveLemmas.{end_stop_status, end_cause}
+use Rattle.stk_app.proofs.running.end.Goals as goal
+
+pub returns-in-Err-clause-status : goal.returns-in-Err-clause-status
+returns-in-Err-clause-status g c =
+    let stops = rw c.deref.ensures.value at c.in-Err.ensures.stops in
+    let long = rw c.deref.ensures.value at c.in-Err.ensures.long in
+    rw c.status_at_end.ensures (end_stop_status _ _ _ _ _ _ c.in-Err.stop c.requires long stops)
+
+pub returns-in-Err-clause-cause : goal.returns-in-Err-clause-cause
+returns-in-Err-clause-cause g c = λ e. end_cause c.in-Err.stop _ c.in-Err.ensures.report_cause c.in-Err.ensures.flush_cause c.in-Err.ensures.line_cause (sym c.status_at_end.ensures ∙ e)

@@ -1,0 +1,13 @@
+use Rattle.stk_app.proofs.DriveLemmas.{untroubled_run}
+use Rattle.stk_app.proofs.SoundLemmas.{supply_stays}
+use Rattle.stk_app.proofs.running.run.Goals as goal
+
+pub returns-then-not-is_replay-clause-supply : goal.returns-then-not-is_replay-clause-supply
+returns-then-not-is_replay-clause-supply g c = supply_stays
+
+pub returns-clause-supply : goal.returns-clause-supply
+returns-clause-supply g c = supply_stays
+
+pub returns-clause-complete : goal.returns-clause-complete
+returns-clause-complete g c = λ calm words reads writes.
+    untroubled_run _ _ _ _ _ c.drive.ensures.ends calm c.drive.ensures.busy (λ e. reads (c.drive.ensures.read_cause e)) (λ e. writes (c.drive.ensures.write_cause e))

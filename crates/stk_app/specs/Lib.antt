@@ -1,0 +1,9 @@
+pub mod Lines
+pub mod Entries
+pub mod Bank
+pub mod Chain
+pub mod Machine
+pub mod Runs
+pub mod Outcome
+pub mod Parts
+pub mod Laws

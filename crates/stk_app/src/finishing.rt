@@ -1,0 +1,66 @@
+ghost use Rattle.std.specs.Prelude.{◌≡◌, ◌≤◌, ◌⊎◌, true, IfErr, OnOk, IsErrOf, []};
+ghost use Rattle.stk_io.specs.Outside.{Rose};
+ghost use Rattle.stk_app.specs.Lines.{last_line};
+ghost use Rattle.stk_app.specs.Parts.{EndLongOnly, IsOfReport, FinishStops, Finishes, UnlessWriteAtEnd};
+
+use crate::chain::Chain;
+use crate::line::{report_text, take_line};
+use crate::status::{EndStop, Stop};
+use std::alloc::Global;
+use stk_io::{Sink, SinkFault, write_all};
+
+/// Writes the report, and flushes.
+fn report<K: Sink>(alloc: Global, sink: &mut K, chain: &Option<Chain>) -> Result<(), EndStop>
+    ensures clean { OnOk result (K.clean sink.new ≡ true) }
+    ensures written { OnOk result (Finishes 1 chain.now [] (K.written sink.old) (K.written sink.new)) }
+    ensures stops { IfErr result (FinishStops 1 chain.now [] (K.written sink.old) (K.written sink.new)) }
+    ensures no_line { IfErr result IsOfReport }
+    ensures later { K.faults sink.old ≤ K.faults sink.new }
+    ensures report_cause { IsErrOf result EndStop.Report → Rose (K.faults sink.old) (K.faults sink.new) }
+    ensures flush_cause { IsErrOf result EndStop.Flush → Rose (K.faults sink.old) (K.faults sink.new) }
+    ensures quiet { UnlessWriteAtEnd result (K.faults sink.new ≡ K.faults sink.old) }
+{
+    let text = match report_text(alloc, chain) {
+        Ok(text) => text,
+        Err(Stop::BadInput(n, fault)) => return Err(EndStop::Lacking(n, fault)),
+        Err(_) => return Err(EndStop::NoMemory),
+    };
+    match write_all(sink, &text) {
+        Ok(()) => {}
+        Err(SinkFault::Failed) => return Err(EndStop::Report),
+        Err(SinkFault::NoMemory) => return Err(EndStop::NoMemory),
+    }
+    match sink.flush() {
+        Ok(()) => Ok(()),
+        Err(_) => Err(EndStop::Flush),
+    }
+}
+
+/// Answers the last line, which came without its end, where there is one; then the report and
+/// the flush.
+pub fn finish<K: Sink>(
+    alloc: Global,
+    sink: &mut K,
+    number: u64,
+    chain: &mut Option<Chain>,
+    line: &[u8],
+) -> Result<(), EndStop>
+    ensures clean { OnOk result (K.clean sink.new ≡ true) }
+    ensures done { OnOk result (Finishes number chain.old (last_line line.now) (K.written sink.old) (K.written sink.new)) }
+    ensures stops { IfErr result (FinishStops number chain.old (last_line line.now)
+        (K.written sink.old) (K.written sink.new)) }
+    ensures long { IfErr result (λ stop. EndLongOnly stop line.now) }
+    ensures later { K.faults sink.old ≤ K.faults sink.new }
+    ensures report_cause { IsErrOf result EndStop.Report → Rose (K.faults sink.old) (K.faults sink.new) }
+    ensures flush_cause { IsErrOf result EndStop.Flush → Rose (K.faults sink.old) (K.faults sink.new) }
+    ensures quiet { UnlessWriteAtEnd result (K.faults sink.new ≡ K.faults sink.old) }
+    ensures line_cause { IsErrOf result (EndStop.Line Stop.Write) → Rose (K.faults sink.old) (K.faults sink.new) }
+{
+    if line.is_empty() {
+        return report(alloc, sink, chain);
+    }
+    if let Err(stop) = take_line(alloc, sink, number, chain, line) {
+        return Err(EndStop::Line(stop));
+    }
+    report(alloc, sink, chain)
+}

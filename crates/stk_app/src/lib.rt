@@ -1,0 +1,17 @@
+//! The top call: `run` reads lines from a source, lets the machine answer each, and writes the
+//! answers to a sink.
+#![tactic(auto)]
+
+mod bank;
+mod chain;
+mod feeding;
+mod finishing;
+mod line;
+mod running;
+mod status;
+
+pub use running::run;
+pub use status::{InputFault, LimitKind, Status};
+
+#[cfg(test)]
+mod tests;

@@ -1,0 +1,159 @@
+ghost use Rattle.std.specs.Prelude.{◌≡◌, ◌≤◌, ◌<◌, ◌^◌, ◌+◌, ◌⊎◌, ◌↔◌, [], ◌∷◌, List, ℕ, Some, None, length, map, string_bytes, true, false, IfErr, OnOk, IfOk, IfSome};
+ghost use Rattle.stk_io.specs.Outside.{Rose};
+ghost use Rattle.stk_app.specs.Lines.{last_line};
+ghost use Rattle.stk_app.specs.Machine.{longest};
+ghost use Rattle.stk_app.specs.Outcome.{RunEnds, IsUntroubled, is_replay, most_bytes, UnlessReadFault, UnlessWriteFault};
+ghost use Rattle.stk_app.specs.Parts.{FinishStatus, Stands};
+ghost use Rattle.stk_app.specs.Laws.{SupplyStays, RefusalsKeepFees};
+
+use crate::feeding::{Progress, feed};
+use crate::finishing::finish;
+use crate::line::LONGEST;
+use crate::status::{LimitKind, Status, status_at_end, status_of};
+use std::alloc::Global;
+use stk_io::{Sink, Source, read_at_most};
+
+/// How many bytes are asked for at once.
+const PIECE: usize = 4096;
+
+/// How many bytes an input may have.
+const MOST: u64 = 1 << 40;
+
+/// How many bytes may be taken at once, where so many were taken.
+fn room(taken: u64) -> usize
+    requires { taken < most_bytes }
+    ensures some { 0 < result }
+    ensures within { result ≤ 4096 }
+    ensures fits { taken + result ≤ most_bytes }
+{
+    if MOST - taken < PIECE as u64 {
+        (MOST - taken) as usize
+    } else {
+        PIECE
+    }
+}
+
+/// The input was read to its end.
+fn end<K: Sink>(alloc: Global, sink: &mut K, progress: &mut Progress) -> Status
+    requires { length progress.old.line.items ≤ longest }
+    ensures status { FinishStatus progress.old.number progress.old.chain (last_line progress.old.line.items)
+        (K.written sink.old) (K.written sink.new) result }
+    ensures busy { result ≡ Status.Usage → ⊥ }
+    ensures clean { result ≡ Status.Done → K.clean sink.new ≡ true }
+    ensures read { result ≡ Status.ReadFault → ⊥ }
+    ensures later { K.faults sink.old ≤ K.faults sink.new }
+    ensures cause { result ≡ Status.WriteFault → Rose (K.faults sink.old) (K.faults sink.new) }
+    ensures quiet { UnlessWriteFault result (K.faults sink.new ≡ K.faults sink.old) }
+{
+    match finish(
+        alloc,
+        sink,
+        progress.number,
+        &mut progress.chain,
+        &progress.line,
+    ) {
+        Ok(()) => Status::Done,
+        Err(stop) => status_at_end(stop),
+    }
+}
+
+/// Runs the machine over all lines of the source.
+fn drive<S: Source, K: Sink>(alloc: Global, source: &mut S, sink: &mut K) -> Status
+    ensures ends { RunEnds (S.left source.old) (S.left source.new) (K.written sink.old)
+        (K.written sink.new) result }
+    ensures busy { result ≡ Status.Usage → ⊥ }
+    ensures clean { result ≡ Status.Done → K.clean sink.new ≡ true }
+    ensures read_cause { result ≡ Status.ReadFault
+        → Rose (S.faults source.old) (S.faults source.new) }
+    ensures write_cause { result ≡ Status.WriteFault
+        → Rose (K.faults sink.old) (K.faults sink.new) }
+    ensures read_quiet { UnlessReadFault result (S.faults source.new ≡ S.faults source.old) }
+    ensures write_quiet { UnlessWriteFault result (K.faults sink.new ≡ K.faults sink.old) }
+{
+    let mut progress = Progress {
+        number: 1,
+        line: Vec::new(alloc),
+        chain: None,
+    };
+    let mut piece = [0u8; PIECE];
+    let mut taken = 0u64;
+    while taken < MOST {
+        match read_at_most(source, &mut piece, room(taken)) {
+            Err(_) => return Status::ReadFault,
+            Ok(0) => return end(alloc, sink, &mut progress),
+            Ok(n) => {
+                if let Err(stop) = feed(alloc, sink, &mut progress, &piece[..n]) {
+                    return status_of(stop);
+                }
+                taken += n as u64;
+            }
+        }
+    }
+    match read_at_most(source, &mut piece, 1) {
+        Err(_) => Status::ReadFault,
+        Ok(0) => end(alloc, sink, &mut progress),
+        Ok(_) => {
+            if piece[0] != b'\n' && progress.line.len() == LONGEST {
+                Status::Limit(progress.number, LimitKind::Line)
+            } else {
+                Status::Limit(progress.number, LimitKind::Input)
+            }
+        }
+    }
+}
+
+/// Whether the words are the command `replay`.
+fn is_replay(words: &[String]) -> bool
+    ensures { result ≡ is_replay (map string_bytes words.now) }
+{
+    match words {
+        [word] => word.as_str() == "replay",
+        _ => false,
+    }
+}
+
+/// Runs the command of these words; `replay` is the one command of this stage.
+///
+/// The first line of the source is a genesis, each further line a block. Each line's text is written
+/// once the line was answered, and the report at the end of the input; then the sink is flushed.
+///
+/// What each status leaves: at `Done` the whole output, flushed; at `Usage` nothing was read or
+/// written; at `BadInput` and `Limit` exactly the texts of the lines before the named one; at
+/// `ReadFault` those of all lines that were taken with their end; at `WriteFault` all texts before the
+/// one being written and a part of that, or the whole output where the flush failed; at `NoMemory` a
+/// front of the whole output. `ReadFault` and `WriteFault` come only where the count of the source's,
+/// the sink's faults rose in this call, and that count rises at no other status.
+#[tactic(auto, using(crate::proofs::SoundLemmas::refusals_keep_fees))]
+pub fn run<S: Source, K: Sink>(
+    alloc: Global,
+    words: &[String],
+    source: &mut S,
+    sink: &mut K,
+) -> Status
+    // What was written is what the input gives.
+    ensures ends { RunEnds (S.left source.old) (S.left source.new) (K.written sink.old)
+        (K.written sink.new) result }
+    ensures clean { result ≡ Status.Done → K.clean sink.new ≡ true }
+    ensures usage { (result ≡ Status.Usage) ↔ (is_replay (map string_bytes words.now) ≡ false) }
+    // A fault has its cause.
+    ensures read_cause { result ≡ Status.ReadFault
+        → Rose (S.faults source.old) (S.faults source.new) }
+    ensures write_cause { result ≡ Status.WriteFault
+        → Rose (K.faults sink.old) (K.faults sink.new) }
+    ensures read_quiet { UnlessReadFault result (S.faults source.new ≡ S.faults source.old) }
+    ensures write_quiet { UnlessWriteFault result (K.faults sink.new ≡ K.faults sink.old) }
+    // Nothing else keeps the run from its end.
+    ensures complete { IsUntroubled (S.left source.old) (K.written sink.old)
+        → is_replay (map string_bytes words.now) ≡ true
+        → ¬ Rose (S.faults source.old) (S.faults source.new)
+        → ¬ Rose (K.faults sink.old) (K.faults sink.new)
+        → (result ≡ Status.Done) ⊎ (result ≡ Status.NoMemory) }
+    // What the machine keeps, at every input.
+    ensures supply { SupplyStays }
+    ensures refusals { RefusalsKeepFees }
+{
+    if !is_replay(words) {
+        return Status::Usage;
+    }
+    drive(alloc, source, sink)
+}

@@ -1,0 +1,87 @@
+ghost use Rattle.std.specs.Prelude.{◌≡◌};
+ghost use Rattle.stk_app.specs.Parts.{status_of, status_at_end};
+
+/// Why a line of the input is not answered.
+#[derive(Clone, Copy, Debug, PartialEq, Eq)]
+pub enum InputFault {
+    /// The input has no line, so the genesis is missing.
+    Missing,
+    /// The line is no JSON that `serde_json` reads.
+    NotJson,
+    /// The line is JSON of a form that is not built yet.
+    Unbuilt,
+}
+
+/// Which limit the input passes.
+#[derive(Clone, Copy, Debug, PartialEq, Eq)]
+pub enum LimitKind {
+    /// A line has more than 4,194,304 bytes, not counting its end.
+    Line,
+    /// 2^40 bytes were taken, and the input goes on.
+    Input,
+}
+
+/// How a run ended.
+#[derive(Clone, Copy, Debug, PartialEq, Eq)]
+pub enum Status {
+    /// The input was read to its end, and the whole output written and flushed.
+    Done,
+    /// The words are no command.
+    Usage,
+    /// The line of this number, from 1, is the first that is not answered.
+    BadInput(u64, InputFault),
+    /// The line of this number passes a limit.
+    Limit(u64, LimitKind),
+    /// The source failed.
+    ReadFault,
+    /// The sink failed.
+    WriteFault,
+    /// Memory was wanting.
+    NoMemory,
+}
+
+/// Why a line, or a piece of the input, was not answered.
+#[derive(Clone, Copy, Debug, PartialEq, Eq)]
+pub enum Stop {
+    BadInput(u64, InputFault),
+    Long(u64),
+    Write,
+    NoMemory,
+}
+
+/// Why the end of the output was not written.
+#[derive(Clone, Copy, Debug, PartialEq, Eq)]
+pub enum EndStop {
+    /// The last line was not answered.
+    Line(Stop),
+    /// The lines lead to no report: so many were answered, and the next is at fault.
+    Lacking(u64, InputFault),
+    Report,
+    Flush,
+    NoMemory,
+}
+
+/// How a run ends that a part of it stopped.
+pub fn status_of(stop: Stop) -> Status
+    ensures { result ≡ status_of stop }
+{
+    match stop {
+        Stop::BadInput(n, fault) => Status::BadInput(n, fault),
+        Stop::Long(n) => Status::Limit(n, LimitKind::Line),
+        Stop::Write => Status::WriteFault,
+        Stop::NoMemory => Status::NoMemory,
+    }
+}
+
+/// How a run ends that its end stopped.
+pub fn status_at_end(stop: EndStop) -> Status
+    ensures { result ≡ status_at_end stop }
+{
+    match stop {
+        EndStop::Line(stop) => status_of(stop),
+        EndStop::Lacking(n, fault) => Status::BadInput(n, fault),
+        EndStop::Report => Status::WriteFault,
+        EndStop::Flush => Status::WriteFault,
+        EndStop::NoMemory => Status::NoMemory,
+    }
+}
