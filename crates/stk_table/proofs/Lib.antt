@@ -1,0 +1,5 @@
+pub mod CopyLemmas
+pub mod EntryLemmas
+pub mod MarkLemmas
+pub mod RestoredLemmas
+pub mod TouchLemmas

@@ -1,0 +1,5 @@
+use Rattle.stk_table.proofs.MarkLemmas.{MarksRestore-touched}
+use Rattle.stk_table.proofs.table.Table.remove.Goals as goal
+
+pub invariant_of-self : goal.invariant_of-self
+invariant_of-self g c = MarksRestore-touched g.K.Ord.cmp _ _ _ _ _ c.in-Ok.ensures.settled c.self.invariant

@@ -1,0 +1,17 @@
+//! A finite map in the order of its keys, as the records of modules are kept: it can be marked and gone
+//! back, it lists what was touched since it was last settled, and each look-up, change and item of a walk
+//! counts one step.
+#![tactic(auto)]
+
+mod change;
+mod laws;
+mod mark;
+mod table;
+
+pub use laws::going_back_by_example;
+pub use mark::Mark;
+pub use stk_types::{Copied, TableFault};
+pub use table::Table;
+
+#[cfg(test)]
+mod tests;

@@ -1,0 +1,224 @@
+ghost use Rattle.std.specs.Prelude.{◌≡◌, ◌+◌, [], length, if◌then◌else◌, is_some, option_map, IfOk, OnOk, OnErr, IsErrOf, IsTrue, ◌↔◌};
+ghost use Rattle.std.specs.List.Sorted.{IsStrictlySortedBy};
+ghost use Rattle.std.specs.Map.{keys_of};
+ghost use Rattle.std.specs.Option.{option_copied};
+ghost use Rattle.stk_table.specs.Tabled.{empty_table, entry_above, entry_from, settled_now, spent_now, value_at, with_mark, with_value, without_key, IsForgotten, IsGoneBack, TellsSettled};
+
+use crate::change::{take_out, write};
+use crate::mark::{Mark, note};
+use indexmap::IndexMap;
+use std::alloc::Global;
+use std::collections::BTreeMap;
+use std::hash::Hash;
+use std::marker::Model;
+use std::ops::Bound;
+use std::sync::ledger::Ledger;
+use stk_types::{Copied, Steps, TableFault};
+
+/// A map in the order of its keys that can be marked and gone back, and that lists what was touched since
+/// it was last settled. Contracts see it as a `Tabled`.
+///
+/// Marks nest: the latest open one is gone back to or forgotten first.
+#[derive(Drop)]
+pub struct Table<K: Ord + Hash + Copied, V: Copied> {
+    alloc: Global,
+    tree: BTreeMap<K, V>,
+    marks: Vec<BTreeMap<K, V>>,
+    touched: IndexMap<K, Option<V>>,
+    spent: bool,
+}
+
+impl<K: Ord + Hash + Copied, V: Copied> Model for Table<K, V> {
+    ghost use Rattle.std.specs.Prelude.{map};
+    ghost use Rattle.std.specs.Map.{keys_of};
+    ghost use Rattle.stk_table.specs.Restored.{restored, MarksRestore};
+    ghost use Rattle.stk_table.specs.Tabled.{Tabled};
+
+    ghost Value = { Tabled K V };
+
+    ghost view = { λ t. record { entries = t.tree.entries; marks = map (λ m. m.entries) t.marks.items; touched = t.touched.entries; settled = restored K.cmp t.touched.entries t.tree.entries; spent = t.spent } };
+
+    ghost invariant = { λ t. MarksRestore K.cmp t.touched.entries (restored K.cmp t.touched.entries t.tree.entries) (map (λ m. m.entries) t.marks.items) };
+}
+
+impl<K: Ord + Hash + Copied, V: Copied> Table<K, V> {
+    /// An empty table, which counts as settled. It takes no memory yet.
+    pub fn new(alloc: Global) -> Table<K, V>
+        ensures { result ≡ empty_table }
+    {
+        Table {
+            alloc,
+            tree: BTreeMap::new(alloc),
+            marks: Vec::new(alloc),
+            touched: IndexMap::new(alloc),
+            spent: false,
+        }
+    }
+
+    /// How many entries there are. They stand in the strict order of their keys.
+    pub fn len(&self) -> usize
+        ensures len { result ≡ length self.now.entries }
+        ensures ordered { IsStrictlySortedBy K.cmp (keys_of self.now.entries) }
+    {
+        self.tree.len()
+    }
+
+    /// The value under a key, or None where nothing stands under it. It counts one step.
+    pub fn get<L: Ledger>(&self, key: &K, steps: &mut Steps<L>) -> Option<&V>
+        ensures value { option_copied result ≡ value_at K.cmp self.now.entries key.now }
+        ensures cost { steps.new ≡ steps.old + 1 }
+    {
+        steps.tick();
+        self.tree.get(key)
+    }
+
+    /// Puts a value under a key, and touches the key. It counts one step.
+    ///
+    /// Where memory is wanting it answers `NoMemory`, and the table is spent: its entries stay, and each
+    /// later change answers `Spent`.
+    pub fn put<L: Ledger>(
+        &mut self,
+        key: &K,
+        value: V,
+        steps: &mut Steps<L>,
+    ) -> Result<(), TableFault>
+        ensures ok { OnOk result (self.new ≡ with_value K.cmp self.old key.now value) }
+        ensures err { OnErr result (self.new ≡ spent_now self.old) }
+        ensures spent { IsErrOf result TableFault.Spent ↔ IsTrue self.old.spent }
+        ensures cost { steps.new ≡ steps.old + 1 }
+    {
+        steps.tick();
+        if self.spent {
+            return Err(TableFault::Spent);
+        }
+        match write(&mut self.touched, &mut self.tree, key, value) {
+            Ok(()) => Ok(()),
+            Err(_) => {
+                self.spent = true;
+                Err(TableFault::NoMemory)
+            }
+        }
+    }
+
+    /// Takes a key out, touches it, and answers the value that it had, or None where it had none. It counts
+    /// one step.
+    ///
+    /// Where memory is wanting it answers `NoMemory`, and the table is spent: its entries stay, and each
+    /// later change answers `Spent`.
+    pub fn remove<L: Ledger>(
+        &mut self,
+        key: &K,
+        steps: &mut Steps<L>,
+    ) -> Result<Option<V>, TableFault>
+        ensures value { IfOk result (λ value. value ≡ value_at K.cmp self.old.entries key.now) }
+        ensures ok { OnOk result (self.new ≡ without_key K.cmp self.old key.now) }
+        ensures err { OnErr result (self.new ≡ spent_now self.old) }
+        ensures spent { IsErrOf result TableFault.Spent ↔ IsTrue self.old.spent }
+        ensures cost { steps.new ≡ steps.old + 1 }
+    {
+        steps.tick();
+        if self.spent {
+            return Err(TableFault::Spent);
+        }
+        match take_out(&mut self.touched, &mut self.tree, key) {
+            Ok(value) => Ok(value),
+            Err(_) => {
+                self.spent = true;
+                Err(TableFault::NoMemory)
+            }
+        }
+    }
+
+    /// The entry of the least key above `after`, or of the least key of all for None. It answers None where
+    /// there is none, and counts one step for an entry.
+    pub fn next<L: Ledger>(&self, after: Option<&K>, steps: &mut Steps<L>) -> Option<(&K, &V)>
+        ensures above { option_map (λ entry. (entry.0.now, entry.1.now)) result ≡ entry_above K.cmp self.now.entries (option_copied after.entry) }
+        ensures cost { steps.new ≡ steps.old + (if is_some result then 1 else 0) }
+    {
+        let entry = match after {
+            None => self.tree.iter().next(),
+            Some(key) => self
+                .tree
+                .range((Bound::Excluded(key), Bound::Unbounded))
+                .next(),
+        };
+        if entry.is_some() {
+            steps.tick();
+        }
+        entry
+    }
+
+    /// The entry of the least key at or above `from`. It answers None where there is none, and counts one
+    /// step for an entry.
+    pub fn seek<L: Ledger>(&self, from: &K, steps: &mut Steps<L>) -> Option<(&K, &V)>
+        ensures from { option_map (λ entry. (entry.0.now, entry.1.now)) result ≡ entry_from K.cmp self.now.entries from.now }
+        ensures cost { steps.new ≡ steps.old + (if is_some result then 1 else 0) }
+    {
+        let entry = self
+            .tree
+            .range((Bound::Included(from), Bound::Unbounded))
+            .next();
+        if entry.is_some() {
+            steps.tick();
+        }
+        entry
+    }
+
+    /// Opens a mark above those that are open. Where memory is wanting it answers `NoMemory`, and nothing
+    /// changes.
+    pub fn mark(&mut self) -> Result<Mark, TableFault>
+        ensures depth { IfOk result (λ mark. mark ≡ length self.old.marks) }
+        ensures ok { OnOk result (self.new ≡ with_mark self.old) }
+        ensures err { OnErr result (self.new ≡ self.old) }
+        ensures spent { IsErrOf result TableFault.Spent ↔ IsTrue self.old.spent }
+    {
+        if self.spent {
+            return Err(TableFault::Spent);
+        }
+        let depth = self.marks.len();
+        match note(self.alloc, &mut self.marks, &self.tree) {
+            Ok(()) => Ok(Mark::above(depth)),
+            Err(_) => Err(TableFault::NoMemory),
+        }
+    }
+
+    /// Goes back to the latest open mark and closes it: the entries are those of the mark. The touched list
+    /// stays. It takes no memory.
+    pub fn back_to(&mut self, mark: Mark)
+        requires latest { length self.old.marks ≡ mark + 1 }
+        ensures { IsGoneBack self.old self.new }
+    {
+        mark.end();
+        self.tree = self.marks.pop().unwrap();
+    }
+
+    /// Closes the latest open mark and keeps the entries as they are. It takes no memory.
+    pub fn forget(&mut self, mark: Mark)
+        requires latest { length self.old.marks ≡ mark + 1 }
+        ensures { IsForgotten self.old self.new }
+    {
+        mark.end();
+        let last = self.marks.pop().unwrap();
+        drop(last);
+    }
+
+    /// The keys put or removed since the table was last settled, in the order of their first touch, each
+    /// with the value that it had then, or None where it had none.
+    pub fn touched(&self) -> &IndexMap<K, Option<V>>
+        ensures list { result.now.entries ≡ self.now.touched }
+        ensures settled { TellsSettled K.cmp self.now }
+    {
+        // They tell that the keys ascend, and that none is listed twice.
+        let _ = self.tree.len();
+        let _ = self.touched.len();
+        &self.touched
+    }
+
+    /// Settles the table: no key counts as touched any more. It takes no memory.
+    pub fn settle(&mut self)
+        requires closed { self.old.marks ≡ [] }
+        ensures { self.new ≡ settled_now self.old }
+    {
+        self.touched = IndexMap::new(self.alloc);
+    }
+}
