@@ -111,6 +111,14 @@ module _ {K : Type 0} {R : K → K → Ordering} (o : IsTotalOrder R) where
       | Greater ↦ (h.0, all_with P k v es p h.1)
     ]
 
+    all_inserted : (P : K → Type 0) (k : K) (v : X) (es : List (K × X)) → P k → AllByRecursion P (keys_of es) → AllByRecursion P (keys_of (insert_entry R es k v))
+    all_inserted P k v [] p h = (p, tt)
+    all_inserted P k v (e ∷ es) p h = elim (R k e.0) as (λ r. AllByRecursion P (keys_of (match_ordering r ((k, v) ∷ e ∷ es) ((e.0, v) ∷ es) (e ∷ insert_entry R es k v)))) [
+      | Less ↦ (p, h)
+      | Equal ↦ h
+      | Greater ↦ (h.0, all_inserted P k v es p h.1)
+    ]
+
     all_without : (P : K → Type 0) (test : K → Bool) (es : List (K × X)) → AllByRecursion P (keys_of es) → AllByRecursion P (keys_of (remove_entry test es))
     all_without P test [] h = h
     all_without P test (e ∷ es) h = elim (test e.0) as (λ b. AllByRecursion P (keys_of (cond b es (e ∷ remove_entry test es)))) [
@@ -139,6 +147,17 @@ module _ {K : Type 0} {R : K → K → Ordering} (o : IsTotalOrder R) where
           | Less ↦ λ p. sorted-cons (k, v) (e ∷ es) (p, below_less k e.0 es p below) h
           | Equal ↦ λ p. sorted-cons (k, v) es (below_tied k e.0 es p below) rest
           | Greater ↦ λ p. sorted-cons e (with_entry R k v es) (all_with (λ y. R e.0 y ≡ Less) k v es (o.antisymm e.0 k ∙ ap ordering_reverse p) below) (sorted-with_entry k v es rest)
+        ] refl
+
+    pub sorted-insert_entry : (k : K) (v : X) (es : List (K × X)) → IsStrictlySortedBy R (keys_of es) → IsStrictlySortedBy R (keys_of (insert_entry R es k v))
+    sorted-insert_entry k v [] h = sorted-cons (k, v) [] tt h
+    sorted-insert_entry k v (e ∷ es) h =
+        let below = sorted_head R e.0 (keys_of es) h in
+        let rest = sorted_tail R e.0 (keys_of es) h in
+        elim (R k e.0) as (λ r. R k e.0 ≡ r → IsStrictlySortedBy R (keys_of (match_ordering r ((k, v) ∷ e ∷ es) ((e.0, v) ∷ es) (e ∷ insert_entry R es k v)))) [
+          | Less ↦ λ p. sorted-cons (k, v) (e ∷ es) (p, below_less k e.0 es p below) h
+          | Equal ↦ λ p. sorted-cons (e.0, v) es below rest
+          | Greater ↦ λ p. sorted-cons e (insert_entry R es k v) (all_inserted (λ y. R e.0 y ≡ Less) k v es (o.antisymm e.0 k ∙ ap ordering_reverse p) below) (sorted-insert_entry k v es rest)
         ] refl
 
     pub sorted-remove_entry : (test : K → Bool) (es : List (K × X)) → IsStrictlySortedBy R (keys_of es) → IsStrictlySortedBy R (keys_of (remove_entry test es))

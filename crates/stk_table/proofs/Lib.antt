@@ -1,3 +1,4 @@
+pub mod CallerLemmas
 pub mod CopyLemmas
 pub mod EntryLemmas
 pub mod MarkLemmas

@@ -33,6 +33,10 @@ module _ {K V : Type 0} (R : K → K → Ordering) where
   pub MarksRestore-opened : (ts : List (K × Option V)) (es : List (K × V)) (ms all : List (List (K × V))) → IsStrictlySortedBy R (keys_of es) → all ≡ ms ++ es ∷ [] → MarksRestore R ts (restored R ts es) ms → MarksRestore R ts (restored R ts es) all
   MarksRestore-opened ts es ms all in_order made h = subst (MarksRestore R ts (restored R ts es)) (sym made) (push ts (restored R ts es) es ms h in_order refl)
 
+  -- with the same marks, told anew
+  pub MarksRestore-same : {A : Type 0} (f : A → List (K × V)) (ts : List (K × Option V)) (es : List (K × V)) (old new : List A) → new ≡ old → MarksRestore R ts (restored R ts es) (map f old) → MarksRestore R ts (restored R ts es) (map f new)
+  MarksRestore-same f ts es old new same h = subst (λ l. MarksRestore R ts (restored R ts es) (map f l)) (sym same) h
+
   module _ (ts : List (K × Option V)) (es last : List (K × V)) (ms all : List (List (K × V))) (split : ms ++ last ∷ [] ≡ all) (h : MarksRestore R ts (restored R ts es) all) where
     whole : MarksRestore R ts (restored R ts es) (ms ++ last ∷ [])
     whole = subst (MarksRestore R ts (restored R ts es)) (sym split) h
