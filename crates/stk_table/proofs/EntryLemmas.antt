@@ -1,6 +1,6 @@
 -- Lists of entries in the order of their keys, told by the entry that stands at each key.
-use Rattle.std.specs.Prelude.{◌≡◌, Bool, true, false, cond, List, [], ◌∷◌, ◌++◌, map, Option, Some, None, is_some, option_map, unwrap_or, refl}
-use Rattle.std.proofs.Common.{sym, ◌∙◌, ap, subst}
+use Rattle.std.specs.Prelude.{◌≡◌, Bool, true, false, cond, List, [], ◌∷◌, Option, Some, None, option_map, unwrap_or, refl}
+use Rattle.std.proofs.Common.{sym, ◌∙◌, ap}
 use Rattle.std.specs.declared.cmp.Ordering.{Ordering}
 use Rattle.std.specs.declared.cmp.Ordering.TheVariants.{Less, Equal, Greater}
 use Rattle.std.specs.Ordering.{is_eq, match_ordering, ordering_reverse}
@@ -200,6 +200,6 @@ module _ {K : Type 0} {R : K → K → Ordering} (o : IsTotalOrder R) where
               let found : Some e ≡ Some f = sym (entry_first e es) ∙ is e.0 ∙ ap (λ r. cond (is_eq r) (Some f) (lookup_entry (is_at (R e.0)) fs)) p in
               let first : e ≡ f = ap (λ x. unwrap_or x e) found in
               let rest = same_entries es fs (sorted_tail R e.0 (keys_of es) g) (sorted_tail R f.0 (keys_of fs) h)
-                (λ q. tails q e es fs below_e (below_tied e.0 f.0 fs p below_f) (is q ∙ ap (λ x. lookup_entry (is_at (R q)) (x ∷ fs)) (sym first))) in
+              (λ q. tails q e es fs below_e (below_tied e.0 f.0 fs p below_f) (is q ∙ ap (λ x. lookup_entry (is_at (R q)) (x ∷ fs)) (sym first))) in
               λ i. first i ∷ rest i
         ] refl

@@ -1,5 +1,5 @@
 -- The entries at the last settling, as entries and a touched list tell them, stay through changes.
-use Rattle.std.specs.Prelude.{◌≡◌, Bool, true, false, cond, List, [], ◌∷◌, ◌++◌, Option, Some, None, is_some, option_map, unwrap_or, refl, if◌then◌else◌}
+use Rattle.std.specs.Prelude.{◌≡◌, true, false, cond, List, [], ◌∷◌, ◌++◌, Option, Some, None, is_some, option_map, unwrap_or, refl, if◌then◌else◌}
 use Rattle.std.proofs.Common.{sym, ◌∙◌, ap, subst}
 use Rattle.std.specs.declared.cmp.Ordering.{Ordering}
 use Rattle.std.specs.Cmp.{IsTotalOrder}
@@ -8,7 +8,7 @@ use Rattle.std.specs.Map.{keys_of, lookup, lookup_entry, lookup_key, remove_entr
 use Rattle.std.specs.BTreeMap.{insert_entry, is_at}
 use Rattle.stk_table.specs.Restored.{put_back, restored, KeepsSettled}
 use Rattle.stk_table.specs.Tabled.{key_in, touched_with, value_at}
-use Rattle.stk_table.proofs.EntryLemmas.{alike_is_at, entry-insert_other, entry-remove_entry, entry-with_entry, lookup_is, lookup_key_is, same_entries, sorted-remove_entry, sorted-with_entry, tied_entry, tied_is_at, tied_lookup}
+use Rattle.stk_table.proofs.EntryLemmas.{alike_is_at, entry-insert_other, entry-remove_entry, entry-with_entry, lookup_is, lookup_key_is, same_entries, sorted-remove_entry, sorted-with_entry, tied_entry, tied_lookup}
 
 -- the entry that a listed pair tells
 abbrev pub pair_entry : {K V : Type 0} → K × Option V → Option (K × V)
@@ -94,10 +94,10 @@ module _ {K : Type 0} {R : K → K → Ordering} (o : IsTotalOrder R) where
             | false ↦ λ t. others t
           ] refl
           | false ↦ λ is. told-push q ts (key_in R es k, value_at R es k) b ∙ ap (λ c. told q ts (cond c (pair_entry (key_in R es k, value_at R es k)) b)) (key_in-tied es q k)
-            ∙ elim (is_at (R q) k) as (λ t. is_at (R q) k ≡ t → told q ts (cond t (pair_entry (key_in R es k, value_at R es k)) b) ≡ told q ts (lookup_entry (is_at (R q)) es)) [
-              | true ↦ λ t. ap (told q ts) (listed_pair es k ∙ sym (tied_entry o q k t es))
-              | false ↦ λ t. others t
-            ] refl
+              ∙ elim (is_at (R q) k) as (λ t. is_at (R q) k ≡ t → told q ts (cond t (pair_entry (key_in R es k, value_at R es k)) b) ≡ told q ts (lookup_entry (is_at (R q)) es)) [
+                | true ↦ λ t. ap (told q ts) (listed_pair es k ∙ sym (tied_entry o q k t es))
+                | false ↦ λ t. others t
+              ] refl
         ] refl
 
     pub restored-touched : (ts : List (K × Option V)) (es fs : List (K × V)) (k : K) → IsStrictlySortedBy R (keys_of es) → IsStrictlySortedBy R (keys_of fs)
@@ -105,7 +105,7 @@ module _ {K : Type 0} {R : K → K → Ordering} (o : IsTotalOrder R) where
         → restored R (touched_with R ts es k) fs ≡ restored R ts es
     restored-touched ts es fs k in_order new_in_order others =
         same_entries o _ _ (sorted-restored (touched_with R ts es k) fs new_in_order) (sorted-restored ts es in_order)
-          (λ q. entry-restored q (touched_with R ts es k) fs new_in_order ∙ told-touched ts es k q (lookup_entry (is_at (R q)) fs) (others q) ∙ sym (entry-restored q ts es in_order))
+        (λ q. entry-restored q (touched_with R ts es k) fs new_in_order ∙ told-touched ts es k q (lookup_entry (is_at (R q)) fs) (others q) ∙ sym (entry-restored q ts es in_order))
 
     -- a change of the entry at k, where k is touched, keeps the entries at the last settling
     pub KeepsSettled-touched : (ts : List (K × Option V)) (es fs : List (K × V)) (k : K) → IsStrictlySortedBy R (keys_of es) → IsStrictlySortedBy R (keys_of fs)
@@ -114,7 +114,7 @@ module _ {K : Type 0} {R : K → K → Ordering} (o : IsTotalOrder R) where
     KeepsSettled-touched ts es fs k in_order new_in_order others = record {
       entries = restored-touched ts es fs k in_order new_in_order (λ q t. ap (told q ts) (others q t));
       marks = λ m marked_in_order same. restored-touched ts es m k in_order marked_in_order
-        (λ q t. sym (entry-restored q ts m marked_in_order) ∙ ap (lookup_entry (is_at (R q))) same ∙ entry-restored q ts es in_order);
+          (λ q t. sym (entry-restored q ts m marked_in_order) ∙ ap (lookup_entry (is_at (R q))) same ∙ entry-restored q ts es in_order);
     }
 
     pub KeepsSettled-put : (ts us : List (K × Option V)) (es fs : List (K × V)) (k copy : K) (v : V) → IsStrictlySortedBy R (keys_of es) → IsStrictlySortedBy R (keys_of fs) → copy ≡ k → us ≡ touched_with R ts es k → fs ≡ insert_entry R es copy v → KeepsSettled R ts es us fs
@@ -125,7 +125,7 @@ module _ {K : Type 0} {R : K → K → Ordering} (o : IsTotalOrder R) where
     pub KeepsSettled-remove : (ts us : List (K × Option V)) (es fs : List (K × V)) (k : K) → IsStrictlySortedBy R (keys_of es) → IsStrictlySortedBy R (keys_of fs) → us ≡ touched_with R ts es k → fs ≡ remove_entry (is_at (R k)) es → KeepsSettled R ts es us fs
     KeepsSettled-remove ts us es fs k in_order new_in_order noted made =
         subst (λ l. KeepsSettled R ts es l fs) (sym noted) (KeepsSettled-touched ts es fs k in_order new_in_order
-          (λ q t. ap (lookup_entry (is_at (R q))) made ∙ entry-remove_entry o q k es in_order ∙ ap (λ b. cond b None (lookup_entry (is_at (R q)) es)) t))
+        (λ q t. ap (lookup_entry (is_at (R q))) made ∙ entry-remove_entry o q k es in_order ∙ ap (λ b. cond b None (lookup_entry (is_at (R q)) es)) t))
 
     -- of a key that is not listed, the present entry is that at the last settling, so the list grows alike by both
     pub touched_with-restored : (ts : List (K × Option V)) (es : List (K × V)) (k : K) → IsStrictlySortedBy R (keys_of es) → touched_with R ts (restored R ts es) k ≡ touched_with R ts es k

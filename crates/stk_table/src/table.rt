@@ -142,9 +142,7 @@ impl<K: Ord + Hash + Copied, V: Copied> Table<K, V> {
                 .range((Bound::Excluded(key), Bound::Unbounded))
                 .next(),
         };
-        if entry.is_some() {
-            steps.tick();
-        }
+        count_item(&entry, steps);
         entry
     }
 
@@ -158,9 +156,7 @@ impl<K: Ord + Hash + Copied, V: Copied> Table<K, V> {
             .tree
             .range((Bound::Included(from), Bound::Unbounded))
             .next();
-        if entry.is_some() {
-            steps.tick();
-        }
+        count_item(&entry, steps);
         entry
     }
 
@@ -220,5 +216,14 @@ impl<K: Ord + Hash + Copied, V: Copied> Table<K, V> {
         ensures { self.new ≡ settled_now self.old }
     {
         self.touched = IndexMap::new(self.alloc);
+    }
+}
+
+/// Counts one step for an item of a walk, and none at its end.
+fn count_item<T, L: Ledger>(item: &Option<T>, steps: &mut Steps<L>)
+    ensures { steps.new ≡ steps.old + (if is_some item.now then 1 else 0) }
+{
+    if item.is_some() {
+        steps.tick();
     }
 }

@@ -8,4 +8,4 @@ returns-clause-touched g c = c.in_ok-touch.ensures.ok ∙ sym (touched_with-rest
 pub returns-clause-settled : goal.returns-clause-settled
 returns-clause-settled g c =
     KeepsSettled-remove g.met.K.Ord.total _ _ _ _ _ c.len.ensures.ordered c.remove.ensures.ordered
-      c.in_ok-touch.ensures.ok c.remove.ensures.entries
+    c.in_ok-touch.ensures.ok c.remove.ensures.entries

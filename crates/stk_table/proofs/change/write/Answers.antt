@@ -9,4 +9,4 @@ returns-in-Ok-clause-touched g c =
 pub returns-in-Ok-clause-settled : goal.returns-in-Ok-clause-settled
 returns-in-Ok-clause-settled g c =
     KeepsSettled-put g.met.K.Ord.total _ _ _ _ _ _ _ c.in-Ok.ensures.was_ordered c.in-Ok.ensures.ordered
-      c.in_ok-copy.ensures.same c.in_ok-touch.ensures.ok c.in-Ok.ensures.entries
+    c.in_ok-copy.ensures.same c.in_ok-touch.ensures.ok c.in-Ok.ensures.entries
