@@ -18,7 +18,8 @@ use stk_types::{Copied, Steps, TableFault};
 /// A map in the order of its keys that can be marked and gone back, and that lists what was touched since
 /// it was last settled. Contracts see it as a `Tabled`.
 ///
-/// Marks nest: the latest open one is gone back to or forgotten first.
+/// Keys that compare equal are one key, which is kept and listed as it was first put. Marks nest: the
+/// latest open one is gone back to or forgotten first.
 #[derive(Drop)]
 pub struct Table<K: Ord + Hash + Copied, V: Copied> {
     alloc: Global,
@@ -215,6 +216,7 @@ impl<K: Ord + Hash + Copied, V: Copied> Table<K, V> {
         requires closed { self.old.marks ≡ [] }
         ensures { self.new ≡ settled_now self.old }
     {
+        // A new list rather than a cleared one: no later settling pays for the room of a large one.
         self.touched = IndexMap::new(self.alloc);
     }
 }
