@@ -31,7 +31,6 @@ pub struct Table<K: Ord + Hash + Copied, V: Copied> {
 
 impl<K: Ord + Hash + Copied, V: Copied> Model for Table<K, V> {
     ghost use Rattle.std.specs.Prelude.{map};
-    ghost use Rattle.std.specs.Map.{keys_of};
     ghost use Rattle.stk_table.specs.Restored.{restored, MarksRestore};
     ghost use Rattle.stk_table.specs.Tabled.{Tabled};
 
