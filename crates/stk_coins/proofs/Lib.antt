@@ -1,0 +1,11 @@
+pub mod Order
+pub mod Amounts
+pub mod SideBySide
+pub mod Walk
+pub mod Loops
+pub mod Results
+pub mod Sorting
+pub mod Search
+pub mod InOrder
+pub mod Parts
+pub mod Shorts
