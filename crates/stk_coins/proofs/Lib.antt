@@ -9,3 +9,4 @@ pub mod Search
 pub mod InOrder
 pub mod Parts
 pub mod Shorts
+pub mod Overs

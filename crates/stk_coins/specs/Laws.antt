@@ -1,7 +1,7 @@
 -- What the definitions of lists of coins mean, amount by amount.
-use Rattle.std.specs.Prelude.{◌≡◌, ℕ, ◌+◌, ◌-◌, ◌/◌, ◌%◌, ◌^◌, ◌<◌, ◌≤◌, ◌↔◌, min, All, List, None, Ok, Result}
+use Rattle.std.specs.Prelude.{◌≡◌, ℕ, ◌+◌, ◌-◌, ◌/◌, ◌%◌, ◌^◌, ◌<◌, ◌≤◌, ◌↔◌, ◌⊎◌, min, All, List, [], ◌∷◌, None, Ok, Err, Result}
 use Rattle.stk_dec.specs.declared.over.Over.{Over}
-use Rattle.stk_dec.specs.Decimals.{whole_of, mul_cut_of, mul_even_of, quo_cut_of}
+use Rattle.stk_dec.specs.Decimals.{sum_over, whole_of, mul_cut_of, mul_even_of, quo_cut_of}
 use Rattle.stk_coins.specs.Coins.{Money, IsMoney, amount_of, as_decimals, coins_mul_cut, coins_mul_even, coins_quo_cut, coins_added, coins_taken, first_short, smaller_of, whole_coins, fractions, sorted_coins}
 
 -- two lists with the same amounts are the same list
@@ -20,6 +20,17 @@ abbrev pub SumIsOver : Type 0
 SumIsOver =
     (x y : Money) → IsMoney x → IsMoney y → ((d : List ℕ) → amount_of x d + amount_of y d < 10 ^ 38)
     → (z : Money) × (coins_added x y ≡ Ok z)
+
+-- a sum of amounts reaches the limit, and this carries the first in the order of the second list
+abbrev pub IsFirstOver : Money → Money → Over → Type 0
+IsFirstOver x [] over = ⊥
+IsFirstOver x (c ∷ cs) over =
+    ((10 ^ 38 ≤ amount_of x c.0 + c.1) × (over ≡ sum_over (amount_of x c.0) c.1))
+    ⊎ ((amount_of x c.0 + c.1 < 10 ^ 38) × IsFirstOver x cs over)
+
+-- a sum that is over carries the first such
+abbrev pub SumIsOverAtFirst : Type 0
+SumIsOverAtFirst = (x y : Money) (over : Over) → IsMoney x → IsMoney y → coins_added x y ≡ Err over → IsFirstOver x y over
 
 -- no coin is short exactly where each amount of the second list is at most that of the first
 abbrev pub ShortByAmounts : Type 0

@@ -1,17 +1,19 @@
 //! What the definitions mean, amount by amount: laws as functions that do nothing, whose contracts are
 //! the laws.
 
-ghost use Rattle.stk_coins.specs.Laws.{DecimalsByAmounts, DifferenceByAmounts, PartsByAmounts, ProductsByAmounts, SameAmountsSameList, ShortByAmounts, SmallerByAmounts, SortedByAmounts, SumByAmounts, SumIsOver};
+ghost use Rattle.stk_coins.specs.Laws.{DecimalsByAmounts, DifferenceByAmounts, PartsByAmounts, ProductsByAmounts, SameAmountsSameList, ShortByAmounts, SmallerByAmounts, SortedByAmounts, SumByAmounts, SumIsOver, SumIsOverAtFirst};
 
 /// Two lists of coins with the same amounts are the same list.
 pub fn same_amounts_same_list()
     ensures { SameAmountsSameList }
 {}
 
-/// A sum has of each denomination the sum of the amounts, and is over only where one of these is.
+/// A sum has of each denomination the sum of the amounts, and is over only where one of these is, with the
+/// operands of the first.
 pub fn sum_by_amounts()
     ensures amounts { SumByAmounts }
     ensures over { SumIsOver }
+    ensures first { SumIsOverAtFirst }
 {}
 
 /// No coin is short exactly where each amount is at most the other list's, and a difference has of each

@@ -4,7 +4,7 @@ use crate::{Coin, CoinFault, Coins, DecCoin, DecCoins};
 use std::process::Abort;
 use std::test::Fail;
 use stk_dec::{Dec, LIMIT, Over, OverKind};
-use stk_types::{Copied, Denom};
+use stk_types::{Copied, Denom, TableFault};
 
 fn denom(rt: &impl Abort, name: &str) -> Denom {
     Denom::of(name.as_bytes()).expect(rt, "a denomination")
@@ -205,7 +205,24 @@ fn coins_in_any_order_are_sorted_without_zeros(rt: HostRuntime) -> Result<(), Fa
     let list = coins(&rt, &[("uosmo", 4), ("b1x", 0), ("uatom", 2)])?;
     expect_coins(&rt, &list, &[("uatom", 2), ("uosmo", 4)]);
     assert_eq!(rt; list.amount_of(&denom(&rt, "b1x")), 0);
-    expect_coins(&rt, &list.copied()?, &[("uatom", 2), ("uosmo", 4)]);
+    Ok(())
+}
+
+fn copy_of<T: Copied>(value: &T) -> Result<T, TableFault> {
+    value.copied()
+}
+
+#[test]
+fn copies_are_equal(rt: HostRuntime) -> Result<(), Fail> {
+    let list = coins(&rt, &[("uatom", 2), ("uosmo", 4)])?;
+    expect_coins(&rt, &copy_of(&list)?, &[("uatom", 2), ("uosmo", 4)]);
+    let decimals = DecCoins::of_coins(rt.alloc(), &list)?;
+    let copy = copy_of(&decimals)?;
+    assert_eq!(rt; copy.len(), 2);
+    let coin = copy.at(1).expect(&rt, "a coin");
+    assert!(rt; copy_of(coin)? == *coin);
+    let whole = list.at(0).expect(&rt, "a coin");
+    assert!(rt; copy_of(whole)? == *whole);
     Ok(())
 }
 
