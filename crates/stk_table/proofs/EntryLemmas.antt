@@ -12,7 +12,7 @@ use Rattle.std.specs.BTreeMap.{insert_entry, is_at}
 use Rattle.std.proofs.lemmas.Map.Keys.{sorted_head, sorted_tail}
 use Rattle.stk_table.specs.Restored.{with_entry}
 
-equal : (r : Ordering) → is_eq r ≡ true → r ≡ Equal
+pub equal : (r : Ordering) → is_eq r ≡ true → r ≡ Equal
 equal Less h = cc
 equal Equal h = refl
 equal Greater h = cc
@@ -82,7 +82,7 @@ module _ {K : Type 0} {R : K → K → Ordering} (o : IsTotalOrder R) where
         ] refl
 
     -- no entry stands at a key below all
-    entry_below : (q x : K) (es : List (K × X)) → is_at (R q) x ≡ true → AllByRecursion (λ y. R x y ≡ Less) (keys_of es) → lookup_entry (is_at (R q)) es ≡ None
+    pub entry_below : (q x : K) (es : List (K × X)) → is_at (R q) x ≡ true → AllByRecursion (λ y. R x y ≡ Less) (keys_of es) → lookup_entry (is_at (R q)) es ≡ None
     entry_below q x [] t below = refl
     entry_below q x (e ∷ es) t below = ap (λ r. cond (is_eq r) (Some e) (lookup_entry (is_at (R q)) es)) (o.congr q x e.0 (equal _ t) ∙ below.0) ∙ entry_below q x es t below.1
 
@@ -126,15 +126,15 @@ module _ {K : Type 0} {R : K → K → Ordering} (o : IsTotalOrder R) where
       | false ↦ (h.0, all_without P test es h.1)
     ]
 
-    below_less : (x y : K) (es : List (K × X)) → R x y ≡ Less → AllByRecursion (λ z. R y z ≡ Less) (keys_of es) → AllByRecursion (λ z. R x z ≡ Less) (keys_of es)
+    pub below_less : (x y : K) (es : List (K × X)) → R x y ≡ Less → AllByRecursion (λ z. R y z ≡ Less) (keys_of es) → AllByRecursion (λ z. R x z ≡ Less) (keys_of es)
     below_less x y [] p h = tt
     below_less x y (e ∷ es) p h = (o.trans x y e.0 p h.0, below_less x y es p h.1)
 
-    below_tied : (x y : K) (es : List (K × X)) → R x y ≡ Equal → AllByRecursion (λ z. R y z ≡ Less) (keys_of es) → AllByRecursion (λ z. R x z ≡ Less) (keys_of es)
+    pub below_tied : (x y : K) (es : List (K × X)) → R x y ≡ Equal → AllByRecursion (λ z. R y z ≡ Less) (keys_of es) → AllByRecursion (λ z. R x z ≡ Less) (keys_of es)
     below_tied x y [] p h = tt
     below_tied x y (e ∷ es) p h = (o.congr x y e.0 p ∙ h.0, below_tied x y es p h.1)
 
-    sorted-cons : (e : K × X) (es : List (K × X)) → AllByRecursion (λ y. R e.0 y ≡ Less) (keys_of es) → IsStrictlySortedBy R (keys_of es) → IsStrictlySortedBy R (keys_of (e ∷ es))
+    pub sorted-cons : (e : K × X) (es : List (K × X)) → AllByRecursion (λ y. R e.0 y ≡ Less) (keys_of es) → IsStrictlySortedBy R (keys_of es) → IsStrictlySortedBy R (keys_of (e ∷ es))
     unfolding IsStrictlySortedBy
     sorted-cons e es below sorted = (below, sorted)
 

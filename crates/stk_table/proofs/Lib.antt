@@ -1,6 +1,9 @@
 pub mod CallerLemmas
-pub mod CopyLemmas
 pub mod EntryLemmas
+pub mod KeptLemmas
 pub mod MarkLemmas
+pub mod PlaceLemmas
 pub mod RestoredLemmas
 pub mod TouchLemmas
+pub mod UndoLemmas
+pub mod WalkLemmas

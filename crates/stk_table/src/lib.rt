@@ -6,7 +6,11 @@
 mod change;
 mod laws;
 mod mark;
+mod places;
+mod slot;
 mod table;
+mod undo;
+mod walk;
 
 pub use laws::going_back_by_example;
 pub use mark::Mark;

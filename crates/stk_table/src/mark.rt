@@ -1,10 +1,7 @@
-ghost use Rattle.std.specs.Prelude.{◌≡◌, ◌++◌, ◌∷◌, [], map, IfOk, OnOk, OnErr};
-ghost use Rattle.std.specs.List.Sorted.{IsStrictlySortedBy};
-ghost use Rattle.std.specs.Map.{keys_of};
+//! An open mark.
 
-use std::alloc::Global;
-use std::collections::BTreeMap;
-use std::hash::Hash;
+ghost use Rattle.std.specs.Prelude.{◌≡◌};
+
 use std::marker::Model;
 use stk_types::{Copied, TableFault};
 
@@ -34,36 +31,4 @@ impl Mark {
     pub(crate) fn end(self) {
         let Mark { depth: _ } = self;
     }
-}
-
-/// Notes a copy of the entries above the marked ones.
-pub(crate) fn note<K: Ord + Hash + Copied, V: Copied>(
-    alloc: Global,
-    marks: &mut Vec<BTreeMap<K, V>>,
-    tree: &BTreeMap<K, V>,
-) -> Result<(), TableFault>
-    ensures ok { OnOk result (map (λ m. m.entries) marks.new.items ≡ map (λ m. m.entries) marks.old.items ++ tree.now.entries ∷ []) }
-    ensures ordered { IsStrictlySortedBy K.cmp (keys_of tree.now.entries) }
-    ensures err { OnErr result (marks.new.items ≡ marks.old.items) }
-{
-    let copy = copy_of(alloc, tree)?;
-    marks.push(copy)?;
-    Ok(())
-}
-
-/// A copy of each entry.
-fn copy_of<K: Ord + Hash + Copied, V: Copied>(
-    alloc: Global,
-    tree: &BTreeMap<K, V>,
-) -> Result<BTreeMap<K, V>, TableFault>
-    ensures same { IfOk result (λ copy. copy.entries ≡ tree.now.entries) }
-    ensures ordered { IsStrictlySortedBy K.cmp (keys_of tree.now.entries) }
-{
-    // It tells that the keys ascend, so each copy goes last.
-    let _ = tree.len();
-    let mut copy = BTreeMap::new(alloc);
-    for (key, value) in tree.iter() {
-        copy.insert(key.copied()?, value.copied()?)?;
-    }
-    Ok(copy)
 }

@@ -1,17 +1,16 @@
-ghost use Rattle.std.specs.Prelude.{◌≡◌, ◌+◌, [], length, if◌then◌else◌, is_some, option_map, IfOk, OnOk, OnErr, IsErrOf, IsTrue, ◌↔◌};
+ghost use Rattle.std.specs.Prelude.{◌≡◌, ◌+◌, [], false, length, ◌<◌, IsOk, if◌then◌else◌, is_some, option_map, IfOk, OnOk, OnErr, IsErrOf, IsTrue, ◌↔◌};
 ghost use Rattle.std.specs.List.Sorted.{IsStrictlySortedBy};
 ghost use Rattle.std.specs.Map.{keys_of};
 ghost use Rattle.std.specs.Option.{option_copied};
 ghost use Rattle.stk_table.specs.Tabled.{empty_table, entry_above, entry_from, settled_now, spent_now, value_at, with_mark, with_value, without_key, IsForgotten, IsGoneBack, TellsSettled};
 
 use crate::change::{take_out, write};
-use crate::mark::{Mark, note};
+use crate::mark::Mark;
+use crate::places::Places;
 use indexmap::IndexMap;
 use std::alloc::Global;
-use std::collections::BTreeMap;
 use std::hash::Hash;
 use std::marker::Model;
-use std::ops::Bound;
 use std::sync::ledger::Ledger;
 use stk_types::{Copied, Steps, TableFault};
 
@@ -19,26 +18,25 @@ use stk_types::{Copied, Steps, TableFault};
 /// it was last settled. Contracts see it as a `Tabled`.
 ///
 /// Keys that compare equal are one key, which is kept and listed as it was first put. Marks nest: the
-/// latest open one is gone back to or forgotten first.
+/// latest open one is gone back to or forgotten first. A mark keeps no copy: while one is open, each change
+/// notes what undoes it.
 #[derive(Drop)]
 pub struct Table<K: Ord + Hash + Copied, V: Copied> {
     alloc: Global,
-    tree: BTreeMap<K, V>,
-    marks: Vec<BTreeMap<K, V>>,
+    places: Places<K, V>,
     touched: IndexMap<K, Option<V>>,
     spent: bool,
 }
 
 impl<K: Ord + Hash + Copied, V: Copied> Model for Table<K, V> {
-    ghost use Rattle.std.specs.Prelude.{map};
     ghost use Rattle.stk_table.specs.Restored.{restored, MarksRestore};
     ghost use Rattle.stk_table.specs.Tabled.{Tabled};
 
     ghost Value = { Tabled K V };
 
-    ghost view = { λ t. record { entries = t.tree.entries; marks = map (λ m. m.entries) t.marks.items; touched = t.touched.entries; settled = restored K.cmp t.touched.entries t.tree.entries; spent = t.spent } };
+    ghost view = { λ t. record { entries = t.places.entries; marks = t.places.marks; touched = t.touched.entries; settled = restored K.cmp t.touched.entries t.places.entries; spent = t.spent } };
 
-    ghost invariant = { λ t. MarksRestore K.cmp t.touched.entries (restored K.cmp t.touched.entries t.tree.entries) (map (λ m. m.entries) t.marks.items) };
+    ghost invariant = { λ t. MarksRestore K.cmp t.touched.entries (restored K.cmp t.touched.entries t.places.entries) t.places.marks };
 }
 
 impl<K: Ord + Hash + Copied, V: Copied> Table<K, V> {
@@ -48,8 +46,7 @@ impl<K: Ord + Hash + Copied, V: Copied> Table<K, V> {
     {
         Table {
             alloc,
-            tree: BTreeMap::new(alloc),
-            marks: Vec::new(alloc),
+            places: Places::new(alloc),
             touched: IndexMap::new(alloc),
             spent: false,
         }
@@ -60,7 +57,7 @@ impl<K: Ord + Hash + Copied, V: Copied> Table<K, V> {
         ensures len { result ≡ length self.now.entries }
         ensures ordered { IsStrictlySortedBy K.cmp (keys_of self.now.entries) }
     {
-        self.tree.len()
+        self.places.len()
     }
 
     /// The value under a key, or None where nothing stands under it. It counts one step.
@@ -69,7 +66,10 @@ impl<K: Ord + Hash + Copied, V: Copied> Table<K, V> {
         ensures cost { steps.new ≡ steps.old + 1 }
     {
         steps.tick();
-        self.tree.get(key)
+        match self.places.get(key) {
+            Some((_, value)) => Some(value),
+            None => None,
+        }
     }
 
     /// Puts a value under a key, and touches the key. It counts one step.
@@ -91,7 +91,7 @@ impl<K: Ord + Hash + Copied, V: Copied> Table<K, V> {
         if self.spent {
             return Err(TableFault::Spent);
         }
-        match write(&mut self.touched, &mut self.tree, key, value) {
+        match write(&mut self.touched, &mut self.places, key, value) {
             Ok(()) => Ok(()),
             Err(_) => {
                 self.spent = true;
@@ -120,7 +120,7 @@ impl<K: Ord + Hash + Copied, V: Copied> Table<K, V> {
         if self.spent {
             return Err(TableFault::Spent);
         }
-        match take_out(&mut self.touched, &mut self.tree, key) {
+        match take_out(&mut self.touched, &mut self.places, key) {
             Ok(value) => Ok(value),
             Err(_) => {
                 self.spent = true;
@@ -135,13 +135,7 @@ impl<K: Ord + Hash + Copied, V: Copied> Table<K, V> {
         ensures above { option_map (λ entry. (entry.0.now, entry.1.now)) result ≡ entry_above K.cmp self.now.entries (option_copied after.entry) }
         ensures cost { steps.new ≡ steps.old + (if is_some result then 1 else 0) }
     {
-        let entry = match after {
-            None => self.tree.iter().next(),
-            Some(key) => self
-                .tree
-                .range((Bound::Excluded(key), Bound::Unbounded))
-                .next(),
-        };
+        let entry = self.places.next(after);
         count_item(&entry, steps);
         entry
     }
@@ -152,28 +146,28 @@ impl<K: Ord + Hash + Copied, V: Copied> Table<K, V> {
         ensures from { option_map (λ entry. (entry.0.now, entry.1.now)) result ≡ entry_from K.cmp self.now.entries from.now }
         ensures cost { steps.new ≡ steps.old + (if is_some result then 1 else 0) }
     {
-        let entry = self
-            .tree
-            .range((Bound::Included(from), Bound::Unbounded))
-            .next();
+        let entry = self.places.seek(from);
         count_item(&entry, steps);
         entry
     }
 
-    /// Opens a mark above those that are open. Where memory is wanting it answers `NoMemory`, and nothing
-    /// changes.
+    /// Opens a mark above those that are open. It keeps no copy and takes no memory: of a table that is not
+    /// spent it succeeds, unless as many marks are open as a `usize` counts. Then it answers `NoMemory`, and
+    /// nothing changes.
     pub fn mark(&mut self) -> Result<Mark, TableFault>
         ensures depth { IfOk result (λ mark. mark ≡ length self.old.marks) }
         ensures ok { OnOk result (self.new ≡ with_mark self.old) }
         ensures err { OnErr result (self.new ≡ self.old) }
         ensures spent { IsErrOf result TableFault.Spent ↔ IsTrue self.old.spent }
+        ensures succeeds { self.old.spent ≡ false → length self.old.marks < usize.MAX → IsOk result }
     {
         if self.spent {
             return Err(TableFault::Spent);
         }
-        let depth = self.marks.len();
-        match note(self.alloc, &mut self.marks, &self.tree) {
-            Ok(()) => Ok(Mark::above(depth)),
+        // It tells that the keys ascend.
+        let _ = self.places.len();
+        match self.places.mark() {
+            Ok(depth) => Ok(Mark::above(depth)),
             Err(_) => Err(TableFault::NoMemory),
         }
     }
@@ -185,7 +179,7 @@ impl<K: Ord + Hash + Copied, V: Copied> Table<K, V> {
         ensures { IsGoneBack self.old self.new }
     {
         mark.end();
-        self.tree = self.marks.pop().unwrap();
+        self.places.back();
     }
 
     /// Closes the latest open mark and keeps the entries as they are. It takes no memory.
@@ -194,8 +188,7 @@ impl<K: Ord + Hash + Copied, V: Copied> Table<K, V> {
         ensures { IsForgotten self.old self.new }
     {
         mark.end();
-        let last = self.marks.pop().unwrap();
-        drop(last);
+        self.places.forget();
     }
 
     /// The keys put or removed since the table was last settled, in the order of their first touch, each
@@ -205,7 +198,7 @@ impl<K: Ord + Hash + Copied, V: Copied> Table<K, V> {
         ensures settled { TellsSettled K.cmp self.now }
     {
         // They tell that the keys ascend, and that none is listed twice.
-        let _ = self.tree.len();
+        let _ = self.places.len();
         let _ = self.touched.len();
         &self.touched
     }

@@ -106,3 +106,67 @@ fn marks_of_10000_keys_nest(rt: HostRuntime) -> Result<(), Fail> {
     assert!(rt; len == 10_000);
     Ok(())
 }
+
+/// How many entries a table has, the values of the entries above 1, from 2 on and at 2, and how many keys are
+/// listed once it is settled.
+type Seen = (usize, Option<u64>, Option<u64>, Option<u64>, usize);
+
+/// What is seen of the keys 1, 2 and 3 once 2 was taken out while a mark is open.
+fn seen_without_2<L: Ledger>(alloc: Global, blank: Blank) -> Result<Seen, TableFault>
+    requires name { blank.name ≡ L.name }
+    requires parts { blank.parts ≡ L.parts }
+    requires some { 0 < L.parts }
+{
+    let mut steps: Steps<L> = Steps::new(blank);
+    let mut table: Table<u64, u64> = Table::new(alloc);
+    table.put(&1, 10, &mut steps)?;
+    table.put(&2, 20, &mut steps)?;
+    table.put(&3, 30, &mut steps)?;
+    let mark = table.mark()?;
+    table.remove(&2, &mut steps)?;
+    let above = table.next(Some(&1), &mut steps).map(|entry| *entry.1);
+    let from = table.seek(&2, &mut steps).map(|entry| *entry.1);
+    let value = table.get(&2, &mut steps).copied();
+    let len = table.len();
+    table.forget(mark);
+    table.settle();
+    Ok((len, above, from, value, table.touched().len()))
+}
+
+#[test]
+fn a_key_that_is_taken_out_is_not_seen(rt: HostRuntime) -> Result<(), Fail> {
+    let seen = seen_without_2::<Brand>(rt.alloc(), Blank::new(1))?;
+    assert!(rt; seen == (2, Some(30), Some(30), None, 0));
+    Ok(())
+}
+
+/// The value of 1, which had 10 before: under the first of two marks it is taken out, under the second it is
+/// put again. It is read once gone back to the second mark, and once gone back to the first.
+fn values_of_1<L: Ledger>(
+    alloc: Global,
+    blank: Blank,
+) -> Result<(Option<u64>, Option<u64>, Option<u64>), TableFault>
+    requires name { blank.name ≡ L.name }
+    requires parts { blank.parts ≡ L.parts }
+    requires some { 0 < L.parts }
+{
+    let mut steps: Steps<L> = Steps::new(blank);
+    let mut table: Table<u64, u64> = Table::new(alloc);
+    table.put(&1, 10, &mut steps)?;
+    let first = table.mark()?;
+    let taken = table.remove(&1, &mut steps)?;
+    let second = table.mark()?;
+    table.put(&1, 11, &mut steps)?;
+    table.back_to(second);
+    let without = table.get(&1, &mut steps).copied();
+    table.back_to(first);
+    let with = table.get(&1, &mut steps).copied();
+    Ok((taken, without, with))
+}
+
+#[test]
+fn a_key_that_was_put_again_goes_back(rt: HostRuntime) -> Result<(), Fail> {
+    let values = values_of_1::<Brand>(rt.alloc(), Blank::new(1))?;
+    assert!(rt; values == (Some(10), None, Some(10)));
+    Ok(())
+}
