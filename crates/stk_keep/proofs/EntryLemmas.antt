@@ -1,0 +1,209 @@
+-- Lists of numbers by key: their order, a number after a change, and sums over some of the keys.
+use Rattle.std.proofs.Common.{◌≡◌, ◌∙◌, ℕ, ◌+◌, ◌≤◌, ◌==◌, Bool, true, false, cond, List, [], ◌∷◌, Option, Some, None, refl, sym, ap, arith}
+use Rattle.std.specs.Prelude.{All, ◌<◌, unwrap_or, if◌then◌else◌}
+use Rattle.std.proofs.lemmas.List.Elements.{All-cons, All-head, All-tail}
+use Rattle.std.proofs.lemmas.Bool.Decides.{nat_tests}
+use Rattle.std.proofs.lemmas.Map.{lookup-none, lookup-remove_entry}
+use Rattle.std.proofs.lemmas.Map.Keys.{IsDistinct-from_sorted, sorted_tail}
+use Rattle.std.proofs.lemmas.Map.Entries.{none_below_head}
+use Rattle.std.specs.declared.cmp.Ordering.{Ordering}
+use Rattle.std.specs.declared.cmp.Ordering.TheVariants.{Less, Equal, Greater}
+use Rattle.std.specs.Ordering.{eq_by_cmp, is_eq, match_ordering, ordering_reverse}
+use Rattle.std.specs.Cmp.{IsTotalOrder, eq_by_cmp_equiv}
+use Rattle.std.specs.List.{AllByRecursion}
+use Rattle.std.specs.List.Sorted.{IsStrictlySortedBy}
+use Rattle.std.specs.Map.{keys_of, lookup, remove_entry}
+use Rattle.std.specs.BTreeMap.{insert_entry, is_at}
+use Rattle.std.specs.FinMap.Entries.{by_order, put, find, find-put}
+use Rattle.stk_keep.specs.Entries.{number_at, with_number, sum_where}
+
+-- ---- what a key has after an entry was put
+
+put_is : {K X : Type 0} (R : K → K → Ordering) (es : List (K × X)) (k : K) (v : X) → insert_entry R es k v ≡ put R k v es
+put_is R [] k v = refl
+put_is R (e ∷ es) k v = elim (R k e.0) as (λ r. match_ordering r ((k, v) ∷ e ∷ es) ((e.0, v) ∷ es) (e ∷ insert_entry R es k v) ≡ by_order r ((k, v) ∷ e ∷ es) ((e.0, v) ∷ es) (e ∷ put R k v es)) [ Less ↦ refl | Equal ↦ refl | Greater ↦ ap (λ t. e ∷ t) (put_is R es k v) ]
+
+find_is : {K X : Type 0} (R : K → K → Ordering) (es : List (K × X)) (q : K) → lookup (is_at (R q)) es ≡ find R q es
+find_is R [] q = refl
+find_is R (e ∷ es) q = ap (λ t. cond (is_at (R q) e.0) (Some e.1) t) (find_is R es q)
+
+lookup-put : {K X : Type 0} {R : K → K → Ordering} → IsTotalOrder R → (es : List (K × X)) (k q : K) (v : X) → lookup (is_at (R q)) (insert_entry R es k v) ≡ cond (is_at (R q) k) (Some v) (lookup (is_at (R q)) es)
+lookup-put {R = R} o es k q v = find_is R (insert_entry R es k v) q ∙ ap (find R q) (put_is R es k v) ∙ find-put R o q k v es ∙ sym (ap (cond (is_at (R q) k) (Some v)) (find_is R es q))
+
+module _ {K : Type 0} (cmp : K → K → Ordering) (o : IsTotalOrder cmp) where
+  one_key : (k x y : K) → is_at (cmp k) x ≡ true → is_at (cmp k) y ≡ eq_by_cmp cmp x y
+  one_key k x y h = (eq_by_cmp_equiv o).congr k x y h
+
+  same_way : (k q : K) → is_at (cmp k) q ≡ is_at (cmp q) k
+  same_way k q = (eq_by_cmp_equiv o).symm k q
+
+  none_or : (b : Bool) (x : Option ℕ) → unwrap_or (cond b None x) 0 ≡ cond b 0 (unwrap_or x 0)
+  none_or true x = refl
+  none_or false x = refl
+
+  some_or : (b : Bool) (n : ℕ) (x : Option ℕ) → unwrap_or (cond b (Some n) x) 0 ≡ cond b n (unwrap_or x 0)
+  some_or true n x = refl
+  some_or false n x = refl
+
+  after : (b : Bool) (es : List (K × ℕ)) (k q : K) (n : ℕ) → (b ≡ true → n ≡ 0) → IsStrictlySortedBy cmp (keys_of es)
+      → number_at cmp (if b then remove_entry (is_at (cmp k)) es else insert_entry cmp es k n) q ≡ cond (is_at (cmp q) k) n (number_at cmp es q)
+  after true es k q n z s = ap (λ r. unwrap_or r 0) (lookup-remove_entry (eq_by_cmp_equiv o) (is_at (cmp k)) (one_key k) q es (IsDistinct-from_sorted cmp (keys_of es) s))
+      ∙ none_or (is_at (cmp k) q) (lookup (is_at (cmp q)) es) ∙ (λ i. cond (same_way k q i) (sym (z refl) i) (number_at cmp es q))
+  after false es k q n z s = ap (λ r. unwrap_or r 0) (lookup-put o es k q n) ∙ some_or (is_at (cmp q) k) n (lookup (is_at (cmp q)) es)
+
+  -- the number at a key after a change at another or the same
+  pub number-after : (es : List (K × ℕ)) (k q : K) (n : ℕ) → IsStrictlySortedBy cmp (keys_of es)
+      → number_at cmp (with_number cmp es k n) q ≡ cond (is_at (cmp q) k) n (number_at cmp es q)
+  number-after es k q n s = after (n == 0) es k q n (λ h. grind (arith, nat_tests)) s
+
+  -- ---- keys stay in order
+
+  all-removed : (P : K → Type 0) (k : K) (es : List (K × ℕ)) → AllByRecursion P (keys_of es) → AllByRecursion P (keys_of (remove_entry (is_at (cmp k)) es))
+  all-removed P k [] h = h
+  all-removed P k (e ∷ es) h = by (is_at (cmp k) e.0) (all-removed P k es h.1)
+    where
+      by : (b : Bool) → AllByRecursion P (keys_of (remove_entry (is_at (cmp k)) es)) → AllByRecursion P (keys_of (cond b es (e ∷ remove_entry (is_at (cmp k)) es)))
+      by true later = h.1
+      by false later = (h.0, later)
+
+  ascend-removed : (k : K) (es : List (K × ℕ)) → IsStrictlySortedBy cmp (keys_of es) → IsStrictlySortedBy cmp (keys_of (remove_entry (is_at (cmp k)) es))
+  unfolding IsStrictlySortedBy
+  ascend-removed k [] s = s
+  ascend-removed k (e ∷ es) s = by (is_at (cmp k) e.0) (ascend-removed k es s.1)
+    where
+      by : (b : Bool) → IsStrictlySortedBy cmp (keys_of (remove_entry (is_at (cmp k)) es)) → IsStrictlySortedBy cmp (keys_of (cond b es (e ∷ remove_entry (is_at (cmp k)) es)))
+      by true later = s.1
+      by false later = (all-removed (λ y. cmp e.0 y ≡ Less) k es s.0, later)
+
+  all-put : (P : K → Type 0) (k : K) (n : ℕ) (es : List (K × ℕ)) → P k → AllByRecursion P (keys_of es) → AllByRecursion P (keys_of (insert_entry cmp es k n))
+  all-put P k n [] p h = (p, h)
+  all-put P k n (e ∷ es) p h = by (cmp k e.0) (all-put P k n es p h.1)
+    where
+      by : (r : Ordering) → AllByRecursion P (keys_of (insert_entry cmp es k n)) → AllByRecursion P (keys_of (match_ordering r ((k, n) ∷ e ∷ es) ((e.0, n) ∷ es) (e ∷ insert_entry cmp es k n)))
+      by Less later = (p, h)
+      by Equal later = h
+      by Greater later = (h.0, later)
+
+  all-below : (k x : K) (ks : List K) → cmp k x ≡ Less → AllByRecursion (λ y. cmp x y ≡ Less) ks → AllByRecursion (λ y. cmp k y ≡ Less) ks
+  all-below k x [] p h = h
+  all-below k x (y ∷ ks) p h = (o.trans k x y p h.0, all-below k x ks p h.1)
+
+  ascend-put : (k : K) (n : ℕ) (es : List (K × ℕ)) → IsStrictlySortedBy cmp (keys_of es) → IsStrictlySortedBy cmp (keys_of (insert_entry cmp es k n))
+  unfolding IsStrictlySortedBy
+  ascend-put k n [] s = (tt, tt)
+  ascend-put k n (e ∷ es) s = by (cmp k e.0) refl (ascend-put k n es s.1)
+    where
+      by : (r : Ordering) → cmp k e.0 ≡ r → IsStrictlySortedBy cmp (keys_of (insert_entry cmp es k n)) → IsStrictlySortedBy cmp (keys_of (match_ordering r ((k, n) ∷ e ∷ es) ((e.0, n) ∷ es) (e ∷ insert_entry cmp es k n)))
+      by Less p later = ((p, all-below k e.0 (keys_of es) p s.0), s)
+      by Equal p later = s
+      by Greater p later = (all-put (λ y. cmp e.0 y ≡ Less) k n es (o.antisymm e.0 k ∙ ap ordering_reverse p) s.0, later)
+
+  ascend-if : (b : Bool) (es : List (K × ℕ)) (k : K) (n : ℕ) → IsStrictlySortedBy cmp (keys_of es) → IsStrictlySortedBy cmp (keys_of (if b then remove_entry (is_at (cmp k)) es else insert_entry cmp es k n))
+  ascend-if true es k n s = ascend-removed k es s
+  ascend-if false es k n s = ascend-put k n es s
+
+  pub ascend-after : (es : List (K × ℕ)) (k : K) (n : ℕ) → IsStrictlySortedBy cmp (keys_of es) → IsStrictlySortedBy cmp (keys_of (with_number cmp es k n))
+  ascend-after es k n s = ascend-if (n == 0) es k n s
+
+  -- ---- no number is 0
+
+  abbrev pub Positive : List (K × ℕ) → Type 0
+  Positive es = All (λ e. 0 < e.1) es
+
+  positive-removed : (k : K) (es : List (K × ℕ)) → Positive es → Positive (remove_entry (is_at (cmp k)) es)
+  positive-removed k [] h = h
+  positive-removed k (e ∷ es) h = by (is_at (cmp k) e.0) (positive-removed k es (All-tail (λ (d : K × ℕ). 0 < d.1) e es h))
+    where
+      by : (b : Bool) → Positive (remove_entry (is_at (cmp k)) es) → Positive (cond b es (e ∷ remove_entry (is_at (cmp k)) es))
+      by true later = All-tail (λ (d : K × ℕ). 0 < d.1) e es h
+      by false later = All-cons (λ (d : K × ℕ). 0 < d.1) e (remove_entry (is_at (cmp k)) es) (All-head (λ (d : K × ℕ). 0 < d.1) e es h) later
+
+  positive-put : (k : K) (n : ℕ) (es : List (K × ℕ)) → 0 < n → Positive es → Positive (insert_entry cmp es k n)
+  positive-put k n [] p h = All-cons (λ (d : K × ℕ). 0 < d.1) (k, n) [] p h
+  positive-put k n (e ∷ es) p h = by (cmp k e.0) (positive-put k n es p (All-tail (λ (d : K × ℕ). 0 < d.1) e es h))
+    where
+      by : (r : Ordering) → Positive (insert_entry cmp es k n) → Positive (match_ordering r ((k, n) ∷ e ∷ es) ((e.0, n) ∷ es) (e ∷ insert_entry cmp es k n))
+      by Less later = All-cons (λ (d : K × ℕ). 0 < d.1) (k, n) (e ∷ es) p h
+      by Equal later = All-cons (λ (d : K × ℕ). 0 < d.1) (e.0, n) es p (All-tail (λ (d : K × ℕ). 0 < d.1) e es h)
+      by Greater later = All-cons (λ (d : K × ℕ). 0 < d.1) e (insert_entry cmp es k n) (All-head (λ (d : K × ℕ). 0 < d.1) e es h) later
+
+  positive-if : (b : Bool) (k : K) (n : ℕ) (es : List (K × ℕ)) → (b ≡ false → 0 < n) → Positive es → Positive (if b then remove_entry (is_at (cmp k)) es else insert_entry cmp es k n)
+  positive-if true k n es z h = positive-removed k es h
+  positive-if false k n es z h = positive-put k n es (z refl) h
+
+  pub positive-after : (es : List (K × ℕ)) (k : K) (n : ℕ) → Positive es → Positive (with_number cmp es k n)
+  positive-after es k n h = positive-if (n == 0) k n es (λ e. grind (arith, nat_tests)) h
+
+  -- ---- the sum of the numbers at the keys that pass a test
+
+  module _ (w : K → Bool) where
+    -- the keys that one key finds pass the test as it does
+    abbrev pub Respects : Type 0
+    Respects = (k x : K) → cmp k x ≡ Equal → w x ≡ w k
+
+    removed_by : (r : Ordering) (x k : K) (e1 n s s' : ℕ) → cmp k x ≡ r → Respects → s' + cond (w k) n 0 ≡ s
+        → (cond (is_eq r) s (cond (w x) e1 0 + s')) + cond (w k) (cond (is_eq r) e1 n) 0 ≡ cond (w x) e1 0 + s
+    removed_by Equal x k e1 n s s' p h later = rw (h k x p) (omega arith)
+    removed_by Less x k e1 n s s' p h later = omega arith
+    removed_by Greater x k e1 n s s' p h later = omega arith
+
+    number_if : (r : Ordering) (e1 : ℕ) (x : Option ℕ) → unwrap_or (cond (is_eq r) (Some e1) x) 0 ≡ cond (is_eq r) e1 (unwrap_or x 0)
+    number_if Equal e1 x = refl
+    number_if Less e1 x = refl
+    number_if Greater e1 x = refl
+
+    sum_if : (b : Bool) (e : K × ℕ) (es fs : List (K × ℕ)) → sum_where w (cond b es (e ∷ fs)) ≡ cond b (sum_where w es) (cond (w e.0) e.1 0 + sum_where w fs)
+    sum_if true e es fs = refl
+    sum_if false e es fs = refl
+
+    sum-removed : (k : K) (es : List (K × ℕ)) → Respects → sum_where w (remove_entry (is_at (cmp k)) es) + cond (w k) (number_at cmp es k) 0 ≡ sum_where w es
+    sum-removed k [] h = by (w k)
+      where
+        by : (b : Bool) → 0 + cond b 0 0 ≡ 0
+        by true = refl
+        by false = refl
+    sum-removed k (e ∷ es) h =
+        rw (sum_if (is_at (cmp k) e.0) e es (remove_entry (is_at (cmp k)) es), number_if (cmp k e.0) e.1 (lookup (is_at (cmp k)) es))
+        (removed_by (cmp k e.0) e.0 k e.1 (number_at cmp es k) (sum_where w es) (sum_where w (remove_entry (is_at (cmp k)) es)) refl h (sum-removed k es h))
+
+    sum-put : (k : K) (n : ℕ) (es : List (K × ℕ)) → Respects → IsStrictlySortedBy cmp (keys_of es) → sum_where w (insert_entry cmp es k n) + cond (w k) (number_at cmp es k) 0 ≡ sum_where w es + cond (w k) n 0
+    sum-put k n [] h s = by (w k)
+      where
+        by : (b : Bool) → cond b n 0 + 0 + cond b 0 0 ≡ 0 + cond b n 0
+        by true = omega arith
+        by false = omega arith
+    sum-put k n (e ∷ es) h s = by (cmp k e.0) refl (sum-put k n es h (sorted_tail cmp e.0 (keys_of es) s))
+      where
+        none : cmp k e.0 ≡ Less → number_at cmp es k ≡ 0
+        none p = ap (λ r. unwrap_or r 0) (lookup-none (is_at (cmp k)) es (none_below_head o k e es s p).1)
+
+        by : (r : Ordering) → cmp k e.0 ≡ r → sum_where w (insert_entry cmp es k n) + cond (w k) (number_at cmp es k) 0 ≡ sum_where w es + cond (w k) n 0
+            → sum_where w (match_ordering r ((k, n) ∷ e ∷ es) ((e.0, n) ∷ es) (e ∷ insert_entry cmp es k n)) + cond (w k) (unwrap_or (cond (is_eq r) (Some e.1) (lookup (is_at (cmp k)) es)) 0) 0 ≡ cond (w e.0) e.1 0 + sum_where w es + cond (w k) n 0
+        by Less p later = rw (none p) (zero_if (w k) (cond (w k) n 0) (cond (w e.0) e.1 0 + sum_where w es))
+          where
+            zero_if : (b : Bool) (m t : ℕ) → m + t + cond b 0 0 ≡ t + m
+            zero_if true m t = omega arith
+            zero_if false m t = omega arith
+        by Equal p later = rw (h k e.0 p) (omega arith)
+        by Greater p later = omega arith
+
+    sum-if : (b : Bool) (k : K) (n : ℕ) (es : List (K × ℕ)) → (b ≡ true → n ≡ 0) → Respects → IsStrictlySortedBy cmp (keys_of es)
+        → sum_where w (if b then remove_entry (is_at (cmp k)) es else insert_entry cmp es k n) + cond (w k) (number_at cmp es k) 0 ≡ sum_where w es + cond (w k) n 0
+    sum-if true k n es z h s = sum-removed k es h ∙ zero (w k) n (sum_where w es) (z refl)
+      where
+        zero : (b : Bool) (m t : ℕ) → m ≡ 0 → t ≡ t + cond b m 0
+        zero true m t e = omega arith
+        zero false m t e = omega arith
+    sum-if false k n es z h s = sum-put k n es h s
+
+    -- the sum after a change: less what stood there, and what stands there now
+    pub sum-after : (k : K) (n : ℕ) (es : List (K × ℕ)) → Respects → IsStrictlySortedBy cmp (keys_of es)
+        → sum_where w (with_number cmp es k n) + cond (w k) (number_at cmp es k) 0 ≡ sum_where w es + cond (w k) n 0
+    sum-after k n es h s = sum-if (n == 0) k n es (λ e. grind (arith, nat_tests)) h s
+
+    -- no number is above the sum of those that pass, where its key passes
+    pub number-within : (k : K) (es : List (K × ℕ)) → Respects → w k ≡ true → number_at cmp es k ≤ sum_where w es
+    number-within k es h p =
+        let e : sum_where w (remove_entry (is_at (cmp k)) es) + cond (w k) (number_at cmp es k) 0 ≡ sum_where w es = sum-removed k es h in
+        let f : sum_where w (remove_entry (is_at (cmp k)) es) + number_at cmp es k ≡ sum_where w es = rw p at e in
+        omega (arith, f)

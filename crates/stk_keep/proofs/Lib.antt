@@ -1,0 +1,6 @@
+pub mod EntryLemmas
+pub mod HoldingLemmas
+pub mod HookLemmas
+pub mod AmountLemmas
+pub mod BurnLemmas
+pub mod TrialLemmas

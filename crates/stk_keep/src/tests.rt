@@ -1,0 +1,404 @@
+ghost use Rattle.std.specs.Prelude.{◌≡◌, ◌*◌, ◌<◌, ◌≤◌, ◌^◌, []};
+ghost use Rattle.stk_keep.specs.Answers.{AnswersAs};
+ghost use Rattle.stk_keep.specs.Caller.{sent_between_hooks};
+ghost use Rattle.stk_keep.specs.Ground.{seen, AreInRange, IsInOrder};
+ghost use Rattle.stk_keep.specs.Holdings.{no_holdings};
+ghost use Rattle.stk_keep.specs.Hooks.{Lists, Ready};
+ghost use Rattle.stk_keep.specs.World.{starting};
+
+use crate::laws::{banks_stay_in_order, coins_burn_by_amounts, coins_move_by_amounts};
+use crate::trials::EmptyBank;
+use crate::worked::holdings_by_example;
+use crate::{
+    Bank, BankFault, Commission, CreateValidator, Ctx, Delegation, EditValidator, Evidence, Fact,
+    Facts, Ground, Historical, HookFault, HookPair, Listed, NoHooks, Params, Purse, RecordFault,
+    RedelegationEntry, Refusal, SigningInfo, SlashEvent, StakingHooks, StartingInfo, Stop,
+    UnbondingEntry, Validator, Vote,
+};
+use std::alloc::{AllocError, AllocFailed, Global};
+use std::marker::Brand;
+use std::process::Abort;
+use std::sync::ledger::{Blank, Ledger};
+use std::test::Fail;
+use stk_coins::{Coin, Coins, DecCoin, DecCoins};
+use stk_dec::{Dec, Over, OverKind};
+use stk_types::{
+    Account, Addr, BondStatus, ConsAddr, Copied, Denom, Module, Moment, Steps, TableFault,
+};
+
+/// Sends coins between two hooks, over any bank and any hooks.
+fn send_between_hooks<B: Bank, H: StakingHooks, L: Ledger>(
+    alloc: Global,
+    g: &mut Ground<B>,
+    hooks: &mut H,
+    v: &Validator,
+    who: &Addr,
+    coins: &Coins,
+    shares: Dec,
+    steps: &mut Steps<L>,
+) -> Result<(), Stop>
+    requires ready { (l : Lists) × Ready H.tells (H.held hooks.old) (seen B.holdings g.old) (starting v.now who.now) l }
+    requires some { 0 < shares }
+    requires most { shares ≤ v.now.shares }
+    ensures { AnswersAs (sent_between_hooks H.tells.told v.now who.now coins.now shares (record { mine = tt; hooks = H.held hooks.old; view = seen B.holdings g.old; log = [] })) tt (H.held hooks.new) (seen B.holdings g.new) result }
+{
+    hooks.before_delegation_created(alloc, g, v, who, steps)?;
+    let to = Account::Module(Module::NotBonded);
+    g.bank.send(alloc, &mut g.facts, &Account::User(*who), &to, coins, steps)?;
+    hooks.after_delegation_modified(alloc, g, v, who, shares, steps)?;
+    Ok(())
+}
+
+pub fn dec(rt: &impl Abort, raw: u128) -> Dec
+    ensures { result ≡ raw }
+{
+    Dec::from_raw(raw).expect(rt, "below the limit")
+}
+
+pub fn moment(rt: &impl Abort, nanos: u128) -> Moment
+    ensures { result ≡ nanos }
+{
+    Moment::of(nanos).expect(rt, "before the year 10000")
+}
+
+pub fn user(rt: &impl Abort) -> Addr {
+    Addr::of([7; 20]).expect(rt, "no module's address")
+}
+
+fn atom(rt: &impl Abort) -> Denom {
+    Denom::of(b"uatom").expect(rt, "a denomination")
+}
+
+fn params(rt: &impl Abort) -> Params
+    ensures { AreInRange result }
+{
+    Params {
+        bond_denom: atom(rt),
+        power_reduction: 1_000_000,
+        unbonding_time: 1_814_400,
+        max_validators: 100,
+        max_entries: 7,
+        min_commission_rate: dec(rt, 0),
+        community_tax: dec(rt, 20_000_000_000_000_000),
+        withdraw_addr_enabled: true,
+        signed_blocks_window: 100,
+        min_signed_per_window: dec(rt, 500_000_000_000_000_000),
+        downtime_jail_duration: 600,
+        slash_fraction_double_sign: dec(rt, 50_000_000_000_000_000),
+        slash_fraction_downtime: dec(rt, 10_000_000_000_000_000),
+        max_age_duration: 172_800,
+        max_age_num_blocks: 100_000,
+        authority: user(rt),
+    }
+}
+
+/// An unbonded validator of so many tokens, and of 5 shares.
+pub fn validator(rt: &impl Abort, tokens: u128) -> Validator
+    ensures tokens { result.tokens ≡ tokens }
+    ensures status { result.status ≡ BondStatus.Unbonded }
+    ensures shares { result.shares ≡ 5 * 10 ^ 18 }
+{
+    Validator {
+        operator: user(rt),
+        cons: ConsAddr::of([9; 20]),
+        status: BondStatus::Unbonded,
+        jailed: false,
+        tokens,
+        shares: dec(rt, 5_000_000_000_000_000_000),
+        commission: Commission {
+            rate: dec(rt, 0),
+            max_rate: dec(rt, 0),
+            max_change: dec(rt, 0),
+            updated: moment(rt, 0),
+        },
+        min_self: 1,
+        unbonding_height: 0,
+        unbonding_time: moment(rt, 0),
+    }
+}
+
+fn coins(rt: &(impl Abort + AllocGlobal), amount: u128) -> Result<Coins, Fail>
+    requires { amount < 10 ^ 38 }
+{
+    let mut list = Vec::new(rt.alloc());
+    list.push(Coin {
+        denom: atom(rt),
+        amount,
+    })?;
+    Ok(Coins::of(list)?)
+}
+
+fn dec_coins(rt: &(impl Abort + AllocGlobal), raw: u128) -> Result<DecCoins, Fail> {
+    let mut list = Vec::new(rt.alloc());
+    list.push(DecCoin {
+        denom: atom(rt),
+        amount: dec(rt, raw),
+    })?;
+    Ok(DecCoins::of(list)?)
+}
+
+/// Height 1, over a bank that holds nothing.
+pub fn empty_ground(rt: &(impl Abort + AllocGlobal)) -> Ground<EmptyBank>
+    ensures height { result.ctx.height ≡ 1 }
+    ensures in_order { IsInOrder (seen (λ _. no_holdings) result) }
+{
+    Ground {
+        bank: EmptyBank,
+        ctx: Ctx {
+            height: 1,
+            time: moment(rt, 0),
+            params: params(rt),
+        },
+        facts: Facts::new(rt.alloc()),
+    }
+}
+
+/// What sending coins between hooks that do nothing answers, from a bank that holds nothing.
+fn outcome_of_sending<L: Ledger>(
+    rt: &(impl Abort + AllocGlobal),
+    blank: Blank,
+    coins: &Coins,
+) -> Result<(), Stop>
+    requires name { blank.name ≡ L.name }
+    requires parts { blank.parts ≡ L.parts }
+    requires some { 0 < L.parts }
+{
+    let mut steps: Steps<L> = Steps::new(blank);
+    let mut g = empty_ground(rt);
+    let mut hooks = HookPair {
+        first: NoHooks,
+        second: NoHooks,
+    };
+    let v = validator(rt, 5);
+    let shares = dec(rt, 1);
+    send_between_hooks(
+        rt.alloc(),
+        &mut g,
+        &mut hooks,
+        &v,
+        &v.operator,
+        coins,
+        shares,
+        &mut steps,
+    )
+}
+
+#[test]
+fn a_short_sender_between_hooks_is_refused(rt: HostRuntime) -> Result<(), Fail> {
+    let short = outcome_of_sending::<Brand>(&rt, Blank::new(1), &coins(&rt, 3)?);
+    assert!(rt; short == Err(Stop::Refused(Refusal::InsufficientFunds)));
+    let nothing = outcome_of_sending::<Brand>(&rt, Blank::new(1), &coins(&rt, 0)?);
+    assert!(rt; nothing == Ok(()));
+    Ok(())
+}
+
+#[test]
+fn facts_are_put_at_the_end_and_cut(rt: HostRuntime) -> Result<(), Fail> {
+    let mut facts = Facts::new(rt.alloc());
+    let validator = user(&rt);
+    facts.push(Fact::Jailed { validator })?;
+    facts.push(Fact::Tombstoned { validator })?;
+    assert!(rt; facts.len() == 2);
+    assert!(rt; matches!(facts.at(1), Some(Fact::Tombstoned { .. })));
+    assert!(rt; facts.at(2).is_none());
+    facts.cut(1);
+    assert!(rt; facts.len() == 1);
+    assert!(rt; matches!(facts.at(0), Some(Fact::Jailed { .. })));
+    Ok(())
+}
+
+#[test]
+fn refusals_have_the_numbers_of_printed_lines(rt: HostRuntime) {
+    let over = Over {
+        kind: OverKind::Sum,
+        a: 1,
+        b: 2,
+        c: 0,
+    };
+    assert_eq!(rt; Refusal::InsufficientFunds.number(), 1);
+    assert_eq!(rt; Refusal::NoDelegation.number(), 16);
+    assert_eq!(rt; Refusal::StillJailed(moment(&rt, 0)).number(), 30);
+    assert_eq!(rt; Refusal::Overflow(over).number(), 35);
+    assert_eq!(rt; Refusal::FeeUnpaid.number(), 40);
+}
+
+/// Whether a copy is equal to the value.
+fn is_copied<T: Copied + PartialEq>(value: T) -> bool {
+    match value.copied() {
+        Ok(copy) => copy == value,
+        Err(_) => false,
+    }
+}
+
+#[test]
+fn copies_are_equal(rt: HostRuntime) {
+    let (one, early, who, cons) = (
+        dec(&rt, 1),
+        moment(&rt, 7),
+        user(&rt),
+        ConsAddr::of([9; 20]),
+    );
+    let validator = validator(&rt, 5);
+    assert!(rt; is_copied(validator) && is_copied(validator.commission));
+    assert!(rt; is_copied(Delegation { shares: one }));
+    assert!(rt;
+        is_copied(UnbondingEntry {
+            created: 1,
+            completes: early,
+            initial: 2,
+            balance: 3
+        })
+    );
+    assert!(rt;
+        is_copied(RedelegationEntry {
+            created: 1,
+            completes: early,
+            initial: 2,
+            shares_dst: one
+        })
+    );
+    assert!(rt;
+        is_copied(SigningInfo {
+            start: 1,
+            counted: 2,
+            missed: 3,
+            jailed_until: early,
+            tombstoned: true
+        })
+    );
+    assert!(rt;
+        is_copied(StartingInfo {
+            period: 1,
+            stake: one,
+            height: 2
+        })
+    );
+    assert!(rt;
+        is_copied(SlashEvent {
+            height: 1,
+            period: 2,
+            fraction: one
+        })
+    );
+    assert!(rt;
+        is_copied(Ctx {
+            height: 1,
+            time: early,
+            params: params(&rt)
+        }) && is_copied(params(&rt))
+    );
+    assert!(rt;
+        is_copied(Vote {
+            cons,
+            power: 1,
+            signed: true
+        })
+    );
+    assert!(rt;
+        is_copied(Evidence {
+            cons,
+            height: 1,
+            time: early,
+            power: 2
+        })
+    );
+    assert!(rt;
+        is_copied(EditValidator {
+            validator: who,
+            rate: Some(one),
+            min_self_delegation: None
+        })
+    );
+    let amount = Coin {
+        denom: atom(&rt),
+        amount: 4,
+    };
+    assert!(rt;
+        is_copied(CreateValidator {
+            validator: who,
+            cons,
+            rate: one,
+            max_rate: one,
+            max_change_rate: one,
+            min_self_delegation: 3,
+            amount
+        })
+    );
+}
+
+#[test]
+fn copies_have_the_same_coins(rt: HostRuntime) -> Result<(), Fail> {
+    let purse = Purse {
+        outstanding: dec_coins(&rt, 1)?,
+        commission: dec_coins(&rt, 2)?,
+        current: dec_coins(&rt, 3)?,
+    };
+    let copy = purse.copied()?;
+    assert!(rt; copy.outstanding.amount_of(&atom(&rt)).raw() == 1);
+    assert!(rt; copy.commission.amount_of(&atom(&rt)).raw() == 2);
+    assert!(rt; copy.current.amount_of(&atom(&rt)).raw() == 3);
+    let history = Historical {
+        ratio: dec_coins(&rt, 4)?,
+        count: 2,
+    };
+    let copy = history.copied()?;
+    assert!(rt; copy.ratio.amount_of(&atom(&rt)).raw() == 4 && copy.count == 2);
+    Ok(())
+}
+
+#[test]
+fn faults_become_those_of_callers(rt: HostRuntime) {
+    let over = Over {
+        kind: OverKind::Sum,
+        a: 1,
+        b: 2,
+        c: 0,
+    };
+    let refused = Stop::Refused(Refusal::Overflow(over));
+    assert!(rt; RecordFault::from(TableFault::Spent) == RecordFault::NoMemory);
+    assert!(rt; RecordFault::from(AllocError) == RecordFault::NoMemory);
+    assert!(rt; RecordFault::from(AllocFailed { value: 1u8 }) == RecordFault::NoMemory);
+    assert!(rt; BankFault::from(TableFault::Spent) == BankFault::NoMemory);
+    assert!(rt; BankFault::from(RecordFault::NoMemory) == BankFault::NoMemory);
+    assert!(rt; BankFault::from(AllocError) == BankFault::NoMemory);
+    assert!(rt; BankFault::from(AllocFailed { value: 1u8 }) == BankFault::NoMemory);
+    assert!(rt; HookFault::from(TableFault::Spent) == HookFault::NoMemory);
+    assert!(rt; HookFault::from(RecordFault::NoMemory) == HookFault::NoMemory);
+    assert!(rt; HookFault::from(AllocError) == HookFault::NoMemory);
+    assert!(rt; HookFault::from(AllocFailed { value: 1u8 }) == HookFault::NoMemory);
+    assert!(rt; HookFault::from(over) == HookFault::Over(over));
+    assert!(rt; Stop::from(TableFault::Spent) == Stop::NoMemory);
+    assert!(rt; Stop::from(RecordFault::NoMemory) == Stop::NoMemory);
+    assert!(rt; Stop::from(AllocError) == Stop::NoMemory);
+    assert!(rt; Stop::from(AllocFailed { value: 1u8 }) == Stop::NoMemory);
+    assert!(rt; Stop::from(over) == refused && Stop::from(HookFault::Over(over)) == refused);
+    assert!(rt; Stop::from(HookFault::NoMemory) == Stop::NoMemory);
+    assert!(rt; Stop::from(BankFault::Short) == Stop::Refused(Refusal::InsufficientFunds));
+    assert!(rt; Stop::from(BankFault::NoMemory) == Stop::NoMemory);
+    assert!(rt; Stop::from(Refusal::NoTokens) == Stop::Refused(Refusal::NoTokens));
+}
+
+#[test]
+fn a_list_gives_back_what_it_was_made_of(rt: HostRuntime) -> Result<(), Fail> {
+    let ring = Listed::of(vec![in rt.alloc(); true, false]?).copied()?;
+    assert!(rt; ring.len() == 2);
+    assert!(rt; ring.at(0) == Some(&true));
+    assert!(rt; ring.at(2).is_none());
+    assert!(rt; ring.as_slice() == [true, false].as_slice());
+    assert!(rt; ring.into_vec() == vec![in rt.alloc(); true, false]?);
+    let none: Listed<bool> = Listed::new(rt.alloc());
+    assert!(rt; none.len() == 0);
+    let validator = user(&rt);
+    let facts = Facts::of(vec![in rt.alloc(); Fact::Jailed { validator }]?);
+    assert!(rt; matches!(facts.into_vec().pop(), Some(Fact::Jailed { .. })));
+    Ok(())
+}
+
+#[test]
+fn laws_are_called(rt: HostRuntime) {
+    holdings_by_example();
+    coins_move_by_amounts();
+    coins_burn_by_amounts();
+    banks_stay_in_order();
+    assert!(rt; Refusal::NoTokens.number() == 18);
+}
