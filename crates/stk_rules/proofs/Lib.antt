@@ -1,0 +1,2 @@
+mod TieLemmas
+mod RefusalLemmas

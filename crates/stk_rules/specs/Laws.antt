@@ -1,0 +1,180 @@
+-- The laws of the rules, as statements. None of them is proved here: stated, not proved. A law of states is said of each
+-- atomic step: a message, an allocation, a vote, a piece of evidence, an action of a block's end, and the next block.
+use Rattle.std.specs.Prelude.{◌≡◌, ℕ, ◌+◌, ◌-◌, ◌*◌, ◌^◌, ◌<◌, ◌≤◌, List, [], ◌∷◌, length, map, sum, All, IfOk, Result, Ok, Err, Some, None}
+use Rattle.stk_dec.specs.declared.over.Over.{Over}
+use Rattle.stk_types.specs.declared.account.Account.{Account}
+use Rattle.stk_coins.specs.declared.coin.Coin.{Coin}
+use Rattle.stk_coins.specs.Coins.{Money, IsMoney, amount_of}
+use Rattle.stk_keep.specs.declared.facts.Fact.{Fact}
+use Rattle.stk_keep.specs.declared.facts.Fact.TheVariants as fact
+use Rattle.stk_keep.specs.declared.messages.CreateValidator.{CreateValidator}
+use Rattle.stk_keep.specs.declared.messages.EditValidator.{EditValidator}
+use Rattle.stk_keep.specs.declared.messages.Evidence.{Evidence}
+use Rattle.stk_keep.specs.declared.messages.Vote.{Vote}
+use Rattle.stk_keep.specs.declared.entities.StartingInfo.{StartingInfo}
+use Rattle.stk_keep.specs.declared.entities.Validator.{Validator}
+use Rattle.stk_keep.specs.Ground.{end_of_blocks}
+use Rattle.stk_keep.specs.Holdings.{supply_of}
+use Rattle.stk_keep.specs.Items.{IsOnce}
+use Rattle.stk_keep.specs.Log.{Log}
+use Rattle.stk_keep.specs.Staked.{Staked, validator_of, validator_by_cons, shares_of}
+use Rattle.stk_keep.specs.World.{View, World, over_view}
+use Rattle.stk_rules.specs.Allocation.{fees_allocated}
+use Rattle.stk_rules.specs.BondedSet.{set_updated, validators_matured}
+use Rattle.stk_rules.specs.Chain.{Hooks, State, chain_told, staked_in, with_staked, with_shared, vote_step, evidence_step}
+use Rattle.stk_rules.specs.Distribution.{Shared}
+use Rattle.stk_rules.specs.Effects.{send, create_validator, edit_validator, delegate, undelegate, begin_redelegate, cancel_unbonding, unjail, withdraw_reward, withdraw_commission, set_withdraw_address, fund_community_pool, community_pool_spend, fee_paid}
+use Rattle.stk_rules.specs.Ideal.{Span, Brackets, span_of, history_of, claimed, overclaim_of}
+use Rattle.stk_rules.specs.Periods.{Periods, Stretch, stretches_of, ratio_at, periods_of, starts_of, last_ended}
+use Rattle.stk_rules.specs.Purses.{purse_of}
+use Rattle.stk_rules.specs.Redelegations.{redelegations_completed}
+use Rattle.stk_rules.specs.Sound.{IsSound}
+use Rattle.stk_rules.specs.Unbondings.{completed}
+use Rattle.stk_rules.specs.Window.{Signing, signing_of}
+
+-- ---- atomic steps
+
+-- what each state that meets P is, after a step that is not refused
+abbrev pub Keeps : {E : Type 0} → (State → State → Type 0) → (State → Result State E) → Type 0
+Keeps P f = (w : State) → IsSound w → IfOk (f w) (P w)
+
+-- entries that were made at this height lost nothing to a slash, since slashes come at a block's beginning
+abbrev pub AreWhole : State → Type 0
+AreWhole w = All (λ p. All (λ e. e.created ≡ w.view.ctx.height → e.balance ≡ e.initial) p.1) w.mine.unbondings
+
+-- fewer votes of a consensus address were counted than the height is
+abbrev pub CountsBelow : List ℕ → State → Type 0
+CountsBelow cons w = (s : Signing) → signing_of w.hooks.1 cons ≡ Some s → length s.votes < w.view.ctx.height
+
+-- a relation between the states before and after each message, from sound states
+pub record KeptByMessages (P : State → State → Type 0) : Type 0 where
+  pub fees : (payer : List ℕ) (fee : Money) → IsMoney fee → Keeps P (fee_paid payer fee)
+  pub sends : (from : List ℕ) (to : Account) (coins : Money) → IsMoney coins → Keeps P (send from to coins)
+  pub creates : (m : CreateValidator) → Keeps P (create_validator m)
+  pub edits : (m : EditValidator) → Keeps P (edit_validator m)
+  pub delegates : (who operator : List ℕ) (coin : Coin) → Keeps P (delegate who operator coin)
+  pub undelegates : (who operator : List ℕ) (coin : Coin) (w : State) → IsSound w → AreWhole w → IfOk (undelegate who operator coin w) (P w)
+  pub redelegates : (who source target : List ℕ) (coin : Coin) → Keeps P (begin_redelegate who source target coin)
+  pub cancels : (who operator : List ℕ) (coin : Coin) (height : ℕ) → Keeps P (cancel_unbonding who operator coin height)
+  pub unjails : (operator : List ℕ) → Keeps P (unjail operator)
+  pub withdraws : (who operator : List ℕ) → Keeps P (withdraw_reward who operator)
+  pub commissions : (operator : List ℕ) → Keeps P (withdraw_commission operator)
+  pub payees : (who : List ℕ) (to : Account) → Keeps P (set_withdraw_address who to)
+  pub funds : (who : List ℕ) (coins : Money) → IsMoney coins → Keeps P (fund_community_pool who coins)
+  pub spends : (authority : List ℕ) (to : Account) (coins : Money) → IsMoney coins → Keeps P (community_pool_spend authority to coins)
+
+-- the next block: a later height, and a time that is not earlier
+abbrev pub next_block : ℕ → ℕ → State → State
+next_block height time w = over_view (λ v. record v { ctx = record { height = height; time = time; params = v.ctx.params } }) w
+
+-- the fees of a block, as one step
+abbrev pub allocation_step : List Vote → State → Result State Over
+allocation_step votes w = done (fees_allocated w.mine.staked votes w.hooks.0 w.view)
+  where
+    done : Result (Shared × View × Log) Over → Result State Over
+    done (Ok p) = Ok (with_shared p.0 p.1 p.2 w)
+    done (Err over) = Err over
+
+-- the bonded set, and mature validators, as steps
+abbrev pub set_step : State → Result State Over
+set_step w = put (set_updated chain_told (staked_in w))
+  where
+    put : Result (World Staked Hooks) Over → Result State Over
+    put (Ok s) = Ok (with_staked w.mine s)
+    put (Err over) = Err over
+
+-- mature validators, as one step
+abbrev pub mature_step : State → Result State Over
+mature_step w = put (validators_matured chain_told (staked_in w))
+  where
+    put : Result (World Staked Hooks) Over → Result State Over
+    put (Ok s) = Ok (with_staked w.mine s)
+    put (Err over) = Err over
+
+-- mature unbondings are paid, and mature redelegations go
+abbrev pub entries_step : State → Result State Over
+entries_step w =
+    let done = completed w.mine.unbondings w.view in
+    Ok (record {
+      mine = record { staked = w.mine.staked; unbondings = done.0; redelegations = redelegations_completed w.view.ctx.time w.mine.redelegations };
+      hooks = w.hooks;
+      view = done.1;
+      log = w.log;
+    })
+
+-- a power that a block may name, in tokens
+abbrev pub IsPower : ℕ → State → Type 0
+IsPower power w = power * w.view.ctx.params.power_reduction ≤ 10 ^ 18
+
+-- the votes of a block: each of a validator that stands, no consensus address twice, and all power within the limit
+pub record AreVotes (votes : List Vote) (w : State) : Type 0 where
+  pub known : All (λ t. (v : Validator) × (validator_by_cons w.mine.staked t.cons ≡ Some v)) votes
+  pub once : IsOnce (map (λ t. t.cons) votes)
+  pub power : IsPower (sum (map (λ t. t.power) votes)) w
+
+-- the same relation for the parts of a block
+pub record KeptByBlocks (P : State → State → Type 0) : Type 0 where
+  pub next : (height time : ℕ) (w : State) → IsSound w → w.view.ctx.height < height → height < 2 ^ 63 → w.view.ctx.time ≤ time → time < end_of_blocks → P w (next_block height time w)
+  pub allocates : (votes : List Vote) (w : State) → IsSound w → AreVotes votes w → IfOk (allocation_step votes w) (P w)
+  pub votes : (t : Vote) (w : State) → IsSound w → IsPower t.power w → CountsBelow t.cons w → IfOk (vote_step t w) (P w)
+  pub evidence : (e : Evidence) (w : State) → IsSound w → IsPower e.power w → 1 ≤ e.height → e.height < w.view.ctx.height → e.time ≤ w.view.ctx.time → IfOk (evidence_step e w) (P w)
+  pub sets : Keeps P set_step
+  pub matures : Keeps P mature_step
+  pub completes : Keeps P entries_step
+
+-- ---- the statements
+
+-- Stated, not proved: each atomic step keeps a state sound; with it, the three accounts hold what they owe.
+abbrev pub SoundIsKept : Type 0
+SoundIsKept = KeptByMessages (λ old new. IsSound new) × KeptByBlocks (λ old new. IsSound new)
+
+-- what the facts say was burned of a denomination
+abbrev pub burned_in_fact : List ℕ → Fact → ℕ
+burned_in_fact d (fact.Burn from coin) = amount_of ((coin.denom, coin.amount) ∷ []) d
+burned_in_fact d _ = 0
+
+-- what facts say was burned of a denomination
+abbrev pub burned_in : List ℕ → List Fact → ℕ
+burned_in d facts = sum (map (burned_in_fact d) facts)
+
+-- The supply and what was burned together stay.
+abbrev pub SupplyFallsByBurns : State → State → Type 0
+SupplyFallsByBurns old new = (d : List ℕ) → supply_of new.view.bank d + burned_in d new.view.facts ≡ supply_of old.view.bank d + burned_in d old.view.facts
+
+-- Stated, not proved: in each atomic step each supply falls by exactly the burns that its facts tell.
+abbrev pub OnlyBurnsLowerSupplies : Type 0
+OnlyBurnsLowerSupplies = KeptByMessages SupplyFallsByBurns × KeptByBlocks SupplyFallsByBurns
+
+-- Stated, not proved: the end of a block never exceeds.
+abbrev pub BlocksEnd : Type 0
+BlocksEnd = (w : State) → IsSound w → ((s : State) × (set_step w ≡ Ok s)) × ((s : State) × (mature_step w ≡ Ok s))
+
+-- The reward that a withdrawal of a delegation would come to lies in its bracket.
+abbrev pub ClaimIsBracketed : List ℕ → State → List ℕ → Validator → ℕ → Type 0
+ClaimIsBracketed d w who v shares =
+    (full : Money) (l : Log) (s : Span) → claimed v who shares w.hooks.0 w.view w.log ≡ Ok (full, l)
+    → span_of who (history_of v.operator l []) None ≡ Some s → Brackets d s (amount_of full d)
+
+-- Every delegation's claim does. Of every state that a genesis leads to this is stated, not proved.
+abbrev pub IsBracketed : State → Type 0
+IsBracketed w =
+    (d who : List ℕ) (v : Validator) (shares : ℕ) → validator_of w.mine.staked v.operator ≡ Some v
+    → shares_of w.mine.staked who v.operator ≡ Some shares → ClaimIsBracketed d w who v shares
+
+-- the claim of stretches in units of 10^-36: what the ratio grew in each, times its stake, not cut
+abbrev pub exact_claim : List ℕ → (ℕ → Money) → List Stretch → ℕ
+exact_claim d ratio ts = sum (map (λ t. (amount_of (ratio t.last) d - amount_of (ratio t.after) d) * t.stake) ts)
+
+-- the claims of all starts of an operator up to the last ended period; a value above every stake takes the limit of the last
+-- stretch away
+abbrev pub claims_of : List ℕ → Periods → List StartingInfo → ℕ
+claims_of d p starts = sum (map (λ s. exact_claim d (ratio_at p.ratios) (stretches_of s p.events (last_ended p) s.stake)) starts)
+
+-- What is outstanding for a validator, with the overclaim, is at least commission, current rewards and all claims. Of every
+-- state that a genesis leads to this is stated, not proved.
+abbrev pub HasShortfallWithin : List ℕ → State → Validator → Type 0
+HasShortfallWithin d w v =
+    let purse = purse_of w.hooks.0.purses v.operator in
+    let p = periods_of w.hooks.0.rewards v.operator in
+    10 ^ 18 * (amount_of purse.commission d + amount_of purse.current d) + claims_of d p (starts_of w.hooks.0.rewards v.operator)
+    ≤ 10 ^ 18 * amount_of purse.outstanding d + overclaim_of d (history_of v.operator w.log []) (ratio_at p.ratios (last_ended p))

@@ -1,0 +1,49 @@
+-- Changes of validators and delegations, and the account that holds a validator's tokens.
+use Rattle.std.specs.Prelude.{ℕ, Bool, true, false, if◌then◌else◌, List}
+use Rattle.stk_types.specs.declared.account.Module.{Module}
+use Rattle.stk_types.specs.declared.account.Module.TheVariants as holder
+use Rattle.stk_types.specs.declared.status.BondStatus.{BondStatus}
+use Rattle.stk_types.specs.declared.status.BondStatus.TheVariants.{Bonded, Unbonding, Unbonded}
+use Rattle.stk_types.specs.Orders.{addr_cmp}
+use Rattle.stk_shares.specs.declared.fault.ShareFault.{ShareFault}
+use Rattle.stk_shares.specs.declared.fault.ShareFault.TheVariants as share
+use Rattle.stk_keep.specs.declared.entities.Validator.{Validator}
+use Rattle.stk_keep.specs.declared.facts.Fact.TheVariants as fact
+use Rattle.stk_keep.specs.declared.refusal.Refusal.{Refusal}
+use Rattle.stk_keep.specs.declared.refusal.Refusal.TheVariants as refused
+use Rattle.stk_keep.specs.Entries.{with, without}
+use Rattle.stk_keep.specs.Orders.{pair_cmp}
+use Rattle.stk_keep.specs.Staked.{Staked, with_validator, is_bonded}
+use Rattle.stk_keep.specs.World.{World, noted, over_view, over_mine}
+
+-- the validators without this operator's
+abbrev pub without_validator : List ℕ → Staked → Staked
+without_validator operator s = record s { validators = without addr_cmp s.validators operator }
+
+-- the delegations with these shares of a delegator at an operator
+abbrev pub with_shares : List ℕ → List ℕ → ℕ → Staked → Staked
+with_shares who operator n s = record s { delegations = with pair_cmp s.delegations (operator, who) n }
+
+-- the delegations without that of a delegator at an operator
+abbrev pub without_shares : List ℕ → List ℕ → Staked → Staked
+without_shares who operator s = record s { delegations = without pair_cmp s.delegations (operator, who) }
+
+-- a validator of this status waits to be unbonded
+abbrev pub is_unbonding : BondStatus → Bool
+is_unbonding Bonded = false
+is_unbonding Unbonding = true
+is_unbonding Unbonded = false
+
+-- the account that holds the tokens of a validator of this status (`x/staking/keeper`: `bondedTokensToNotBonded`)
+abbrev pub pool_of : BondStatus → Module
+pool_of status = if is_bonded status then holder.Bonded else holder.NotBonded
+
+-- a validator with another status, told by a fact
+abbrev pub changed : {H : Type 0} → Validator → BondStatus → World Staked H → World Staked H
+changed v status w = over_view (noted (fact.Changed v.operator status)) (over_mine (with_validator (record v { status = status })) w)
+
+-- why a message is refused whose shares are not given
+abbrev pub refusal_of_shares : ShareFault → Refusal
+refusal_of_shares share.RateInvalid = refused.RateInvalid
+refusal_of_shares share.NoTokens = refused.NoTokens
+refusal_of_shares (share.Over over) = refused.Overflow over
