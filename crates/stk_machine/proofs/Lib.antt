@@ -1,0 +1,4 @@
+pub mod Cases
+pub mod Kept
+pub mod Ends
+pub mod Ranges

@@ -1,0 +1,115 @@
+-- What a genesis starts, and why it starts nothing.
+use Rattle.std.specs.Prelude.{◌≡◌, ℕ, ◌+◌, ◌^◌, ◌==◌, nat_lt, nat_le, not, ◌&&◌, ◌||◌, Bool, true, false, if◌then◌else◌, List, [], ◌∷◌, map, length, Option, Some, None}
+use Rattle.std.specs.List.{list_any}
+use Rattle.std.specs.declared.cmp.Ordering.{Ordering}
+use Rattle.std.specs.BTreeMap.{is_at}
+use Rattle.stk_types.specs.declared.account.Account.{Account}
+use Rattle.stk_types.specs.declared.account.Account.TheVariants as account
+use Rattle.stk_types.specs.Orders.{account_cmp}
+use Rattle.stk_coins.specs.Coins.{Money, amount_of, with_amount}
+use Rattle.stk_keep.specs.declared.params.Params.{Params}
+use Rattle.stk_keep.specs.Entries.{number_at, with_number}
+use Rattle.stk_keep.specs.Ground.{end_of_blocks}
+use Rattle.stk_keep.specs.Holdings.{Balances, Holdings}
+use Rattle.stk_keep.specs.Orders.{place_cmp}
+use Rattle.stk_msgs.specs.declared.genesis.Genesis.{Genesis}
+use Rattle.stk_msgs.specs.declared.genesis.GenesisAccount.{GenesisAccount}
+use Rattle.stk_machine.specs.State.{State}
+
+-- ---- what the accounts hold
+
+-- the balances with these coins of an account, each besides what the account had of it
+abbrev pub with_coins : Account → Money → Balances → Balances
+with_coins who [] balances = balances
+with_coins who (c ∷ cs) balances = with_coins who cs (with_number place_cmp balances (who, c.0) (number_at place_cmp balances (who, c.0) + c.1))
+
+-- the balances with the coins of these accounts
+abbrev pub balances_with : List GenesisAccount → Balances → Balances
+balances_with [] balances = balances
+balances_with (a ∷ accounts) balances = balances_with accounts (with_coins a.address a.coins balances)
+
+-- the supplies with these coins, each besides what there was of it
+abbrev pub coins_joined : Money → Money → Money
+coins_joined [] supplies = supplies
+coins_joined (c ∷ cs) supplies = coins_joined cs (with_amount supplies c.0 (amount_of supplies c.0 + c.1))
+
+-- the supplies with the coins of these accounts
+abbrev pub supplies_with : List GenesisAccount → Money → Money
+supplies_with [] supplies = supplies
+supplies_with (a ∷ accounts) supplies = supplies_with accounts (coins_joined a.coins supplies)
+
+-- what the accounts hold, and how much there is of it
+abbrev pub held_by : List GenesisAccount → Holdings
+held_by accounts = record { balances = balances_with accounts []; supplies = supplies_with accounts [] }
+
+-- the state at the genesis
+abbrev pub started : Genesis → State
+started g = record { height = 0; time = g.time; params = g.params; holdings = held_by g.accounts }
+
+-- ---- why a genesis starts nothing
+
+-- the number is from the one to the other
+abbrev pub is_within : ℕ → ℕ → ℕ → Bool
+is_within least most n = nat_le least n && nat_le n most
+
+-- the parameters are in their ranges; the unit of rates and fractions is 10^-18
+abbrev pub are_in_range : Params → Bool
+are_in_range p =
+    is_within 1 (10 ^ 18) p.power_reduction
+    && is_within 1 (10 ^ 9) p.unbonding_time
+    && is_within 1 1000 p.max_validators
+    && is_within 1 100 p.max_entries
+    && nat_le p.min_commission_rate (10 ^ 18)
+    && nat_le p.community_tax (10 ^ 18)
+    && is_within 1 100000 p.signed_blocks_window
+    && nat_le p.min_signed_per_window (10 ^ 18)
+    && nat_le p.downtime_jail_duration (10 ^ 9)
+    && nat_le p.slash_fraction_double_sign (10 ^ 18)
+    && nat_le p.slash_fraction_downtime (10 ^ 18)
+    && nat_le p.max_age_duration (10 ^ 9)
+    && nat_lt p.max_age_num_blocks (2 ^ 63)
+
+-- the account is a module's
+abbrev pub is_module : Account → Bool
+is_module (account.User bytes) = false
+is_module (account.Module m) = true
+
+-- some key stands twice
+abbrev pub stands_twice : {K : Type 0} → (K → K → Ordering) → List K → Bool
+stands_twice cmp [] = false
+stands_twice cmp (k ∷ keys) = list_any (is_at (cmp k)) keys || stands_twice cmp keys
+
+-- an account is a module's, or stands twice
+abbrev pub has_wrong_account : List GenesisAccount → Bool
+has_wrong_account accounts = list_any (λ a. is_module a.address) accounts || stands_twice account_cmp (map (λ a. a.address) accounts)
+
+-- there is more than 10^18 of some denomination
+abbrev pub has_too_much : Money → Bool
+has_too_much supplies = list_any (λ c. nat_lt (10 ^ 18) c.1) supplies
+
+-- how many denominations these are, with the bond denomination
+abbrev pub denominations_with : List ℕ → Money → ℕ
+denominations_with bond supplies = length supplies + (if amount_of supplies bond == 0 then 1 else 0)
+
+-- the first of the numbers of which the condition beside it holds
+abbrev pub first_that_holds : List (ℕ × Bool) → Option ℕ
+first_that_holds [] = None
+first_that_holds (c ∷ cs) = if c.1 then Some c.0 else first_that_holds cs
+
+-- The number of the first condition that keeps a genesis from starting a chain: a parameter is out of its range, or the
+-- time past the year 9899; an account is wrong; there is too much of a denomination; there are too many denominations.
+-- The numbers 3 to 10 are conditions on validators and delegations, which this machine does not have yet.
+abbrev pub genesis_condition : Genesis → Option ℕ
+genesis_condition g =
+    let supplies = supplies_with g.accounts [] in
+    first_that_holds
+    ((1, not (are_in_range g.params) || nat_le end_of_blocks g.time)
+    ∷ (2, has_wrong_account g.accounts)
+    ∷ (11, has_too_much supplies)
+    ∷ (12, nat_lt 1_000_000 (denominations_with g.params.bond_denom supplies))
+    ∷ [])
+
+-- the genesis has neither validators nor delegations
+pub record IsBuiltGenesis (g : Genesis) : Type 0 where
+  pub validators : g.validators ≡ []
+  pub delegations : g.delegations ≡ []
