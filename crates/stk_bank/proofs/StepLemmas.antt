@@ -1,0 +1,173 @@
+-- Two tables that are marked together, seen as one book.
+use Rattle.std.proofs.Common.{◌≡◌, ◌∙◌, ℕ, ◌+◌, ◌≤◌, Bool, true, false, cond, List, [], ◌∷◌, ◌++◌, Option, Some, None, length, refl, sym, ap, subst, arith}
+use Rattle.std.specs.Prelude.{suc, zero}
+use Rattle.std.proofs.lemmas.List.{length_push}
+use Rattle.std.specs.declared.cmp.Ordering.{Ordering}
+use Rattle.std.specs.declared.cmp.Ordering.TheVariants.{Less, Equal, Greater}
+use Rattle.std.specs.Ordering.{match_ordering, is_eq}
+use Rattle.std.specs.Map.{remove_entry}
+use Rattle.std.specs.BTreeMap.{insert_entry, is_at}
+use Rattle.stk_types.specs.declared.account.Account.{Account}
+use Rattle.stk_types.specs.Denom.{is_denom}
+use Rattle.stk_table.specs.Tabled.{Tabled, with_value, without_key, settled_now}
+use Rattle.stk_table.specs.Tabled as table
+use Rattle.stk_coins.specs.Coins.{Money}
+use Rattle.stk_keep.specs.Holdings.{Holdings, Balances}
+use Rattle.stk_keep.specs.Orders.{place_cmp}
+use Rattle.stk_bank.specs.Booked.{Booked, booked, with_mark, side_by_side, IsGoneBack, IsForgotten, AreNamed, AreNamedAtMarks, AreInStep, numbers}
+
+-- ---- lists that end alike
+
+push_not_nil : {A : Type 0} (xs : List A) (x : A) → [] ≡ xs ++ x ∷ [] → ⊥
+push_not_nil [] x e = absurd cc
+push_not_nil (y ∷ xs) x e = absurd cc
+
+pub same_last : {A : Type 0} (xs ys : List A) (x y : A) → xs ++ x ∷ [] ≡ ys ++ y ∷ [] → (xs ≡ ys) × (x ≡ y)
+same_last [] [] x y e = (refl, cc)
+same_last [] (b ∷ ys) x y e = let rest : [] ≡ ys ++ y ∷ [] = cc in absurd (push_not_nil ys y rest)
+same_last (a ∷ xs) [] x y e = let rest : [] ≡ xs ++ x ∷ [] = cc in absurd (push_not_nil xs x rest)
+same_last (a ∷ xs) (b ∷ ys) x y e =
+    let rest : xs ++ x ∷ [] ≡ ys ++ y ∷ [] = cc in
+    let first : a ≡ b = cc in
+    let more = same_last xs ys x y rest in
+    ((λ i. first i ∷ more.0 i), more.1)
+
+-- ---- marks side by side
+
+pub length-side : (bs : List Balances) (ss : List Money) → length bs ≡ length ss → length (side_by_side bs ss) ≡ length bs
+length-side [] ss e = refl
+length-side (b ∷ bs) [] e = absurd (omega (arith, e))
+length-side (b ∷ bs) (s ∷ ss) e = let rest : length bs ≡ length ss = omega (arith, e) in let more = length-side bs ss rest in omega (arith, more)
+
+side-push : (bs : List Balances) (ss : List Money) (b : Balances) (s : Money) → length bs ≡ length ss
+    → side_by_side (bs ++ b ∷ []) (ss ++ s ∷ []) ≡ side_by_side bs ss ++ record { balances = b; supplies = s } ∷ []
+side-push [] [] b s e = refl
+side-push [] (x ∷ ss) b s e = absurd (omega (arith, e))
+side-push (y ∷ bs) [] b s e = absurd (omega (arith, e))
+side-push (y ∷ bs) (x ∷ ss) b s e = let rest : length bs ≡ length ss = omega (arith, e) in ap (λ l. record { balances = y; supplies = x } ∷ l) (side-push bs ss b s rest)
+
+-- ---- names
+
+named_marks-push : (ms : List Balances) (m : Balances) → AreNamedAtMarks ms → AreNamed m → AreNamedAtMarks (ms ++ m ∷ [])
+named_marks-push [] m h n = (n, tt)
+named_marks-push (x ∷ ms) m h n = (h.0, named_marks-push ms m h.1 n)
+
+named_marks-pop : (ms : List Balances) (m : Balances) → AreNamedAtMarks (ms ++ m ∷ []) → AreNamedAtMarks ms × AreNamed m
+named_marks-pop [] m h = (tt, h.0)
+named_marks-pop (x ∷ ms) m h = let rest = named_marks-pop ms m h.1 in ((h.0, rest.0), rest.1)
+
+named-put : (es : Balances) (k : Account × List ℕ) (n : ℕ) → AreNamed es → is_denom k.1 ≡ true → AreNamed (insert_entry place_cmp es k n)
+named-put [] k n h d = (d, tt)
+named-put (e ∷ es) k n h d = by (place_cmp k e.0) (named-put es k n h.1 d)
+  where
+    by : (r : Ordering) → AreNamed (insert_entry place_cmp es k n) → AreNamed (match_ordering r ((k, n) ∷ e ∷ es) ((e.0, n) ∷ es) (e ∷ insert_entry place_cmp es k n))
+    by Less later = (d, h)
+    by Equal later = h
+    by Greater later = (h.0, later)
+
+named-removed : (test : Account × List ℕ → Bool) (es : Balances) → AreNamed es → AreNamed (remove_entry test es)
+named-removed test [] h = h
+named-removed test (e ∷ es) h = by (test e.0) (named-removed test es h.1)
+  where
+    by : (b : Bool) → AreNamed (remove_entry test es) → AreNamed (cond b es (e ∷ remove_entry test es))
+    by true later = h.1
+    by false later = (h.0, later)
+
+-- ---- two tables in step
+
+module _ (b : Tabled (Account × List ℕ) ℕ) (s : Tabled (List ℕ) ℕ) (h : AreInStep b s) where
+  pub in_step-put : (k : Account × List ℕ) (n : ℕ) (b2 : Tabled (Account × List ℕ) ℕ) → is_denom k.1 ≡ true → b2 ≡ with_value place_cmp b k n → AreInStep b2 s
+  in_step-put k n b2 d e = subst (λ t. AreInStep t s) (sym e) (record { depth = h.depth; named = named-put b.entries k n h.named d; named_at_marks = h.named_at_marks })
+
+  pub in_step-removed : (k : Account × List ℕ) (b2 : Tabled (Account × List ℕ) ℕ) → b2 ≡ without_key place_cmp b k → AreInStep b2 s
+  in_step-removed k b2 e = subst (λ t. AreInStep t s) (sym e) (record { depth = h.depth; named = named-removed (is_at (place_cmp k)) b.entries h.named; named_at_marks = h.named_at_marks })
+
+  pub in_step-marked : AreInStep (table.with_mark b) (table.with_mark s)
+  in_step-marked = record {
+    depth = length_push b.marks b.entries ∙ ap (λ n. n + 1) h.depth ∙ sym (length_push s.marks s.entries);
+    named = h.named;
+    named_at_marks = named_marks-push b.marks b.entries h.named_at_marks h.named;
+  }
+
+  pub booked-marked : (spent : Bool) → booked (table.with_mark b) (table.with_mark s) spent ≡ with_mark (booked b s spent)
+  booked-marked spent = λ i. record {
+    holdings = record { balances = b.entries; supplies = s.entries };
+    marks = side-push b.marks s.marks b.entries s.entries h.depth i;
+    settled = record { balances = b.settled; supplies = s.settled };
+    spent = spent;
+  }
+
+  pub depth-booked : (spent : Bool) → length (booked b s spent).marks ≡ length b.marks
+  depth-booked spent = length-side b.marks s.marks h.depth
+
+  module _ (b2 : Tabled (Account × List ℕ) ℕ) (s2 : Tabled (List ℕ) ℕ) (x : Balances) (y : Money) (p : b2.marks ++ x ∷ [] ≡ b.marks) (q : s2.marks ++ y ∷ [] ≡ s.marks) where
+    depth-popped : length b2.marks ≡ length s2.marks
+    depth-popped =
+        let c = length_push b2.marks x in
+        let d = length_push s2.marks y in
+        let e = ap length p in
+        let f = ap length q in
+        let g = h.depth in
+        omega (arith, c, d, e, f, g)
+
+    side-popped : side_by_side b2.marks s2.marks ++ record { balances = x; supplies = y } ∷ [] ≡ side_by_side b.marks s.marks
+    side-popped = sym (side-push b2.marks s2.marks x y depth-popped) ∙ (λ i. side_by_side (p i) (q i))
+
+    named-popped : AreNamedAtMarks b2.marks × AreNamed x
+    named-popped = named_marks-pop b2.marks x (subst AreNamedAtMarks (sym p) h.named_at_marks)
+
+  module _ (b2 : Tabled (Account × List ℕ) ℕ) (s2 : Tabled (List ℕ) ℕ) where
+    pub in_step-back : table.IsGoneBack b b2 → table.IsGoneBack s s2 → AreInStep b2 s2
+    in_step-back p q =
+        let n = named-popped b2 s2 b2.entries s2.entries p.restored q.restored in
+        record { depth = depth-popped b2 s2 b2.entries s2.entries p.restored q.restored; named = n.1; named_at_marks = n.0 }
+
+    pub booked-back : (spent : Bool) → table.IsGoneBack b b2 → table.IsGoneBack s s2 → IsGoneBack (booked b s spent) (booked b2 s2 spent)
+    booked-back spent p q = record {
+      restored = side-popped b2 s2 b2.entries s2.entries p.restored q.restored;
+      rest = λ i. record {
+        holdings = record { balances = b2.entries; supplies = s2.entries };
+        marks = side_by_side b2.marks s2.marks;
+        settled = record { balances = ap (λ t. t.settled) p.rest i; supplies = ap (λ t. t.settled) q.rest i };
+        spent = spent;
+      };
+    }
+
+    pub in_step-forgotten : table.IsForgotten b b2 → table.IsForgotten s s2 → AreInStep b2 s2
+    in_step-forgotten p q =
+        let n = named-popped b2 s2 p.closed.0 q.closed.0 p.closed.1 q.closed.1 in
+        let same : b.entries ≡ b2.entries = sym (ap (λ t. t.entries) p.rest) in
+        record { depth = depth-popped b2 s2 p.closed.0 q.closed.0 p.closed.1 q.closed.1; named = subst AreNamed same h.named; named_at_marks = n.0 }
+
+    pub booked-forgotten : (spent : Bool) → table.IsForgotten b b2 → table.IsForgotten s s2 → IsForgotten (booked b s spent) (booked b2 s2 spent)
+    booked-forgotten spent p q = record {
+      closed = (record { balances = p.closed.0; supplies = q.closed.0 }, side-popped b2 s2 p.closed.0 q.closed.0 p.closed.1 q.closed.1);
+      rest = λ i. record {
+        holdings = record { balances = ap (λ t. t.entries) p.rest i; supplies = ap (λ t. t.entries) q.rest i };
+        marks = side_by_side b2.marks s2.marks;
+        settled = record { balances = ap (λ t. t.settled) p.rest i; supplies = ap (λ t. t.settled) q.rest i };
+        spent = spent;
+      };
+    }
+
+  none_from_length : {A : Type 0} (xs : List A) → length xs ≡ 0 → xs ≡ []
+  none_from_length [] e = refl
+  none_from_length (x ∷ xs) e = absurd (omega (arith, e))
+
+  pub closed-both : (spent : Bool) → (booked b s spent).marks ≡ [] → (b.marks ≡ []) × (s.marks ≡ [])
+  closed-both spent e =
+      let n : length b.marks ≡ 0 = sym (length-side b.marks s.marks h.depth) ∙ ap length e in
+      (none_from_length b.marks n, none_from_length s.marks (sym h.depth ∙ n))
+
+-- ---- the depths of open marks
+
+pub numbers-push : {A : Type 0} (xs : List A) (x : A) → numbers (length (xs ++ x ∷ [])) ≡ numbers (length xs) ++ length xs ∷ []
+numbers-push xs x = ap numbers (length_push xs x ∙ one (length xs))
+  where
+    one : (n : ℕ) → n + 1 ≡ suc n
+    one n = omega arith
+
+-- the latest mark is the deepest, and the others are as many as there are below it
+pub numbers-pop : {A : Type 0} (all ns : List ℕ) (n : ℕ) (xs ys : List A) (x : A) → all ≡ ns ++ n ∷ [] → all ≡ numbers (length xs) → ys ++ x ∷ [] ≡ xs → (ns ≡ numbers (length ys)) × (n ≡ length ys)
+numbers-pop all ns n xs ys x e f g =
+    same_last ns (numbers (length ys)) n (length ys) (sym e ∙ f ∙ ap (λ l. numbers (length l)) (sym g) ∙ numbers-push ys x)

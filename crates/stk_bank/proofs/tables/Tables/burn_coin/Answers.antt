@@ -1,0 +1,9 @@
+use Rattle.std.proofs.Common.{rules, ◌≡◌, ◌∙◌, ℕ, ◌+◌, ◌*◌, ◌^◌, ◌-◌, ◌≤◌, ◌<◌, ◌++◌, List, Bool, true, false, [], ◌∷◌, length, drop, refl, sym, ap, subst, arith}
+use Rattle.stk_bank.proofs.SendLemmas.{balance-in_supply}
+use Rattle.stk_bank.proofs.tables.Tables.burn_coin.Goals as goal
+
+pub overflow_sub-supply : goal.overflow_sub-supply
+overflow_sub-supply g c =
+    let within = balance-in_supply c.args.self.now.holdings c.args.place.now.0 c.args.place.now.1 c.requires.backed in
+    let supply = c.supply-supply.ensures.amount in
+    omega arith

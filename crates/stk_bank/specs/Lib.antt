@@ -1,0 +1,5 @@
+pub mod Booked
+pub mod Given
+pub mod Sending
+pub mod Rows
+pub mod Worked

@@ -1,0 +1,18 @@
+//! The bank of the accounting: balances and supplies over two tables, with the message by which users
+//! send coins (Cosmos SDK v0.47: what `x/staking` and `x/distribution` use of `x/bank`, and its `MsgSend`).
+#![tactic(auto)]
+
+mod book;
+mod mark;
+mod moves;
+mod records;
+mod row;
+mod tables;
+mod walk;
+mod worked;
+
+pub use book::Book;
+pub use worked::sends_by_example;
+
+#[cfg(test)]
+mod tests;

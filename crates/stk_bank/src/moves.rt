@@ -1,0 +1,192 @@
+//! Coins that move, burn or are given, over the two tables: each whole, or nothing.
+
+ghost use Rattle.std.specs.Prelude.{◌≡◌, ℕ, List, ◌+◌, ◌*◌, ◌^◌, ◌≤◌, ◌<◌, length, slice_get, Some, true, false, OnOk, OnErr};
+ghost use Rattle.stk_coins.specs.Coins.{amount_of};
+ghost use Rattle.stk_keep.specs.Holdings.{balance_of, supply_of, is_short, moved, coin_moved, coin_burned, IsBacked};
+ghost use Rattle.stk_bank.specs.Booked.{holding, IsGoneBack, IsForgotten};
+ghost use Rattle.stk_bank.specs.Given.{coin_given, coins_given};
+
+use crate::mark::TablesMark;
+use crate::tables::Tables;
+use std::sync::ledger::Ledger;
+use stk_coins::{Coin, Coins};
+use stk_table::TableFault;
+use stk_types::{Account, Denom, Steps};
+
+impl Tables {
+    /// Whether some coin is above the account's balance.
+    pub(crate) fn is_short<L: Ledger>(
+        &self,
+        who: &Account,
+        coins: &Coins,
+        steps: &mut Steps<L>,
+    ) -> bool
+        ensures short { result ≡ is_short self.now.holdings who.now coins.now }
+        ensures cost { steps.new ≤ steps.old + length coins.now }
+    {
+        for place in 0..coins.len() {
+            let coin = coin_at(coins, place);
+            if self.balance(&(*who, coin.denom), steps) < coin.amount {
+                return true;
+            }
+        }
+        false
+    }
+
+    /// Moves coins from one account to another, or changes no holdings where memory is wanting.
+    pub(crate) fn send<L: Ledger>(
+        &mut self,
+        from: &Account,
+        to: &Account,
+        coins: &Coins,
+        steps: &mut Steps<L>,
+    ) -> Result<(), TableFault>
+        requires backed { IsBacked self.old.holdings }
+        requires enough { is_short self.old.holdings from.now coins.now ≡ false }
+        ensures ok { OnOk result (self.new ≡ holding (moved from.now to.now coins.now self.old.holdings) self.old) }
+        ensures err { OnErr result (self.new ≡ record self.old { spent = self.new.spent }) }
+        ensures spent { self.old.spent ≡ true → self.new.spent ≡ true }
+        ensures cost { steps.new ≤ steps.old + 4 * length coins.now }
+    {
+        let mark = self.mark()?;
+        let change = self.move_coins(from, to, coins, steps);
+        self.close(mark, change)
+    }
+
+    /// Burns an amount of an account's balance, or changes no holdings where memory is wanting.
+    pub(crate) fn burn<L: Ledger>(
+        &mut self,
+        place: &(Account, Denom),
+        amount: u128,
+        steps: &mut Steps<L>,
+    ) -> Result<(), TableFault>
+        requires backed { IsBacked self.old.holdings }
+        requires enough { amount ≤ balance_of self.old.holdings place.now.0 place.now.1 }
+        ensures ok { OnOk result (self.new ≡ holding (coin_burned place.now.0 place.now.1 amount self.old.holdings) self.old) }
+        ensures err { OnErr result (self.new ≡ record self.old { spent = self.new.spent }) }
+        ensures spent { self.old.spent ≡ true → self.new.spent ≡ true }
+    {
+        let mark = self.mark()?;
+        let change = self.burn_coin(place, amount, steps);
+        self.close(mark, change)
+    }
+
+    /// Gives coins to an account; the supplies rise by them. Where memory is wanting some may be given.
+    pub(crate) fn give_coins<L: Ledger>(
+        &mut self,
+        who: &Account,
+        coins: &Coins,
+        steps: &mut Steps<L>,
+    ) -> Result<(), TableFault>
+        requires backed { IsBacked self.old.holdings }
+        requires bounded { (d : List ℕ) → supply_of self.old.holdings d + amount_of coins.now d ≤ 10 ^ 18 }
+        ensures ok { OnOk result (self.new ≡ holding (coins_given who.now coins.now self.old.holdings) self.old) }
+        ensures backed { OnOk result (IsBacked self.new.holdings) }
+        ensures supplies { OnOk result ((d : List ℕ) → supply_of self.new.holdings d ≡ supply_of self.old.holdings d + amount_of coins.now d) }
+    {
+        for place in 0..coins.len() {
+            let coin = coin_at(coins, place);
+            self.give_coin(&(*who, coin.denom), coin.amount, steps)?;
+        }
+        Ok(())
+    }
+
+    /// Ends a change: the mark is forgotten, or where memory was wanting gone back to.
+    fn close(&mut self, mark: TablesMark, change: Result<(), TableFault>) -> Result<(), TableFault>
+        requires latest { length self.old.marks ≡ mark + 1 }
+        ensures same { result ≡ change }
+        ensures ok { OnOk result (IsForgotten self.old self.new) }
+        ensures err { OnErr result (IsGoneBack self.old self.new) }
+    {
+        match change {
+            Ok(()) => self.forget(mark),
+            Err(_) => self.back_to(mark),
+        }
+        change
+    }
+
+    /// Moves coins; where memory is wanting some may be moved.
+    fn move_coins<L: Ledger>(
+        &mut self,
+        from: &Account,
+        to: &Account,
+        coins: &Coins,
+        steps: &mut Steps<L>,
+    ) -> Result<(), TableFault>
+        requires backed { IsBacked self.old.holdings }
+        requires enough { is_short self.old.holdings from.now coins.now ≡ false }
+        ensures ok { OnOk result (self.new ≡ holding (moved from.now to.now coins.now self.old.holdings) self.old) }
+        ensures err { OnErr result (self.new ≡ record self.old { holdings = self.new.holdings; spent = true }) }
+        ensures cost { steps.new ≤ steps.old + 4 * length coins.now }
+    {
+        for place in 0..coins.len() {
+            self.move_coin(from, to, coin_at(coins, place), steps)?;
+        }
+        Ok(())
+    }
+
+    /// Moves a coin; where memory is wanting it may be gone from its sender.
+    fn move_coin<L: Ledger>(
+        &mut self,
+        from: &Account,
+        to: &Account,
+        coin: &Coin,
+        steps: &mut Steps<L>,
+    ) -> Result<(), TableFault>
+        requires backed { IsBacked self.old.holdings }
+        requires enough { coin.now.amount ≤ balance_of self.old.holdings from.now coin.now.denom }
+        ensures ok { OnOk result (self.new ≡ holding (coin_moved from.now to.now coin.now.denom coin.now.amount self.old.holdings) self.old) }
+        ensures err { OnErr result (self.new ≡ record self.old { holdings = self.new.holdings; spent = true }) }
+        ensures cost { steps.new ≤ steps.old + 4 }
+    {
+        let source = (*from, coin.denom);
+        let target = (*to, coin.denom);
+        let held = self.balance(&source, steps);
+        self.set_balance(&source, held - coin.amount, steps)?;
+        let there = self.balance(&target, steps);
+        self.set_balance(&target, there + coin.amount, steps)
+    }
+
+    /// Burns an amount; where memory is wanting it may be gone from its account alone.
+    fn burn_coin<L: Ledger>(
+        &mut self,
+        place: &(Account, Denom),
+        amount: u128,
+        steps: &mut Steps<L>,
+    ) -> Result<(), TableFault>
+        requires backed { IsBacked self.old.holdings }
+        requires enough { amount ≤ balance_of self.old.holdings place.now.0 place.now.1 }
+        ensures ok { OnOk result (self.new ≡ holding (coin_burned place.now.0 place.now.1 amount self.old.holdings) self.old) }
+        ensures err { OnErr result (self.new ≡ record self.old { holdings = self.new.holdings; spent = true }) }
+    {
+        let held = self.balance(place, steps);
+        let supply = self.supply(&place.1, steps);
+        self.set_balance(place, held - amount, steps)?;
+        self.set_supply(&place.1, supply - amount, steps)
+    }
+
+    /// Gives an amount to an account; where memory is wanting the supply may be as it was.
+    fn give_coin<L: Ledger>(
+        &mut self,
+        place: &(Account, Denom),
+        amount: u128,
+        steps: &mut Steps<L>,
+    ) -> Result<(), TableFault>
+        requires backed { IsBacked self.old.holdings }
+        requires bounded { supply_of self.old.holdings place.now.1 + amount ≤ 10 ^ 18 }
+        ensures ok { OnOk result (self.new ≡ holding (coin_given place.now.0 place.now.1 amount self.old.holdings) self.old) }
+    {
+        let held = self.balance(place, steps);
+        let supply = self.supply(&place.1, steps);
+        self.set_balance(place, held + amount, steps)?;
+        self.set_supply(&place.1, supply + amount, steps)
+    }
+}
+
+/// The coin at a place of a list.
+fn coin_at(coins: &Coins, place: usize) -> &Coin
+    requires { place < length coins.now }
+    ensures { slice_get coins.now place ≡ Some (result.now.denom, result.now.amount) }
+{
+    coins.at(place).unwrap()
+}

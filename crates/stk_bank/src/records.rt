@@ -1,0 +1,97 @@
+//! What a book keeps, as items of the state.
+
+ghost use Rattle.stk_keep.specs.Holdings.{Holdings};
+ghost use Rattle.stk_bank.specs.Rows.{items_of, is_holding};
+
+use crate::book::Book;
+use crate::walk::{changes_into, rows_into};
+use std::alloc::Global;
+use std::sync::ledger::Ledger;
+use stk_keep::{Item, RecordFault, Records};
+use stk_types::Steps;
+
+impl Records for Book {
+    ghost Kept = { Holdings };
+
+    ghost kept = { λ b. b.holdings };
+
+    ghost marks = { λ b. b.marks };
+
+    ghost settled = { λ b. b.settled };
+
+    ghost spent = { λ b. b.spent };
+
+    ghost items = { items_of };
+
+    ghost is_kind = { is_holding };
+
+    fn mark<L: Ledger>(
+        &mut self,
+        _alloc: Global,
+        _steps: &mut Steps<L>,
+    ) -> Result<(), RecordFault> {
+        let mark = self.tables.mark()?;
+        match self.marks.push(mark) {
+            Ok(()) => Ok(()),
+            Err(failed) => {
+                self.tables.forget(failed.value);
+                Err(RecordFault::NoMemory)
+            }
+        }
+    }
+
+    fn back<L: Ledger>(&mut self, _steps: &mut Steps<L>) {
+        let mark = self.marks.pop().unwrap();
+        self.tables.back_to(mark);
+    }
+
+    fn forget<L: Ledger>(&mut self, _steps: &mut Steps<L>) {
+        let mark = self.marks.pop().unwrap();
+        self.tables.forget(mark);
+    }
+
+    fn items_into<L: Ledger>(
+        &self,
+        out: &mut Vec<Item>,
+        steps: &mut Steps<L>,
+    ) -> Result<(), RecordFault> {
+        rows_into(self.tables.balances(), out, steps)?;
+        rows_into(self.tables.supplies(), out, steps)
+    }
+
+    fn changes_into<L: Ledger>(
+        &self,
+        out: &mut Vec<(Item, bool)>,
+        steps: &mut Steps<L>,
+    ) -> Result<(), RecordFault> {
+        changes_into(self.tables.balances(), out, steps)?;
+        changes_into(self.tables.supplies(), out, steps)
+    }
+
+    fn load<L: Ledger>(
+        &mut self,
+        _alloc: Global,
+        item: &Item,
+        steps: &mut Steps<L>,
+    ) -> Result<bool, RecordFault> {
+        if self.tables.is_spent() {
+            return Err(RecordFault::NoMemory);
+        }
+        match item {
+            Item::Balance {
+                account,
+                denom,
+                amount,
+            } => self
+                .tables
+                .put_balance(&(*account, *denom), *amount, steps)?,
+            Item::Supply { denom, amount } => self.tables.put_supply(denom, *amount, steps)?,
+            _ => return Ok(false),
+        }
+        Ok(true)
+    }
+
+    fn settle<L: Ledger>(&mut self, _steps: &mut Steps<L>) {
+        self.tables.settle();
+    }
+}

@@ -1,0 +1,239 @@
+//! The two tables of a book: they are marked together, and each change is of one entry.
+
+ghost use Rattle.std.specs.Prelude.{◌≡◌, ◌+◌, [], length, true, OnOk, OnErr, IfOk};
+ghost use Rattle.std.specs.List.Sorted.{IsStrictlySortedBy};
+ghost use Rattle.std.specs.Map.{keys_of};
+ghost use Rattle.std.specs.BTreeMap.{insert_entry};
+ghost use Rattle.stk_types.specs.Orders.{denom_cmp};
+ghost use Rattle.stk_keep.specs.Holdings.{balance_of, supply_of, with_balance};
+ghost use Rattle.stk_keep.specs.Orders.{place_cmp};
+ghost use Rattle.stk_bank.specs.Booked.{new_book, holding, spent_now, with_mark, with_supply, AreNamed, IsGoneBack, IsForgotten};
+
+use crate::mark::TablesMark;
+use std::alloc::Global;
+use std::marker::Model;
+use std::sync::ledger::Ledger;
+use stk_table::{Table, TableFault};
+use stk_types::{Account, Denom, Steps};
+
+/// Balances by account and denomination, and supplies, without zeros. Once memory was wanting in a change
+/// they are spent.
+#[derive(Drop)]
+pub(crate) struct Tables {
+    balances: Table<(Account, Denom), u128>,
+    supplies: Table<Denom, u128>,
+    spent: bool,
+}
+
+impl Model for Tables {
+    ghost use Rattle.stk_bank.specs.Booked.{Booked, AreInStep, booked};
+
+    ghost Value = { Booked };
+
+    ghost view = { λ t. booked t.balances t.supplies t.spent };
+
+    ghost invariant = { λ t. AreInStep t.balances t.supplies };
+}
+
+impl Tables {
+    /// Empty tables. They take no memory yet.
+    pub(crate) fn new(alloc: Global) -> Tables
+        ensures { result ≡ new_book }
+    {
+        Tables {
+            balances: Table::new(alloc),
+            supplies: Table::new(alloc),
+            spent: false,
+        }
+    }
+
+    /// Whether memory was wanting in a change.
+    pub(crate) fn is_spent(&self) -> bool
+        ensures { result ≡ self.now.spent }
+    {
+        self.spent
+    }
+
+    /// What an account holds of a denomination.
+    pub(crate) fn balance<L: Ledger>(&self, place: &(Account, Denom), steps: &mut Steps<L>) -> u128
+        ensures amount { result ≡ balance_of self.now.holdings place.now.0 place.now.1 }
+        ensures cost { steps.new ≡ steps.old + 1 }
+    {
+        match self.balances.get(place, steps) {
+            Some(amount) => *amount,
+            None => 0,
+        }
+    }
+
+    /// How much there is of a denomination.
+    pub(crate) fn supply<L: Ledger>(&self, denom: &Denom, steps: &mut Steps<L>) -> u128
+        ensures amount { result ≡ supply_of self.now.holdings denom.now }
+        ensures cost { steps.new ≡ steps.old + 1 }
+    {
+        match self.supplies.get(denom, steps) {
+            Some(amount) => *amount,
+            None => 0,
+        }
+    }
+
+    /// Puts a balance, also one of 0. Where memory is wanting the tables are spent, and else as they were.
+    pub(crate) fn put_balance<L: Ledger>(
+        &mut self,
+        place: &(Account, Denom),
+        amount: u128,
+        steps: &mut Steps<L>,
+    ) -> Result<(), TableFault>
+        ensures ok { OnOk result (self.new ≡ holding (record { balances = insert_entry place_cmp self.old.holdings.balances place.now amount; supplies = self.old.holdings.supplies }) self.old) }
+        ensures err { OnErr result (self.new ≡ spent_now self.old) }
+        ensures ordered { IsStrictlySortedBy place_cmp (keys_of self.old.holdings.balances) }
+        ensures cost { steps.new ≡ steps.old + 1 }
+    {
+        // They tell that the denomination is a name, and that the keys ascend.
+        let _ = place.1.bytes();
+        let _ = self.balances.len();
+        match self.balances.put(place, amount, steps) {
+            Ok(()) => Ok(()),
+            Err(fault) => {
+                self.spent = true;
+                Err(fault)
+            }
+        }
+    }
+
+    /// Puts a supply, also one of 0. Where memory is wanting the tables are spent, and else as they were.
+    pub(crate) fn put_supply<L: Ledger>(
+        &mut self,
+        denom: &Denom,
+        amount: u128,
+        steps: &mut Steps<L>,
+    ) -> Result<(), TableFault>
+        ensures ok { OnOk result (self.new ≡ holding (record { balances = self.old.holdings.balances; supplies = insert_entry denom_cmp self.old.holdings.supplies denom.now amount }) self.old) }
+        ensures err { OnErr result (self.new ≡ spent_now self.old) }
+        ensures ordered { IsStrictlySortedBy denom_cmp (keys_of self.old.holdings.supplies) }
+        ensures cost { steps.new ≡ steps.old + 1 }
+    {
+        // It tells that the keys ascend.
+        let _ = self.supplies.len();
+        match self.supplies.put(denom, amount, steps) {
+            Ok(()) => Ok(()),
+            Err(fault) => {
+                self.spent = true;
+                Err(fault)
+            }
+        }
+    }
+
+    /// Sets a balance, which has no entry where it is 0. Where memory is wanting the tables are spent, and
+    /// else as they were.
+    pub(crate) fn set_balance<L: Ledger>(
+        &mut self,
+        place: &(Account, Denom),
+        amount: u128,
+        steps: &mut Steps<L>,
+    ) -> Result<(), TableFault>
+        ensures ok { OnOk result (self.new ≡ holding (with_balance self.old.holdings place.now.0 place.now.1 amount) self.old) }
+        ensures err { OnErr result (self.new ≡ spent_now self.old) }
+        ensures cost { steps.new ≡ steps.old + 1 }
+    {
+        if amount != 0 {
+            return self.put_balance(place, amount, steps);
+        }
+        match self.balances.remove(place, steps) {
+            Ok(_) => Ok(()),
+            Err(fault) => {
+                self.spent = true;
+                Err(fault)
+            }
+        }
+    }
+
+    /// Sets a supply, which has no entry where it is 0. Where memory is wanting the tables are spent, and
+    /// else as they were.
+    pub(crate) fn set_supply<L: Ledger>(
+        &mut self,
+        denom: &Denom,
+        amount: u128,
+        steps: &mut Steps<L>,
+    ) -> Result<(), TableFault>
+        ensures ok { OnOk result (self.new ≡ holding (with_supply self.old.holdings denom.now amount) self.old) }
+        ensures err { OnErr result (self.new ≡ spent_now self.old) }
+        ensures cost { steps.new ≡ steps.old + 1 }
+    {
+        if amount != 0 {
+            return self.put_supply(denom, amount, steps);
+        }
+        match self.supplies.remove(denom, steps) {
+            Ok(_) => Ok(()),
+            Err(fault) => {
+                self.spent = true;
+                Err(fault)
+            }
+        }
+    }
+
+    /// The balances by account and denomination.
+    pub(crate) fn balances(&self) -> &Table<(Account, Denom), u128>
+        ensures entries { result.now.entries ≡ self.now.holdings.balances }
+        ensures settled { result.now.settled ≡ self.now.settled.balances }
+        ensures named { AreNamed result.now.entries }
+    {
+        &self.balances
+    }
+
+    /// The supplies.
+    pub(crate) fn supplies(&self) -> &Table<Denom, u128>
+        ensures entries { result.now.entries ≡ self.now.holdings.supplies }
+        ensures settled { result.now.settled ≡ self.now.settled.supplies }
+    {
+        &self.supplies
+    }
+
+    /// Opens a mark above those that are open. Where memory is wanting, nothing changes.
+    pub(crate) fn mark(&mut self) -> Result<TablesMark, TableFault>
+        ensures depth { IfOk result (λ mark. mark ≡ length self.old.marks) }
+        ensures ok { OnOk result (self.new ≡ with_mark self.old) }
+        ensures err { OnErr result (self.new ≡ self.old) }
+        ensures spent { self.old.spent ≡ true → OnOk result ⊥ }
+    {
+        if self.spent {
+            return Err(TableFault::Spent);
+        }
+        let balances = self.balances.mark()?;
+        match self.supplies.mark() {
+            Ok(supplies) => Ok(TablesMark::of(balances, supplies)),
+            Err(fault) => {
+                self.balances.back_to(balances);
+                Err(fault)
+            }
+        }
+    }
+
+    /// Goes back to the latest open mark and closes it. Takes no memory.
+    pub(crate) fn back_to(&mut self, mark: TablesMark)
+        requires latest { length self.old.marks ≡ mark + 1 }
+        ensures { IsGoneBack self.old self.new }
+    {
+        let (balances, supplies) = mark.parts();
+        self.balances.back_to(balances);
+        self.supplies.back_to(supplies);
+    }
+
+    /// Closes the latest open mark and keeps what is held. Takes no memory.
+    pub(crate) fn forget(&mut self, mark: TablesMark)
+        requires latest { length self.old.marks ≡ mark + 1 }
+        ensures { IsForgotten self.old self.new }
+    {
+        let (balances, supplies) = mark.parts();
+        self.balances.forget(balances);
+        self.supplies.forget(supplies);
+    }
+
+    /// Settles both tables. Takes no memory.
+    pub(crate) fn settle(&mut self)
+        requires closed { self.old.marks ≡ [] }
+        ensures { self.new ≡ record self.old { settled = self.old.holdings } }
+    {
+        self.balances.settle();
+        self.supplies.settle();
+    }
+}
