@@ -1,0 +1,16 @@
+use Rattle.std.proofs.Common.{◌≡◌, ◌∙◌, map, sym, ap, subst}
+use Rattle.stk_keep.specs.Holdings.{Holdings}
+use Rattle.stk_bank.specs.Booked.{holding, new_book}
+use Rattle.stk_bank.specs.Given.{IsBounded, held_by as given_by}
+use Rattle.stk_chain.proofs.StartLemmas.{pair_of, HaveMoney, given_is_held, bounded}
+use Rattle.stk_chain.proofs.genesis.start_book.Goals as goal
+
+pub start-requires : goal.start-requires
+start-requires g c =
+    let same : c.deref.result.now ≡ map pair_of c.args.genesis.now.accounts = c.deref.ensures.value ∙ c.in_ok-holders.ensures.pairs ∙ ap (map pair_of) c.as_slice.ensures in
+    record { bounded = subst IsBounded (sym same) (bounded c.args.genesis.now c.requires.starts (subst HaveMoney c.as_slice.ensures c.in_ok-holders.ensures.money)) }
+
+pub returns-clause-book : goal.returns-clause-book
+returns-clause-book g c =
+    let same : c.deref.result.now ≡ map pair_of c.args.genesis.now.accounts = c.deref.ensures.value ∙ c.in_ok-holders.ensures.pairs ∙ ap (map pair_of) c.as_slice.ensures in
+    c.in_ok-start.ensures.book ∙ ap (λ (h : Holdings). holding h new_book) (ap given_by same ∙ given_is_held c.args.genesis.now.accounts)
