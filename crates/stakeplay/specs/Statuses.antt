@@ -1,8 +1,12 @@
--- The number by which the process ends, for each status.
+-- The numbers that the program gives out.
 use Rattle.std.specs.Prelude.{ℕ}
+use Rattle.stk_msgs.specs.declared.faults.BlockFault.{BlockFault}
+use Rattle.stk_msgs.specs.declared.faults.BlockFault.TheVariants as block
+use Rattle.stk_app.specs.declared.status.InputFault.TheVariants as input
 use Rattle.stk_app.specs.declared.status.Status.{Status}
 use Rattle.stk_app.specs.declared.status.Status.TheVariants.{Done, Usage, BadInput, Limit, ReadFault, WriteFault, NoMemory}
 
+-- The number by which the process ends, for each status.
 abbrev pub number_of : Status → ℕ
 number_of Done = 0
 number_of Usage = 1
@@ -11,3 +15,27 @@ number_of (Limit line kind) = 3
 number_of ReadFault = 4
 number_of WriteFault = 5
 number_of NoMemory = 7
+
+-- The number by which a block's fault is named.
+abbrev pub number_of_fault : BlockFault → ℕ
+number_of_fault (block.BadHeight due) = 1
+number_of_fault (block.BadTime last) = 2
+number_of_fault (block.UnknownVote place) = 3
+number_of_fault (block.RepeatedVote place) = 4
+number_of_fault (block.BadPower place) = 5
+number_of_fault (block.BadEvidence place) = 6
+number_of_fault (block.RatioLimit over) = 7
+number_of_fault block.NoMemory = 8
+
+-- The number of the member, of the condition or of the block's fault by which a run ended, and 0 where it ended otherwise.
+abbrev pub fault_number : Status → ℕ
+fault_number (BadInput line (input.BadShape member)) = member
+fault_number (BadInput line (input.BadGenesis condition)) = condition
+fault_number (BadInput line (input.Block fault)) = number_of_fault fault
+fault_number _ = 0
+
+-- The number of the line at which a run ended, and 0 where it ended at none.
+abbrev pub line_number : Status → ℕ
+line_number (BadInput line fault) = line
+line_number (Limit line kind) = line
+line_number _ = 0

@@ -3,7 +3,7 @@
 #![tactic(auto)]
 
 ghost use Rattle.std.specs.Prelude.{◌≡◌};
-ghost use Rattle.stakeplay.specs.Statuses.{number_of};
+ghost use Rattle.stakeplay.specs.Statuses.{fault_number, line_number, number_of, number_of_fault};
 
 use std::alloc::Global;
 use std::env::{self, Env};
@@ -11,10 +11,11 @@ use std::io::ErrorKind;
 use std::process::ExitCode;
 use stk_app::{InputFault, LimitKind, Status, run};
 use stk_io::{StdSink, StdSource};
+use stk_msgs::BlockFault;
 
 /// The number by which the process ends.
-fn number_of(status: Status) -> u8
-    ensures { result ≡ number_of status }
+fn number_of(status: &Status) -> u8
+    ensures { result ≡ number_of status.now }
 {
     match status {
         Status::Done => 0,
@@ -24,6 +25,46 @@ fn number_of(status: Status) -> u8
         Status::ReadFault => 4,
         Status::WriteFault => 5,
         Status::NoMemory => 7,
+    }
+}
+
+/// The number by which a block's fault is named.
+fn number_of_fault(fault: &BlockFault) -> u8
+    ensures { result ≡ number_of_fault fault.now }
+{
+    match fault {
+        BlockFault::BadHeight(_) => 1,
+        BlockFault::BadTime(_) => 2,
+        BlockFault::UnknownVote(_) => 3,
+        BlockFault::RepeatedVote(_) => 4,
+        BlockFault::BadPower(_) => 5,
+        BlockFault::BadEvidence(_) => 6,
+        BlockFault::RatioLimit(_) => 7,
+        BlockFault::NoMemory => 8,
+    }
+}
+
+/// The number of the line at which a run ended, and 0 where it ended at none.
+fn line_number(status: &Status) -> u64
+    ensures { result ≡ line_number status.now }
+{
+    match status {
+        Status::BadInput(line, _) => *line,
+        Status::Limit(line, _) => *line,
+        _ => 0,
+    }
+}
+
+/// The number of the member, of the condition or of the block's fault by which a run ended, and 0 where it
+/// ended otherwise.
+fn fault_number(status: &Status) -> u16
+    ensures { result ≡ fault_number status.now }
+{
+    match status {
+        Status::BadInput(_, InputFault::BadShape(member)) => *member,
+        Status::BadInput(_, InputFault::BadGenesis(condition)) => u16::from(*condition),
+        Status::BadInput(_, InputFault::Block(fault)) => u16::from(number_of_fault(fault)),
+        _ => 0,
     }
 }
 
@@ -57,25 +98,34 @@ fn main(rt: HostRuntime) -> ExitCode {
         },
         Err(status) => status,
     };
+    let line = line_number(&status);
+    let number = fault_number(&status);
     let _ = match status {
         Status::Done => Ok(()),
         Status::Usage => eprintln!(rt; "stakeplay: usage"),
-        Status::BadInput(line, InputFault::Missing) => eprintln!(rt;
+        Status::BadInput(_, InputFault::Missing) => eprintln!(rt;
             "stakeplay: line {line}: missing"
         ),
-        Status::BadInput(line, InputFault::NotJson) => eprintln!(rt;
+        Status::BadInput(_, InputFault::NotJson) => eprintln!(rt;
             "stakeplay: line {line}: not JSON"
         ),
-        Status::BadInput(line, InputFault::Unbuilt) => eprintln!(rt;
+        Status::BadInput(_, InputFault::BadShape(_)) => eprintln!(rt;
+            "stakeplay: line {line}: bad shape {number}"
+        ),
+        Status::BadInput(_, InputFault::Unbuilt) => eprintln!(rt;
             "stakeplay: line {line}: not built"
         ),
-        Status::Limit(line, LimitKind::Line) => eprintln!(rt; "stakeplay: line {line}: limit line"),
-        Status::Limit(line, LimitKind::Input) => eprintln!(rt;
-            "stakeplay: line {line}: limit input"
+        Status::BadInput(_, InputFault::BadGenesis(_)) => eprintln!(rt;
+            "stakeplay: line {line}: bad genesis {number}"
         ),
+        Status::BadInput(_, InputFault::Block(_)) => eprintln!(rt;
+            "stakeplay: line {line}: bad block {number}"
+        ),
+        Status::Limit(_, LimitKind::Line) => eprintln!(rt; "stakeplay: line {line}: limit line"),
+        Status::Limit(_, LimitKind::Input) => eprintln!(rt; "stakeplay: line {line}: limit input"),
         Status::ReadFault => eprintln!(rt; "stakeplay: read fault"),
         Status::WriteFault => eprintln!(rt; "stakeplay: write fault"),
         Status::NoMemory => eprintln!(rt; "stakeplay: no memory"),
     };
-    ExitCode::from(number_of(status))
+    ExitCode::from(number_of(&status))
 }

@@ -2,7 +2,5 @@ pub mod CutLemmas
 pub mod RunLemmas
 pub mod PartLemmas
 pub mod DriveLemmas
-pub mod EntryLemmas
-pub mod BankLemmas
-pub mod ChainLemmas
+pub mod ReadLemmas
 pub mod SoundLemmas

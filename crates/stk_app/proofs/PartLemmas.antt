@@ -247,3 +247,9 @@ pub piece_stops : (r : Result (Unit {0}) Stop) (n : ℕ) (s : Stage) (line piece
     → HasNoEnd rest → IfErr r (λ stop. NotExtended stop n1 line1 rest) → IfErr r (PartStops n s (lines_after line piece) (whole_from line piece) w w1)
 piece_stops (Ok x) n s line piece rest n1 s1 line1 w w1 f none h = tt
 piece_stops (Err stop) n s line piece rest n1 s1 line1 w w1 f none h = rest_stops n s line piece rest n1 s1 line1 w w1 stop f none h
+
+-- ---- the report
+
+-- nothing was written of the report, and memory was wanting
+pub nothing_reported : (s : Stage) (written : Option (List ℕ)) → FinishStops 1 s [] written written ends.NoMemory
+nothing_reported s written old e = ([], e ∙ ap Some (sym (append-nil old)), inr (record { end = s; answered = (refl, refl) }))

@@ -1,7 +1,4 @@
 pub mod Lines
-pub mod Entries
-pub mod Bank
-pub mod Chain
 pub mod Machine
 pub mod Runs
 pub mod Outcome

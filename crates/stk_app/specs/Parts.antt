@@ -130,13 +130,6 @@ NotAnswered stop.Write n s line = ⊥
 NotAnswered (stop.BadInput m fault) n s line = line_answer n s line ≡ Err (stop.BadInput m fault)
 NotAnswered (stop.Long m) n s line = (line_answer n s line ≡ Err (stop.Long m)) × (longest < length line)
 
--- why there is no report
-abbrev pub NotReported : Stop → Stage → Type 0
-NotReported stop.NoMemory s = Unit {0}
-NotReported stop.Write s = ⊥
-NotReported (stop.BadInput m fault) s = report_of s ≡ Err (stop.BadInput m fault)
-NotReported (stop.Long m) s = ⊥
-
 -- why bytes were not added to a line: it would be too long, or memory was wanting
 abbrev pub NotExtended : Stop → ℕ → List ℕ → List ℕ → Type 0
 NotExtended stop.NoMemory n line bytes = Unit {0}

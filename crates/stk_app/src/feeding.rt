@@ -1,14 +1,14 @@
 ghost use Rattle.std.specs.Prelude.{◌≡◌, ◌≤◌, ◌<◌, ◌^◌, ◌+◌, ◌∷◌, ◌++◌, [], List, ℕ, IfErr, IfSome, IfNone, OnOk, OnErr, IsErrOf, length, take, drop, slice_index};
 ghost use Rattle.stk_io.specs.Outside.{Rose};
 ghost use Rattle.stk_app.specs.Lines.{whole_from};
-ghost use Rattle.stk_app.specs.Machine.{longest};
+ghost use Rattle.stk_app.specs.Machine.{longest, stage_of};
 ghost use Rattle.stk_app.specs.Parts.{PartStops, Fed, lines_after, HasNoEnd, NotExtended, UnlessWrite};
 
-use crate::chain::Chain;
 use crate::line::{LONGEST, take_line};
 use crate::status::Stop;
 use memchr::memchr;
 use std::alloc::Global;
+use stk_chain::Chain;
 use stk_io::Sink;
 
 /// Where a run stands: the number of the next line, what has come of it, and what the lines
@@ -64,9 +64,9 @@ fn end_line<K: Sink>(
     requires number { progress.old.number < 2 ^ 63 }
     requires short { length progress.old.line.items ≤ longest }
     requires before { HasNoEnd bytes.now }
-    ensures fed { OnOk result (Fed progress.old.number progress.old.chain progress.old.line.items (bytes.now ++ 10 ∷ [])
-        progress.new.number progress.new.chain progress.new.line.items (K.written sink.old) (K.written sink.new)) }
-    ensures stops { IfErr result (PartStops progress.old.number progress.old.chain (lines_after progress.old.line.items (bytes.now ++ 10 ∷ []))
+    ensures fed { OnOk result (Fed progress.old.number (stage_of progress.old.chain) progress.old.line.items (bytes.now ++ 10 ∷ [])
+        progress.new.number (stage_of progress.new.chain) progress.new.line.items (K.written sink.old) (K.written sink.new)) }
+    ensures stops { IfErr result (PartStops progress.old.number (stage_of progress.old.chain) (lines_after progress.old.line.items (bytes.now ++ 10 ∷ []))
         (whole_from progress.old.line.items (bytes.now ++ 10 ∷ [])) (K.written sink.old) (K.written sink.new)) }
     ensures later { K.faults sink.old ≤ K.faults sink.new }
     ensures cause { IsErrOf result Stop.Write
@@ -99,9 +99,9 @@ pub fn feed<K: Sink>(
 ) -> Result<(), Stop>
     requires number { progress.old.number + length piece.now < 2 ^ 63 }
     requires short { length progress.old.line.items ≤ longest }
-    ensures fed { OnOk result (Fed progress.old.number progress.old.chain progress.old.line.items piece.now
-        progress.new.number progress.new.chain progress.new.line.items (K.written sink.old) (K.written sink.new)) }
-    ensures stops { IfErr result (PartStops progress.old.number progress.old.chain (lines_after progress.old.line.items piece.now)
+    ensures fed { OnOk result (Fed progress.old.number (stage_of progress.old.chain) progress.old.line.items piece.now
+        progress.new.number (stage_of progress.new.chain) progress.new.line.items (K.written sink.old) (K.written sink.new)) }
+    ensures stops { IfErr result (PartStops progress.old.number (stage_of progress.old.chain) (lines_after progress.old.line.items piece.now)
         (whole_from progress.old.line.items piece.now) (K.written sink.old) (K.written sink.new)) }
     ensures later { K.faults sink.old ≤ K.faults sink.new }
     ensures cause { IsErrOf result Stop.Write

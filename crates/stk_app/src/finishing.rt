@@ -1,29 +1,33 @@
 ghost use Rattle.std.specs.Prelude.{◌≡◌, ◌≤◌, ◌⊎◌, true, IfErr, OnOk, IsErrOf, []};
 ghost use Rattle.stk_io.specs.Outside.{Rose};
 ghost use Rattle.stk_app.specs.Lines.{last_line};
+ghost use Rattle.stk_app.specs.Machine.{stage_of};
 ghost use Rattle.stk_app.specs.Parts.{EndLongOnly, IsOfReport, FinishStops, Finishes, UnlessWriteAtEnd};
 
-use crate::chain::Chain;
-use crate::line::{report_text, take_line};
-use crate::status::{EndStop, Stop};
+use crate::line::take_line;
+use crate::report::report_text;
+use crate::status::{EndStop, InputFault, Stop};
 use std::alloc::Global;
+use stk_chain::Chain;
 use stk_io::{Sink, SinkFault, write_all};
 
 /// Writes the report, and flushes.
+#[tactic(auto, unfolding(crate::specs::Machine::report_of))]
 fn report<K: Sink>(alloc: Global, sink: &mut K, chain: &Option<Chain>) -> Result<(), EndStop>
     ensures clean { OnOk result (K.clean sink.new ≡ true) }
-    ensures written { OnOk result (Finishes 1 chain.now [] (K.written sink.old) (K.written sink.new)) }
-    ensures stops { IfErr result (FinishStops 1 chain.now [] (K.written sink.old) (K.written sink.new)) }
+    ensures written { OnOk result (Finishes 1 (stage_of chain.now) [] (K.written sink.old) (K.written sink.new)) }
+    ensures stops { IfErr result (FinishStops 1 (stage_of chain.now) [] (K.written sink.old) (K.written sink.new)) }
     ensures no_line { IfErr result IsOfReport }
     ensures later { K.faults sink.old ≤ K.faults sink.new }
     ensures report_cause { IsErrOf result EndStop.Report → Rose (K.faults sink.old) (K.faults sink.new) }
     ensures flush_cause { IsErrOf result EndStop.Flush → Rose (K.faults sink.old) (K.faults sink.new) }
     ensures quiet { UnlessWriteAtEnd result (K.faults sink.new ≡ K.faults sink.old) }
 {
-    let text = match report_text(alloc, chain) {
-        Ok(text) => text,
-        Err(Stop::BadInput(n, fault)) => return Err(EndStop::Lacking(n, fault)),
-        Err(_) => return Err(EndStop::NoMemory),
+    let Some(chain) = chain else {
+        return Err(EndStop::Lacking(1, InputFault::Missing));
+    };
+    let Some(text) = report_text(alloc, chain) else {
+        return Err(EndStop::NoMemory);
     };
     match write_all(sink, &text) {
         Ok(()) => {}
@@ -46,8 +50,8 @@ pub fn finish<K: Sink>(
     line: &[u8],
 ) -> Result<(), EndStop>
     ensures clean { OnOk result (K.clean sink.new ≡ true) }
-    ensures done { OnOk result (Finishes number chain.old (last_line line.now) (K.written sink.old) (K.written sink.new)) }
-    ensures stops { IfErr result (FinishStops number chain.old (last_line line.now)
+    ensures done { OnOk result (Finishes number (stage_of chain.old) (last_line line.now) (K.written sink.old) (K.written sink.new)) }
+    ensures stops { IfErr result (FinishStops number (stage_of chain.old) (last_line line.now)
         (K.written sink.old) (K.written sink.new)) }
     ensures long { IfErr result (λ stop. EndLongOnly stop line.now) }
     ensures later { K.faults sink.old ≤ K.faults sink.new }

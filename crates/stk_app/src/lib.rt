@@ -2,16 +2,21 @@
 //! answers to a sink.
 #![tactic(auto)]
 
-mod bank;
-mod chain;
 mod feeding;
 mod finishing;
 mod line;
+mod report;
 mod running;
 mod status;
 
 pub use running::run;
 pub use status::{InputFault, LimitKind, Status};
 
+#[cfg(test)]
+mod block_tests;
+#[cfg(test)]
+mod outside_tests;
+#[cfg(test)]
+mod samples;
 #[cfg(test)]
 mod tests;

@@ -1,47 +1,101 @@
-ghost use Rattle.std.specs.Prelude.{◌≡◌, ◌≤◌, ◌∷◌, [], Some, None, List, ℕ, Ok, Err, IfOk, IfErr, IfSome, OnOk, IsErrOf, length};
+ghost use Rattle.std.specs.Prelude.{◌≡◌, ◌≤◌, ◌<◌, ◌∷◌, ◌&&◌, ◌==◌, [], Some, None, List, ℕ, Ok, Err, true, IfOk, IfErr, IfSome, OnOk, IsErrOf, length};
+ghost use Rattle.std.specs.List.{list_all};
 ghost use Rattle.stk_io.specs.Outside.{Rose};
 ghost use Rattle.stk_json.specs.Genesis.{genesis_of};
 ghost use Rattle.stk_json.specs.Block.{block_of};
-ghost use Rattle.stk_app.specs.Machine.{line_answer, report_of, not_read, genesis_answer, block_answer};
-ghost use Rattle.stk_app.specs.Parts.{IsFault, LongOnly, NotAnswered, NotReported, PartStops, Took, UnlessWrite};
+ghost use Rattle.stk_machine.specs.Transactions.{are_sends};
+ghost use Rattle.stk_app.specs.Machine.{line_answer, not_read, not_started, not_applied, genesis_answer, block_answer, has_accounts_only, has_sends_only, stage_of};
+ghost use Rattle.stk_app.specs.Parts.{IsFault, LongOnly, NotAnswered, PartStops, Took, UnlessWrite};
 
-use crate::chain::{Chain, apply_block, may_follow, start};
 use crate::status::{InputFault, Stop};
 use std::alloc::Global;
+use stk_chain::{Chain, ChainFault};
 use stk_io::{Sink, SinkFault, write_all};
-use stk_json::{
-    LineFault, line_of_genesis, lines_of_block, lines_of_report, read_block, read_genesis,
-};
+use stk_json::{line_of_genesis, lines_of_block, read_block, read_genesis};
+use stk_msgs::{Block, BlockFault, Genesis, LineFault, Msg, Tx};
 
 /// The most bytes of a line, without its end.
 pub const LONGEST: usize = 4_194_304;
 
 /// Why a line is not read.
-fn stop_of(number: u64, fault: LineFault) -> Stop
+fn not_read(number: u64, fault: LineFault) -> Stop
     ensures { result ≡ not_read number fault }
 {
     match fault {
         LineFault::NotJson => Stop::BadInput(number, InputFault::NotJson),
-        LineFault::Unbuilt => Stop::BadInput(number, InputFault::Unbuilt),
+        LineFault::BadShape(member) => Stop::BadInput(number, InputFault::BadShape(member)),
         LineFault::NoMemory => Stop::NoMemory,
     }
 }
 
+/// Why a genesis starts no chain.
+fn not_started(number: u64, fault: ChainFault) -> Stop
+    ensures { result ≡ not_started number fault }
+{
+    match fault {
+        ChainFault::BadGenesis(condition) => {
+            Stop::BadInput(number, InputFault::BadGenesis(condition))
+        }
+        ChainFault::BadItems => Stop::NoMemory,
+        ChainFault::NoMemory => Stop::NoMemory,
+    }
+}
+
+/// Why a block is not applied.
+fn not_applied(number: u64, fault: BlockFault) -> Stop
+    ensures { result ≡ not_applied number fault }
+{
+    match fault {
+        BlockFault::NoMemory => Stop::NoMemory,
+        fault => Stop::BadInput(number, InputFault::Block(fault)),
+    }
+}
+
+/// Whether the genesis has neither validators nor delegations.
+fn has_accounts_only(genesis: &Genesis) -> bool
+    ensures { result ≡ has_accounts_only genesis.now }
+{
+    genesis.validators.len() == 0 && genesis.delegations.len() == 0
+}
+
+/// Whether all messages are sends.
+fn are_sends(msgs: &[Msg]) -> bool
+    ensures { result ≡ are_sends msgs.now }
+{
+    msgs.iter().all(|msg| matches!(msg, Msg::Send(_)))
+}
+
+/// Whether the transactions have no messages but sends.
+fn have_sends_only(txs: &[Tx]) -> bool
+    ensures { result ≡ list_all (λ (tx : Tx). are_sends tx.msgs) txs.now }
+{
+    txs.iter().all(|tx| are_sends(tx.msgs.as_slice()))
+}
+
+/// Whether the block has no votes, no evidence and no messages but sends.
+fn has_sends_only(block: &Block) -> bool
+    ensures { result ≡ has_sends_only block.now }
+{
+    block.votes.len() == 0 && block.evidence.len() == 0 && have_sends_only(block.txs.as_slice())
+}
+
 /// The answer to the first line: the chain that it starts, and its text.
 fn begin(alloc: Global, number: u64, line: &[u8]) -> Result<(Chain, Vec<u8>), Stop>
-    ensures ok { IfOk result (λ first. genesis_answer number (genesis_of line.now) ≡ Ok (record { text = first.1.items; stage = Some first.0 })) }
+    ensures ok { IfOk result (λ first. genesis_answer number (genesis_of line.now) ≡ Ok (record { text = first.1.items; stage = stage_of (Some first.0) })) }
     ensures err { IfErr result (λ stop. IsFault stop (genesis_answer number (genesis_of line.now))) }
 {
     let genesis = match read_genesis(alloc, line) {
         Ok(genesis) => genesis,
-        Err(fault) => return Err(stop_of(number, fault)),
+        Err(fault) => return Err(not_read(number, fault)),
     };
-    let chain = match start(alloc, &genesis) {
-        Ok(Some(chain)) => chain,
-        Ok(None) => return Err(Stop::BadInput(number, InputFault::Unbuilt)),
-        Err(_) => return Err(Stop::NoMemory),
+    if !has_accounts_only(&genesis) {
+        return Err(Stop::BadInput(number, InputFault::Unbuilt));
+    }
+    let chain = match Chain::genesis(alloc, &genesis) {
+        Ok((chain, _facts)) => chain,
+        Err(fault) => return Err(not_started(number, fault)),
     };
-    let Ok(supply) = chain.bank.supply(alloc) else {
+    let Ok(supply) = chain.supply(alloc) else {
         return Err(Stop::NoMemory);
     };
     match line_of_genesis(alloc, &supply) {
@@ -51,19 +105,21 @@ fn begin(alloc: Global, number: u64, line: &[u8]) -> Result<(Chain, Vec<u8>), St
 }
 
 /// The answer to a line after the genesis, which leads the chain on.
+#[tactic(auto, using(crate::proofs::ReadLemmas::height_is_low))]
 fn advance(alloc: Global, number: u64, chain: &mut Chain, line: &[u8]) -> Result<Vec<u8>, Stop>
-    ensures ok { IfOk result (λ text. block_answer number chain.old (block_of line.now) ≡ Ok (record { text = text.items; stage = Some chain.new })) }
-    ensures err { IfErr result (λ stop. IsFault stop (block_answer number chain.old (block_of line.now))) }
+    ensures ok { IfOk result (λ text. block_answer number chain.old.state (block_of line.now) ≡ Ok (record { text = text.items; stage = stage_of (Some chain.new) })) }
+    ensures err { IfErr result (λ stop. IsFault stop (block_answer number chain.old.state (block_of line.now))) }
 {
     let block = match read_block(alloc, line) {
         Ok(block) => block,
-        Err(fault) => return Err(stop_of(number, fault)),
+        Err(fault) => return Err(not_read(number, fault)),
     };
-    if !may_follow(chain, &block) {
+    if !has_sends_only(&block) {
         return Err(Stop::BadInput(number, InputFault::Unbuilt));
     }
-    let Ok(report) = apply_block(alloc, chain, &block) else {
-        return Err(Stop::NoMemory);
+    let report = match chain.apply_block(alloc, &block) {
+        Ok(report) => report,
+        Err(fault) => return Err(not_applied(number, fault)),
     };
     match lines_of_block(alloc, &report) {
         Ok(text) => Ok(text),
@@ -79,8 +135,8 @@ fn answer(
     chain: &mut Option<Chain>,
     line: &[u8],
 ) -> Result<Vec<u8>, Stop>
-    ensures ok { IfOk result (λ text. line_answer number chain.old line.now ≡ Ok (record { text = text.items; stage = chain.new })) }
-    ensures err { IfErr result (λ stop. NotAnswered stop number chain.old line.now) }
+    ensures ok { IfOk result (λ text. line_answer number (stage_of chain.old) line.now ≡ Ok (record { text = text.items; stage = stage_of chain.new })) }
+    ensures err { IfErr result (λ stop. NotAnswered stop number (stage_of chain.old) line.now) }
 {
     if line.len() > LONGEST {
         return Err(Stop::Long(number));
@@ -98,27 +154,6 @@ fn answer(
     }
 }
 
-/// The report of what the lines led to.
-#[tactic(auto, unfolding(crate::specs::Machine::report_of))]
-pub fn report_text(alloc: Global, chain: &Option<Chain>) -> Result<Vec<u8>, Stop>
-    ensures ok { IfOk result (λ text. report_of chain.now ≡ Ok text.items) }
-    ensures err { IfErr result (λ stop. NotReported stop chain.now) }
-{
-    let Some(chain) = chain else {
-        return Err(Stop::BadInput(1, InputFault::Missing));
-    };
-    let Ok(supply) = chain.bank.supply(alloc) else {
-        return Err(Stop::NoMemory);
-    };
-    let Ok(balances) = chain.bank.balances(alloc) else {
-        return Err(Stop::NoMemory);
-    };
-    match lines_of_report(alloc, &supply, &balances) {
-        Ok(text) => Ok(text),
-        Err(_) => Err(Stop::NoMemory),
-    }
-}
-
 /// Answers one line, and writes its text.
 pub fn take_line<K: Sink>(
     alloc: Global,
@@ -127,8 +162,8 @@ pub fn take_line<K: Sink>(
     chain: &mut Option<Chain>,
     line: &[u8],
 ) -> Result<(), Stop>
-    ensures took { OnOk result (Took number chain.old line.now chain.new (K.written sink.old) (K.written sink.new)) }
-    ensures stops { IfErr result (PartStops number chain.old (λ (more : List (List ℕ)). line.now ∷ more) (line.now ∷ [])
+    ensures took { OnOk result (Took number (stage_of chain.old) line.now (stage_of chain.new) (K.written sink.old) (K.written sink.new)) }
+    ensures stops { IfErr result (PartStops number (stage_of chain.old) (λ (more : List (List ℕ)). line.now ∷ more) (line.now ∷ [])
         (K.written sink.old) (K.written sink.new)) }
     ensures long { IfErr result (λ stop. LongOnly stop line.now) }
     ensures later { K.faults sink.old ≤ K.faults sink.new }

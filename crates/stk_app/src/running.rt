@@ -1,10 +1,11 @@
 ghost use Rattle.std.specs.Prelude.{◌≡◌, ◌≤◌, ◌<◌, ◌^◌, ◌+◌, ◌⊎◌, ◌↔◌, [], ◌∷◌, List, ℕ, Some, None, length, map, string_bytes, true, false, IfErr, OnOk, IfOk, IfSome};
 ghost use Rattle.stk_io.specs.Outside.{Rose};
 ghost use Rattle.stk_app.specs.Lines.{last_line};
-ghost use Rattle.stk_app.specs.Machine.{longest};
+ghost use Rattle.stk_app.specs.Machine.{longest, stage_of};
 ghost use Rattle.stk_app.specs.Outcome.{RunEnds, IsUntroubled, is_replay, most_bytes, UnlessReadFault, UnlessWriteFault};
 ghost use Rattle.stk_app.specs.Parts.{FinishStatus, Stands};
-ghost use Rattle.stk_app.specs.Laws.{SupplyStays, RefusalsKeepFees};
+ghost use Rattle.stk_machine.specs.Laws.{TransactionsEnd};
+ghost use Rattle.stk_app.specs.Laws.{SupplyStays};
 
 use crate::feeding::{Progress, feed};
 use crate::finishing::finish;
@@ -12,6 +13,7 @@ use crate::line::LONGEST;
 use crate::status::{LimitKind, Status, status_at_end, status_of};
 use std::alloc::Global;
 use stk_io::{Sink, Source, read_at_most};
+use stk_machine::{supplies_stay, transactions_end};
 
 /// How many bytes are asked for at once.
 const PIECE: usize = 4096;
@@ -36,7 +38,7 @@ fn room(taken: u64) -> usize
 /// The input was read to its end.
 fn end<K: Sink>(alloc: Global, sink: &mut K, progress: &mut Progress) -> Status
     requires { length progress.old.line.items ≤ longest }
-    ensures status { FinishStatus progress.old.number progress.old.chain (last_line progress.old.line.items)
+    ensures status { FinishStatus progress.old.number (stage_of progress.old.chain) (last_line progress.old.line.items)
         (K.written sink.old) (K.written sink.new) result }
     ensures busy { result ≡ Status.Usage → ⊥ }
     ensures clean { result ≡ Status.Done → K.clean sink.new ≡ true }
@@ -123,7 +125,6 @@ fn is_replay(words: &[String]) -> bool
 /// one being written and a part of that, or the whole output where the flush failed; at `NoMemory` a
 /// front of the whole output. `ReadFault` and `WriteFault` come only where the count of the source's,
 /// the sink's faults rose in this call, and that count rises at no other status.
-#[tactic(auto, using(crate::proofs::SoundLemmas::refusals_keep_fees))]
 pub fn run<S: Source, K: Sink>(
     alloc: Global,
     words: &[String],
@@ -150,8 +151,10 @@ pub fn run<S: Source, K: Sink>(
         → (result ≡ Status.Done) ⊎ (result ≡ Status.NoMemory) }
     // What the machine keeps, at every input.
     ensures supply { SupplyStays }
-    ensures refusals { RefusalsKeepFees }
+    ensures refusals { TransactionsEnd }
 {
+    supplies_stay();
+    transactions_end();
     if !is_replay(words) {
         return Status::Usage;
     }

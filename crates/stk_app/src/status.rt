@@ -1,6 +1,8 @@
 ghost use Rattle.std.specs.Prelude.{◌≡◌};
 ghost use Rattle.stk_app.specs.Parts.{status_of, status_at_end};
 
+use stk_msgs::BlockFault;
+
 /// Why a line of the input is not answered.
 #[derive(Clone, Copy, Debug, PartialEq, Eq)]
 pub enum InputFault {
@@ -8,8 +10,14 @@ pub enum InputFault {
     Missing,
     /// The line is no JSON that `serde_json` reads.
     NotJson,
-    /// The line is JSON of a form that is not built yet.
+    /// The member of this number is missing or not of its form; 0: a member that has no number.
+    BadShape(u16),
+    /// The line has something that is not built yet.
     Unbuilt,
+    /// The condition of this number keeps the genesis from starting a chain.
+    BadGenesis(u8),
+    /// The block does not follow those before it.
+    Block(BlockFault),
 }
 
 /// Which limit the input passes.

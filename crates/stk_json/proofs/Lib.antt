@@ -1,4 +1,8 @@
 pub mod ReadingLemmas
+pub mod CoinLemmas
+pub mod ReadingOnLiterals
+pub mod TextLemmas
+pub mod ListLemmas
 pub mod LineLemmas
-pub mod AccountLemmas
-pub mod OnLiterals
+pub mod HoldingLemmas
+pub mod OnWritten

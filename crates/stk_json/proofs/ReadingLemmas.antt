@@ -1,21 +1,22 @@
--- The tree of a line, the keys of an object, lists by their lengths, and amounts.
-use Rattle.std.proofs.Common.{◌≡◌, List, [], ◌∷◌, String, Global, string_bytes, map, ℕ, Bool, true, false, refl, Some, None, Result, Ok, Err, cond, ◌==◌, ◌≤◌, ◌<◌, length, nat_le, ◌&&◌, arith, rules}
+-- The tree of a line, the keys of an object, and amounts.
+use Rattle.std.proofs.Common.{◌≡◌, List, [], ◌∷◌, String, Global, string_bytes, map, ℕ, Bool, true, false, refl, Some, None, Result, Ok, Err, cond, ◌≤◌, ◌<◌, length, nat_lt, nat_le, ◌&&◌, arith, rules}
 use Rattle.std.specs.Str.{IsUtf8, is_utf8}
-use Rattle.std.proofs.lemmas.Str.{is_utf8-from_IsUtf8, IsUtf8-from_is_utf8}
-use Rattle.serde_json.specs.Data.{Data}
-use Rattle.serde_json.specs.Read.{read}
+use Rattle.std.specs.Str.Parse.{ParsesUnsigned, digits_value}
+use Rattle.std.specs.Char.{is_ascii_digit}
 use Rattle.std.specs.List.{list_all, list_any}
 use Rattle.std.specs.Map.{keys_of}
-use Rattle.serde_json.specs.View.{members_view, items_view}
-use Rattle.serde_json.specs.declared.value.Value.{Value}
-use Rattle.stk_json.specs.declared.fault.LineFault.TheVariants.{NotJson, Unbuilt}
-use Rattle.stk_json.specs.declared.fault.LineFault.{LineFault}
-use Rattle.stk_json.specs.Reading.{tree_of, or_fault, is_among, are_among, nothing_in, is_amount, spelled_after}
-use Rattle.stk_json.specs.Lists.{at_most_one}
-use Rattle.std.specs.Char.{is_ascii_digit}
-use Rattle.std.proofs.lemmas.Str.Parse.{IsNumeralModel, numerals_by_fold, parse_gives, digits_value_short}
+use Rattle.std.proofs.lemmas.Str.{is_utf8-from_IsUtf8, IsUtf8-from_is_utf8}
+use Rattle.std.proofs.lemmas.Str.Parse.{IsNumeralModel, numerals_by_value, parse_gives, digits_value_short}
 use Rattle.std.proofs.lemmas.Bool.{and_parts, leb-true}
-use Rattle.std.specs.Str.Parse.{ParsesUnsigned}
+use Rattle.serde_json.specs.Data.{Data}
+use Rattle.serde_json.specs.Read.{read}
+use Rattle.serde_json.specs.View.{members_view}
+use Rattle.serde_json.specs.declared.value.Value.{Value}
+use Rattle.stk_dec.specs.Texts.{is_number}
+use Rattle.stk_msgs.specs.declared.faults.LineFault.TheVariants.{NotJson, BadShape, NoMemory}
+use Rattle.stk_msgs.specs.declared.faults.LineFault.{LineFault}
+use Rattle.stk_json.specs.Reading.{tree_of, or_fault, Fails, Gives}
+use Rattle.stk_json.specs.Members.{is_among, are_among}
 
 pub tree_found : (line : List ℕ) (d : Data) → IsUtf8 line → read line ≡ Some d → tree_of line ≡ Ok d
 unfolding tree_of
@@ -38,25 +39,23 @@ pub are_among-keys : (names : List (List ℕ)) (es : List (String Global × Valu
 are_among-keys names [] = refl
 are_among-keys names (e ∷ es) = rw (are_among-keys names es) refl
 
--- a list of something
-pub not_nothing : (values : List Value) → (length values == 0) ≡ false → nothing_in (items_view values) ≡ Err Unbuilt
-not_nothing [] h = absurd cc
-not_nothing (value ∷ values) h = refl
-
--- a list of two elements or more
-pub more_than_one : {A : Type 0} (form : Data → Result A LineFault) (values : List Value) → 2 ≤ length values → at_most_one form (items_view values) ≡ Err Unbuilt
-more_than_one form [] h = absurd (omega arith)
-more_than_one form (value ∷ []) h = absurd (omega arith)
-more_than_one form (value ∷ other ∷ values) h = refl
-
-are_digits_model : IsNumeralModel (λ digits. list_all is_ascii_digit digits ≡ true) (spelled_after 0)
-are_digits_model = numerals_by_fold _ (search rules) spelled_after (search rules)
+pub are_digits_model : IsNumeralModel (λ digits. list_all is_ascii_digit digits ≡ true) (digits_value 10)
+are_digits_model = numerals_by_value _ (search rules)
 
 -- what `parse` gives for a text of 1 to 38 digits
-pub amount_parsed : {E : Type 0} (text : List ℕ) (r : Result ℕ E) → ParsesUnsigned 128 10 text r → is_amount text ≡ true → r ≡ Ok (spelled_after 0 text)
+pub amount_parsed : {E : Type 0} (text : List ℕ) (r : Result ℕ E) → ParsesUnsigned 128 10 text r → is_number 38 text ≡ true → r ≡ Ok (digits_value 10 text)
 amount_parsed text r parsed h =
-    let parts : (nat_le 1 (length text) ≡ true) × ((nat_le (length text) 38 && list_all is_ascii_digit text) ≡ true) = and_parts _ _ h in
-    let others : (nat_le (length text) 38 ≡ true) × (list_all is_ascii_digit text ≡ true) = and_parts _ _ parts.1 in
-    let some : 0 < length text = leb-true _ _ parts.0 in
-    let short : length text ≤ 38 = leb-true _ _ others.0 in
-    parse_gives are_digits_model 128 text r parsed others.1 some (omega (arith, digits_value_short are_digits_model text 38 others.1 short))
+    let parts : ((nat_lt 0 (length text) && nat_le (length text) 38) ≡ true) × (list_all is_ascii_digit text ≡ true) = and_parts _ _ h in
+    let sizes : (nat_lt 0 (length text) ≡ true) × (nat_le (length text) 38 ≡ true) = and_parts _ _ parts.0 in
+    let some : 0 < length text = leb-true _ _ sizes.0 in
+    let short : length text ≤ 38 = leb-true _ _ sizes.1 in
+    parse_gives are_digits_model 128 text r parsed parts.1 some (omega (arith, digits_value_short are_digits_model text 38 parts.1 short))
+
+own_fault : (Y : Type 0) (fault : LineFault) → Fails {Y = Y} fault (Err fault)
+own_fault Y NoMemory = tt
+own_fault Y NotJson = refl
+own_fault Y (BadShape number) = refl
+
+-- a call that hands a reading's fault on
+pub fault_given : {X Y : Type 0} (seen : X → Y) (fault : LineFault) (result : Result X LineFault) → result ≡ Err fault → Gives seen result (Err fault)
+fault_given seen fault result e = rw e (own_fault _ fault)

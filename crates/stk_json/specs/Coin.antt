@@ -1,40 +1,33 @@
--- Coins: an amount of a denomination.
-use Rattle.std.specs.Prelude.{ℕ, List, [], ◌∷◌, ◌==◌, codes, if◌then◌else◌, Option, Some, None, Result, Ok}
+-- Coins, and lists of coins.
+use Rattle.std.specs.Prelude.{ℕ, List, [], ◌∷◌, map, codes, if◌then◌else◌, Result, Ok, Err}
 use Rattle.serde_json.specs.Data.{Data}
-use Rattle.stk_json.specs.declared.fault.LineFault.{LineFault}
-use Rattle.stk_json.specs.declared.fault.LineFault.TheVariants.{Unbuilt}
-use Rattle.stk_json.specs.declared.coin.Coin.{Coin}
-use Rattle.stk_json.specs.Reading.{◌>>=◌, or_fault, denom_at, amount_at, items_at, only_named}
-use Rattle.stk_json.specs.Lists.{at_most_one}
+use Rattle.stk_coins.specs.Steps.{◌>>=◌}
+use Rattle.stk_coins.specs.Coins.{Money, sorted_coins, stands_twice}
+use Rattle.stk_coins.specs.declared.coin.Coin.{Coin}
+use Rattle.stk_msgs.specs.declared.faults.LineFault.{LineFault}
+use Rattle.stk_msgs.specs.declared.faults.LineFault.TheVariants.{BadShape}
+use Rattle.stk_json.specs.Members.{denom_at, amount_at, only_named}
+use Rattle.stk_json.specs.Nested.{object_at, list_at}
 
--- amounts of denominations, as pairs of a denomination's bytes and its amount
-abbrev pub Money : Type 0
-Money = List (List ℕ × ℕ)
-
--- a coin as such a pair
-abbrev pub coin_pair : Coin → List ℕ × ℕ
-coin_pair coin = (coin.denom, coin.amount)
-
--- an object of a denomination and an amount
+-- an amount of a denomination
 unfoldable pub coin_of : Data → Result Coin LineFault
 coin_of d = do
-  denom ← denom_at (codes "denom") d
-  amount ← amount_at (codes "amount") d
+  denom ← denom_at 32 (codes "denom") d
+  amount ← amount_at 33 (codes "amount") d
   only ← only_named (codes "denom" ∷ codes "amount" ∷ []) d
   Ok (record { denom = denom; amount = amount })
 
--- a coin of amount 0 is dropped
-abbrev pub without_zero : Option Coin → Option Coin
-without_zero None = None
-without_zero (Some coin) = if coin.amount == 0 then None else Some coin
+-- one coin
+abbrev pub coin_at : ℕ → List ℕ → Data → Result Coin LineFault
+coin_at = object_at coin_of
 
--- a list of at most one coin
-unfoldable pub coins_at : List ℕ → Data → Result (Option Coin) LineFault
-coins_at name d = do
-  items ← items_at name d
-  coin ← at_most_one coin_of items
-  Ok (without_zero coin)
+-- coins in any order as a list of coins, where no denomination stands twice
+abbrev pub money_of : ℕ → Money → Result Money LineFault
+money_of number coins = if stands_twice coins then Err (BadShape number) else Ok (sorted_coins coins)
 
--- a list of exactly one coin, which has an amount above 0
-unfoldable pub coin_at : List ℕ → Data → Result Coin LineFault
-coin_at name d = coins_at name d >>= or_fault Unbuilt
+-- A list of coins in any order, each walked in full. Those of amount 0 are dropped; a denomination that stands
+-- twice, also with an amount of 0, is the fault of the list.
+unfoldable pub coins_at : ℕ → List ℕ → Data → Result Money LineFault
+coins_at number name d = do
+  coins ← list_at coin_of number name d
+  money_of number (map (λ coin. (coin.denom, coin.amount)) coins)

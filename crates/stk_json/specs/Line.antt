@@ -1,18 +1,25 @@
 -- Written lines.
-use Rattle.std.specs.Prelude.{ℕ, List, [], ◌∷◌, ◌++◌, map, codes, decimal}
-use Rattle.serde_json.specs.Data.{Data, string, array, object, member, no_members}
-use Rattle.serde_json.specs.View.{items_of}
+use Rattle.std.specs.Prelude.{ℕ, List, [], ◌∷◌, ◌++◌, codes}
+use Rattle.serde_json.specs.Data.{Data, number, unsigned, string, object, Members, no_members, put}
 use Rattle.serde_json.specs.Written.{compact_text}
-use Rattle.stk_json.specs.Coin.{Money}
+
+-- names with their values, put in ascending order of the names
+abbrev pub members_of : List (List ℕ × Data) → Members
+members_of [] = no_members
+members_of (m ∷ ms) = put m.0 m.1 (members_of ms)
+
+-- an object of these members
+abbrev pub object_of : List (List ℕ × Data) → Data
+object_of ms = object (members_of ms)
+
+-- what is told at a height: the height, a kind and further members
+abbrev pub told_members : ℕ → List ℕ → List (List ℕ × Data) → Members
+told_members height kind ms =
+    members_of ((codes "height", number (unsigned height)) ∷ (codes "kind", string kind) ∷ ms)
+
+abbrev pub told_at : ℕ → List ℕ → List (List ℕ × Data) → Data
+told_at height kind ms = object (told_members height kind ms)
 
 -- the compact text of an object, and the byte that ends a line
 abbrev pub line_of : Data → List ℕ
 line_of d = compact_text d ++ 10 ∷ []
-
--- a coin: the amount is a string of digits
-abbrev pub coin_data : List ℕ × ℕ → Data
-coin_data coin = object (member (codes "amount") (string (decimal coin.1)) (member (codes "denom") (string coin.0) no_members))
-
--- a list of coins, in the order given
-abbrev pub coins_data : Money → Data
-coins_data money = array (items_of (map coin_data money))

@@ -1,29 +1,36 @@
-//! The lines of an input, read into values, and the lines of an output, written from values.
+//! The lines of an input, read into values, and the lines of an output, written from them.
+//!
+//! A line is read by `serde_json` into a tree, of which each member has its number and its form; a line is
+//! written as the compact text of a tree, whose members stand in ascending order of their names.
 #![tactic(auto)]
 
-mod block;
 mod block_reading;
-mod coin;
 mod coin_reading;
-mod example;
-mod fault;
-mod genesis;
+mod facts;
 mod genesis_reading;
+mod kind;
 mod lines;
-mod lists;
+mod members;
+mod message_reading;
+mod nested;
+mod outcomes;
+mod params_reading;
 mod reading;
+mod reading_example;
 mod report;
+mod texts;
+mod tree;
 mod values;
+mod written;
 
-pub use block::{Block, Send, Tx};
 pub use block_reading::read_block;
-pub use coin::Coin;
-pub use example::{lines_read_by_example, lines_written_by_example};
-pub use fault::LineFault;
-pub use genesis::{Genesis, GenesisAccount, GenesisAccounts};
 pub use genesis_reading::read_genesis;
-pub use lines::{line_of_genesis, lines_of_block, lines_of_report};
-pub use report::{Balance, BlockReport, Fact, Facts, Outcome, Refusal, TxReport, TxReports};
+pub use lines::{line_of_genesis, lines_of_block};
+pub use reading_example::lines_read_by_example;
+pub use report::lines_of_report;
+pub use written::lines_written_by_example;
 
 #[cfg(test)]
-mod tests;
+mod reading_tests;
+#[cfg(test)]
+mod writing_tests;

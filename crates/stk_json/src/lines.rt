@@ -1,44 +1,58 @@
-//! Written lines.
-ghost use Rattle.std.specs.Prelude.{◌≡◌, ◌++◌, ◌∷◌, [], ◌+◌, ◌<◌, List, map, length, drop, IfOk, IfErr, OnOk, false};
-ghost use Rattle.std.specs.List.{flat_map, prefix_len};
-ghost use Rattle.serde_json.specs.View.{view};
+//! The lines of a genesis and of a block.
+ghost use Rattle.std.specs.Prelude.{◌≡◌, ◌++◌, ◌∷◌, [], IfOk, IfErr, OnOk, false};
 ghost use Rattle.serde_json.specs.Written.{has_float};
-ghost use Rattle.stk_json.specs.Coin.{coin_pair};
 ghost use Rattle.stk_json.specs.Line.{line_of};
-ghost use Rattle.stk_json.specs.Written.{fact_data, outcome_data, text_of_genesis, text_of_tx, text_of_txs, text_of_block, balance_entry, balance_coin, is_same_account, by_account, supply_data, account_data, pool_data, text_of_holdings, text_of_report};
+ghost use Rattle.stk_json.specs.Facts.{fact_data};
+ghost use Rattle.stk_json.specs.Outcomes.{outcome_data};
+ghost use Rattle.stk_json.specs.Written.{block_data, genesis_data, text_of_block, text_of_facts, text_of_genesis, text_of_tx, text_of_txs};
+ghost use Rattle.stk_json.specs.Trees.{data_of};
 
-use crate::coin::Coin;
-use crate::fault::LineFault;
-use crate::report::{Balance, BlockReport, Fact, Outcome, TxReport};
-use crate::values::{
-    block_value, fact_value, genesis_value, holding_value, outcome_value, pool_value, supply_value,
-};
-use serde_json::Value;
+use crate::facts::fact_tree;
+use crate::outcomes::outcome_tree;
+use crate::tree::Tree;
+use crate::values::{coins_value, moment_value};
 use std::alloc::Global;
-use stk_types::Account;
+use stk_coins::Coins;
+use stk_keep::{Fact, Facts};
+use stk_msgs::{BlockReport, LineFault, Outcome, TxReport};
+use stk_types::Moment;
 
 /// Appends a line.
-fn push_line(alloc: Global, out: &mut Vec<u8>, value: &Value) -> Result<(), LineFault>
-    requires { has_float (view value.now) ≡ false }
-    ensures ok { OnOk result (out.new.items ≡ out.old.items ++ line_of (view value.now)) }
+pub(crate) fn push_line(alloc: Global, out: &mut Vec<u8>, tree: Tree) -> Result<(), LineFault>
+    requires { has_float (data_of tree) ≡ false }
+    ensures ok { OnOk result (out.new.items ≡ out.old.items ++ line_of (data_of tree)) }
     ensures fault { IfErr result (λ fault. fault ≡ LineFault.NoMemory) }
 {
-    let text = value.to_string(alloc)?;
+    let text = tree.into_value().to_string(alloc)?;
     out.extend_from_slice(text.as_bytes())?;
     out.push(b'\n')?;
     Ok(())
 }
 
-/// The line of a genesis, which states the supply: `height` (0), `kind` (`"genesis"`) and `supply`, the coins in
-/// the order given. The only error is `NoMemory`.
+fn genesis_tree(alloc: Global, supply: &Coins) -> Result<Tree, LineFault>
+    ensures tree { IfOk result (λ tree. data_of tree ≡ genesis_data supply.now) }
+    ensures fault { IfErr result (λ fault. fault ≡ LineFault.NoMemory) }
+{
+    Tree::told_at(alloc, 0, "genesis")?.with(alloc, "supply", coins_value(alloc, supply)?)
+}
+
+fn block_tree(alloc: Global, height: u64, time: Moment) -> Result<Tree, LineFault>
+    ensures tree { IfOk result (λ tree. data_of tree ≡ block_data height time) }
+    ensures fault { IfErr result (λ fault. fault ≡ LineFault.NoMemory) }
+{
+    Tree::told_at(alloc, height, "block")?.with(alloc, "time", moment_value(alloc, time)?)
+}
+
+/// The line of a genesis, which tells the supply: `height` (0), `kind` (`"genesis"`) and `supply`, the coins.
+///
+/// The only error is `NoMemory`.
 #[tactic(auto, using(crate::proofs::LineLemmas::coins_have_no_float))]
-pub fn line_of_genesis(alloc: Global, supply: &[Coin]) -> Result<Vec<u8>, LineFault>
-    ensures text { IfOk result (λ text. text.items ≡ text_of_genesis (map coin_pair supply.now)) }
+pub fn line_of_genesis(alloc: Global, supply: &Coins) -> Result<Vec<u8>, LineFault>
+    ensures text { IfOk result (λ text. text.items ≡ text_of_genesis supply.now) }
     ensures fault { IfErr result (λ fault. fault ≡ LineFault.NoMemory) }
 {
     let mut out = Vec::new(alloc);
-    let value = genesis_value(alloc, supply)?;
-    push_line(alloc, &mut out, &value)?;
+    push_line(alloc, &mut out, genesis_tree(alloc, supply)?)?;
     Ok(out)
 }
 
@@ -48,8 +62,20 @@ fn push_fact(alloc: Global, out: &mut Vec<u8>, height: u64, fact: &Fact) -> Resu
         (out.new.items ≡ out.old.items ++ line_of (fact_data height fact.now)) }
     ensures fault { IfErr result (λ fault. fault ≡ LineFault.NoMemory) }
 {
-    let value = fact_value(alloc, height, fact)?;
-    push_line(alloc, out, &value)
+    push_line(alloc, out, fact_tree(alloc, height, fact)?)
+}
+
+/// Appends a line for each fact.
+fn push_facts(alloc: Global, out: &mut Vec<u8>, height: u64, facts: &Facts) -> Result<(), LineFault>
+    ensures ok { OnOk result (out.new.items ≡ out.old.items ++ text_of_facts height facts.now) }
+    ensures fault { IfErr result (λ fault. fault ≡ LineFault.NoMemory) }
+{
+    for place in 0..facts.len() {
+        if let Some(fact) = facts.at(place) {
+            push_fact(alloc, out, height, fact)?;
+        }
+    }
+    Ok(())
 }
 
 #[tactic(auto, using(crate::proofs::LineLemmas::outcome_has_no_float))]
@@ -64,8 +90,7 @@ fn push_outcome(
         (out.new.items ≡ out.old.items ++ line_of (outcome_data height place outcome)) }
     ensures fault { IfErr result (λ fault. fault ≡ LineFault.NoMemory) }
 {
-    let value = outcome_value(alloc, height, place, outcome)?;
-    push_line(alloc, out, &value)
+    push_line(alloc, out, outcome_tree(alloc, height, place, outcome)?)
 }
 
 /// Appends the lines of a transaction: its facts, then how it ended.
@@ -79,9 +104,7 @@ fn push_tx(
     ensures ok { OnOk result (out.new.items ≡ out.old.items ++ text_of_tx height place tx.now) }
     ensures fault { IfErr result (λ fault. fault ≡ LineFault.NoMemory) }
 {
-    for fact in tx.facts.as_slice() {
-        push_fact(alloc, out, height, fact)?;
-    }
+    push_facts(alloc, out, height, &tx.facts)?;
     push_outcome(alloc, out, height, place, tx.outcome)
 }
 
@@ -100,102 +123,26 @@ fn push_txs(
     Ok(())
 }
 
-/// The lines of a block: one with `height`, `kind` (`"block"`) and `time`, then for each transaction, numbered
-/// `tx` from 0, its facts and how it ended (`"accepted"`, or `"refused"` with `number`, and with `msg`, the place
-/// of the message, unless the fee was not paid). The only error is `NoMemory`.
+fn push_block(alloc: Global, out: &mut Vec<u8>, height: u64, time: Moment) -> Result<(), LineFault>
+    ensures ok { OnOk result (out.new.items ≡ out.old.items ++ line_of (block_data height time)) }
+    ensures fault { IfErr result (λ fault. fault ≡ LineFault.NoMemory) }
+{
+    push_line(alloc, out, block_tree(alloc, height, time)?)
+}
+
+/// The lines of a block: one with `height`, `kind` (`"block"`) and `time`; a line for each fact of its beginning;
+/// for each transaction, numbered `tx` from 0, a line for each of its facts and one that tells how it ended; and
+/// a line for each fact of its end.
+///
+/// The only error is `NoMemory`.
 pub fn lines_of_block(alloc: Global, report: &BlockReport) -> Result<Vec<u8>, LineFault>
     ensures text { IfOk result (λ text. text.items ≡ text_of_block report.now) }
     ensures fault { IfErr result (λ fault. fault ≡ LineFault.NoMemory) }
 {
     let mut out = Vec::new(alloc);
-    let value = block_value(alloc, report.height, report.time)?;
-    push_line(alloc, &mut out, &value)?;
+    push_block(alloc, &mut out, report.height, report.time)?;
+    push_facts(alloc, &mut out, report.height, &report.begun)?;
     push_txs(alloc, &mut out, report.height, report.txs.as_slice())?;
-    Ok(out)
-}
-
-fn is_same_account(a: &Account, b: &Account) -> bool
-    ensures { result ≡ is_same_account a.now b.now }
-{
-    a.bytes() == b.bytes()
-}
-
-/// How many of the first balances are of this account.
-fn run_len(account: &Account, balances: &[Balance]) -> usize
-    ensures { result ≡ prefix_len (λ balance. is_same_account account.now balance.account) balances.now }
-{
-    for (count, balance) in balances.iter().enumerate() {
-        if !is_same_account(account, &balance.account) {
-            return count;
-        }
-    }
-    balances.len()
-}
-
-#[tactic(auto, using(crate::proofs::LineLemmas::coins_have_no_float))]
-fn push_holding(
-    alloc: Global,
-    out: &mut Vec<u8>,
-    account: &Account,
-    balances: &[Balance],
-) -> Result<(), LineFault>
-    ensures ok { OnOk result (out.new.items
-        ≡ out.old.items ++ line_of (account_data (account.now, map balance_coin balances.now))) }
-    ensures fault { IfErr result (λ fault. fault ≡ LineFault.NoMemory) }
-{
-    let value = holding_value(alloc, account, balances)?;
-    push_line(alloc, out, &value)
-}
-
-/// Appends a line for each run of neighbours of the same account.
-fn push_holdings(alloc: Global, out: &mut Vec<u8>, balances: &[Balance]) -> Result<(), LineFault>
-    ensures ok { OnOk result (out.new.items
-        ≡ out.old.items ++ text_of_holdings (by_account (map balance_entry balances.now))) }
-    ensures fault { IfErr result (λ fault. fault ≡ LineFault.NoMemory) }
-{
-    let mut rest = balances;
-    while let Some(first) = rest.first() {
-        let (run, others) = rest.split_at(run_len(&first.account, rest));
-        push_holding(alloc, out, &first.account, run)?;
-        rest = others;
-    }
-    Ok(())
-}
-
-#[tactic(auto, using(crate::proofs::LineLemmas::coins_have_no_float))]
-fn push_supply(alloc: Global, out: &mut Vec<u8>, supply: &[Coin]) -> Result<(), LineFault>
-    ensures ok { OnOk result (out.new.items
-        ≡ out.old.items ++ line_of (supply_data (map coin_pair supply.now))) }
-    ensures fault { IfErr result (λ fault. fault ≡ LineFault.NoMemory) }
-{
-    let value = supply_value(alloc, supply)?;
-    push_line(alloc, out, &value)
-}
-
-fn push_pool(alloc: Global, out: &mut Vec<u8>) -> Result<(), LineFault>
-    ensures ok { OnOk result (out.new.items ≡ out.old.items ++ line_of pool_data) }
-    ensures fault { IfErr result (λ fault. fault ≡ LineFault.NoMemory) }
-{
-    let value = pool_value(alloc)?;
-    push_line(alloc, out, &value)
-}
-
-/// The report: a line with `kind` (`"supply"`) and the supply's `coins`; a line with `kind` (`"account"`),
-/// `address` and `coins` for each run of neighbouring balances of the same account, everything in the order given;
-/// and a line with `kind` (`"pool"`) and the `coins` of the community pool, which holds nothing yet. The only error
-/// is `NoMemory`.
-pub fn lines_of_report(
-    alloc: Global,
-    supply: &[Coin],
-    balances: &[Balance],
-) -> Result<Vec<u8>, LineFault>
-    ensures text { IfOk result (λ text. text.items
-        ≡ text_of_report (map coin_pair supply.now) (map balance_entry balances.now)) }
-    ensures fault { IfErr result (λ fault. fault ≡ LineFault.NoMemory) }
-{
-    let mut out = Vec::new(alloc);
-    push_supply(alloc, &mut out, supply)?;
-    push_holdings(alloc, &mut out, balances)?;
-    push_pool(alloc, &mut out)?;
+    push_facts(alloc, &mut out, report.height, &report.ended)?;
     Ok(out)
 }

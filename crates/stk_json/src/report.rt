@@ -1,173 +1,149 @@
-ghost use Rattle.std.specs.Prelude.{◌≡◌};
+//! The lines of the report.
+ghost use Rattle.std.specs.Prelude.{◌≡◌, ◌++◌, IfOk, IfErr, OnOk};
+ghost use Rattle.std.specs.List.{prefix_len};
+ghost use Rattle.serde_json.specs.View.{view};
+ghost use Rattle.stk_json.specs.Line.{line_of};
+ghost use Rattle.stk_json.specs.Values.{coins_data};
+ghost use Rattle.stk_json.specs.Runs.{coins_among, is_not_elsewhere};
+ghost use Rattle.stk_json.specs.Written.{holding_data, holdings_of, pool_data, supply_data, text_of_holdings, text_of_report};
+ghost use Rattle.stk_json.specs.Trees.{data_of};
 
-use crate::coin::Coin;
-use std::marker::Model;
-use stk_types::{Account, Denom, Moment};
+use crate::lines::push_line;
+use crate::tree::Tree;
+use crate::values::{account_value, coin_value, coins_value};
+use serde_json::Value;
+use std::alloc::Global;
+use stk_coins::Coins;
+use stk_keep::Item;
+use stk_msgs::LineFault;
+use stk_types::Account;
 
-/// Something that a block did.
-#[derive(Clone, Copy, Debug, PartialEq, Eq)]
-pub enum Fact {
-    /// Coins moved from one account to another.
-    Transfer {
-        /// Who paid.
-        from: Account,
-        /// Who was paid.
-        to: Account,
-        /// What was paid.
-        coin: Coin,
-    },
+/// Whether the item is no balance at another address.
+fn is_not_elsewhere(address: &[u8; 20], item: &Item) -> bool
+    ensures { result ≡ is_not_elsewhere address.now item.now }
+{
+    match item {
+        Item::Balance { account, .. } => *address == account.bytes(),
+        _ => true,
+    }
 }
 
-/// Why a message was refused. The number by which it is written is that of [`Refusal::number`].
-#[derive(Clone, Copy, Debug, PartialEq, Eq)]
-pub enum Refusal {
-    /// The payer holds less than the message moves.
-    InsufficientFunds,
-}
-
-impl Refusal {
-    ghost use Rattle.stk_json.specs.Written.{number_of};
-
-    /// The number by which the refusal is written.
-    pub fn number(self) -> u16
-        ensures { result ≡ number_of self }
-    {
-        match self {
-            Refusal::InsufficientFunds => 1,
+/// How many of the first items are no balances at another address.
+fn run_len(address: &[u8; 20], items: &[Item]) -> usize
+    ensures { result ≡ prefix_len (λ item. is_not_elsewhere address.now item) items.now }
+{
+    for (count, item) in items.iter().enumerate() {
+        if !is_not_elsewhere(address, item) {
+            return count;
         }
     }
+    items.len()
 }
 
-/// How a transaction ended.
-#[derive(Clone, Copy, Debug, PartialEq, Eq)]
-pub enum Outcome {
-    /// Its fee was paid and its message applied.
-    Accepted,
-    /// The payer couldn't pay the fee, and nothing was applied. Written as number 40.
-    FeeUnpaid,
-    /// The fee was paid, and the message at this place (from 0) was refused.
-    Refused(usize, Refusal),
-}
-
-/// Facts in the order in which they came. Contracts see the list of them.
-#[derive(Debug, Drop)]
-pub struct Facts {
-    items: Vec<Fact>,
-}
-
-impl Model for Facts {
-    ghost use Rattle.std.specs.Prelude.{List};
-    ghost use Rattle.stk_json.specs.declared.report.Fact.{Fact};
-
-    ghost Value = { List Fact };
-
-    ghost view = { λ facts. facts.items.items };
-}
-
-impl From<Vec<Fact>> for Facts {
-    ghost from_gives = { λ items facts. facts ≡ items.items };
-
-    fn from(items: Vec<Fact>) -> Facts {
-        Facts { items }
-    }
-}
-
-impl Facts {
-    /// The facts, to look at.
-    pub fn as_slice(&self) -> &[Fact]
-        ensures { result.now ≡ self.now }
-    {
-        self.items.as_slice()
-    }
-
-    /// The facts, given back without memory.
-    pub fn into_vec(self) -> Vec<Fact>
-        ensures { result.items ≡ self }
-    {
-        let Facts { items } = self;
-        items
-    }
-}
-
-/// What a transaction did, and how it ended.
-#[derive(Debug, Drop)]
-pub struct TxReport {
-    /// What it did.
-    pub facts: Facts,
-    /// How it ended.
-    pub outcome: Outcome,
-}
-
-/// The reports of a block's transactions, in their order. Contracts see the list of them.
-#[derive(Debug, Drop)]
-pub struct TxReports {
-    items: Vec<TxReport>,
-}
-
-impl Model for TxReports {
-    ghost use Rattle.std.specs.Prelude.{List};
-    ghost use Rattle.stk_json.specs.declared.report.TxReport.{TxReport};
-
-    ghost Value = { List TxReport };
-
-    ghost view = { λ reports. reports.items.items };
-}
-
-impl From<Vec<TxReport>> for TxReports {
-    ghost from_gives = { λ items reports. reports ≡ items.items };
-
-    fn from(items: Vec<TxReport>) -> TxReports {
-        TxReports { items }
-    }
-}
-
-impl TxReports {
-    /// The reports, to look at.
-    pub fn as_slice(&self) -> &[TxReport]
-        ensures { result.now ≡ self.now }
-    {
-        self.items.as_slice()
-    }
-
-    /// The reports, given back without memory.
-    pub fn into_vec(self) -> Vec<TxReport>
-        ensures { result.items ≡ self }
-    {
-        let TxReports { items } = self;
-        items
-    }
-}
-
-/// What a block did.
-#[derive(Debug, Drop)]
-pub struct BlockReport {
-    /// The block's place in the chain.
-    pub height: u64,
-    /// The block's moment.
-    pub time: Moment,
-    /// What its transactions did.
-    pub txs: TxReports,
-}
-
-/// How much of a denomination an account holds.
-#[derive(Clone, Copy, Debug, PartialEq, Eq)]
-pub struct Balance {
-    /// Who holds it.
-    pub account: Account,
-    /// What it is an amount of.
-    pub denom: Denom,
-    /// How many units of it.
-    pub amount: u128,
-}
-
-impl Balance {
-    /// The amount of the denomination.
-    pub fn coin(&self) -> Coin
-        ensures { result ≡ record { denom = self.now.denom; amount = self.now.amount } }
-    {
-        Coin {
-            denom: self.denom,
-            amount: self.amount,
+/// The coins of the balances among the items.
+fn balances_value(alloc: Global, items: &[Item]) -> Result<Value, LineFault>
+    ensures tree { IfOk result (λ tree. view tree ≡ coins_data (coins_among items.now)) }
+    ensures fault { IfErr result (λ fault. fault ≡ LineFault.NoMemory) }
+{
+    let mut coins = Vec::new(alloc);
+    for item in items {
+        if let Item::Balance { denom, amount, .. } = item {
+            let coin = coin_value(alloc, denom, *amount)?;
+            coins.push(coin)?;
         }
     }
+    Ok(Value::Array(coins))
+}
+
+fn holding_tree(alloc: Global, account: &Account, items: &[Item]) -> Result<Tree, LineFault>
+    ensures tree { IfOk result (λ tree. data_of tree
+        ≡ holding_data (account.now, coins_among items.now)) }
+    ensures fault { IfErr result (λ fault. fault ≡ LineFault.NoMemory) }
+{
+    Tree::of_kind(alloc, "account")?
+        .with(alloc, "address", account_value(alloc, account)?)?
+        .with(alloc, "coins", balances_value(alloc, items)?)
+}
+
+/// Appends the line of an account whose balances are those among the items.
+#[tactic(auto, using(crate::proofs::LineLemmas::coins_have_no_float))]
+fn push_holding(
+    alloc: Global,
+    out: &mut Vec<u8>,
+    account: &Account,
+    items: &[Item],
+) -> Result<(), LineFault>
+    ensures ok { OnOk result (out.new.items
+        ≡ out.old.items ++ line_of (holding_data (account.now, coins_among items.now))) }
+    ensures fault { IfErr result (λ fault. fault ≡ LineFault.NoMemory) }
+{
+    push_line(alloc, out, holding_tree(alloc, account, items)?)
+}
+
+/// Appends a line for what each account holds.
+fn push_holdings(alloc: Global, out: &mut Vec<u8>, items: &[Item]) -> Result<(), LineFault>
+    ensures ok { OnOk result (out.new.items
+        ≡ out.old.items ++ text_of_holdings (holdings_of items.now)) }
+    ensures fault { IfErr result (λ fault. fault ≡ LineFault.NoMemory) }
+{
+    let mut rest = items;
+    while let Some(first) = rest.first() {
+        if let Item::Balance { account, .. } = first {
+            let (run, others) = rest.split_at(run_len(&account.bytes(), rest));
+            push_holding(alloc, out, account, run)?;
+            rest = others;
+        } else {
+            rest = &rest[1..];
+        }
+    }
+    Ok(())
+}
+
+fn supply_tree(alloc: Global, supply: &Coins) -> Result<Tree, LineFault>
+    ensures tree { IfOk result (λ tree. data_of tree ≡ supply_data supply.now) }
+    ensures fault { IfErr result (λ fault. fault ≡ LineFault.NoMemory) }
+{
+    Tree::of_kind(alloc, "supply")?.with(alloc, "coins", coins_value(alloc, supply)?)
+}
+
+#[tactic(auto, using(crate::proofs::LineLemmas::coins_have_no_float))]
+fn push_supply(alloc: Global, out: &mut Vec<u8>, supply: &Coins) -> Result<(), LineFault>
+    ensures ok { OnOk result (out.new.items
+        ≡ out.old.items ++ line_of (supply_data supply.now)) }
+    ensures fault { IfErr result (λ fault. fault ≡ LineFault.NoMemory) }
+{
+    push_line(alloc, out, supply_tree(alloc, supply)?)
+}
+
+fn pool_tree(alloc: Global) -> Result<Tree, LineFault>
+    ensures tree { IfOk result (λ tree. data_of tree ≡ pool_data) }
+    ensures fault { IfErr result (λ fault. fault ≡ LineFault.NoMemory) }
+{
+    let nothing = Value::Array(Vec::new(alloc));
+    Tree::of_kind(alloc, "pool")?.with(alloc, "coins", nothing)
+}
+
+fn push_pool(alloc: Global, out: &mut Vec<u8>) -> Result<(), LineFault>
+    ensures ok { OnOk result (out.new.items ≡ out.old.items ++ line_of pool_data) }
+    ensures fault { IfErr result (λ fault. fault ≡ LineFault.NoMemory) }
+{
+    push_line(alloc, out, pool_tree(alloc)?)
+}
+
+/// The report: a line with `kind` (`"supply"`) and the supply's `coins`; a line with `kind` (`"account"`),
+/// `address` and `coins` for what each account holds, in the order of the balances among the items; and a line
+/// with `kind` (`"pool"`) and the `coins` of the community pool, to which nothing goes yet.
+///
+/// Balances of one account that follow one another, with or without other items between them, are one line; so
+/// items in the order of their keys give each account with coins one line, users first, then the modules. The
+/// only error is `NoMemory`.
+pub fn lines_of_report(alloc: Global, supply: &Coins, items: &[Item]) -> Result<Vec<u8>, LineFault>
+    ensures text { IfOk result (λ text. text.items ≡ text_of_report supply.now items.now) }
+    ensures fault { IfErr result (λ fault. fault ≡ LineFault.NoMemory) }
+{
+    let mut out = Vec::new(alloc);
+    push_supply(alloc, &mut out, supply)?;
+    push_holdings(alloc, &mut out, items)?;
+    push_pool(alloc, &mut out)?;
+    Ok(out)
 }

@@ -3,10 +3,10 @@ use Rattle.stk_app.proofs.SoundLemmas.{supply_stays}
 use Rattle.stk_app.proofs.running.run.Goals as goal
 
 pub returns-then-not-is_replay-clause-supply : goal.returns-then-not-is_replay-clause-supply
-returns-then-not-is_replay-clause-supply g c = supply_stays
+returns-then-not-is_replay-clause-supply g c = supply_stays c.supplies_stay.ensures
 
 pub returns-clause-supply : goal.returns-clause-supply
-returns-clause-supply g c = supply_stays
+returns-clause-supply g c = supply_stays c.supplies_stay.ensures
 
 pub returns-clause-complete : goal.returns-clause-complete
 returns-clause-complete g c = λ calm words reads writes.

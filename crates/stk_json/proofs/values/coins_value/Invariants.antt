@@ -1,8 +1,8 @@
-use Rattle.std.proofs.Common.{◌≡◌, map, take}
+use Rattle.std.proofs.Common.{◌≡◌, ◌++◌, map, drop}
 use Rattle.serde_json.specs.View.{view}
-use Rattle.stk_json.specs.Coin.{coin_pair}
-use Rattle.stk_json.specs.Line.{coin_data}
+use Rattle.stk_json.specs.Values.{coin_data, whole_data}
 use Rattle.stk_json.proofs.values.coins_value.Given as goal
 
-abbrev pub invariant-loop-coin : goal.invariant-loop-coin
-invariant-loop-coin l = map view l.items.items ≡ map coin_data (map coin_pair (take l.coin-index l.coins))
+abbrev pub invariant-loop-place : goal.invariant-loop-place
+invariant-loop-place l =
+    map view l.items.items ++ map (coin_data whole_data) (drop l.place l.coins) ≡ map (coin_data whole_data) l.coins

@@ -1,0 +1,144 @@
+//! Lines that several tests read, and those that are written for them.
+
+use std::alloc::{AllocError, Global};
+
+/// A genesis up to its accounts, and from them on.
+pub const GENESIS_HEAD: &str =
+    r#"{"kind":"genesis","time":"2024-01-01T00:00:00Z","params":{"bond_denom":"uatom","power_reduction":1000000,"unbonding_time":1814400,"max_validators":180,"max_entries":7,"min_commission_rate":"0","community_tax":"0.02","withdraw_addr_enabled":true,"signed_blocks_window":10000,"min_signed_per_window":"0.05","downtime_jail_duration":600,"slash_fraction_double_sign":"0.05","slash_fraction_downtime":"0.0001","max_age_duration":172800,"max_age_num_blocks":100000,"authority":"9999999999999999999999999999999999999999"},"accounts":["#;
+
+pub const GENESIS_TAIL: &str = r#"],"validators":[],"delegations":[]}"#;
+
+/// An account of 1,000 uatom, and of 9.
+pub const ONE_THOUSAND: &str =
+    r#"{"address":"1111111111111111111111111111111111111111","coins":[{"denom":"uatom","amount":"1000"}]}"#;
+
+pub const NINE: &str =
+    r#"{"address":"1111111111111111111111111111111111111111","coins":[{"denom":"uatom","amount":"9"}]}"#;
+
+/// A transaction up to the amount of its fee, from there to its messages, and from them on.
+pub const TX_HEAD: &str =
+    r#"{"payer":"1111111111111111111111111111111111111111","fee":[{"denom":"uatom","amount":""#;
+
+pub const TX_MESSAGES: &str = r#""}],"msgs":["#;
+
+pub const TX_TAIL: &str = "]}";
+
+/// Messages of the first account to the second: 100 uatom, 991, and 60 twice.
+pub const SEND_100: &str =
+    r#"{"kind":"send","from":"1111111111111111111111111111111111111111","to":"2222222222222222222222222222222222222222","coins":[{"denom":"uatom","amount":"100"}]}"#;
+
+pub const SEND_991: &str =
+    r#"{"kind":"send","from":"1111111111111111111111111111111111111111","to":"2222222222222222222222222222222222222222","coins":[{"denom":"uatom","amount":"991"}]}"#;
+
+pub const SEND_60: &str =
+    r#"{"kind":"send","from":"1111111111111111111111111111111111111111","to":"2222222222222222222222222222222222222222","coins":[{"denom":"uatom","amount":"60"}]}"#;
+
+pub const GENESIS_LINE: &str =
+    r#"{"height":0,"kind":"genesis","supply":[{"amount":"1000","denom":"uatom"}]}"#;
+
+pub const BLOCK_LINE: &str = r#"{"height":1,"kind":"block","time":"2024-01-01T00:00:05Z"}"#;
+
+pub const FEE_LINE: &str =
+    r#"{"coins":[{"amount":"10","denom":"uatom"}],"from":"1111111111111111111111111111111111111111","height":1,"kind":"transfer","to":"fee_collector"}"#;
+
+pub const SEND_LINE: &str =
+    r#"{"coins":[{"amount":"100","denom":"uatom"}],"from":"1111111111111111111111111111111111111111","height":1,"kind":"transfer","to":"2222222222222222222222222222222222222222"}"#;
+
+pub const ACCEPTED_LINE: &str = r#"{"height":1,"kind":"accepted","tx":0}"#;
+
+pub const SUPPLY_LINE: &str = r#"{"coins":[{"amount":"1000","denom":"uatom"}],"kind":"supply"}"#;
+
+pub const FULL_LINE: &str =
+    r#"{"address":"1111111111111111111111111111111111111111","coins":[{"amount":"1000","denom":"uatom"}],"kind":"account"}"#;
+
+pub const PAYER_LINE: &str =
+    r#"{"address":"1111111111111111111111111111111111111111","coins":[{"amount":"890","denom":"uatom"}],"kind":"account"}"#;
+
+pub const RECEIVER_LINE: &str =
+    r#"{"address":"2222222222222222222222222222222222222222","coins":[{"amount":"100","denom":"uatom"}],"kind":"account"}"#;
+
+pub const COLLECTOR_LINE: &str =
+    r#"{"address":"fee_collector","coins":[{"amount":"10","denom":"uatom"}],"kind":"account"}"#;
+
+pub const POOL_LINE: &str = r#"{"coins":[],"kind":"pool"}"#;
+
+/// Adds a line, in parts.
+pub fn push_line(text: &mut Vec<u8>, parts: &[&str]) -> Result<(), AllocError> {
+    for part in parts {
+        text.extend_from_slice(part.as_bytes())?;
+    }
+    text.push(b'\n')?;
+    Ok(())
+}
+
+/// Adds a genesis of these accounts.
+pub fn push_genesis(text: &mut Vec<u8>, accounts: &str) -> Result<(), AllocError> {
+    push_line(text, &[GENESIS_HEAD, accounts, GENESIS_TAIL])
+}
+
+/// Adds a block of these transactions.
+pub fn push_block(
+    text: &mut Vec<u8>,
+    height: &str,
+    time: &str,
+    txs: &[&str],
+) -> Result<(), AllocError> {
+    text.extend_from_slice(b"{\"kind\":\"block\",\"height\":")?;
+    text.extend_from_slice(height.as_bytes())?;
+    text.extend_from_slice(b",\"time\":\"")?;
+    text.extend_from_slice(time.as_bytes())?;
+    text.extend_from_slice(b"\",\"votes\":[],\"evidence\":[],\"txs\":[")?;
+    for part in txs {
+        text.extend_from_slice(part.as_bytes())?;
+    }
+    push_line(text, &["]}"])
+}
+
+/// The lines, each with its end.
+pub fn text(alloc: Global, lines: &[&str]) -> Result<Vec<u8>, AllocError> {
+    let mut text = Vec::new(alloc);
+    for line in lines {
+        text.extend_from_slice(line.as_bytes())?;
+        text.push(b'\n')?;
+    }
+    Ok(text)
+}
+
+/// The words of a command of one word.
+pub fn words(alloc: Global, word: &str) -> Result<Vec<String>, AllocError> {
+    let mut words = Vec::new(alloc);
+    words.push(String::from_str(alloc, word)?)?;
+    Ok(words)
+}
+
+/// The input of the worked run: 100 uatom are sent, for a fee of 10.
+pub fn worked_input(alloc: Global) -> Result<Vec<u8>, AllocError> {
+    let mut text = Vec::new(alloc);
+    push_genesis(&mut text, ONE_THOUSAND)?;
+    push_block(
+        &mut text,
+        "1",
+        "2024-01-01T00:00:05Z",
+        &[TX_HEAD, "10", TX_MESSAGES, SEND_100, TX_TAIL],
+    )?;
+    Ok(text)
+}
+
+/// The output of the worked run.
+pub fn worked_output(alloc: Global) -> Result<Vec<u8>, AllocError> {
+    text(
+        alloc,
+        &[
+            GENESIS_LINE,
+            BLOCK_LINE,
+            FEE_LINE,
+            SEND_LINE,
+            ACCEPTED_LINE,
+            SUPPLY_LINE,
+            PAYER_LINE,
+            RECEIVER_LINE,
+            COLLECTOR_LINE,
+            POOL_LINE,
+        ],
+    )
+}

@@ -1,0 +1,43 @@
+-- The text of a decimal is ASCII.
+use Rattle.std.specs.Result.{IsOk}
+use Rattle.std.proofs.Common.{take, length, refl, Result, Ok, Err, MatchResult, ◌≡◌, ℕ, zero, suc, ◌+◌, ◌<◌, ◌/◌, ◌%◌, ◌^◌, List, [], ◌∷◌, ◌++◌, Bool, true, false, arith, cond, ◌==◌, All}
+use Rattle.std.specs.Str.{IsUtf8}
+use Rattle.std.proofs.Math.Seq.{take-append_seam}
+use Rattle.std.proofs.lemmas.Str.{IsUtf8-from_ascii}
+use Rattle.std.proofs.lemmas.Str.Ascii.{IsAscii-from_all}
+use Rattle.std.proofs.lemmas.List.Elements.{All-cons, All-append, All-nil, All-tail}
+use Rattle.stk_dec.specs.Texts.{last_digits, without_zeros, dec_text}
+
+abbrev IsSmall : ℕ → Type 0
+IsSmall byte = byte < 128
+
+last_digits_small : (k n : ℕ) → All IsSmall (last_digits k n)
+last_digits_small zero n = All-nil IsSmall
+last_digits_small (suc k) n =
+    let first : 48 + n / 10 ^ k % 10 < 128 = omega arith in
+    All-cons IsSmall _ _ first (last_digits_small k n)
+
+chosen_small : (b : Bool) (xs ys : List ℕ) → All IsSmall xs → All IsSmall ys → All IsSmall (cond b xs ys)
+chosen_small true xs ys h k = h
+chosen_small false xs ys h k = k
+
+without_zeros_small : (ds : List ℕ) → All IsSmall ds → All IsSmall (without_zeros ds)
+without_zeros_small [] h = h
+without_zeros_small (d ∷ []) h = h
+without_zeros_small (d ∷ e ∷ ds) h = chosen_small (d == 48) _ _ (without_zeros_small (e ∷ ds) (All-tail IsSmall d (e ∷ ds) h)) h
+
+pub dec_text_is_utf8 : (n : ℕ) → IsUtf8 (dec_text n)
+dec_text_is_utf8 n =
+    let whole : All IsSmall (without_zeros (last_digits 20 (n / 10 ^ 18))) = without_zeros_small (last_digits 20 (n / 10 ^ 18)) (last_digits_small 20 (n / 10 ^ 18)) in
+    let point : 46 < 128 = omega arith in
+    let places : All IsSmall (46 ∷ last_digits 18 (n % 10 ^ 18)) = All-cons IsSmall 46 (last_digits 18 (n % 10 ^ 18)) point (last_digits_small 18 (n % 10 ^ 18)) in
+    IsUtf8-from_ascii (dec_text n) (IsAscii-from_all (dec_text n) (All-append IsSmall (without_zeros (last_digits 20 (n / 10 ^ 18))) (46 ∷ last_digits 18 (n % 10 ^ 18)) whole places))
+
+-- bytes that begin with those of a text, cut at its length
+pub front_of : (text rest bytes : List ℕ) (n : ℕ) → n ≡ length text → bytes ≡ text ++ rest → take n bytes ≡ text
+front_of text rest bytes n h e = rw (h, e) (take-append_seam text rest)
+
+-- what is read as text, since it is
+pub read_as_text : {X Y U : Type 0} (P : X → Type 0) (Q : Y → Type 0) (r : Result X Y) → U → MatchResult r P (λ e. ¬ U × Q e) → IsOk r
+read_as_text P Q (Ok x) u h = refl
+read_as_text P Q (Err e) u h = absurd (h.0 u)

@@ -1,0 +1,243 @@
+//! The members of an object, each with its number and its form.
+ghost use Rattle.std.specs.Prelude.{◌≡◌, Option, string_bytes};
+ghost use Rattle.std.specs.List.{list_all};
+ghost use Rattle.std.specs.Char.{is_ascii_digit};
+ghost use Rattle.std.specs.BTreeMap.{keys};
+ghost use Rattle.serde_json.specs.Data.{Data};
+ghost use Rattle.serde_json.specs.View.{view};
+ghost use Rattle.stk_dec.specs.Texts.{is_number};
+ghost use Rattle.stk_json.specs.Members.{amount_of, member_at, optional_at, word_at, is_among, texts_of, only_named};
+
+use serde_json::{Map, Value};
+use stk_dec::Dec;
+use stk_msgs::LineFault;
+use stk_types::{
+    Account, Addr, ConsAddr, Denom, Moment, read_account, read_addr, read_cons, read_denom,
+    read_moment,
+};
+
+/// A value that one string, one number or one truth value stands for. Reading it takes no memory.
+pub trait Scalar: Copy {
+    ghost form: { Data → Option Self };
+
+    fn from_value(value: &Value) -> Option<Self>
+        ensures { result ≡ form (view value.now) };
+}
+
+/// A whole number below 2^63, written with digits alone.
+impl Scalar for u64 {
+    ghost use Rattle.stk_json.specs.Members.{number_of};
+
+    ghost form = { number_of };
+
+    fn from_value(value: &Value) -> Option<u64> {
+        match value.as_u64() {
+            Some(number) if number < 1 << 63 => Some(number),
+            _ => None,
+        }
+    }
+}
+
+/// True or false.
+impl Scalar for bool {
+    ghost use Rattle.serde_json.specs.Find.{as_bool};
+
+    ghost form = { as_bool };
+
+    fn from_value(value: &Value) -> Option<bool> {
+        value.as_bool()
+    }
+}
+
+/// Whether each byte is a digit.
+fn are_digits(text: &[u8]) -> bool
+    ensures { result ≡ list_all is_ascii_digit text.now }
+{
+    text.iter().all(|byte| byte.is_ascii_digit())
+}
+
+/// Whether the text is 1 to 38 digits.
+fn is_amount(text: &str) -> bool
+    ensures { result ≡ is_number 38 text.now }
+{
+    !text.is_empty() && text.len() <= 38 && are_digits(text.as_bytes())
+}
+
+/// The whole amount that 1 to 38 digits spell.
+fn amount_of(text: &str) -> Option<u128>
+    ensures { result ≡ amount_of text.now }
+{
+    if is_amount(text) {
+        text.parse().ok()
+    } else {
+        None
+    }
+}
+
+/// A whole amount: a string of 1 to 38 digits.
+impl Scalar for u128 {
+    ghost use Rattle.stk_json.specs.Members.{amount_of, spelled_by};
+
+    ghost form = { spelled_by amount_of };
+
+    fn from_value(value: &Value) -> Option<u128> {
+        value.as_str().and_then(amount_of)
+    }
+}
+
+/// A decimal: a string of digits, perhaps with a point.
+impl Scalar for Dec {
+    ghost use Rattle.stk_dec.specs.Texts.{dec_of};
+    ghost use Rattle.stk_json.specs.Members.{spelled_by};
+
+    ghost form = { spelled_by dec_of };
+
+    fn from_value(value: &Value) -> Option<Dec> {
+        match value.as_str() {
+            Some(text) => Dec::parse(text.as_bytes()),
+            None => None,
+        }
+    }
+}
+
+/// A string that spells a moment.
+impl Scalar for Moment {
+    ghost use Rattle.stk_types.specs.Moment.{moment_of};
+    ghost use Rattle.stk_json.specs.Members.{spelled_by};
+
+    ghost form = { spelled_by moment_of };
+
+    fn from_value(value: &Value) -> Option<Moment> {
+        match value.as_str() {
+            Some(text) => read_moment(text).ok(),
+            None => None,
+        }
+    }
+}
+
+/// A string that names a denomination.
+impl Scalar for Denom {
+    ghost use Rattle.stk_types.specs.Denom.{denom_of};
+    ghost use Rattle.stk_json.specs.Members.{spelled_by};
+
+    ghost form = { spelled_by denom_of };
+
+    fn from_value(value: &Value) -> Option<Denom> {
+        match value.as_str() {
+            Some(text) => read_denom(text).ok(),
+            None => None,
+        }
+    }
+}
+
+/// A string that spells the address of a user.
+impl Scalar for Addr {
+    ghost use Rattle.stk_types.specs.Address.{user_of};
+    ghost use Rattle.stk_json.specs.Members.{spelled_by};
+
+    ghost form = { spelled_by user_of };
+
+    fn from_value(value: &Value) -> Option<Addr> {
+        match value.as_str() {
+            Some(text) => read_addr(text).ok(),
+            None => None,
+        }
+    }
+}
+
+/// A string that spells the address of a user or of a module.
+impl Scalar for Account {
+    ghost use Rattle.stk_types.specs.Accounts.{account_of};
+    ghost use Rattle.stk_json.specs.Members.{spelled_by};
+
+    ghost form = { spelled_by account_of };
+
+    fn from_value(value: &Value) -> Option<Account> {
+        match value.as_str() {
+            Some(text) => read_account(text).ok(),
+            None => None,
+        }
+    }
+}
+
+/// A string that spells a consensus address.
+impl Scalar for ConsAddr {
+    ghost use Rattle.stk_types.specs.Address.{address_of};
+    ghost use Rattle.stk_json.specs.Members.{spelled_by};
+
+    ghost form = { spelled_by address_of };
+
+    fn from_value(value: &Value) -> Option<ConsAddr> {
+        match value.as_str() {
+            Some(text) => read_cons(text).ok(),
+            None => None,
+        }
+    }
+}
+
+/// The member of this name.
+pub fn member_at<T: Scalar>(number: u16, name: &str, value: &Value) -> Result<T, LineFault>
+    ensures { result ≡ member_at T.form number name.now (view value.now) }
+{
+    match value.get(name) {
+        Some(found) => T::from_value(found).ok_or(LineFault::BadShape(number)),
+        None => Err(LineFault::BadShape(number)),
+    }
+}
+
+/// The member of this name, which may be missing.
+pub fn optional_at<T: Scalar>(
+    number: u16,
+    name: &str,
+    value: &Value,
+) -> Result<Option<T>, LineFault>
+    ensures { result ≡ optional_at T.form number name.now (view value.now) }
+{
+    match value.get(name) {
+        Some(found) => match T::from_value(found) {
+            Some(member) => Ok(Some(member)),
+            None => Err(LineFault::BadShape(number)),
+        },
+        None => Ok(None),
+    }
+}
+
+/// Nothing, where the member of this name is the string of this word.
+pub fn word_at(number: u16, name: &str, word: &str, value: &Value) -> Result<(), LineFault>
+    ensures { result ≡ word_at number name.now word.now (view value.now) }
+{
+    match value.get(name).and_then(Value::as_str) {
+        Some(text) if text == word => Ok(()),
+        _ => Err(LineFault::BadShape(number)),
+    }
+}
+
+/// Whether the name is one of these.
+fn is_among(names: &[&str], name: &str) -> bool
+    ensures { result ≡ is_among (texts_of names.now) name.now }
+{
+    for known in names {
+        if *known == name {
+            return true;
+        }
+    }
+    false
+}
+
+/// Whether each key is among the names.
+fn are_among(names: &[&str], map: &Map<String, Value>) -> bool
+    ensures { result
+        ≡ list_all (λ key. is_among (texts_of names.now) (string_bytes key)) (keys map.now) }
+{
+    map.keys().all(|key| is_among(names, key.as_str()))
+}
+
+/// Nothing, where the tree is an object with no member of another name.
+pub fn only_named(names: &[&str], value: &Value) -> Result<(), LineFault>
+    ensures { result ≡ only_named (texts_of names.now) (view value.now) }
+{
+    match value.as_object() {
+        Some(map) if are_among(names, map) => Ok(()),
+        _ => Err(LineFault::BadShape(0)),
+    }
+}
