@@ -35,7 +35,7 @@ of_denom-respects : (d : List ℕ) → Respects place_cmp place_total (of_denom 
 of_denom-respects d k x e = ap (λ e. is_at (denom_cmp d) e) (sym (same_name k.1 x.1 (then_second (account_cmp k.0 x.0) (denom_cmp k.1 x.1) e)))
 
 -- the supply of a denomination once a coin is given
-supply-given : (h : Holdings) (who : Account) (d : List ℕ) (n : ℕ) (e : List ℕ) → IsStrictlySortedBy denom_cmp (keys_of h.supplies)
+pub supply-given : (h : Holdings) (who : Account) (d : List ℕ) (n : ℕ) (e : List ℕ) → IsStrictlySortedBy denom_cmp (keys_of h.supplies)
     → supply_of (coin_given who d n h) e ≡ supply_of h e + cond (is_at (denom_cmp e) d) n 0
 supply-given h who d n e s = number-after denom_cmp denom_total h.supplies d e (supply_of h d + n) s ∙ by (is_at (denom_cmp e) d) refl
   where
@@ -79,7 +79,7 @@ amount-step : (b : Bool) (n : ℕ) (x : Option ℕ) → (b ≡ true → unwrap_o
 amount-step true n x z = let k : unwrap_or x 0 ≡ 0 = z refl in omega (arith, k)
 amount-step false n x z = omega arith
 
-amount-cons : (c : List ℕ × ℕ) (cs : Money) (e : List ℕ) → Above c.0 cs → amount_of (c ∷ cs) e ≡ cond (is_at (denom_cmp e) c.0) c.1 0 + amount_of cs e
+pub amount-cons : (c : List ℕ × ℕ) (cs : Money) (e : List ℕ) → Above c.0 cs → amount_of (c ∷ cs) e ≡ cond (is_at (denom_cmp e) c.0) c.1 0 + amount_of cs e
 amount-cons c cs e a = amount-step (is_at (denom_cmp e) c.0) c.1 (lookup (is_at (denom_cmp e)) cs) (λ p. subst (λ x. amount_of cs x ≡ 0) (sym (equal_name e c.0 p)) (amount-above c.0 cs a))
 
 amount-first : (c : List ℕ × ℕ) (cs : Money) → Above c.0 cs → amount_of (c ∷ cs) c.0 ≡ c.1 + amount_of cs c.0

@@ -8,3 +8,4 @@ pub mod ItemLemmas
 pub mod WalkLemmas
 pub mod CoinLemmas
 pub mod PurseLemmas
+pub mod GivenLemmas

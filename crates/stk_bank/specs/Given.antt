@@ -1,6 +1,8 @@
 -- What accounts hold that are given coins.
-use Rattle.std.specs.Prelude.{ℕ, ◌+◌, ◌^◌, ◌≤◌, List, [], ◌∷◌}
+use Rattle.std.specs.Prelude.{ℕ, ◌+◌, ◌^◌, ◌≤◌, if◌then◌else◌, List, [], ◌∷◌}
+use Rattle.std.specs.BTreeMap.{is_at}
 use Rattle.stk_types.specs.declared.account.Account.{Account}
+use Rattle.stk_types.specs.Orders.{account_cmp}
 use Rattle.stk_coins.specs.Coins.{Money, amount_of, with_amount}
 use Rattle.stk_keep.specs.Holdings.{Holdings, no_holdings, balance_of, supply_of, with_balance}
 
@@ -28,6 +30,11 @@ held_by accounts = all_given accounts no_holdings
 abbrev pub given_of : List (Account × Money) → List ℕ → ℕ
 given_of [] d = 0
 given_of (a ∷ rest) d = amount_of a.1 d + given_of rest d
+
+-- what an account is given of a denomination
+abbrev pub given_to : List (Account × Money) → Account → List ℕ → ℕ
+given_to [] who d = 0
+given_to (a ∷ rest) who d = (if is_at (account_cmp who) a.0 then amount_of a.1 d else 0) + given_to rest who d
 
 -- no more than 10^18 is given of any denomination
 abbrev pub IsBounded : List (Account × Money) → Type 0

@@ -2,4 +2,5 @@ pub mod Booked
 pub mod Given
 pub mod Sending
 pub mod Rows
+pub mod Laws
 pub mod Worked

@@ -3,6 +3,7 @@
 #![tactic(auto)]
 
 mod book;
+mod laws;
 mod mark;
 mod moves;
 mod records;
@@ -12,6 +13,7 @@ mod walk;
 mod worked;
 
 pub use book::Book;
+pub use laws::accounts_hold_what_they_are_given;
 pub use worked::sends_by_example;
 
 #[cfg(test)]

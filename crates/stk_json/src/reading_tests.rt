@@ -79,6 +79,30 @@ fn nested(alloc: Global, depth: usize) -> Result<Vec<u8>, AllocError> {
     Ok(line)
 }
 
+/// The block line with a member in front that no reader asks for: so many lists within one another.
+fn block_with_lists(alloc: Global, depth: usize) -> Result<Vec<u8>, AllocError> {
+    let lists = nested(alloc, depth)?;
+    let rest = BLOCK.as_bytes();
+    let mut line = Vec::new(alloc);
+    line.extend_from_slice(b"{\"memo\":")?;
+    line.extend_from_slice(&lists)?;
+    line.push(b',')?;
+    line.extend_from_slice(&rest[1..])?;
+    Ok(line)
+}
+
+/// A member that is not read has its part of the depth that a line may have: 127 lists within one another are
+/// one too many inside an object.
+#[test]
+fn lists_in_a_member_that_is_not_read_count(rt: HostRuntime) -> Result<(), Fail> {
+    let alloc = rt.alloc();
+    let deepest = block_with_lists(alloc, 126)?;
+    let too_deep = block_with_lists(alloc, 127)?;
+    assert!(rt; fault_of_block(alloc, &deepest) == Some(LineFault::BadShape(0)));
+    assert!(rt; fault_of_block(alloc, &too_deep) == Some(LineFault::NotJson));
+    Ok(())
+}
+
 #[test]
 fn members_of_a_block_have_their_numbers(rt: HostRuntime) {
     let no_forms = [
