@@ -4,3 +4,15 @@ pub mod Transactions
 pub mod Blocks
 pub mod Laws
 pub mod Worked
+pub mod GenesisConditions
+pub mod GenesisState
+pub mod Messages
+pub mod Machine
+pub mod Report
+pub mod WholeRows
+pub mod HistoryRows
+pub mod LifeRows
+pub mod Stages
+pub mod Promises
+pub mod RandomRows
+pub mod SoundRows

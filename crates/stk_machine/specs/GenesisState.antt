@@ -1,0 +1,71 @@
+-- What a genesis with validators and delegations starts (Cosmos SDK: `InitGenesis` of `x/bank`, `x/staking`,
+-- `x/distribution` and `x/slashing`).
+use Rattle.std.specs.Prelude.{List, [], Result, Ok}
+use Rattle.stk_types.specs.declared.status.BondStatus.TheVariants.{Unbonded}
+use Rattle.stk_keep.specs.declared.facts.Fact.{Fact}
+use Rattle.stk_keep.specs.declared.refusal.Refusal.{Refusal}
+use Rattle.stk_keep.specs.declared.refusal.Refusal.TheVariants.{NoValidator, Overflow}
+use Rattle.stk_keep.specs.Staked.{Staked, validator_of}
+use Rattle.stk_keep.specs.Steps.{◌>>=◌, or_stop, stopping, each}
+use Rattle.stk_keep.specs.World.{World, View, over_view}
+use Rattle.stk_msgs.specs.declared.genesis.Genesis.{Genesis}
+use Rattle.stk_msgs.specs.declared.genesis.GenesisDelegation.{GenesisDelegation}
+use Rattle.stk_msgs.specs.declared.genesis.GenesisValidator.{GenesisValidator}
+use Rattle.stk_rules.specs.Amounts.{over_facts}
+use Rattle.stk_rules.specs.BondedSet.{set_updated}
+use Rattle.stk_rules.specs.Chain.{Hooks, State, chain_told, staked_in, with_staked}
+use Rattle.stk_rules.specs.Delegating.{pool, delegated}
+use Rattle.stk_rules.specs.Distribution.{nothing_shared}
+use Rattle.stk_rules.specs.Validators.{new_validator, stored}
+use Rattle.stk_machine.specs.Genesis.{held_by}
+use Rattle.stk_machine.specs.GenesisConditions.{creation_of, accounts_at_start}
+
+-- the ground before the first validator: what the accounts hold, at height 0 and the time of the genesis
+abbrev pub ground_at_start : Genesis → View
+ground_at_start g = record {
+  bank = held_by (accounts_at_start g);
+  ctx = record { height = 0; time = g.time; params = g.params };
+  facts = [];
+}
+
+-- a state of no records over a ground
+abbrev pub empty_over : View → State
+empty_over v = record {
+  mine = record { staked = record { validators = []; delegations = [] }; unbondings = []; redelegations = [] };
+  hooks = (nothing_shared, []);
+  view = v;
+  log = [];
+}
+
+-- A validator is there, unbonded and not jailed, without tokens, and its first hook is called (`InitGenesis`:
+-- `AfterValidatorCreated`).
+abbrev pub validator_added : GenesisValidator → World Staked Hooks → Result (World Staked Hooks) Refusal
+validator_added v w = stopping Overflow (stored chain_told (new_validator (creation_of w.view.ctx.params.bond_denom v) w.view.ctx.time) w)
+
+-- A delegation to one of them, of coins that the not-bonded account has already, so that none move (`InitGenesis`:
+-- `BeforeDelegationCreated`, `AfterDelegationModified`).
+abbrev pub delegation_added : GenesisDelegation → World Staked Hooks → Result (World Staked Hooks) Refusal
+delegation_added d w = do
+  v ← or_stop (validator_of w.mine d.validator) NoValidator
+  (issued, u) ← delegated chain_told v d.delegator d.amount (pool Unbonded) w
+  Ok u
+
+-- the state without the facts that led to it
+abbrev pub without_facts : State → State
+without_facts w = over_view (over_facts (λ facts. [])) w
+
+-- what a genesis tells, and the state that it starts
+pub record Start : Type 0 where
+  pub facts : List Fact
+  pub state : State
+
+-- Validators, then delegations, each in order, then the bonded set (`InitGenesis`: `ApplyAndReturnValidatorSetUpdates`).
+-- That nothing is refused where no condition holds is a law.
+abbrev pub chain_started : Genesis → Result Start Refusal
+chain_started g = do
+  let w = empty_over (ground_at_start g)
+  w1 ← each validator_added g.validators (staked_in w)
+  w2 ← each delegation_added g.delegations w1
+  w3 ← stopping Overflow (set_updated chain_told w2)
+  let done = with_staked w.mine w3
+  Ok (record { facts = done.view.facts; state = without_facts done })
