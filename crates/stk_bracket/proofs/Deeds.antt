@@ -1,0 +1,90 @@
+-- What holds of all starts, after each deed.
+use Rattle.std.proofs.Common.{◌≡◌, ℕ, ◌+◌, ◌-◌, ◌^◌, ◌<◌, ◌≤◌, ◌≢◌, List, refl, arith}
+use Rattle.std.specs.List.{AllByRecursion, slice_get, remove}
+use Rattle.stk_coins.specs.Coins.{Money}
+use Rattle.stk_keep.specs.declared.entities.SlashEvent.{SlashEvent}
+use Rattle.stk_rules.specs.Periods.{last_ended}
+use Rattle.stk_rules.specs.Slashing.{slash_fraction}
+use Rattle.stk_bracket.specs.Account.{Start, Account, Deed, IsNextRatio, IsFitting, counted_shares, new_account, account_after, period_closed, burned, start_made, paid_in}
+use Rattle.stk_bracket.specs.Account as deed
+use Rattle.stk_bracket.proofs.Lists.{all_map, all_map_two, all_insert, all_remove, all_behind, all_within}
+use Rattle.stk_bracket.proofs.Following.{Follows, block_follows, allocated, allocation_follows, end_follows, slash_follows, issue_follows, left, removal_follows, begun, other_follows, own_follows, paid_follows}
+
+pub record Good (d : List ℕ) (a : Account) : Type 0 where
+  pub some_period : 0 < a.periods.current
+  pub past : AllByRecursion (λ e. e.period < a.periods.current) a.periods.events
+  pub follows : AllByRecursion (Follows d a) a.starts
+
+pub good_ended : (d : List ℕ) (a : Account) (increment ratio : Money) → IsNextRatio d a increment ratio → Good d a → Good d (period_closed increment ratio a)
+good_ended d a increment ratio next g = record {
+  some_period = omega arith;
+  past = all_map (λ e. e.period < a.periods.current) (λ e. e.period < a.periods.current + 1) (λ e h. omega arith) a.periods.events g.past;
+  follows = all_map (Follows d a) (Follows d (period_closed increment ratio a)) (λ s k. end_follows d a increment ratio s g.some_period g.past next k) a.starts g.follows;
+}
+
+-- a slash is of an account whose period has just ended, so each start is of an earlier one
+good_burned : (d : List ℕ) (a : Account) (burn : ℕ) → 0 < a.tokens → a.tokens ≤ 10 ^ 18 → burn ≤ a.tokens → a.current ≡ 0
+    → AllByRecursion (λ s. s.info.period < last_ended a.periods) a.starts → Good d a → Good d (burned burn a)
+good_burned d a burn some few less none early g =
+    let e : SlashEvent = record { height = a.height; period = last_ended a.periods; fraction = slash_fraction burn a.tokens } in
+    let some_period : 0 < a.periods.current = g.some_period in record {
+      some_period = some_period;
+      past = all_behind (λ e. e.period < a.periods.current) a.periods.events e g.past (omega arith);
+      follows = all_map_two (Follows d a) (λ s. s.info.period < last_ended a.periods) (Follows d (burned burn a))
+          (λ s k h. slash_follows d a burn s some few less none some_period h k) a.starts g.follows early;
+    }
+
+good_slash : (d : List ℕ) (a : Account) (burn : ℕ) (increment ratio : Money) → IsNextRatio d a increment ratio → 0 < a.tokens → a.tokens ≤ 10 ^ 18 → burn ≤ a.tokens → Good d a
+    → Good d (burned burn (period_closed increment ratio a))
+good_slash d a burn increment ratio next some few less g =
+    good_burned d (period_closed increment ratio a) burn some few less refl
+    (all_map (Follows d a) (λ s. s.info.period < a.periods.current + 1 - 1) (λ s k. omega (arith, k.early)) a.starts g.follows)
+    (good_ended d a increment ratio next g)
+
+-- each start's shares are within all, with a part more
+pub within_all : (a : Account) (part : ℕ) → counted_shares a + part ≤ a.shares → AllByRecursion (λ s. s.shares + part ≤ a.shares) a.starts
+within_all a part fit = all_map (λ s. s.shares ≤ counted_shares a) (λ s. s.shares + part ≤ a.shares) (λ s h. omega arith) a.starts (all_within (λ s. s.shares) a.starts)
+
+good_starts : (d : List ℕ) (a : Account) (commission outstanding : ℕ) (starts : List Start) → AllByRecursion (Follows d a) starts → Good d a
+    → Good d (record a { commission = commission; outstanding = outstanding; starts = starts })
+good_starts d a commission outstanding starts each g = record {
+  some_period = g.some_period;
+  past = g.past;
+  follows = all_map (Follows d a) (Follows d (record a { commission = commission; outstanding = outstanding; starts = starts })) (λ s k. paid_follows d a commission outstanding starts s k) starts each;
+}
+
+pub good_after : (d : List ℕ) (a : Account) (act : Deed) → IsFitting d a act → Good d a → Good d (account_after d a act)
+good_after d a (deed.block height) fit g = record {
+  some_period = g.some_period;
+  past = g.past;
+  follows = all_map (Follows d a) (Follows d (record a { height = height })) (λ s k. block_follows d a height s fit k) a.starts g.follows;
+}
+good_after d a (deed.allocation commission rest) fit g = record {
+  some_period = g.some_period;
+  past = g.past;
+  follows = all_map_two (Follows d a) (λ s. s.info.height < a.height) (Follows d (allocated d a commission rest)) (λ s k h. allocation_follows d a commission rest s h k) a.starts g.follows fit;
+}
+good_after d a (deed.ending increment ratio) fit g = good_ended d a increment ratio fit g
+good_after d a (deed.slash burn increment ratio) fit g = good_slash d a burn increment ratio fit.0 fit.1 fit.2 fit.3 g
+good_after d a (deed.issue amount issued) fit g = record {
+  some_period = g.some_period;
+  past = g.past;
+  follows = all_map (Follows d a) (Follows d (record a { tokens = a.tokens + amount; shares = a.shares + issued })) (λ s k. issue_follows d a amount issued s fit.0 fit.1 k) a.starts g.follows;
+}
+good_after d a (deed.removal part) fit g = record {
+  some_period = g.some_period;
+  past = g.past;
+  follows = all_map_two (Follows d a) (λ s. s.shares + part ≤ a.shares) (Follows d (left a part)) (λ s k h. removal_follows d a part s fit.0 h k) a.starts g.follows (within_all a part fit.2);
+}
+good_after d a (deed.beginning place who shares) fit g = record {
+  some_period = g.some_period;
+  past = g.past;
+  follows = all_insert (Follows d (begun a place who shares)) (start_made a who shares) (own_follows d a place who shares g.some_period g.past fit.0 fit.1 (omega (arith, fit.2))) place a.starts
+      (all_map_two (Follows d a) (λ s. who ≢ s.who) (Follows d (begun a place who shares)) (λ s k h. other_follows d a place who shares s h k) a.starts g.follows fit.4);
+}
+good_after d a (deed.payment place) fit g =
+    good_starts d a a.commission (a.outstanding - paid_in d a (slice_get a.starts place)) (remove a.starts place) (all_remove (Follows d a) place a.starts g.follows) g
+good_after d a (deed.commission_payment amount) fit g = good_starts d a (a.commission - amount) (a.outstanding - amount) a.starts g.follows g
+
+pub good_new : (d : List ℕ) (height : ℕ) → Good d (new_account height)
+good_new d height = record { some_period = omega arith; past = tt; follows = tt }

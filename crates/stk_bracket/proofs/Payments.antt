@@ -1,0 +1,242 @@
+-- Withdrawing a delegation's reward, as a step of a state, is the deeds of its rule; every other account stays.
+use Rattle.std.proofs.Common.{◌≡◌, ℕ, ◌-◌, ◌≢◌, Bool, true, false, List, [], ◌∷◌, ◌++◌, map, refl, arith, sym, ap, subst, ◌∙◌, Some, Result, Ok, min}
+use Rattle.std.specs.Prelude.{unwrap_or, is_some}
+use Rattle.std.specs.List.{slice_get, remove}
+use Rattle.std.specs.BTreeMap.{is_at}
+use Rattle.stk_dec.specs.declared.over.Over.{Over}
+use Rattle.stk_types.specs.Orders.{addr_cmp}
+use Rattle.stk_coins.specs.Coins.{Money, IsMoney, amount_of, coins_added, coins_taken, smaller_of, whole_coins, fractions}
+use Rattle.stk_coins.proofs.Order.{rises_from_money}
+use Rattle.stk_coins.proofs.Amounts.{amount-all}
+use Rattle.stk_shares.specs.Shares.{value_even_of}
+use Rattle.stk_keep.specs.declared.entities.Purse.{Purse}
+use Rattle.stk_keep.specs.declared.entities.StartingInfo.{StartingInfo}
+use Rattle.stk_keep.specs.declared.entities.Validator.{Validator}
+use Rattle.stk_keep.specs.declared.facts.Fact.TheVariants as fact
+use Rattle.stk_keep.specs.Entries.{at, with}
+use Rattle.stk_keep.specs.Items.{no_purse}
+use Rattle.stk_keep.specs.Log.{Log}
+use Rattle.stk_keep.specs.Orders.{pair_cmp, same_addr}
+use Rattle.stk_keep.specs.Staked.{validator_of, shares_of}
+use Rattle.stk_keep.specs.Steps.{◌>>=◌}
+use Rattle.stk_keep.specs.World.{View, noted}
+use Rattle.stk_rules.specs.Amounts.{over_facts}
+use Rattle.stk_rules.specs.Chain.{State, with_shared}
+use Rattle.stk_rules.specs.Distribution.{Shared, ended, reward_withdrawn, payee_of, paid_to}
+use Rattle.stk_rules.specs.Ideal.{history_of}
+use Rattle.stk_rules.specs.Periods.{Rewards, periods_of, start_of, without_start, reward_at}
+use Rattle.stk_rules.specs.Purses.{Purses, purse_of, with_purse, pool_joined, paid_out, pooled_told}
+use Rattle.stk_rules.specs.Sound.{IsSound}
+use Rattle.stk_bracket.specs.Account.{Start, Account, IsReached, reward_now, paid_in, account_after}
+use Rattle.stk_bracket.specs.Account as deed
+use Rattle.stk_bracket.specs.States.{starts_in, account_in, AreReached, WithdrawalKeepsReached}
+use Rattle.stk_bracket.proofs.Following.{own_addr, other_addr}
+use Rattle.stk_bracket.proofs.Denominations.{step_parts}
+use Rattle.stk_bracket.proofs.Entries.{addr_is, pair_is, put_there, put_elsewhere, IsGoneFrom, gone_from, kept_by}
+use Rattle.stk_bracket.proofs.Reached.{deeds_lead_on}
+use Rattle.stk_bracket.proofs.Claims.{IsEnded, closed_account, closed_full, some_of, start_with}
+use Rattle.stk_bracket.proofs.Endings.{same_account, state_then, closed_is, same_some, end_is, end_keeps_reached}
+
+-- ---- the purse of a validator of which a reward was paid
+
+record PurseLess (d operator : List ℕ) (p : Purses) (full : Money) (q : Purses) : Type 0 where
+  purse : Purse
+  is : q.purses ≡ with addr_cmp p.purses operator purse
+  current : purse.current ≡ (purse_of p operator).current
+  commission : purse.commission ≡ (purse_of p operator).commission
+  outstanding : amount_of purse.outstanding d ≡ amount_of (purse_of p operator).outstanding d - min (amount_of full d) (amount_of (purse_of p operator).outstanding d)
+
+purse_less : (d operator : List ℕ) (p : Purses) (full : Money) (z : Money × Purses) → IsMoney full → IsMoney (purse_of p operator).outstanding → paid_out operator full p ≡ Ok z → PurseLess d operator p full z.1
+purse_less d operator p full z m outstanding e =
+    let old : Purse = purse_of p operator in
+    let reward : Money = smaller_of full old.outstanding in
+    let less : Purse = record old { outstanding = coins_taken old.outstanding reward } in
+    let one_join : (p1 : Purses) × (pool_joined (fractions reward) (with_purse operator less p) ≡ Ok p1) × (Path (Result (Money × Purses) Over) (Ok (reward, p1)) (Ok z)) =
+    step_parts (pool_joined (fractions reward) (with_purse operator less p)) (λ p1. Ok (reward, p1)) z e in
+    let one_sum : (pool : Money) × (coins_added p.pool (fractions reward) ≡ Ok pool) × (Path (Result Purses Over) (Ok (record (with_purse operator less p) { pool = pool })) (Ok one_join.0)) =
+    step_parts (coins_added p.pool (fractions reward)) (λ pool. Ok (record (with_purse operator less p) { pool = pool })) one_join.0 one_join.1 in
+    let last : z.1 ≡ record (with_purse operator less p) { pool = one_sum.0 } =
+    sym (same_one reward one_join.0 z one_join.2) ∙ sym (same_zero (record (with_purse operator less p) { pool = one_sum.0 }) one_join.0 one_sum.2) in
+    let reward_is : amount_of reward d ≡ min (amount_of full d) (amount_of old.outstanding d) =
+    amount-all (λ c n. min n (amount_of old.outstanding c)) (λ c. omega arith) full d (rises_from_money full m) in
+    let left_is : amount_of (coins_taken old.outstanding reward) d ≡ amount_of old.outstanding d - amount_of reward d =
+    amount-all (λ c n. n - amount_of reward c) (λ c. omega arith) old.outstanding d (rises_from_money old.outstanding outstanding) in record {
+      purse = less;
+      is = ap (λ q. q.purses) last;
+      current = refl;
+      commission = refl;
+      outstanding = left_is ∙ ap (λ n. amount_of old.outstanding d - n) reward_is;
+    }
+  where
+    same_one : (reward : Money) (p1 : Purses) (q : Money × Purses) → Path (Result (Money × Purses) Over) (Ok (reward, p1)) (Ok q) → p1 ≡ q.1
+    same_one reward p1 q h = let whole : (reward, p1) ≡ q = cc in ap (λ x. x.1) whole
+
+    same_zero : (x y : Purses) → Path (Result Purses Over) (Ok x) (Ok y) → x ≡ y
+    same_zero x y h = cc
+
+-- ---- what a withdrawal is
+
+pub record IsWithdrawn (v : Validator) (who : List ℕ) (shares : ℕ) (s : Shared) (u : View) (y : Money × Shared × View × Log) : Type 0 where
+  pub first : ℕ × Shared × View × Log
+  pub ends : ended v s u ≡ Ok first
+  pub full : Money
+  pub is_full : reward_at (start_of first.1.rewards who v.operator) (periods_of first.1.rewards v.operator) first.0 first.2.ctx.height (value_even_of v.tokens v.shares shares) ≡ Ok full
+  pub paid : Money × Purses
+  pub pays : paid_out v.operator full first.1.purses ≡ Ok paid
+  pub rewards : y.1.rewards ≡ without_start who v.operator first.1.rewards
+  pub purses : y.1.purses ≡ paid.1
+  pub height : y.2.ctx.height ≡ first.2.ctx.height
+  pub logged : y.3 ≡ first.3
+
+abbrev withdrawn_with : Validator → List ℕ → ℕ × Shared × View × Log → Money × Purses → Money × Shared × View × Log
+withdrawn_with v who z r =
+    let coins = whole_coins r.0 in
+    let to = payee_of z.1 who in (
+      coins,
+      record z.1 { rewards = without_start who v.operator z.1.rewards; purses = r.1 },
+      noted (fact.Paid who v.operator to r.0 coins) (over_facts (pooled_told (fractions r.0)) (paid_to to coins z.2)),
+      z.3,
+    )
+
+withdrawn_of : (v : Validator) (who : List ℕ) (shares : ℕ) (s : Shared) (u : View) (z : ℕ × Shared × View × Log) (full : Money) (r : Money × Purses) → ended v s u ≡ Ok z
+    → reward_at (start_of z.1.rewards who v.operator) (periods_of z.1.rewards v.operator) z.0 z.2.ctx.height (value_even_of v.tokens v.shares shares) ≡ Ok full
+    → paid_out v.operator full z.1.purses ≡ Ok r → IsWithdrawn v who shares s u (withdrawn_with v who z r)
+withdrawn_of v who shares s u z full r e f g = record {
+  first = z;
+  ends = e;
+  full = full;
+  is_full = f;
+  paid = r;
+  pays = g;
+  rewards = refl;
+  purses = refl;
+  height = refl;
+  logged = refl;
+}
+
+pub withdrawn_is : (v : Validator) (who : List ℕ) (shares : ℕ) (s : Shared) (u : View) (y : Money × Shared × View × Log) → reward_withdrawn v who shares s u ≡ Ok y → IsWithdrawn v who shares s u y
+withdrawn_is v who shares s u y e =
+    let value : ℕ = value_even_of v.tokens v.shares shares in
+    let one : (z : ℕ × Shared × View × Log) × (ended v s u ≡ Ok z)
+    × ((reward_at (start_of z.1.rewards who v.operator) (periods_of z.1.rewards v.operator) z.0 z.2.ctx.height value >>= λ full. paid_out v.operator full z.1.purses >>= λ r. Ok (withdrawn_with v who z r)) ≡ Ok y) =
+    step_parts (ended v s u)
+    (λ z. reward_at (start_of z.1.rewards who v.operator) (periods_of z.1.rewards v.operator) z.0 z.2.ctx.height value >>= λ full. paid_out v.operator full z.1.purses >>= λ r. Ok (withdrawn_with v who z r)) y e in
+    let z : ℕ × Shared × View × Log = one.0 in
+    let two : (full : Money) × (reward_at (start_of z.1.rewards who v.operator) (periods_of z.1.rewards v.operator) z.0 z.2.ctx.height value ≡ Ok full)
+    × ((paid_out v.operator full z.1.purses >>= λ r. Ok (withdrawn_with v who z r)) ≡ Ok y) =
+    step_parts (reward_at (start_of z.1.rewards who v.operator) (periods_of z.1.rewards v.operator) z.0 z.2.ctx.height value) (λ full. paid_out v.operator full z.1.purses >>= λ r. Ok (withdrawn_with v who z r)) y one.2 in
+    let three : (r : Money × Purses) × (paid_out v.operator two.0 z.1.purses ≡ Ok r) × (Path (Result (Money × Shared × View × Log) Over) (Ok (withdrawn_with v who z r)) (Ok y)) =
+    step_parts (paid_out v.operator two.0 z.1.purses) (λ r. Ok (withdrawn_with v who z r)) y two.2 in
+    subst (λ x. IsWithdrawn v who shares s u x) (same_end (withdrawn_with v who z three.0) y three.2) (withdrawn_of v who shares s u z two.0 three.0 one.1 two.1 three.1)
+  where
+    same_end : (x y : Money × Shared × View × Log) → Path (Result (Money × Shared × View × Log) Over) (Ok x) (Ok y) → x ≡ y
+    same_end x y h = cc
+
+-- ---- accounts behind it
+
+abbrev pub state_behind : State → Money × Shared × View × Log → State
+state_behind w y = with_shared y.1 y.2 y.3 w
+
+-- the start is gone from the validator's, and from no other's
+pub own_gone : (w : State) (v : Validator) (who : List ℕ) (info : StartingInfo) (r : Rewards) → start_of r who v.operator ≡ Some info
+    → IsGoneFrom (starts_in w.mine.staked r v.operator) (starts_in w.mine.staked (without_start who v.operator r) v.operator) (start_with w v who info)
+own_gone w v who info r is =
+    gone_from (is_at (pair_cmp (v.operator, who))) (λ e. same_addr e.0.0 v.operator) (λ e. start_with w v e.0.1 e.1) (start_with w v who) r.starts info is
+    (λ e h. let pair : (v.operator ≡ e.0.0) × (who ≡ e.0.1) = pair_is (v.operator, who) e.0 h in
+    (ap (λ o. same_addr o v.operator) (sym pair.0) ∙ own_addr v.operator, λ x. ap (λ q. start_with w v q x) (sym pair.1)))
+
+other_kept : (w : State) (v u : Validator) (who : List ℕ) (r : Rewards) → same_addr v.operator u.operator ≡ false
+    → starts_in w.mine.staked (without_start who v.operator r) u.operator ≡ starts_in w.mine.staked r u.operator
+other_kept w v u who r apart =
+    ap (λ es. map (λ e. start_with w u e.0.1 e.1) es)
+    (kept_by (is_at (pair_cmp (v.operator, who))) (λ e. same_addr e.0.0 u.operator) r.starts
+    (λ e h. let pair : (v.operator ≡ e.0.0) × (who ≡ e.0.1) = pair_is (v.operator, who) e.0 h in ap (λ o. same_addr o u.operator) (sym pair.0) ∙ apart))
+
+-- the validator of the delegation: its account loses the start, and what is paid
+pub paid_account : (d : List ℕ) (w : State) (v : Validator) (who : List ℕ) (shares : ℕ) (info : StartingInfo) (y : Money × Shared × View × Log) (k : IsWithdrawn v who shares w.hooks.0 w.view y)
+    → IsSound w → validator_of w.mine.staked v.operator ≡ Some v → shares_of w.mine.staked who v.operator ≡ Some shares → start_of w.hooks.0.rewards who v.operator ≡ Some info
+    → (i : IsEnded d v w.hooks.0 w.view k.first)
+    → (g : IsGoneFrom (starts_in w.mine.staked k.first.1.rewards v.operator) (starts_in w.mine.staked (without_start who v.operator k.first.1.rewards) v.operator) (start_with w v who info))
+    → account_in d (state_behind w y) v ≡ account_after d (account_in d (state_then w k.first) v) (deed.payment g.place)
+paid_account d w v who shares info y k sound found held is i g =
+    let op : List ℕ = v.operator in
+    let z : ℕ × Shared × View × Log = k.first in
+    let a : Account = account_in d (state_behind w y) v in
+    let b : Account = account_in d (state_then w z) v in
+    let c : Account = closed_account d w v i.increment i.ratio in
+    let before : b ≡ c = closed_is d w v z i in
+    let full : IsMoney k.full × (amount_of k.full d ≡ reward_now d c (record { who = who; shares = shares; info = info })) = closed_full d w v who shares info k.full z i sound is k.is_full in
+    let then_purse : purse_of z.1.purses op ≡ i.purse.purse =
+    ap (λ es. unwrap_or (at addr_cmp es op) no_purse) i.purse.is ∙ ap (λ o. unwrap_or o no_purse) (put_there op i.purse.purse w.hooks.0.purses.purses) in
+    let money : IsMoney (purse_of z.1.purses op).outstanding = subst (λ q. IsMoney q.outstanding) (sym then_purse) i.purse.money in
+    let less : PurseLess d op z.1.purses k.full k.paid.1 = purse_less d op z.1.purses k.full k.paid full.0 money k.pays in
+    let purse : purse_of y.1.purses op ≡ less.purse =
+    ap (λ q. purse_of q op) k.purses ∙ ap (λ es. unwrap_or (at addr_cmp es op) no_purse) less.is ∙ ap (λ o. unwrap_or o no_purse) (put_there op less.purse z.1.purses.purses) in
+    let reward : amount_of k.full d ≡ reward_now d b (start_with w v who info) =
+    full.1 ∙ ap (λ x. reward_now d x (record { who = who; shares = shares; info = info })) (sym before)
+    ∙ ap (λ o. reward_now d b (record { who = who; shares = unwrap_or o 0; info = info })) (sym held) in
+    let leaves : min (amount_of k.full d) b.outstanding ≡ paid_in d b (slice_get b.starts g.place) = ap (λ n. min n b.outstanding) reward ∙ ap (λ o. paid_in d b o) (sym g.was) in
+    same_account v.tokens v.shares a.height b.height a.current b.current a.commission b.commission a.outstanding (b.outstanding - paid_in d b (slice_get b.starts g.place)) a.periods b.periods a.starts (remove b.starts g.place) a.history b.history
+    k.height
+    (ap (λ q. amount_of q.current d) purse ∙ ap (λ m. amount_of m d) less.current)
+    (ap (λ q. amount_of q.commission d) purse ∙ ap (λ m. amount_of m d) less.commission)
+    (ap (λ q. amount_of q.outstanding d) purse ∙ less.outstanding ∙ ap (λ n. b.outstanding - n) leaves)
+    (ap (λ r. periods_of r op) k.rewards)
+    (ap (λ r. starts_in w.mine.staked r op) k.rewards ∙ g.is)
+    (ap (λ m. history_of op (w.log ++ m) []) k.logged)
+
+-- another validator
+other_account : (d : List ℕ) (w : State) (v u : Validator) (who : List ℕ) (shares : ℕ) (y : Money × Shared × View × Log) (k : IsWithdrawn v who shares w.hooks.0 w.view y)
+    → IsMoney k.full → IsMoney (purse_of k.first.1.purses v.operator).outstanding
+    → same_addr u.operator v.operator ≡ false → same_addr v.operator u.operator ≡ false → account_in d (state_behind w y) u ≡ account_in d (state_then w k.first) u
+other_account d w v u who shares y k full money apart apart' =
+    let op : List ℕ = u.operator in
+    let z : ℕ × Shared × View × Log = k.first in
+    let a : Account = account_in d (state_behind w y) u in
+    let b : Account = account_in d (state_then w z) u in
+    let less : PurseLess d v.operator z.1.purses k.full k.paid.1 = purse_less d v.operator z.1.purses k.full k.paid full money k.pays in
+    let purse : purse_of y.1.purses op ≡ purse_of z.1.purses op =
+    ap (λ q. purse_of q op) k.purses ∙ ap (λ es. unwrap_or (at addr_cmp es op) no_purse) less.is ∙ ap (λ o. unwrap_or o no_purse) (put_elsewhere v.operator op less.purse z.1.purses.purses apart) in
+    same_account u.tokens u.shares a.height b.height a.current b.current a.commission b.commission a.outstanding b.outstanding a.periods b.periods a.starts b.starts a.history b.history
+    k.height
+    (ap (λ q. amount_of q.current d) purse)
+    (ap (λ q. amount_of q.commission d) purse)
+    (ap (λ q. amount_of q.outstanding d) purse)
+    (ap (λ r. periods_of r op) k.rewards)
+    (ap (λ r. starts_in w.mine.staked r op) k.rewards ∙ other_kept w v u who z.1.rewards apart')
+    (ap (λ m. history_of op (w.log ++ m) []) k.logged)
+
+reached_behind : (d : List ℕ) (w : State) (v u : Validator) (who : List ℕ) (shares : ℕ) (y : Money × Shared × View × Log) → IsSound w → validator_of w.mine.staked v.operator ≡ Some v
+    → shares_of w.mine.staked who v.operator ≡ Some shares → IsWithdrawn v who shares w.hooks.0 w.view y → AreReached w
+    → validator_of w.mine.staked u.operator ≡ Some u → (b : Bool) → same_addr u.operator v.operator ≡ b → IsReached d (account_in d (state_behind w y) u)
+reached_behind d w v u who shares y sound found held k reached there true is =
+    let z : ℕ × Shared × View × Log = k.first in
+    let i : IsEnded d v w.hooks.0 w.view z = end_is d w v z sound k.ends in
+    let one : u ≡ v = same_some u v (validator_of w.mine.staked u.operator) (validator_of w.mine.staked v.operator) there found (ap (λ o. validator_of w.mine.staked o) (addr_is u.operator v.operator is)) in
+    let some : (info : StartingInfo) × (start_of w.hooks.0.rewards who v.operator ≡ Some info) =
+    some_of (start_of w.hooks.0.rewards who v.operator) (sound.stands.starts who v.operator ∙ ap is_some held) in
+    let still : start_of z.1.rewards who v.operator ≡ Some some.0 = ap (λ r. start_of r who v.operator) i.rewards ∙ some.1 in
+    let g : IsGoneFrom (starts_in w.mine.staked z.1.rewards v.operator) (starts_in w.mine.staked (without_start who v.operator z.1.rewards) v.operator) (start_with w v who some.0) = own_gone w v who some.0 z.1.rewards still in
+    let before : IsReached d (account_in d (state_then w z) v) = end_keeps_reached w v z.0 z.1 z.2 z.3 sound found k.ends reached d v found in
+    subst (λ x. IsReached d (account_in d (state_behind w y) x)) (sym one)
+    (subst (λ a. IsReached d a) (sym (paid_account d w v who shares some.0 y k sound found held some.1 i g))
+    (deeds_lead_on d (account_in d (state_then w z) v) (deed.payment g.place ∷ []) before (g.within, tt)))
+reached_behind d w v u who shares y sound found held k reached there false is =
+    let z : ℕ × Shared × View × Log = k.first in
+    let i : IsEnded d v w.hooks.0 w.view z = end_is d w v z sound k.ends in
+    let ne : u.operator ≢ v.operator = λ h. true_not_false (sym (ap (λ o. same_addr o v.operator) h ∙ own_addr v.operator) ∙ is) in
+    let some : (info : StartingInfo) × (start_of w.hooks.0.rewards who v.operator ≡ Some info) =
+    some_of (start_of w.hooks.0.rewards who v.operator) (sound.stands.starts who v.operator ∙ ap is_some held) in
+    let then_purse : purse_of z.1.purses v.operator ≡ i.purse.purse =
+    ap (λ es. unwrap_or (at addr_cmp es v.operator) no_purse) i.purse.is ∙ ap (λ o. unwrap_or o no_purse) (put_there v.operator i.purse.purse w.hooks.0.purses.purses) in
+    let money : IsMoney (purse_of z.1.purses v.operator).outstanding = subst (λ q. IsMoney q.outstanding) (sym then_purse) i.purse.money in
+    subst (λ a. IsReached d a)
+    (sym (other_account d w v u who shares y k (closed_full d w v who shares some.0 k.full z i sound some.1 k.is_full).0 money is (other_addr v.operator u.operator (λ h. ne (sym h)))))
+    (end_keeps_reached w v z.0 z.1 z.2 z.3 sound found k.ends reached d u there)
+  where
+    true_not_false : true ≡ false → ⊥
+    true_not_false h = cc
+
+pub withdrawal_keeps_reached : WithdrawalKeepsReached
+withdrawal_keeps_reached = λ w v who shares coins s view more sound found held e reached d u there.
+    reached_behind d w v u who shares (coins, s, view, more) sound found held (withdrawn_is v who shares w.hooks.0 w.view (coins, s, view, more) e) reached there (same_addr u.operator v.operator) refl

@@ -1,0 +1,106 @@
+-- What holds of each account that is reached, and that fitting deeds lead from one to another.
+use Rattle.std.proofs.Common.{◌≡◌, ◌≢◌, ℕ, zero, suc, ◌<◌, ◌≤◌, List, [], ◌∷◌, ◌++◌, refl, arith, ap, ◌∙◌, subst, sym, Some}
+use Rattle.std.specs.List.{AllByRecursion, slice_get, insert, remove}
+use Rattle.std.proofs.lemmas.List.Elements.{All-from_recursion}
+use Rattle.stk_bracket.specs.Account.{Start, Account, Deed, IsFitting, AreFitting, IsReached, account_of, account_after, new_account, counted_shares, start_made}
+use Rattle.stk_bracket.specs.Account as deed
+use Rattle.stk_bracket.specs.Laws.{IsStartBracketed, IsCutWithin, NewIsReached, DeedsLeadOn, RewardsAreBracketed, ShortfallIsBounded, CutIsBounded}
+use Rattle.stk_bracket.proofs.Lists.{all_map, all_insert, all_remove, all_at}
+use Rattle.stk_bracket.proofs.Following.{Follows, bracketed}
+use Rattle.stk_bracket.proofs.Deeds.{Good, good_after, good_new}
+use Rattle.stk_bracket.proofs.Holders.{Covers}
+use Rattle.stk_bracket.proofs.Covered.{book_in, held_is, covers_after, covers_new, covers_claims, cuts_within}
+
+record Sound (d : List ℕ) (a : Account) : Type 0 where
+  good : Good d a
+  covers : Covers (book_in d a)
+
+sound_all : (d : List ℕ) (deeds : List Deed) (a : Account) → AreFitting d a deeds → Sound d a → Sound d (account_of d a deeds)
+sound_all d [] a fit s = s
+sound_all d (act ∷ deeds) a fit s = sound_all d deeds _ fit.1 (record { good = good_after d a act fit.0 s.good; covers = covers_after d a act fit.0 s.good s.covers })
+
+sound_reached : (d : List ℕ) (a : Account) → IsReached d a → Sound d a
+sound_reached d a r = subst (λ b. Sound d b) r.is (sound_all d r.deeds (new_account r.height) r.fitting (record { good = good_new d r.height; covers = covers_new d r.height }))
+
+account_append : (d : List ℕ) (ds es : List Deed) (a : Account) → account_of d a (ds ++ es) ≡ account_of d (account_of d a ds) es
+account_append d [] es a = refl
+account_append d (f ∷ ds) es a = account_append d ds es (account_after d a f)
+
+fitting_append : (d : List ℕ) (ds es : List Deed) (a : Account) → AreFitting d a ds → AreFitting d (account_of d a ds) es → AreFitting d a (ds ++ es)
+fitting_append d [] es a fit more = more
+fitting_append d (f ∷ ds) es a fit more = (fit.0, fitting_append d ds es (account_after d a f) fit.1 more)
+
+-- ---- what each reached account has besides
+
+-- all shares whose rewards run are the validator's
+pub reached_counted : (d : List ℕ) (a : Account) → IsReached d a → counted_shares a ≤ a.shares
+reached_counted d a r = omega (arith, (sound_reached d a r).covers.held, held_is d a.periods a.starts)
+
+-- and each start has some
+pub reached_some : (d : List ℕ) (a : Account) → IsReached d a → AllByRecursion (λ s. 0 < s.shares) a.starts
+reached_some d a r = all_map (Follows d a) (λ s. 0 < s.shares) (λ s k. k.some) a.starts (sound_reached d a r).good.follows
+
+-- nobody has two starts
+abbrev pub AreApart : List Start → Type 0
+AreApart [] = Unit {0}
+AreApart (s ∷ ss) = AllByRecursion (λ t. s.who ≢ t.who) ss × AreApart ss
+
+apart_insert : (s : Start) (k : ℕ) (ss : List Start) → AllByRecursion (λ t. s.who ≢ t.who) ss → AreApart ss → AreApart (insert ss k s)
+apart_insert s zero [] h a = (tt, tt)
+apart_insert s (suc k) [] h a = (tt, tt)
+apart_insert s zero (x ∷ ss) h a = (h, a)
+apart_insert s (suc k) (x ∷ ss) h a = (all_insert (λ t. x.who ≢ t.who) s (λ e. h.0 (sym e)) k ss a.0, apart_insert s k ss h.1 a.1)
+
+apart_remove : (k : ℕ) (ss : List Start) → AreApart ss → AreApart (remove ss k)
+apart_remove zero [] a = tt
+apart_remove (suc k) [] a = tt
+apart_remove zero (x ∷ ss) a = a.1
+apart_remove (suc k) (x ∷ ss) a = (all_remove (λ t. x.who ≢ t.who) k ss a.0, apart_remove k ss a.1)
+
+-- a start that goes leaves none of its delegator
+pub apart_rest : (s : Start) (k : ℕ) (ss : List Start) → slice_get ss k ≡ Some s → AreApart ss → AllByRecursion (λ t. s.who ≢ t.who) (remove ss k)
+apart_rest s k [] is a = absurd cc
+apart_rest s zero (x ∷ ss) is a = let same : x ≡ s = cc in subst (λ y. AllByRecursion (λ t. y.who ≢ t.who) ss) same a.0
+apart_rest s (suc k) (x ∷ ss) is a = (λ e. all_at (λ t. x.who ≢ t.who) k s ss is a.0 (sym e), apart_rest s k ss is a.1)
+
+apart_after : (d : List ℕ) (a : Account) (act : Deed) → IsFitting d a act → AreApart a.starts → AreApart (account_after d a act).starts
+apart_after d a (deed.block height) fit h = h
+apart_after d a (deed.allocation commission rest) fit h = h
+apart_after d a (deed.ending increment ratio) fit h = h
+apart_after d a (deed.slash burn increment ratio) fit h = h
+apart_after d a (deed.issue amount issued) fit h = h
+apart_after d a (deed.removal part) fit h = h
+apart_after d a (deed.beginning place who shares) fit h = apart_insert (start_made a who shares) place a.starts fit.4 h
+apart_after d a (deed.payment place) fit h = apart_remove place a.starts h
+apart_after d a (deed.commission_payment amount) fit h = h
+
+apart_all : (d : List ℕ) (deeds : List Deed) (a : Account) → AreFitting d a deeds → AreApart a.starts → AreApart (account_of d a deeds).starts
+apart_all d [] a fit h = h
+apart_all d (act ∷ deeds) a fit h = apart_all d deeds _ fit.1 (apart_after d a act fit.0 h)
+
+pub reached_apart : (d : List ℕ) (a : Account) → IsReached d a → AreApart a.starts
+reached_apart d a r = subst (λ b. AreApart b.starts) r.is (apart_all d r.deeds (new_account r.height) r.fitting tt)
+
+-- ---- the laws
+
+pub new_is_reached : NewIsReached
+new_is_reached = λ d height. record { height = height; deeds = []; fitting = tt; is = refl }
+
+pub deeds_lead_on : DeedsLeadOn
+deeds_lead_on = λ d a deeds r fit. record {
+  height = r.height;
+  deeds = r.deeds ++ deeds;
+  fitting = fitting_append d r.deeds deeds (new_account r.height) r.fitting (subst (λ b. AreFitting d b deeds) (sym r.is) fit);
+  is = account_append d r.deeds deeds (new_account r.height) ∙ ap (λ b. account_of d b deeds) r.is;
+}
+
+pub rewards_are_bracketed : RewardsAreBracketed
+rewards_are_bracketed = λ d a r none.
+    All-from_recursion (IsStartBracketed d a) a.starts
+    (all_map (Follows d a) (IsStartBracketed d a) (λ s k. record { span = k.span; is = k.is; brackets = bracketed d a s none k }) a.starts (sound_reached d a r).good.follows)
+
+pub shortfall_is_bounded : ShortfallIsBounded
+shortfall_is_bounded = λ d a r. covers_claims d a (sound_reached d a r).covers
+
+pub cut_is_bounded : CutIsBounded
+cut_is_bounded = λ d a r. All-from_recursion (IsCutWithin d a) a.starts (cuts_within d a (sound_reached d a r).covers)

@@ -1,0 +1,4 @@
+pub mod Account
+pub mod Laws
+pub mod Rows
+pub mod States

@@ -1,0 +1,124 @@
+-- Worked rows: two histories of a validator, each of fitting deeds, and what they come to.
+use Rattle.std.specs.Prelude.{◌≡◌, ℕ, ◌*◌, ◌^◌, List, [], ◌∷◌, ◌++◌, map, Option, Some, None}
+use Rattle.stk_dec.specs.Fractions.{Fraction, IsAtMost}
+use Rattle.stk_coins.specs.Coins.{Money}
+use Rattle.stk_shares.specs.Burns.{ratio_of}
+use Rattle.stk_rules.specs.Fixtures.{addr, uatom, decimals}
+use Rattle.stk_rules.specs.Ideal.{Span, span_of, ideal_reward}
+use Rattle.stk_bracket.specs.Account.{Account, Deed, AreFitting, new_account, account_of, reward_now}
+use Rattle.stk_bracket.specs.Account as deed
+use Rattle.stk_bracket.specs.Laws.{overclaim}
+
+-- the end of a period without rewards
+abbrev pub quiet_end : Deed
+quiet_end = deed.ending [] []
+
+-- ---- a delegation that is slashed twice
+
+-- The validator that a delegation was redelegated to, as the worked row of the rules has it: it has 1,000,000; another
+-- 1,000,000 come at height 5. At height 8 the slash of the source takes 50,000 of these, and then the validator itself
+-- loses 100,000 of its 1,950,000.
+abbrev pub twice_slashed : List Deed
+twice_slashed =
+    quiet_end
+    ∷ deed.issue 1000000 (1000000 * 10 ^ 18)
+    ∷ deed.beginning 0 (addr 2) (1000000 * 10 ^ 18)
+    ∷ deed.block 5
+    ∷ quiet_end
+    ∷ deed.issue 1000000 (1000000 * 10 ^ 18)
+    ∷ deed.beginning 1 (addr 3) (1000000 * 10 ^ 18)
+    ∷ deed.block 8
+    ∷ quiet_end
+    ∷ deed.payment 1
+    ∷ deed.beginning 1 (addr 3) (950000 * 10 ^ 18)
+    ∷ deed.removal (50000 * 10 ^ 18)
+    ∷ deed.slash 100000 [] []
+    ∷ []
+
+-- a fee of 1,850 is allocated in the next block, and the period ends: a ratio of 0.001
+abbrev pub fees_behind : List Deed
+fees_behind = deed.block 9 ∷ deed.allocation 0 (decimals (1850 * 10 ^ 18)) ∷ deed.ending (decimals (10 ^ 15)) (decimals (10 ^ 15)) ∷ []
+
+-- after the slashes, and after the fees
+abbrev pub slashed_account : Account
+slashed_account = account_of uatom (new_account 0) twice_slashed
+
+abbrev pub paid_account : Account
+paid_account = account_of uatom slashed_account fees_behind
+
+-- the rewards of all starts
+abbrev pub rewards_of : Account → List ℕ
+rewards_of a = map (reward_now uatom a) a.starts
+
+-- the ideal reward of a delegator, and 0 / 0 without a span
+abbrev pub ideal_in : Option Span → Fraction
+ideal_in None = ratio_of 0 0
+ideal_in (Some span) = ideal_reward uatom span
+
+abbrev pub ideal_of_delegator : List ℕ → Account → Fraction
+ideal_of_delegator who a = ideal_in (span_of who a.history None)
+
+-- two fractions of one value
+abbrev pub IsWorth : Fraction → Fraction → Type 0
+IsWorth p q = IsAtMost p q × IsAtMost q p
+
+-- In the block of the slashes the delegation that started there has no reward. With the fees it has
+-- 901.282051282051281150, and its ideal reward is 1,850 * 950,000 / 1,950,000, which is 901.282051282051282051..
+pub record SlashedTwice : Type 0 where
+  pub fits : AreFitting uatom (new_account 0) (twice_slashed ++ fees_behind)
+  pub tokens_are : paid_account.tokens ≡ 1850000
+  pub at_once : rewards_of slashed_account ≡ 0 ∷ 0 ∷ []
+  pub later : rewards_of paid_account ≡ 948717948717948717000 ∷ 901282051282051281150 ∷ []
+  pub ideal : IsWorth (ideal_of_delegator (addr 3) paid_account) (ratio_of (1850 * 950000) 1950000)
+
+-- ---- a history whose last payment is cut
+
+-- a payment of the first start, which starts anew with fewer shares; the shares that it lost leave
+abbrev pub undelegates_one : ℕ → ℕ → List Deed
+undelegates_one height shares =
+    deed.block height
+    ∷ quiet_end
+    ∷ deed.payment 0
+    ∷ deed.beginning 0 (addr 4) shares
+    ∷ deed.removal 2127659574468085106
+    ∷ []
+
+-- four delegations of 792, 63, 52 and 93; a slash of 530 of these 1,000; six times a delegator undelegates 1
+abbrev pub before_the_fee : List Deed
+before_the_fee =
+    quiet_end ∷ deed.issue 792 (792 * 10 ^ 18) ∷ deed.beginning 0 (addr 1) (792 * 10 ^ 18)
+    ∷ quiet_end ∷ deed.issue 63 (63 * 10 ^ 18) ∷ deed.beginning 0 (addr 2) (63 * 10 ^ 18)
+    ∷ quiet_end ∷ deed.issue 52 (52 * 10 ^ 18) ∷ deed.beginning 0 (addr 3) (52 * 10 ^ 18)
+    ∷ quiet_end ∷ deed.issue 93 (93 * 10 ^ 18) ∷ deed.beginning 0 (addr 4) (93 * 10 ^ 18)
+    ∷ deed.block 1 ∷ deed.slash 530 [] []
+    ∷ undelegates_one 2 90872340425531914894
+    ++ undelegates_one 3 88744680851063829788
+    ++ undelegates_one 4 86617021276595744682
+    ++ undelegates_one 5 84489361702127659576
+    ++ undelegates_one 6 82361702127659574470
+    ++ undelegates_one 7 80234042553191489364
+
+-- the ratio of the fee: 9 * 10^17 by 464 tokens
+abbrev pub fee_ratio : Money
+fee_ratio = decimals 1939655172413793103448275862068965
+
+-- the end of a period behind it
+abbrev pub later_end : Deed
+later_end = deed.ending [] fee_ratio
+
+-- a fee of 9 * 10^17, a slash of 46 of the 464 tokens, and three of the four withdraw; the fourth is about to
+abbrev pub behind_the_fee : List Deed
+behind_the_fee =
+    deed.block 8 ∷ deed.allocation 0 (decimals (9 * 10 ^ 35)) ∷ deed.slash 46 fee_ratio fee_ratio
+    ∷ deed.block 9 ∷ later_end ∷ deed.payment 3 ∷ later_end ∷ deed.payment 2 ∷ later_end ∷ deed.payment 1 ∷ later_end
+    ∷ []
+
+abbrev pub cut_account : Account
+cut_account = account_of uatom (new_account 0) (before_the_fee ++ behind_the_fee)
+
+-- The last reward exceeds what is outstanding by 1.94 * 10^15 units, within the overclaim of 1.16 * 10^16.
+pub record LastPaymentIsCut : Type 0 where
+  pub fits : AreFitting uatom (new_account 0) (before_the_fee ++ behind_the_fee)
+  pub last : rewards_of cut_account ≡ 73144396551724137932974137931034463 ∷ []
+  pub outstanding : cut_account.outstanding ≡ 73144396551724137931034482758620912
+  pub over : overclaim uatom cut_account ≡ 11637931034482758620689655172413790

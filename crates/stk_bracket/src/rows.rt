@@ -1,0 +1,16 @@
+//! Worked rows of accounts, each a theorem that its function's contract names: histories of fitting deeds, and what they
+//! come to. So the premises of the laws can be met.
+
+ghost use Rattle.stk_bracket.specs.Rows.{SlashedTwice, LastPaymentIsCut};
+
+/// A delegation that was redelegated is slashed for both validators; its reward and its ideal reward.
+#[tactic(auto, using(crate::proofs::RowLemmas::slashed_twice))]
+pub fn slashed_twice()
+    ensures { SlashedTwice }
+{}
+
+/// An exhausted outstanding record cuts the last payment of a history, within the overclaim.
+#[tactic(auto, using(crate::proofs::RowLemmas::last_payment_is_cut))]
+pub fn last_payment_is_cut()
+    ensures { LastPaymentIsCut }
+{}
