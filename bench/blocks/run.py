@@ -11,7 +11,7 @@ over them, alternately, and the least time of RUNS runs (3) counts:
 Of a replay it also tells the most memory, and when the first line is written where the input is piped in slowly.
 Wants `rt`, `cargo` and Debian's librust-serde-json-dev, and works in a temporary folder. `rt run` proves the crates
 where that was not done before."""
-import os, pathlib, resource, shutil, subprocess, sys, tempfile, time
+import os, pathlib, shutil, subprocess, sys, tempfile, time
 
 RUNS = int(sys.argv[1]) if len(sys.argv) > 1 else 3
 TOP = pathlib.Path(__file__).resolve().parents[2]
@@ -176,16 +176,33 @@ def build_rattle():
 
 
 def timed(command, path):
-    """Seconds and the most memory in kB of one run over the file."""
+    """Seconds of one run over the file."""
     with open(path, "rb") as source, open(os.devnull, "wb") as sink:
         start = time.perf_counter()
         process = subprocess.Popen(command, stdin=source, stdout=sink)
-        _, status, usage = os.wait4(process.pid, 0)
-        process.returncode = status
+        status = process.wait()
         seconds = time.perf_counter() - start
     if status != 0:
         sys.exit(f"{command} ended with status {status}")
-    return seconds, usage.ru_maxrss
+    return seconds
+
+
+def memory(command, path):
+    """The most memory in kB of one run over the file, as the system tells it while it runs."""
+    most = 0
+    with open(path, "rb") as source, open(os.devnull, "wb") as sink:
+        process = subprocess.Popen(command, stdin=source, stdout=sink)
+        while process.poll() is None:
+            try:
+                lines = pathlib.Path(f"/proc/{process.pid}/status").read_text().splitlines()
+            except OSError:
+                break
+            # Before it is the program, the process is a copy of this one.
+            if lines[0].split()[1] == pathlib.Path(command[0]).name:
+                most = max([most] + [int(line.split()[1]) for line in lines if line.startswith("VmHWM")])
+            time.sleep(0.001)
+        process.wait()
+    return most
 
 
 def first_line(command, path):
@@ -210,12 +227,13 @@ def main():
     for blocks in (1000, 10000, 100000):
         path = WORK / f"{blocks}.jsonl"
         make_input(path, blocks)
-        least = {name: (10.0**9, 0) for name in programs}
+        least = {name: 10.0**9 for name in programs}
         for _ in range(RUNS):
             for name, command in programs.items():
                 least[name] = min(least[name], timed(command, path))
-        for name, (seconds, memory) in least.items():
-            print(f"{blocks:<11} {name:<9} {seconds:7.3f}   {seconds / least['stock'][0]:8.2f}   {memory / 1024:8.1f} MB")
+        for name, seconds in least.items():
+            most = memory(programs[name], path)
+            print(f"{blocks:<11} {name:<9} {seconds:7.3f}   {seconds / least['stock']:8.2f}   {most / 1024:8.1f} MB")
     print(f"first line of a piped replay after {first_line(programs['replay'], WORK / '1000.jsonl') * 1000:.1f} ms")
 
 
