@@ -1,0 +1,111 @@
+-- Whether two lists have the same coins, coin by coin.
+use Rattle.std.specs.Prelude.{◌≡◌, ◌≢◌, ℕ, zero, suc, ◌+◌, ◌≤◌, ◌==◌, ◌&&◌, Bool, true, false, List, [], ◌∷◌, length, drop, slice_get, Some, unwrap_or, refl}
+use Rattle.std.specs.Str.{bytes_eq}
+use Rattle.std.proofs.Common.{sym, ◌∙◌, ap, arith}
+use Rattle.std.proofs.lemmas.Bool.Decides.{nat_tests}
+use Rattle.std.proofs.lemmas.Map.Text.{is_eq-slice_cmp}
+use Rattle.std.proofs.lemmas.Map.Lookups.{exact_bytes}
+use Rattle.stk_coins.specs.Coins.{Money}
+use Rattle.stk_keep.specs.declared.entities.Historical.{Historical}
+use Rattle.stk_keep.specs.declared.entities.StartingInfo.{StartingInfo}
+use Rattle.stk_f1.specs.Rows.{same_coin, same_money, same_history, same_start, same_period}
+use Rattle.stk_f1.proofs.EarnLemmas.{none-left}
+use Rattle.stk_f1.proofs.OrderLemmas.{equal, same_itself}
+
+-- lists of other lengths differ
+pub other-lengths : (x y : Money) → length x ≢ length y → false ≡ same_money x y
+other-lengths [] [] h = absurd (h refl)
+other-lengths [] (d ∷ ds) h = refl
+other-lengths (c ∷ cs) [] h = refl
+other-lengths (c ∷ cs) (d ∷ ds) h = by (bytes_eq c.0 d.0 && (c.1 == d.1)) (other-lengths cs ds (λ e. h (ap suc e)))
+  where
+    by : (b : Bool) → false ≡ same_money cs ds → false ≡ (b && same_money cs ds)
+    by true later = later
+    by false later = refl
+
+-- the coin at a place, and what is left from there
+pub coin-at : (x : Money) (n : ℕ) (c : List ℕ × ℕ) → slice_get x n ≡ Some c → drop n x ≡ c ∷ drop (n + 1) x
+coin-at [] n c h = cc
+coin-at (y ∷ x) zero c h = ap (λ z. z ∷ x) (ap (λ o. unwrap_or o c) h)
+coin-at (y ∷ x) (suc n) c h = coin-at x n c h ∙ ap (λ m. c ∷ drop m (y ∷ x)) (one n)
+  where
+    one : (n : ℕ) → suc (n + 1) ≡ suc n + 1
+    one n = omega arith
+
+money-here : (c d : List ℕ × ℕ) (x y : Money) (b : Bool) → (bytes_eq c.0 d.0 && (c.1 == d.1)) ≡ b → same_money (c ∷ x) (d ∷ y) ≡ (b && same_money x y)
+money-here c d x y b h = ap (λ t. t && same_money x y) h
+
+-- two coins that differ
+pub coins-differ : (x y : Money) (n : ℕ) (c d : List ℕ × ℕ) → slice_get x n ≡ Some c → slice_get y n ≡ Some d → (bytes_eq c.0 d.0 && (c.1 == d.1)) ≡ false → same_money (drop n x) (drop n y) ≡ false
+coins-differ x y n c d f g h = (λ i. same_money (coin-at x n c f i) (coin-at y n d g i)) ∙ money-here c d (drop (n + 1) x) (drop (n + 1) y) false h
+
+-- two that are the same
+pub coins-agree : (x y : Money) (n : ℕ) (c d : List ℕ × ℕ) → slice_get x n ≡ Some c → slice_get y n ≡ Some d → (bytes_eq c.0 d.0 && (c.1 == d.1)) ≡ true → same_money (drop n x) (drop n y) ≡ same_money (drop (n + 1) x) (drop (n + 1) y)
+coins-agree x y n c d f g h = (λ i. same_money (coin-at x n c f i) (coin-at y n d g i)) ∙ money-here c d (drop (n + 1) x) (drop (n + 1) y) true h
+
+pub none-over : (x y : Money) (n : ℕ) → length x ≤ n → length y ≤ n → same_money (drop n x) (drop n y) ≡ true
+none-over x y n p q = λ i. same_money (none-left x n p i) (none-left y n q i)
+
+-- ---- the tests tell whether values are one
+
+both : (a b : Bool) → (a && b) ≡ true → (a ≡ true) × (b ≡ true)
+both true true h = (refl, refl)
+both true false h = cc
+both false b h = cc
+
+number : (a b : ℕ) → (a == b) ≡ true → a ≡ b
+number a b h = grind (arith, nat_tests)
+
+number_itself : (a : ℕ) → (a == a) ≡ true
+number_itself a = grind (arith, nat_tests)
+
+bytes : (a b : List ℕ) → bytes_eq a b ≡ true → a ≡ b
+bytes a b h = exact_bytes a b (equal _ (is_eq-slice_cmp a b ∙ h))
+
+bytes_itself : (a : List ℕ) → bytes_eq a a ≡ true
+bytes_itself a = sym (is_eq-slice_cmp a a) ∙ same_itself a
+
+money : (x y : Money) → same_money x y ≡ true → x ≡ y
+money [] [] h = refl
+money [] (d ∷ ds) h = cc
+money (c ∷ cs) [] h = cc
+money (c ∷ cs) (d ∷ ds) h =
+    let parts = both (same_coin c d) (same_money cs ds) h in
+    let coin = both (bytes_eq c.0 d.0) (c.1 == d.1) parts.0 in
+    let rest = money cs ds parts.1 in
+    λ i. (bytes c.0 d.0 coin.0 i, number c.1 d.1 coin.1 i) ∷ rest i
+
+money_itself : (x : Money) → same_money x x ≡ true
+money_itself [] = refl
+money_itself (c ∷ cs) = (λ i. (bytes_itself c.0 i && number_itself c.1 i) && money_itself cs i)
+
+true_false : true ≡ false → ⊥
+true_false h = cc
+
+pub period-yes : (a b : ℕ) → same_period a b ≡ true → a ≡ b
+period-yes a b h = number a b h
+
+pub period-no : (a b : ℕ) → same_period a b ≡ false → a ≡ b → ⊥
+period-no a b h e = true_false (sym (number_itself a) ∙ ap (λ x. same_period a x) e ∙ h)
+
+pub history-yes : (a b : Historical) → same_history a b ≡ true → a ≡ b
+history-yes a b h =
+    let parts = both (a.count == b.count) (same_money a.ratio b.ratio) h in
+    let n = number a.count b.count parts.0 in
+    let m = money a.ratio b.ratio parts.1 in
+    λ i. record { ratio = m i; count = n i }
+
+pub history-no : (a b : Historical) → same_history a b ≡ false → a ≡ b → ⊥
+history-no a b h e = true_false (sym (λ i. number_itself a.count i && money_itself a.ratio i) ∙ ap (λ x. same_history a x) e ∙ h)
+
+pub start-yes : (a b : StartingInfo) → same_start a b ≡ true → a ≡ b
+start-yes a b h =
+    let parts = both ((a.period == b.period) && (a.stake == b.stake)) (a.height == b.height) h in
+    let two = both (a.period == b.period) (a.stake == b.stake) parts.0 in
+    let p = number a.period b.period two.0 in
+    let s = number a.stake b.stake two.1 in
+    let t = number a.height b.height parts.1 in
+    λ i. record { period = p i; stake = s i; height = t i }
+
+pub start-no : (a b : StartingInfo) → same_start a b ≡ false → a ≡ b → ⊥
+start-no a b h e = true_false (sym (λ i. (number_itself a.period i && number_itself a.stake i) && number_itself a.height i) ∙ ap (λ x. same_start a x) e ∙ h)

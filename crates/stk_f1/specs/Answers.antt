@@ -1,0 +1,45 @@
+-- What the calls answer and leave.
+use Rattle.std.specs.Prelude.{◌≡◌, ℕ, List, [], ◌∷◌, ◌++◌, Result, Ok, Err, ⊤}
+use Rattle.stk_dec.specs.declared.over.Over.{Over}
+use Rattle.stk_coins.specs.declared.fault.CoinFault.{CoinFault}
+use Rattle.stk_coins.specs.declared.fault.CoinFault.TheVariants as coin
+use Rattle.stk_coins.specs.Coins.{Money}
+use Rattle.stk_keep.specs.declared.facts.Fact.{Fact}
+use Rattle.stk_keep.specs.declared.facts.Fact.TheVariants.{Period}
+use Rattle.stk_keep.specs.declared.faults.HookFault.{HookFault}
+use Rattle.stk_keep.specs.declared.faults.HookFault.TheVariants as hook
+use Rattle.stk_rules.specs.Periods.{Periods, Rewards, with_periods, last_ended}
+use Rattle.stk_f1.specs.Kept.{Kept}
+use Rattle.stk_f1.specs.Stands.{Keeps}
+
+-- What a call answers that gives what a rule gives: that, or its excess; or memory is wanting.
+abbrev pub Gives : {A : Type 0} → Result A Over → Result A HookFault → Type 0
+Gives (Ok due) (Ok given) = given ≡ due
+Gives (Ok due) (Err (hook.Over over)) = ⊥
+Gives (Ok due) (Err hook.NoMemory) = ⊤
+Gives (Err due) (Ok given) = ⊥
+Gives (Err due) (Err (hook.Over over)) = over ≡ due
+Gives (Err due) (Err hook.NoMemory) = ⊤
+
+-- The same of the end of a period, with what it leaves: the records stand for what the rule leaves, and the period and
+-- its ratio are told.
+abbrev pub Ends : List ℕ → Rewards → List Fact → Result (Money × Periods) Over → Kept → List Fact → Result ℕ HookFault → Type 0
+Ends operator r facts (Ok due) k facts2 (Ok period) =
+    (period ≡ last_ended due.1) × Keeps k (with_periods operator due.1 r) × (facts2 ≡ facts ++ Period operator period due.0 ∷ [])
+Ends operator r facts (Ok due) k facts2 (Err (hook.Over over)) = ⊥
+Ends operator r facts (Ok due) k facts2 (Err hook.NoMemory) = ⊤
+Ends operator r facts (Err due) k facts2 (Ok period) = ⊥
+Ends operator r facts (Err due) k facts2 (Err (hook.Over over)) = over ≡ due
+Ends operator r facts (Err due) k facts2 (Err hook.NoMemory) = ⊤
+
+-- the fault of a call on coins that can be over or want memory
+abbrev pub fault_of : CoinFault → HookFault
+fault_of (coin.Over over) = hook.Over over
+fault_of coin.NoMemory = hook.NoMemory
+fault_of (coin.Short place) = hook.NoMemory
+fault_of coin.Repeated = hook.NoMemory
+
+-- what is due is over, with these operands; or memory is wanting
+abbrev pub IsExcessOf : {A : Type 0} → Result A Over → HookFault → Type 0
+IsExcessOf due (hook.Over over) = due ≡ Err over
+IsExcessOf due hook.NoMemory = ⊤

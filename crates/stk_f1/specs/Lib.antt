@@ -1,0 +1,9 @@
+pub mod Kept
+pub mod Stands
+pub mod Answers
+pub mod Steps
+pub mod Grouped
+pub mod GroupedKeys
+pub mod Earning
+pub mod Rows
+pub mod Worked

@@ -1,0 +1,112 @@
+//! The records of F1 as items of the state.
+
+ghost use Rattle.stk_f1.specs.Rows.{items_of, is_record};
+
+use crate::f1::F1;
+use crate::rows::{changes_into, rows_into};
+use std::alloc::Global;
+use std::sync::ledger::Ledger;
+use stk_keep::{Item, RecordFault, Records};
+use stk_types::{Copied, Steps};
+
+impl Records for F1 {
+    ghost use Rattle.stk_f1.specs.Kept as tables;
+
+    ghost Kept = { tables.Kept };
+
+    ghost kept = { λ f. f.kept };
+
+    ghost marks = { λ f. f.marks };
+
+    ghost settled = { λ f. f.settled };
+
+    ghost spent = { λ f. f.spent };
+
+    ghost items = { items_of };
+
+    ghost is_kind = { is_record };
+
+    fn mark<L: Ledger>(
+        &mut self,
+        _alloc: Global,
+        _steps: &mut Steps<L>,
+    ) -> Result<(), RecordFault> {
+        let mark = self.tables.mark()?;
+        match self.marks.push(mark) {
+            Ok(()) => Ok(()),
+            Err(failed) => {
+                self.tables.forget(failed.value);
+                Err(RecordFault::NoMemory)
+            }
+        }
+    }
+
+    fn back<L: Ledger>(&mut self, _steps: &mut Steps<L>) {
+        let mark = self.marks.pop().unwrap();
+        self.tables.back_to(mark);
+    }
+
+    fn forget<L: Ledger>(&mut self, _steps: &mut Steps<L>) {
+        let mark = self.marks.pop().unwrap();
+        self.tables.forget(mark);
+    }
+
+    fn items_into<L: Ledger>(
+        &self,
+        out: &mut Vec<Item>,
+        steps: &mut Steps<L>,
+    ) -> Result<(), RecordFault> {
+        rows_into(self.tables.current_table(), out, steps)?;
+        rows_into(self.tables.historical_table(), out, steps)?;
+        rows_into(self.tables.starts_table(), out, steps)?;
+        rows_into(self.tables.events_table(), out, steps)
+    }
+
+    fn changes_into<L: Ledger>(
+        &self,
+        out: &mut Vec<(Item, bool)>,
+        steps: &mut Steps<L>,
+    ) -> Result<(), RecordFault> {
+        let alloc = *self.marks.allocator();
+        changes_into(alloc, self.tables.current_table(), out, steps)?;
+        changes_into(alloc, self.tables.historical_table(), out, steps)?;
+        changes_into(alloc, self.tables.starts_table(), out, steps)?;
+        changes_into(alloc, self.tables.events_table(), out, steps)
+    }
+
+    fn load<L: Ledger>(
+        &mut self,
+        _alloc: Global,
+        item: &Item,
+        steps: &mut Steps<L>,
+    ) -> Result<bool, RecordFault> {
+        if self.tables.is_spent() {
+            return Err(RecordFault::NoMemory);
+        }
+        self.tables.known();
+        match item {
+            Item::CurrentPeriod { operator, period } => {
+                self.tables.put_current(operator, *period, steps)?
+            }
+            Item::Historical {
+                operator,
+                period,
+                history,
+            } => self
+                .tables
+                .add_record(operator, *period, history.copied()?, steps)?,
+            Item::Start {
+                operator,
+                delegator,
+                info,
+            } => self.tables.put_info(delegator, operator, *info, steps)?,
+            Item::Event { operator, event } => self.tables.put_event(operator, *event, steps)?,
+            _ => return Ok(false),
+        }
+        Ok(true)
+    }
+
+    fn settle<L: Ledger>(&mut self, _steps: &mut Steps<L>) {
+        self.tables.settle();
+    }
+}

@@ -1,0 +1,396 @@
+//! The four tables of F1: they are marked together, and each change is of one entry.
+
+ghost use Rattle.std.specs.Prelude.{◌≡◌, ◌+◌, ◌≤◌, ◌<◌, ◌^◌, [], length, true, option_map, OnOk, OnErr, IfOk, IsErr};
+ghost use Rattle.std.specs.List.Sorted.{IsStrictlySortedBy};
+ghost use Rattle.std.specs.Map.{keys_of};
+ghost use Rattle.std.specs.Option.{option_copied};
+ghost use Rattle.stk_types.specs.Orders.{addr_cmp};
+ghost use Rattle.stk_keep.specs.Orders.{pair_cmp};
+ghost use Rattle.stk_f1.specs.Kept.{new_records, current_of, record_of, info_of, with_current, with_record, with_info, without_info, with_event, with_history, with_mark, IsGoneBack, IsForgotten, keeping, spent_now, period_cmp, event_cmp, record_set};
+ghost use Rattle.stk_table.specs.Tabled.{spent_now as table_spent, with_mark as table_marked};
+
+use crate::mark::TablesMark;
+use crate::slash::Slash;
+use std::alloc::Global;
+use std::hash::Hash;
+use std::marker::Model;
+use std::sync::ledger::Ledger;
+use stk_coins::DecCoins;
+use stk_keep::{Historical, SlashEvent, StartingInfo};
+use stk_table::{Mark, Table, TableFault};
+use stk_types::{Addr, Copied, Steps};
+
+/// The records of F1. Once memory was wanting in a change they are spent, and each later change answers
+/// `Spent`.
+#[derive(Drop)]
+pub(crate) struct Tables {
+    /// The periods that run, by operator.
+    pub(crate) current: Table<Addr, u64>,
+    /// The records of ended periods, by operator and period.
+    pub(crate) historical: Table<(Addr, u64), Historical>,
+    /// Where rewards begin, by operator and delegator.
+    pub(crate) starts: Table<(Addr, Addr), StartingInfo>,
+    /// The slash events, by operator, height and period.
+    pub(crate) events: Table<(Addr, u64, u64), Slash>,
+    pub(crate) spent: bool,
+}
+
+impl Model for Tables {
+    ghost use Rattle.std.specs.Prelude.{◌≡◌, length};
+    ghost use Rattle.stk_f1.specs.Kept.{Recorded, AreInStep, side_by_side};
+
+    ghost Value = { Recorded };
+
+    ghost view = { λ t. record {
+      kept = record { current = t.current.entries; historical = t.historical.entries; starts = t.starts.entries; events = t.events.entries };
+      marks = side_by_side t.current.marks t.historical.marks t.starts.marks t.events.marks;
+      settled = record { current = t.current.settled; historical = t.historical.settled; starts = t.starts.settled; events = t.events.settled };
+      spent = t.spent;
+    } };
+
+    ghost invariant = { λ t. AreInStep t.current.marks t.historical.marks t.starts.marks t.events.marks };
+}
+
+impl Tables {
+    /// Empty tables. They take no memory yet.
+    pub(crate) fn new(alloc: Global) -> Tables
+        ensures { result ≡ new_records }
+    {
+        Tables {
+            current: Table::new(alloc),
+            historical: Table::new(alloc),
+            starts: Table::new(alloc),
+            events: Table::new(alloc),
+            spent: false,
+        }
+    }
+
+    /// Whether memory was wanting in a change.
+    pub(crate) fn is_spent(&self) -> bool
+        ensures { result ≡ self.now.spent }
+    {
+        self.spent
+    }
+
+    /// It tells that the keys ascend, and that numbers of entries have their bounds.
+    pub(crate) fn known(&self)
+        ensures current { IsStrictlySortedBy addr_cmp (keys_of self.now.kept.current) }
+        ensures historical { IsStrictlySortedBy period_cmp (keys_of self.now.kept.historical) }
+        ensures starts { IsStrictlySortedBy pair_cmp (keys_of self.now.kept.starts) }
+        ensures events { IsStrictlySortedBy event_cmp (keys_of self.now.kept.events) }
+        ensures few_starts { length self.now.kept.starts < 2 ^ 64 }
+        ensures few_events { length self.now.kept.events < 2 ^ 64 }
+    {
+        let _ = self.current.len();
+        let _ = self.historical.len();
+        let _starts = self.starts.len();
+        let _events = self.events.len();
+    }
+
+    /// The table of the periods that run.
+    pub(crate) fn current_table(&self) -> &Table<Addr, u64>
+        ensures entries { result.now.entries ≡ self.now.kept.current }
+        ensures settled { result.now.settled ≡ self.now.settled.current }
+    {
+        &self.current
+    }
+
+    /// The table of the records of ended periods.
+    pub(crate) fn historical_table(&self) -> &Table<(Addr, u64), Historical>
+        ensures entries { result.now.entries ≡ self.now.kept.historical }
+        ensures settled { result.now.settled ≡ self.now.settled.historical }
+    {
+        &self.historical
+    }
+
+    /// The table of the starts.
+    pub(crate) fn starts_table(&self) -> &Table<(Addr, Addr), StartingInfo>
+        ensures entries { result.now.entries ≡ self.now.kept.starts }
+        ensures settled { result.now.settled ≡ self.now.settled.starts }
+    {
+        &self.starts
+    }
+
+    /// The table of the slash events.
+    pub(crate) fn events_table(&self) -> &Table<(Addr, u64, u64), Slash>
+        ensures entries { result.now.entries ≡ self.now.kept.events }
+        ensures settled { result.now.settled ≡ self.now.settled.events }
+    {
+        &self.events
+    }
+
+    /// The period of an operator that runs.
+    pub(crate) fn current<L: Ledger>(&self, operator: &Addr, steps: &mut Steps<L>) -> Option<u64>
+        ensures period { result ≡ current_of self.now.kept operator.now }
+        ensures cost { steps.new ≡ steps.old + 1 }
+    {
+        self.current.get(operator, steps).copied()
+    }
+
+    /// The record of an ended period.
+    pub(crate) fn record<L: Ledger>(
+        &self,
+        operator: &Addr,
+        period: u64,
+        steps: &mut Steps<L>,
+    ) -> Option<&Historical>
+        ensures found { option_copied result ≡ record_of self.now.kept operator.now period }
+        ensures cost { steps.new ≡ steps.old + 1 }
+    {
+        self.historical.get(&(*operator, period), steps)
+    }
+
+    /// Where the rewards of a delegation begin.
+    pub(crate) fn info<L: Ledger>(
+        &self,
+        who: &Addr,
+        operator: &Addr,
+        steps: &mut Steps<L>,
+    ) -> Option<StartingInfo>
+        ensures info { result ≡ info_of self.now.kept who.now operator.now }
+        ensures cost { steps.new ≡ steps.old + 1 }
+    {
+        self.starts.get(&(*operator, *who), steps).copied()
+    }
+
+    /// Puts the period of an operator that runs.
+    pub(crate) fn put_current<L: Ledger>(
+        &mut self,
+        operator: &Addr,
+        period: u64,
+        steps: &mut Steps<L>,
+    ) -> Result<(), TableFault>
+        ensures ok { OnOk result (self.new ≡ keeping (with_current operator.now period self.old.kept) self.old) }
+        ensures err { OnErr result (self.new ≡ spent_now self.old) }
+        ensures spent { self.old.spent ≡ true → IsErr result }
+        ensures cost { steps.new ≤ steps.old + 1 }
+    {
+        if self.spent {
+            return Err(TableFault::Spent);
+        }
+        match self.current.put(operator, period, steps) {
+            Ok(()) => Ok(()),
+            Err(fault) => {
+                self.spent = true;
+                Err(fault)
+            }
+        }
+    }
+
+    /// Puts the record of a period to which so many refer, or takes it out where nothing does.
+    pub(crate) fn put_record<L: Ledger>(
+        &mut self,
+        operator: &Addr,
+        period: u64,
+        history: Historical,
+        steps: &mut Steps<L>,
+    ) -> Result<(), TableFault>
+        ensures ok { OnOk result (self.new ≡ keeping (with_record operator.now period history.ratio history.count self.old.kept) self.old) }
+        ensures err { OnErr result (self.new ≡ spent_now self.old) }
+        ensures spent { self.old.spent ≡ true → IsErr result }
+        ensures cost { steps.new ≤ steps.old + 1 }
+    {
+        if self.spent {
+            return Err(TableFault::Spent);
+        }
+        match set_record(&mut self.historical, &(*operator, period), history, steps) {
+            Ok(()) => Ok(()),
+            Err(fault) => {
+                self.spent = true;
+                Err(fault)
+            }
+        }
+    }
+
+    /// Puts the record of a period, also one to which nothing refers.
+    pub(crate) fn add_record<L: Ledger>(
+        &mut self,
+        operator: &Addr,
+        period: u64,
+        history: Historical,
+        steps: &mut Steps<L>,
+    ) -> Result<(), TableFault>
+        ensures ok { OnOk result (self.new ≡ keeping (with_history operator.now period history self.old.kept) self.old) }
+        ensures err { OnErr result (self.new ≡ spent_now self.old) }
+        ensures cost { steps.new ≤ steps.old + 1 }
+    {
+        match self.historical.put(&(*operator, period), history, steps) {
+            Ok(()) => Ok(()),
+            Err(fault) => {
+                self.spent = true;
+                Err(fault)
+            }
+        }
+    }
+
+    /// Puts where the rewards of a delegation begin.
+    pub(crate) fn put_info<L: Ledger>(
+        &mut self,
+        who: &Addr,
+        operator: &Addr,
+        info: StartingInfo,
+        steps: &mut Steps<L>,
+    ) -> Result<(), TableFault>
+        ensures ok { OnOk result (self.new ≡ keeping (with_info who.now operator.now info self.old.kept) self.old) }
+        ensures err { OnErr result (self.new ≡ spent_now self.old) }
+        ensures spent { self.old.spent ≡ true → IsErr result }
+        ensures cost { steps.new ≤ steps.old + 1 }
+    {
+        if self.spent {
+            return Err(TableFault::Spent);
+        }
+        match self.starts.put(&(*operator, *who), info, steps) {
+            Ok(()) => Ok(()),
+            Err(fault) => {
+                self.spent = true;
+                Err(fault)
+            }
+        }
+    }
+
+    /// Takes out where the rewards of a delegation begin, and answers what stood there.
+    pub(crate) fn take_info<L: Ledger>(
+        &mut self,
+        who: &Addr,
+        operator: &Addr,
+        steps: &mut Steps<L>,
+    ) -> Result<Option<StartingInfo>, TableFault>
+        ensures info { IfOk result (λ info. info ≡ info_of self.old.kept who.now operator.now) }
+        ensures ok { OnOk result (self.new ≡ keeping (without_info who.now operator.now self.old.kept) self.old) }
+        ensures err { OnErr result (self.new ≡ spent_now self.old) }
+        ensures spent { self.old.spent ≡ true → IsErr result }
+        ensures cost { steps.new ≤ steps.old + 1 }
+    {
+        if self.spent {
+            return Err(TableFault::Spent);
+        }
+        match self.starts.remove(&(*operator, *who), steps) {
+            Ok(info) => Ok(info),
+            Err(fault) => {
+                self.spent = true;
+                Err(fault)
+            }
+        }
+    }
+
+    /// Puts a slash event.
+    pub(crate) fn put_event<L: Ledger>(
+        &mut self,
+        operator: &Addr,
+        event: SlashEvent,
+        steps: &mut Steps<L>,
+    ) -> Result<(), TableFault>
+        ensures ok { OnOk result (self.new ≡ keeping (with_event operator.now event self.old.kept) self.old) }
+        ensures err { OnErr result (self.new ≡ spent_now self.old) }
+        ensures spent { self.old.spent ≡ true → IsErr result }
+        ensures cost { steps.new ≤ steps.old + 1 }
+    {
+        if self.spent {
+            return Err(TableFault::Spent);
+        }
+        let key = (*operator, event.height, event.period);
+        match self.events.put(&key, Slash::of(event.fraction), steps) {
+            Ok(()) => Ok(()),
+            Err(fault) => {
+                self.spent = true;
+                Err(fault)
+            }
+        }
+    }
+
+    /// Opens a mark of all four tables. Where memory is wanting all is as it was.
+    pub(crate) fn mark(&mut self) -> Result<TablesMark, TableFault>
+        ensures depth { IfOk result (λ mark. mark ≡ length self.old.marks) }
+        ensures ok { OnOk result (self.new ≡ with_mark self.old) }
+        ensures err { OnErr result (self.new ≡ self.old) }
+        ensures spent { self.old.spent ≡ true → IsErr result }
+    {
+        if self.spent {
+            return Err(TableFault::Spent);
+        }
+        let (current, historical) = mark_both(&mut self.current, &mut self.historical)?;
+        match mark_both(&mut self.starts, &mut self.events) {
+            Ok((starts, events)) => Ok(TablesMark::of(current, historical, starts, events)),
+            Err(fault) => {
+                self.current.back_to(current);
+                self.historical.back_to(historical);
+                Err(fault)
+            }
+        }
+    }
+
+    /// Goes back to the latest open mark and closes it. Takes no memory.
+    pub(crate) fn back_to(&mut self, mark: TablesMark)
+        requires latest { length self.old.marks ≡ mark + 1 }
+        ensures { IsGoneBack self.old self.new }
+    {
+        let (current, historical, starts, events) = mark.parts();
+        self.current.back_to(current);
+        self.historical.back_to(historical);
+        self.starts.back_to(starts);
+        self.events.back_to(events);
+    }
+
+    /// Closes the latest open mark and keeps the records. Takes no memory.
+    pub(crate) fn forget(&mut self, mark: TablesMark)
+        requires latest { length self.old.marks ≡ mark + 1 }
+        ensures { IsForgotten self.old self.new }
+    {
+        let (current, historical, starts, events) = mark.parts();
+        self.current.forget(current);
+        self.historical.forget(historical);
+        self.starts.forget(starts);
+        self.events.forget(events);
+    }
+
+    /// Settles the four tables. Takes no memory.
+    pub(crate) fn settle(&mut self)
+        requires closed { self.old.marks ≡ [] }
+        ensures { self.new ≡ record self.old { settled = self.old.kept } }
+    {
+        self.current.settle();
+        self.historical.settle();
+        self.starts.settle();
+        self.events.settle();
+    }
+}
+
+/// Opens a mark of both tables, or of none.
+fn mark_both<A: Ord + Hash + Copied, B: Copied, C: Ord + Hash + Copied, D: Copied>(
+    first: &mut Table<A, B>,
+    second: &mut Table<C, D>,
+) -> Result<(Mark, Mark), TableFault>
+    ensures first_depth { IfOk result (λ marks. marks.0 ≡ length first.old.marks) }
+    ensures second_depth { IfOk result (λ marks. marks.1 ≡ length second.old.marks) }
+    ensures first { OnOk result (first.new ≡ table_marked first.old) }
+    ensures second { OnOk result (second.new ≡ table_marked second.old) }
+    ensures first_err { OnErr result (first.new ≡ first.old) }
+    ensures second_err { OnErr result (second.new ≡ second.old) }
+{
+    let mark = first.mark()?;
+    match second.mark() {
+        Ok(other) => Ok((mark, other)),
+        Err(fault) => {
+            first.back_to(mark);
+            Err(fault)
+        }
+    }
+}
+
+/// Puts a record to which so many refer, or takes it out where nothing does.
+fn set_record<L: Ledger>(
+    historical: &mut Table<(Addr, u64), Historical>,
+    key: &(Addr, u64),
+    history: Historical,
+    steps: &mut Steps<L>,
+) -> Result<(), TableFault>
+    ensures ok { OnOk result (historical.new ≡ record_set historical.old key.now history) }
+    ensures err { OnErr result (historical.new ≡ table_spent historical.old) }
+    ensures cost { steps.new ≡ steps.old + 1 }
+{
+    if history.count == 0 {
+        historical.remove(key, steps)?;
+        return Ok(());
+    }
+    historical.put(key, history, steps)
+}
