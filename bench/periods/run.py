@@ -1,15 +1,16 @@
 #!/usr/bin/env python3
 """Times periods and starts of `stk_f1` beside the same on a BTreeMap of stock Rust: bench/periods/run.py [RUNS]
 
-Over 180 validators a million periods end, with a ratio of one denomination; then a million rewards start and stop. Each
-call looks first whether its condition holds, in both programs. Behind each round over all validators the tables of
-`stk_f1` are settled, as behind a block; stock Rust keeps no marks and no list of what was touched. Both programs print
-the period of the first validator and how many refer to the last ended one, which must agree. The least time of RUNS
-runs (5) counts.
+Over 180 validators a million periods end, with a ratio of one denomination; apart from that a million rewards start and stop.
+Each call looks first whether its condition holds, in both programs. Behind each round over all validators the tables of
+`stk_f1` are settled, as behind a block; stock Rust keeps no marks and no list of what was touched. In both programs the
+period of the first validator and how many refer to its last ended one are looked at in the end. The least time of RUNS runs (5)
+counts; of the Rattle program the time of a run that only begins is taken off.
 
 Wants `rt` and `rustc`, and works in a temporary folder. The calls with their conditions and their proofs are those of
-the tests of `stk_f1`, which see its tables; so they are put into a copy of that crate, which `rt run` proves."""
-import os, pathlib, re, shutil, subprocess, sys, tempfile
+the tests of `stk_f1`, which see its tables; so the program is the tests of a copy of that crate, with loops in their place, which
+`rt test` proves and builds."""
+import os, pathlib, re, shutil, subprocess, sys, tempfile, time
 
 RUNS = int(sys.argv[1]) if len(sys.argv) > 1 else 5
 TOP = pathlib.Path(__file__).resolve().parents[2]
@@ -19,7 +20,7 @@ CALLS = ("addr", "atom", "dec", "atoms", "fresh", "init", "end", "start", "stop"
 
 INVARIANT = """
 use Rattle.stk_f1.specs.Stands.{IsKept}
-use Rattle.stk_f1.proofs.bench.NAME.Given as goal
+use Rattle.stk_f1.proofs.tests.NAME.Given as goal
 
 abbrev pub invariant-loop-VAR : goal.invariant-loop-VAR
 invariant-loop-VAR g l = IsKept l.f.kept
@@ -32,7 +33,7 @@ SETTLE = """
 use Rattle.std.proofs.Common.{◌≡◌, ◌∙◌, ℕ, List, [], ◌∷◌, length, sym, ap, refl, arith}
 use Rattle.std.specs.Prelude.{zero, suc}
 use Rattle.std.specs.List.{range_with_len}
-use Rattle.stk_f1.proofs.bench.settle.Goals as goal
+use Rattle.stk_f1.proofs.tests.settle.Goals as goal
 
 none : {A : Type 0} (xs : List A) → length xs ≡ 0 → xs ≡ []
 none [] e = refl
@@ -46,15 +47,18 @@ none_open : {A : Type 0} (ns : List ℕ) (xs : List A) → ns ≡ range_with_len
 none_open ns xs e h = none xs (no_depth (length xs) (sym (none ns h) ∙ e))
 
 pub settle-requires : goal.settle-requires
-settle-requires g c = none_open c.f.inside.marks.items c.f.inside.tables.marks c.f.invariant (grind (arith, c.if-is_empty.true, c.is_empty.ensures))
+settle-requires g c = sym (ap (λ t. t.marks) c.f.view_is) ∙ none_open c.f.inside.marks.items c.f.inside.tables.marks c.f.invariant (grind (arith, c.if-is_empty.true, c.is_empty.ensures))
 """
 
 GHOSTS = """
-use Rattle.period_bench.proofs.main.Given as goal
+use Rattle.stk_f1.proofs.tests.NAME.Given as goal
 
-abbrev pub ghosts-timed : goal.ghosts-timed
-ghosts-timed g a = record { name = a.blank.name; parts = a.blank.parts }
+abbrev pub ghosts-CALL : goal.ghosts-CALL
+ghosts-CALL g a = record { name = a.blank.name; parts = a.blank.parts }
 """
+
+# each test calls one function with a ledger of its own
+TESTS = {"begins": "only_begun", "ends": "all_ended", "turns": "all_turned"}
 
 BENCH = """
 ghost use Rattle.std.specs.Prelude.{◌≡◌, ◌<◌, OnOk, IfOk};
@@ -62,8 +66,9 @@ ghost use Rattle.stk_f1.specs.Kept.{new_records};
 ghost use Rattle.stk_f1.specs.Stands.{IsKept};
 
 use crate::F1;
+use std::marker::Brand;
 use std::process::Abort;
-use std::sync::ledger::Ledger;
+use std::sync::ledger::{Blank, Ledger};
 use std::test::Fail;
 use stk_coins::{DecCoin, DecCoins};
 use stk_dec::Dec;
@@ -171,47 +176,64 @@ pub fn turn_rounds<L: Ledger>(
     Ok(())
 }
 
-pub fn last<L: Ledger>(rt: &impl Abort, f: &F1, steps: &mut Steps<L>) -> (u64, u128) {
+fn last<L: Ledger>(rt: &impl Abort, f: &F1, steps: &mut Steps<L>) -> (u64, u128) {
     let operator = addr(rt, 1);
     let period = f.tables.current(&operator, steps).unwrap_or(0);
     let count = f.count(&operator, period.saturating_sub(1), steps);
     (period, count.unwrap_or(0))
 }
-"""
 
-MAIN = """
-#![tactic(auto)]
-
-ghost use Rattle.std.specs.Prelude.{◌≡◌, ◌<◌};
-
-use std::marker::Brand;
-use std::sync::ledger::{Blank, Ledger};
-use std::test::Fail;
-use std::time::Instant;
-use stk_f1::bench::{begun, end_rounds, last, operators, turn_rounds};
-use stk_types::Steps;
-
-fn timed<L: Ledger>(rt: HostRuntime, blank: Blank) -> Result<(), Fail>
+fn only_begun<L: Ledger>(rt: &(impl Abort + AllocGlobal), blank: Blank) -> Result<(u64, u128), Fail>
     requires name { blank.name ≡ L.name }
     requires parts { blank.parts ≡ L.parts }
     requires some { 0 < L.parts }
 {
     let mut steps: Steps<L> = Steps::new(blank);
-    let operators = operators(&rt)?;
-    let mut f = begun(&rt, &operators, &mut steps)?;
-    let start = Instant::now(&rt)?;
-    end_rounds(&rt, &mut f, &operators, &mut steps)?;
-    let (period, count) = last(&rt, &f, &mut steps);
-    println!(rt; "end_period {} {period}/{count}", start.elapsed(&rt)?.as_nanos())?;
-    let start = Instant::now(&rt)?;
-    turn_rounds(&rt, &mut f, &operators, &mut steps)?;
-    let (period, count) = last(&rt, &f, &mut steps);
-    println!(rt; "start_and_stop {} {period}/{count}", start.elapsed(&rt)?.as_nanos())?;
+    let operators = operators(rt)?;
+    let mut f = begun(rt, &operators, &mut steps)?;
+    Ok(last(rt, &f, &mut steps))
+}
+
+fn all_ended<L: Ledger>(rt: &(impl Abort + AllocGlobal), blank: Blank) -> Result<(u64, u128), Fail>
+    requires name { blank.name ≡ L.name }
+    requires parts { blank.parts ≡ L.parts }
+    requires some { 0 < L.parts }
+{
+    let mut steps: Steps<L> = Steps::new(blank);
+    let operators = operators(rt)?;
+    let mut f = begun(rt, &operators, &mut steps)?;
+    end_rounds(rt, &mut f, &operators, &mut steps)?;
+    Ok(last(rt, &f, &mut steps))
+}
+
+fn all_turned<L: Ledger>(rt: &(impl Abort + AllocGlobal), blank: Blank) -> Result<(u64, u128), Fail>
+    requires name { blank.name ≡ L.name }
+    requires parts { blank.parts ≡ L.parts }
+    requires some { 0 < L.parts }
+{
+    let mut steps: Steps<L> = Steps::new(blank);
+    let operators = operators(rt)?;
+    let mut f = begun(rt, &operators, &mut steps)?;
+    turn_rounds(rt, &mut f, &operators, &mut steps)?;
+    Ok(last(rt, &f, &mut steps))
+}
+
+#[test]
+fn begins(rt: HostRuntime) -> Result<(), Fail> {
+    assert!(rt; only_begun::<Brand>(&rt, Blank::new(1))? == (1, 1));
     Ok(())
 }
 
-fn main(rt: HostRuntime) -> Result<(), Fail> {
-    timed::<Brand>(rt, Blank::new(1))
+#[test]
+fn ends(rt: HostRuntime) -> Result<(), Fail> {
+    assert!(rt; all_ended::<Brand>(&rt, Blank::new(1))? == (5557, 1));
+    Ok(())
+}
+
+#[test]
+fn turns(rt: HostRuntime) -> Result<(), Fail> {
+    assert!(rt; all_turned::<Brand>(&rt, Blank::new(1))? == (1, 1));
+    Ok(())
 }
 """
 
@@ -413,30 +435,23 @@ def build_rattle():
     f1 = top / "crates/stk_f1"
     tests = (f1 / "src/tests.rt").read_text()
     calls = "\n".join(function(tests, name) for name in CALLS)
-    (f1 / "src/bench.rt").write_text(BENCH.lstrip().replace("CALLS\n", calls + "\n"))
-    root = (f1 / "src/lib.rt").read_text()
-    (f1 / "src/lib.rt").write_text(root.replace("mod clear;\n", "pub mod bench;\nmod clear;\n").replace("#[cfg(test)]\nmod tests;\n", ""))
-    (f1 / "src/tests.rt").unlink()
-    for name in CALLS:
-        if (f1 / "proofs/tests" / name).is_dir():
-            shutil.copytree(f1 / "proofs/tests" / name, f1 / "proofs/bench" / name)
-    shutil.rmtree(f1 / "proofs/tests")
-    for path in (f1 / "proofs/bench").rglob("*.antt"):
-        path.write_text(path.read_text().replace("proofs.tests.", "proofs.bench."))
-    proofs = {f"stk_f1/proofs/bench/{name}/Invariants.antt": INVARIANT.replace("NAME", name).replace("VAR", var) for name, var in LOOPS.items()}
-    proofs["stk_f1/proofs/bench/settle/Answers.antt"] = SETTLE
-    proofs["period_bench/proofs/main/Invariants.antt"] = GHOSTS
-    proofs["period_bench/src/main.rt"] = MAIN
+    (f1 / "src/tests.rt").write_text(BENCH.lstrip().replace("CALLS\n", calls + "\n"))
+    for path in (f1 / "proofs/tests").iterdir():
+        if path.name not in CALLS:
+            shutil.rmtree(path)
+    proofs = {f"{name}/Invariants.antt": INVARIANT.replace("NAME", name).replace("VAR", var) for name, var in LOOPS.items()}
+    proofs["settle/Answers.antt"] = SETTLE
+    proofs |= {f"{test}/Invariants.antt": GHOSTS.replace("NAME", test).replace("CALL", call) for test, call in TESTS.items()}
     for path, text in proofs.items():
-        (top / "crates" / path).parent.mkdir(parents=True, exist_ok=True)
-        (top / "crates" / path).write_text(text.lstrip())
+        (f1 / "proofs/tests" / path).parent.mkdir(parents=True, exist_ok=True)
+        (f1 / "proofs/tests" / path).write_text(text.lstrip())
     lines = [line for line in (TOP / "crates.txt").read_text().splitlines() if line.split(":")[0] in CRATES]
-    (top / "crates.txt").write_text("\n".join(lines) + "\nperiod_bench: stk_types stk_f1\n")
-    ran = subprocess.run(["rt", "run"], cwd=top / "crates/period_bench", stdin=subprocess.DEVNULL, capture_output=True, text=True)
-    found = [p for p in (top / "crates/period_bench/out").rglob("period_bench*") if p.is_file() and os.access(p, os.X_OK)]
-    if not found:
+    (top / "crates.txt").write_text("\n".join(lines) + "\n")
+    ran = subprocess.run(["rt", "test"], cwd=f1, stdin=subprocess.DEVNULL, capture_output=True, text=True)
+    program = f1 / "out/stk_f1_tests"
+    if not program.is_file():
         sys.exit(ran.stdout + ran.stderr)
-    return str(found[0])
+    return str(program)
 
 
 def build_stock():
@@ -445,20 +460,30 @@ def build_stock():
     return str(WORK / "stock")
 
 
+def seconds(program, test):
+    start = time.perf_counter()
+    subprocess.run([program, f"tests::{test}"], capture_output=True, check=True)
+    return time.perf_counter() - start
+
+
 def main():
-    programs = {"Rattle": build_rattle(), "stock": build_stock()}
-    least, ends = {}, {}
+    rattle, stock = build_rattle(), build_stock()
+    least = {}
+
+    def note(name, call, nanos):
+        least[name, call] = min(least.get((name, call), 10**18), nanos)
+
     for _ in range(RUNS):
-        for name, program in programs.items():
-            for line in subprocess.run([program], capture_output=True, text=True, check=True).stdout.splitlines():
-                call, nanos, end = line.split()
-                least[name, call] = min(least.get((name, call), 10**18), int(nanos))
-                ends.setdefault(call, set()).add(end)
-    assert all(len(end) == 1 for end in ends.values()), ends
+        begins = seconds(rattle, "begins")
+        note("Rattle", "end_period", (seconds(rattle, "ends") - begins) * 10**9)
+        note("Rattle", "start_and_stop", (seconds(rattle, "turns") - begins) * 10**9)
+        for line in subprocess.run([stock], capture_output=True, text=True, check=True).stdout.splitlines():
+            call, nanos, _ = line.split()
+            note("stock", call, int(nanos))
     pairs = 180 * 5556
-    for call in ends:
-        rattle, stock = least["Rattle", call], least["stock", call]
-        print(f"{call}: {rattle / pairs:.0f} ns, stock Rust {stock / pairs:.0f} ns, ratio {rattle / stock:.2f}")
+    for call in ("end_period", "start_and_stop"):
+        mine, other = least["Rattle", call], least["stock", call]
+        print(f"{call}: {mine / pairs:.0f} ns, stock Rust {other / pairs:.0f} ns, ratio {mine / other:.2f}")
 
 
 try:
