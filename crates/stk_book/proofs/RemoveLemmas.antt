@@ -1,0 +1,30 @@
+-- Removing a validator: its last hook may be called, and exceeds nothing where hooks are sure.
+use Rattle.std.proofs.Common.{◌≡◌, ℕ, true, Some, refl, ap}
+use Rattle.std.specs.Prelude.{Err, is_some}
+use Rattle.stk_dec.specs.declared.over.Over.{Over}
+use Rattle.stk_keep.specs.declared.entities.Validator.{Validator}
+use Rattle.stk_keep.specs.declared.faults.HookFault.{HookFault}
+use Rattle.stk_keep.specs.declared.faults.HookFault.TheVariants as hook
+use Rattle.stk_keep.specs.Answers.{Answers}
+use Rattle.stk_keep.specs.Hooks.{Lists, Tells, Stand, Ready, Lawful, IsGiven}
+use Rattle.stk_keep.specs.Staked.{Staked, validator_of, lists_of}
+use Rattle.stk_keep.specs.World.{View, Told, gives, exceeds, removed}
+use Rattle.stk_book.proofs.PointLemmas.{IsSoundAt}
+use Rattle.stk_book.proofs.SoundLemmas.{no_shares}
+
+pub ready-removed : (height : ℕ) (s : Staked) (v : Validator) → IsSoundAt height s → validator_of s v.operator ≡ Some v → v.shares ≡ 0 → {S : Type 0} (t : Tells S) (hs : S) (u : View) → Stand t hs u (lists_of s)
+    → Ready t hs u (removed v) (lists_of s)
+ready-removed height s v h f z t hs u p = record { stand = p; needs = (ap is_some f, λ who. ap is_some (no_shares height s v h f z who)); tokens = (h.validators v.operator v f).tokens }
+
+not_given : {S : Type 0} (over : Over) → IsGiven {S = S} (exceeds over) → ⊥
+not_given over i = let e = i.1.1.1 in cc
+
+-- a hook of which something is given has no fault but want of memory
+pub given_fault : {S : Type 0} (t : Told S) (s : S) (v : View) (fault : HookFault) → IsGiven t → Answers t s v (Err fault) → fault ≡ hook.NoMemory
+given_fault (gives s2 v2 log) s v (hook.Over over) i a = absurd a
+given_fault (gives s2 v2 log) s v hook.NoMemory i a = refl
+given_fault {S = S} (exceeds over) s v fault i a = absurd (not_given over i)
+
+pub sure_fault : {S : Type 0} (t : Tells S) → Lawful t → (s s2 : S) (x : Validator) (v v2 : View) (l : Lists) (fault : HookFault) → t.sure s ≡ true → Ready t s v (removed x) l → Answers (t.told s (removed x) v) s2 v2 (Err fault)
+    → fault ≡ hook.NoMemory
+sure_fault t lawful s s2 x v v2 l fault q r a = given_fault (t.told s (removed x) v) s2 v2 fault (lawful.sure_removed s x v l q r) a

@@ -1,0 +1,222 @@
+-- Three tables that are marked together, seen as one.
+use Rattle.std.proofs.Common.{◌≡◌, ◌∙◌, ℕ, ◌+◌, Bool, List, [], ◌∷◌, ◌++◌, length, refl, sym, ap, subst, arith}
+use Rattle.std.specs.Prelude.{suc, zero}
+use Rattle.std.specs.List.{range_with_len, AllByRecursion}
+use Rattle.std.proofs.lemmas.List.{length_push}
+use Rattle.stk_table.specs.Tabled.{Tabled}
+use Rattle.stk_table.specs.Tabled as table
+use Rattle.stk_keep.specs.declared.entities.Validator.{Validator}
+use Rattle.stk_book.specs.Registered.{Validators, Delegations, Operators, IsIndex, AreIndexed, AreKeyed, AreInStep, side_by_side, registered, with_mark, IsGoneBack, IsForgotten}
+
+-- ---- lists that end alike
+
+push_not_nil : {A : Type 0} (xs : List A) (x : A) → [] ≡ xs ++ x ∷ [] → ⊥
+push_not_nil [] x e = absurd cc
+push_not_nil (y ∷ xs) x e = absurd cc
+
+pub same_last : {A : Type 0} (xs ys : List A) (x y : A) → xs ++ x ∷ [] ≡ ys ++ y ∷ [] → (xs ≡ ys) × (x ≡ y)
+same_last [] [] x y e = (refl, cc)
+same_last [] (b ∷ ys) x y e = let rest : [] ≡ ys ++ y ∷ [] = cc in absurd (push_not_nil ys y rest)
+same_last (a ∷ xs) [] x y e = let rest : [] ≡ xs ++ x ∷ [] = cc in absurd (push_not_nil xs x rest)
+same_last (a ∷ xs) (b ∷ ys) x y e =
+    let rest : xs ++ x ∷ [] ≡ ys ++ y ∷ [] = cc in
+    let first : a ≡ b = cc in
+    let more = same_last xs ys x y rest in
+    ((λ i. first i ∷ more.0 i), more.1)
+
+popped_length : {A B : Type 0} (ps ps2 : List A) (bs bs2 : List B) (a : A) (b : B) → length bs ≡ length ps → ps2 ++ a ∷ [] ≡ ps → bs2 ++ b ∷ [] ≡ bs → length bs2 ≡ length ps2
+popped_length ps ps2 bs bs2 a b h p q =
+    let c = length_push ps2 a in
+    let d = length_push bs2 b in
+    let e = ap length p in
+    let f = ap length q in
+    omega (arith, c, d, e, f, h)
+
+pushed_length : {A B : Type 0} (ps : List A) (bs : List B) (a : A) (b : B) → length bs ≡ length ps → length (bs ++ b ∷ []) ≡ length (ps ++ a ∷ [])
+pushed_length ps bs a b h = length_push bs b ∙ ap (λ n. n + 1) h ∙ sym (length_push ps a)
+
+-- ---- what holds at each mark
+
+all-push : {A : Type 0} (P : A → Type 0) (xs : List A) (x : A) → AllByRecursion P xs → P x → AllByRecursion P (xs ++ x ∷ [])
+all-push P [] x h p = (p, tt)
+all-push P (y ∷ xs) x h p = (h.0, all-push P xs x h.1 p)
+
+all-pop : {A : Type 0} (P : A → Type 0) (xs : List A) (x : A) → AllByRecursion P (xs ++ x ∷ []) → AllByRecursion P xs × P x
+all-pop P [] x h = (tt, h.0)
+all-pop P (y ∷ xs) x h = let r = all-pop P xs x h.1 in ((h.0, r.0), r.1)
+
+indexed-push : (ms : List Validators) (is : List Operators) (m : Validators) (i : Operators) → length is ≡ length ms → AreIndexed ms is → IsIndex m i → AreIndexed (ms ++ m ∷ []) (is ++ i ∷ [])
+indexed-push [] [] m i e h p = (p, tt)
+indexed-push [] (y ∷ is) m i e h p = absurd (omega (arith, e))
+indexed-push (x ∷ ms) [] m i e h p = absurd (omega (arith, e))
+indexed-push (x ∷ ms) (y ∷ is) m i e h p = let f : length is ≡ length ms = omega (arith, e) in (h.0, indexed-push ms is m i f h.1 p)
+
+indexed-pop : (ms : List Validators) (is : List Operators) (m : Validators) (i : Operators) → length is ≡ length ms → AreIndexed (ms ++ m ∷ []) (is ++ i ∷ []) → AreIndexed ms is × IsIndex m i
+indexed-pop [] [] m i e h = (tt, h.0)
+indexed-pop [] (y ∷ is) m i e h = absurd (omega (arith, e))
+indexed-pop (x ∷ ms) [] m i e h = absurd (omega (arith, e))
+indexed-pop (x ∷ ms) (y ∷ is) m i e h = let f : length is ≡ length ms = omega (arith, e) in let r = indexed-pop ms is m i f h.1 in ((h.0, r.0), r.1)
+
+-- ---- marks side by side
+
+length-side : (vs : List Validators) (ds : List Delegations) → length ds ≡ length vs → length (side_by_side vs ds) ≡ length vs
+length-side [] ds h = refl
+length-side (v ∷ vs) [] h = absurd (omega (arith, h))
+length-side (v ∷ vs) (d ∷ ds) h = let f : length ds ≡ length vs = omega (arith, h) in let more = length-side vs ds f in omega (arith, more)
+
+side-push : (vs : List Validators) (ds : List Delegations) (v : Validators) (d : Delegations) → length ds ≡ length vs
+    → side_by_side (vs ++ v ∷ []) (ds ++ d ∷ []) ≡ side_by_side vs ds ++ record { validators = v; delegations = d } ∷ []
+side-push [] [] v d h = refl
+side-push [] (y ∷ ds) v d h = absurd (omega (arith, h))
+side-push (x ∷ vs) [] v d h = absurd (omega (arith, h))
+side-push (x ∷ vs) (y ∷ ds) v d h = let f : length ds ≡ length vs = omega (arith, h) in ap (λ l. record { validators = x; delegations = y } ∷ l) (side-push vs ds v d f)
+
+-- ---- three tables in step
+
+module _ (v : Tabled (List ℕ) Validator) (o : Tabled (List ℕ) (List ℕ)) (d : Tabled (List ℕ × List ℕ) ℕ) (h : AreInStep v o d) where
+  pub in_step-marked : AreInStep (table.with_mark v) (table.with_mark o) (table.with_mark d)
+  in_step-marked = record {
+    operators_depth = pushed_length v.marks o.marks v.entries o.entries h.operators_depth;
+    delegations_depth = pushed_length v.marks d.marks v.entries d.entries h.delegations_depth;
+    keyed = h.keyed;
+    keyed_then = h.keyed_then;
+    keyed_at_marks = all-push AreKeyed v.marks v.entries h.keyed_at_marks h.keyed;
+    indexed = h.indexed;
+    indexed_at_marks = indexed-push v.marks o.marks v.entries o.entries h.operators_depth h.indexed_at_marks h.indexed;
+  }
+
+  pub registered-marked : (spent : Bool) (p : ℕ) → registered (table.with_mark v) (table.with_mark d) spent p ≡ with_mark (registered v d spent p)
+  registered-marked spent p = λ i. record {
+    staked = record { validators = v.entries; delegations = d.entries };
+    marks = side-push v.marks d.marks v.entries d.entries h.delegations_depth i;
+    settled = record { validators = v.settled; delegations = d.settled };
+    spent = spent;
+    power_reduction = p;
+  }
+
+  pub depth-registered : (spent : Bool) (p : ℕ) → length (registered v d spent p).marks ≡ length v.marks
+  depth-registered spent p = length-side v.marks d.marks h.delegations_depth
+
+  -- other entries of validators, and their index
+  pub in_step-with : (v2 : Tabled (List ℕ) Validator) (o2 : Tabled (List ℕ) (List ℕ)) → v2.marks ≡ v.marks → v2.settled ≡ v.settled → o2.marks ≡ o.marks
+      → AreKeyed v2.entries → IsIndex v2.entries o2.entries → AreInStep v2 o2 d
+  in_step-with v2 o2 e f g k i = record {
+    operators_depth = ap length g ∙ h.operators_depth ∙ sym (ap length e);
+    delegations_depth = h.delegations_depth ∙ sym (ap length e);
+    keyed = k;
+    keyed_then = subst AreKeyed (sym f) h.keyed_then;
+    keyed_at_marks = subst (AllByRecursion AreKeyed) (sym e) h.keyed_at_marks;
+    indexed = i;
+    indexed_at_marks = subst (λ ms. AreIndexed ms o2.marks) (sym e) (subst (λ is. AreIndexed v.marks is) (sym g) h.indexed_at_marks);
+  }
+
+  module _ (v2 : Tabled (List ℕ) Validator) (o2 : Tabled (List ℕ) (List ℕ)) (d2 : Tabled (List ℕ × List ℕ) ℕ) where
+    side-popped : (x : Validators) (z : Delegations) → v2.marks ++ x ∷ [] ≡ v.marks → d2.marks ++ z ∷ [] ≡ d.marks
+        → side_by_side v2.marks d2.marks ++ record { validators = x; delegations = z } ∷ [] ≡ side_by_side v.marks d.marks
+    side-popped x z p r = sym (side-push v2.marks d2.marks x z (popped_length v.marks v2.marks d.marks d2.marks x z h.delegations_depth p r)) ∙ (λ i. side_by_side (p i) (r i))
+
+    keyed-popped : (x : Validators) → v2.marks ++ x ∷ [] ≡ v.marks → AllByRecursion AreKeyed v2.marks × AreKeyed x
+    keyed-popped x p = all-pop AreKeyed v2.marks x (subst (AllByRecursion AreKeyed) (sym p) h.keyed_at_marks)
+
+    indexed-popped : (x : Validators) (y : Operators) → v2.marks ++ x ∷ [] ≡ v.marks → o2.marks ++ y ∷ [] ≡ o.marks → AreIndexed v2.marks o2.marks × IsIndex x y
+    indexed-popped x y p q =
+        indexed-pop v2.marks o2.marks x y (popped_length v.marks v2.marks o.marks o2.marks x y h.operators_depth p q)
+        (subst (λ ms. AreIndexed ms (o2.marks ++ y ∷ [])) (sym p) (subst (λ is. AreIndexed v.marks is) (sym q) h.indexed_at_marks))
+
+    pub in_step-back : table.IsGoneBack v v2 → table.IsGoneBack o o2 → table.IsGoneBack d d2 → AreInStep v2 o2 d2
+    in_step-back p q r =
+        let k = keyed-popped v2.entries p.restored in
+        let i = indexed-popped v2.entries o2.entries p.restored q.restored in
+        record {
+          operators_depth = popped_length v.marks v2.marks o.marks o2.marks v2.entries o2.entries h.operators_depth p.restored q.restored;
+          delegations_depth = popped_length v.marks v2.marks d.marks d2.marks v2.entries d2.entries h.delegations_depth p.restored r.restored;
+          keyed = k.1;
+          keyed_then = subst AreKeyed (sym (ap (λ t. t.settled) p.rest)) h.keyed_then;
+          keyed_at_marks = k.0;
+          indexed = i.1;
+          indexed_at_marks = i.0;
+        }
+
+    pub registered-back : (spent : Bool) (n : ℕ) → table.IsGoneBack v v2 → table.IsGoneBack d d2 → IsGoneBack (registered v d spent n) (registered v2 d2 spent n)
+    registered-back spent n p r = record {
+      restored = side-popped v2.entries d2.entries p.restored r.restored;
+      rest = λ i. record {
+        staked = record { validators = v2.entries; delegations = d2.entries };
+        marks = side_by_side v2.marks d2.marks;
+        settled = record { validators = ap (λ t. t.settled) p.rest i; delegations = ap (λ t. t.settled) r.rest i };
+        spent = spent;
+        power_reduction = n;
+      };
+    }
+
+    pub in_step-forgotten : table.IsForgotten v v2 → table.IsForgotten o o2 → table.IsForgotten d d2 → AreInStep v2 o2 d2
+    in_step-forgotten p q r =
+        let k = keyed-popped p.closed.0 p.closed.1 in
+        let i = indexed-popped p.closed.0 q.closed.0 p.closed.1 q.closed.1 in
+        let same : v.entries ≡ v2.entries = sym (ap (λ t. t.entries) p.rest) in
+        let same_index : o.entries ≡ o2.entries = sym (ap (λ t. t.entries) q.rest) in
+        record {
+          operators_depth = popped_length v.marks v2.marks o.marks o2.marks p.closed.0 q.closed.0 h.operators_depth p.closed.1 q.closed.1;
+          delegations_depth = popped_length v.marks v2.marks d.marks d2.marks p.closed.0 r.closed.0 h.delegations_depth p.closed.1 r.closed.1;
+          keyed = subst AreKeyed same h.keyed;
+          keyed_then = subst AreKeyed (sym (ap (λ t. t.settled) p.rest)) h.keyed_then;
+          keyed_at_marks = k.0;
+          indexed = subst (λ es. IsIndex es o2.entries) same (subst (λ is. IsIndex v.entries is) same_index h.indexed);
+          indexed_at_marks = i.0;
+        }
+
+    pub registered-forgotten : (spent : Bool) (n : ℕ) → table.IsForgotten v v2 → table.IsForgotten d d2 → IsForgotten (registered v d spent n) (registered v2 d2 spent n)
+    registered-forgotten spent n p r = record {
+      closed = (record { validators = p.closed.0; delegations = r.closed.0 }, side-popped p.closed.0 r.closed.0 p.closed.1 r.closed.1);
+      rest = λ i. record {
+        staked = record { validators = ap (λ t. t.entries) p.rest i; delegations = ap (λ t. t.entries) r.rest i };
+        marks = side_by_side v2.marks d2.marks;
+        settled = record { validators = ap (λ t. t.settled) p.rest i; delegations = ap (λ t. t.settled) r.rest i };
+        spent = spent;
+        power_reduction = n;
+      };
+    }
+
+  none_from_length : {A : Type 0} (xs : List A) → length xs ≡ 0 → xs ≡ []
+  none_from_length [] e = refl
+  none_from_length (x ∷ xs) e = absurd (omega (arith, e))
+
+  pub closed-all : (spent : Bool) (p : ℕ) → (registered v d spent p).marks ≡ [] → (v.marks ≡ []) × (o.marks ≡ []) × (d.marks ≡ [])
+  closed-all spent p m =
+      let n : length v.marks ≡ 0 = sym (length-side v.marks d.marks h.delegations_depth) ∙ ap length m in
+      (none_from_length v.marks n, none_from_length o.marks (h.operators_depth ∙ n), none_from_length d.marks (h.delegations_depth ∙ n))
+
+-- ---- the depths of open marks
+
+range-push : (a n : ℕ) → range_with_len a (suc n) ≡ range_with_len a n ++ (a + n) ∷ []
+range-push a zero = ap (λ b. b ∷ []) (none a)
+  where
+    none : (a : ℕ) → a ≡ a + 0
+    none a = omega arith
+range-push a (suc n) = ap (λ l. a ∷ l) (range-push (a + 1) n ∙ ap (λ b. range_with_len (a + 1) n ++ b ∷ []) (one a n))
+  where
+    one : (a n : ℕ) → a + 1 + n ≡ a + suc n
+    one a n = omega arith
+
+pub numbers-push : {A : Type 0} (xs : List A) (x : A) → range_with_len 0 (length (xs ++ x ∷ [])) ≡ range_with_len 0 (length xs) ++ length xs ∷ []
+numbers-push xs x = ap (range_with_len 0) (length_push xs x ∙ one (length xs)) ∙ range-push 0 (length xs) ∙ ap (λ n. range_with_len 0 (length xs) ++ n ∷ []) (none (length xs))
+  where
+    one : (n : ℕ) → n + 1 ≡ suc n
+    one n = omega arith
+
+    none : (n : ℕ) → 0 + n ≡ n
+    none n = omega arith
+
+-- the latest mark is one less than all are many
+pub numbers-last : (ns : List ℕ) (n m : ℕ) → ns ++ n ∷ [] ≡ range_with_len 0 m → m ≡ n + 1
+numbers-last ns n zero e = absurd (push_not_nil ns n (sym e))
+numbers-last ns n (suc m) e = let last : n ≡ 0 + m = (same_last ns (range_with_len 0 m) n (0 + m) (e ∙ range-push 0 m)).1 in omega (arith, last)
+
+-- the latest mark is the deepest, and the others are as many as there are below it
+pub numbers-pop : {A : Type 0} (all ns : List ℕ) (n : ℕ) (xs ys : List A) (x : A) → all ≡ ns ++ n ∷ [] → all ≡ range_with_len 0 (length xs) → ys ++ x ∷ [] ≡ xs → (ns ≡ range_with_len 0 (length ys)) × (n ≡ length ys)
+numbers-pop all ns n xs ys x e f g =
+    same_last ns (range_with_len 0 (length ys)) n (length ys) (sym e ∙ f ∙ ap (λ l. range_with_len 0 (length l)) (sym g) ∙ numbers-push ys x)
+
+-- a table that went back to a mark just opened is as it was
+pub marked-back : {K V : Type 0} (t t2 : Tabled K V) → table.IsGoneBack (table.with_mark t) t2 → t2 ≡ t
+marked-back t t2 g = let r = same_last t2.marks t.marks t2.entries t.entries g.restored in g.rest ∙ (λ i. record t { entries = r.1 i; marks = r.0 i })

@@ -1,0 +1,129 @@
+-- Unbonding shares: the rule step by step, and what each step leaves.
+use Rattle.std.proofs.Common.{◌≡◌, ◌∙◌, ℕ, ◌-◌, Bool, true, false, List, [], ◌∷◌, ◌++◌, refl, sym, ap, subst}
+use Rattle.std.specs.Prelude.{Ok, Err, Result, ◌||◌, if◌then◌else◌}
+use Rattle.stk_dec.specs.declared.over.Over.{Over}
+use Rattle.stk_shares.specs.Shares.{amount_out}
+use Rattle.stk_keep.specs.declared.entities.Validator.{Validator}
+use Rattle.stk_keep.specs.declared.faults.HookFault.{HookFault}
+use Rattle.stk_keep.specs.declared.faults.HookFault.TheVariants as hook
+use Rattle.stk_keep.specs.Answers.{Follows}
+use Rattle.stk_keep.specs.Log.{Log}
+use Rattle.stk_keep.specs.Log as log
+use Rattle.stk_keep.specs.Staked.{Staked, with_validator}
+use Rattle.stk_keep.specs.Steps.{◌>>=◌}
+use Rattle.stk_keep.specs.World.{View, Hook, Told, gives, exceeds, World, hooked, modifying, over_mine, logged}
+use Rattle.stk_rules.specs.Answers.{WantsMemory, Leaves}
+use Rattle.stk_rules.specs.Unbonding.{falls_below_minimum, jailed, left_standing, removed_if_empty, unbonded_shares}
+use Rattle.stk_book.specs.Calls.{over, behind_log, jailed_if, jail_noted}
+
+-- ---- answers of one step within another
+
+follows_wants : {S H : Type 0} (x : Result (ℕ × World S H) Over) (s : S) (h : H) (v : View) (fault : HookFault) → WantsMemory fault → Follows x s h v (Err fault)
+follows_wants x s h v (hook.Over over) w = absurd w
+follows_wants (Ok p) s h v hook.NoMemory w = tt
+follows_wants (Err due) s h v hook.NoMemory w = tt
+
+follows_err : {S H : Type 0} (r : Result (World S H) Over) (f : World S H → Result (ℕ × World S H) Over) (s : S) (h : H) (v : View) (fault : HookFault) → Leaves r s h v (Err fault) → Follows (r >>= f) s h v (Err fault)
+follows_err (Ok w) f s h v fault l = follows_wants (f w) s h v fault l
+follows_err (Err due) f s h v (hook.Over over) l = l
+follows_err (Err due) f s h v hook.NoMemory l = tt
+
+-- the answer of a rule, with what it leaves
+abbrev with_number_of : {S H : Type 0} → ℕ → World S H → Result (ℕ × World S H) Over
+with_number_of n w = Ok (n, w)
+
+follows_ok : {S H : Type 0} (r : Result (World S H) Over) (n : ℕ) (s : S) (h : H) (v : View) → Leaves r s h v (Ok tt) → Follows (r >>= with_number_of n) s h v (Ok n)
+follows_ok (Ok w) n s h v l = (refl, l.0, l.1, l.2)
+follows_ok (Err due) n s h v l = absurd l
+
+pub leaves_is : {S H : Type 0} (r : Result (World S H) Over) (s : S) (h : H) (v : View) → Leaves r s h v (Ok tt) → (k : Log) × (r ≡ Ok (behind_log k s h v))
+leaves_is (Ok w) s h v l = (w.log, (λ i. Ok (record { mine = sym l.0 i; hooks = sym l.1 i; view = sym l.2 i; log = w.log })))
+leaves_is (Err due) s h v l = absurd l
+
+pub ok_world : {S H : Type 0} (w w2 : World S H) → ◌≡◌ {A = Result (World S H) Over} (Ok w) (Ok w2) → w ≡ w2
+ok_world w w2 e = cc
+
+pub hooked_ok : {S H : Type 0} (t : Told H) (w w2 : World S H) → hooked t w ≡ Ok w2 → (l : Log) × ((t ≡ gives w2.hooks w2.view l) × (w2.mine ≡ w.mine))
+hooked_ok (gives h v l) w w2 e =
+    let is = ok_world (record { mine = w.mine; hooks = h; view = v; log = w.log ++ l }) w2 e in
+    (l, ((λ i. gives (is i).hooks (is i).view l), sym (ap (λ x. x.mine) is)))
+hooked_ok (exceeds over) w w2 e = absurd cc
+
+-- ---- the rule
+
+-- a validator that is jailed, if so
+abbrev pub now_of : Validator → Bool → Validator
+now_of v b = record v { jailed = v.jailed || b }
+
+-- and what is left of it
+abbrev pub less_of : Validator → Bool → ℕ → Validator
+less_of v b part = record (now_of v b) { tokens = v.tokens - amount_out v.tokens v.shares part; shares = v.shares - part }
+
+-- what stands before what is left of the delegation does
+pub record Going : Type 0 where
+  pub now : Validator
+  pub left : ℕ
+  pub staked : Staked
+  pub view : View
+
+jailed_is : {H : Type 0} (b : Bool) (v : Validator) (k : Log) (s : Staked) (h : H) (u : View) → (if b then jailed v (behind_log k s h u) else behind_log k s h u) ≡ behind_log k (jailed_if b v s) h (jail_noted b v u)
+jailed_is true v k s h u = refl
+jailed_is false v k s h u = refl
+
+module _ {H : Type 0} (told : H → Hook → View → Told H) (v : Validator) (who : List ℕ) (held part : ℕ) (s : Staked) (h : H) (u : View) (h1 : H) (u1 : View) (k1 : Log) (e : told h (modifying v who held) u ≡ gives h1 u1 k1) where
+  abbrev pub falls : Bool
+  falls = falls_below_minimum v who (held - part)
+
+  abbrev pub going : Going
+  going = record { now = now_of v falls; left = held - part; staked = jailed_if falls v s; view = jail_noted falls v u1 }
+
+  -- the rest of the rule, once what is left of the delegation stands
+  abbrev rest : World Staked H → Result (ℕ × World Staked H) Over
+  rest w = removed_if_empty told (less_of v falls part) (logged v.operator log.left (over_mine (with_validator (less_of v falls part)) w)) >>= with_number_of (amount_out v.tokens v.shares part)
+
+  from_hook : Told H → Result (ℕ × World Staked H) Over
+  from_hook t = hooked t (over s h u) >>= λ w1. left_standing told (now_of v falls) who (held - part) (if falls then jailed v w1 else w1) >>= rest
+
+  unbonded-then : unbonded_shares told v who held part (over s h u) ≡ (left_standing told going.now who going.left (behind_log k1 going.staked h1 going.view) >>= rest)
+  unfolding from_hook
+  unbonded-then = ap from_hook e ∙ ap (λ w. left_standing told (now_of v falls) who (held - part) w >>= rest) (jailed_is falls v k1 s h1 u1)
+
+  module _ (a : Going) (is : a ≡ going) where
+    pub told-left_err : (s2 : Staked) (h2 : H) (u2 : View) (fault : HookFault) → Leaves (left_standing told a.now who a.left (behind_log k1 a.staked h1 a.view)) s2 h2 u2 (Err fault)
+        → Follows (unbonded_shares told v who held part (over s h u)) s2 h2 u2 (Err fault)
+    told-left_err s2 h2 u2 fault l =
+        subst (λ r. Follows r s2 h2 u2 (Err fault)) (sym unbonded-then)
+        (follows_err (left_standing told going.now who going.left (behind_log k1 going.staked h1 going.view)) rest s2 h2 u2 fault
+        (subst (λ b. Leaves (left_standing told b.now who b.left (behind_log k1 b.staked h1 b.view)) s2 h2 u2 (Err fault)) is l))
+
+    module _ (s2 : Staked) (h2 : H) (u2 : View) (l : Leaves (left_standing told a.now who a.left (behind_log k1 a.staked h1 a.view)) s2 h2 u2 (Ok tt)) where
+      pub left_is : (k2 : Log) × (left_standing told going.now who going.left (behind_log k1 going.staked h1 going.view) ≡ Ok (behind_log k2 s2 h2 u2))
+      left_is = leaves_is (left_standing told going.now who going.left (behind_log k1 going.staked h1 going.view)) s2 h2 u2
+          (subst (λ b. Leaves (left_standing told b.now who b.left (behind_log k1 b.staked h1 b.view)) s2 h2 u2 (Ok tt)) is l)
+
+      -- the log once shares left the validator
+      abbrev pub then_log : Log
+      then_log = left_is.0 ++ (v.operator, log.left) ∷ []
+
+      unbonded-last : unbonded_shares told v who held part (over s h u)
+          ≡ (removed_if_empty told (less_of v falls part) (behind_log then_log (with_validator (less_of v falls part) s2) h2 u2) >>= with_number_of (amount_out v.tokens v.shares part))
+      unbonded-last = unbonded-then ∙ ap (λ r. r >>= rest) left_is.1
+
+      module _ (less : Validator) (s3 : Staked) (less_is : less ≡ less_of v falls part) (s3_is : s3 ≡ with_validator less s2) (s4 : Staked) (h4 : H) (u4 : View) where
+        s3_at : s3 ≡ with_validator (less_of v falls part) s2
+        s3_at = s3_is ∙ ap (λ x. with_validator x s2) less_is
+
+        pub told-removed_err : (fault : HookFault) → Leaves (removed_if_empty told less (behind_log then_log s3 h2 u2)) s4 h4 u4 (Err fault) → Follows (unbonded_shares told v who held part (over s h u)) s4 h4 u4 (Err fault)
+        told-removed_err fault m =
+            subst (λ r. Follows r s4 h4 u4 (Err fault)) (sym unbonded-last)
+            (follows_err (removed_if_empty told (less_of v falls part) (behind_log then_log (with_validator (less_of v falls part) s2) h2 u2)) (with_number_of (amount_out v.tokens v.shares part)) s4 h4 u4 fault
+            (subst (λ x. Leaves (removed_if_empty told (less_of v falls part) (behind_log then_log x h2 u2)) s4 h4 u4 (Err fault)) s3_at
+            (subst (λ x. Leaves (removed_if_empty told x (behind_log then_log s3 h2 u2)) s4 h4 u4 (Err fault)) less_is m)))
+
+        pub told-removed_ok : (out : ℕ) → out ≡ amount_out v.tokens v.shares part → Leaves (removed_if_empty told less (behind_log then_log s3 h2 u2)) s4 h4 u4 (Ok tt) → Follows (unbonded_shares told v who held part (over s h u)) s4 h4 u4 (Ok out)
+        told-removed_ok out out_is m =
+            subst (λ n. Follows (unbonded_shares told v who held part (over s h u)) s4 h4 u4 (Ok n)) (sym out_is)
+            (subst (λ r. Follows r s4 h4 u4 (Ok (amount_out v.tokens v.shares part))) (sym unbonded-last)
+            (follows_ok (removed_if_empty told (less_of v falls part) (behind_log then_log (with_validator (less_of v falls part) s2) h2 u2)) (amount_out v.tokens v.shares part) s4 h4 u4
+            (subst (λ x. Leaves (removed_if_empty told (less_of v falls part) (behind_log then_log x h2 u2)) s4 h4 u4 (Ok tt)) s3_at
+            (subst (λ x. Leaves (removed_if_empty told x (behind_log then_log s3 h2 u2)) s4 h4 u4 (Ok tt)) less_is m))))

@@ -1,0 +1,60 @@
+use Rattle.std.proofs.Common.{◌≡◌, ◌∙◌, refl, ap, sym, subst}
+use Rattle.std.specs.Prelude.{Result, Ok, Err, OnOk, ⊤}
+use Rattle.stk_keep.specs.declared.faults.HookFault.{HookFault}
+use Rattle.stk_keep.specs.Answers.{Answers}
+use Rattle.stk_keep.specs.Ground.{seen}
+use Rattle.stk_keep.specs.Hooks.{Stand}
+use Rattle.stk_keep.specs.Staked.{lists_of, bonded_tokens, other_tokens, HoldsStake}
+use Rattle.stk_keep.specs.World.{created}
+use Rattle.stk_keep.proofs.HookLemmas.{Stand-after_ok}
+use Rattle.stk_book.proofs.PointLemmas.{IsSoundAt, to_points, from_points}
+use Rattle.stk_book.proofs.ListLemmas.{lists-joined}
+use Rattle.stk_book.proofs.GroundLemmas.{holds-kept}
+use Rattle.stk_book.proofs.DelegateLemmas.{keeps-ok}
+use Rattle.stk_book.proofs.CreateLemmas.{sound-created, ready-created, joined_tokens}
+use Rattle.stk_book.proofs.staking.Staking.admit.Goals as goal
+
+-- what follows where a call answered Ok
+where_ok : (r : Result ⊤ HookFault) (P : Type 0) → (r ≡ Ok tt → P) → OnOk r P
+where_ok (Ok done) P f = f refl
+where_ok (Err fault) P f = tt
+
+pub returns-clause-sound : goal.returns-clause-sound
+returns-clause-sound g c =
+    let s = c.args.self.now.staked in
+    let h = to_points c.requires.sound.0 s c.requires.sound.1 in
+    let v = c.new_validator-v.result in
+    where_ok c.after_validator_created.result _ (λ e. (
+      c.requires.sound.0,
+      from_points c.requires.sound.0 c.add.new.self.staked (subst (IsSoundAt c.requires.sound.0) (sym (ap (λ r. r.staked) c.in_ok-add.ensures.ok))
+          (sound-created c.requires.sound.0 s h c.args.m.now c.args.g.now.ctx.time v c.new_validator-v.ensures c.requires.rates c.requires.new c.requires.new_cons)),
+    ))
+
+pub returns-clause-stand : goal.returns-clause-stand
+returns-clause-stand g c =
+    let s = c.args.self.now.staked in
+    let v = c.new_validator-v.result in
+    let t = g.H.StakingHooks.tells in
+    let hs = g.H.StakingHooks.held c.args.hooks.now in
+    let hs2 = g.H.StakingHooks.held c.after_validator_created.new.self in
+    let u = seen g.B.Bank.holdings c.args.g.now in
+    let u2 = seen g.B.Bank.holdings c.after_validator_created.new.g in
+    let ready = ready-created s c.args.m.now c.args.g.now.ctx.time v c.new_validator-v.ensures c.requires.new t hs u c.requires.stand in
+    where_ok c.after_validator_created.result _ (λ e.
+    subst (Stand t hs2 u2) (sym (lists-joined s v) ∙ ap lists_of (sym (ap (λ r. r.staked) c.in_ok-add.ensures.ok)))
+    (Stand-after_ok t g.met.H.StakingHooks.lawful hs hs2 (created v) u u2 (lists_of s) ready (subst (λ r. Answers (t.told hs (created v) u) hs2 u2 r) e c.after_validator_created.ensures.told)))
+
+pub returns-clause-accounts : goal.returns-clause-accounts
+returns-clause-accounts g c =
+    let s = c.args.self.now.staked in
+    let v = c.new_validator-v.result in
+    let t = g.H.StakingHooks.tells in
+    let hs = g.H.StakingHooks.held c.args.hooks.now in
+    let hs2 = g.H.StakingHooks.held c.after_validator_created.new.self in
+    let u = seen g.B.Bank.holdings c.args.g.now in
+    let u2 = seen g.B.Bank.holdings c.after_validator_created.new.g in
+    let ready = ready-created s c.args.m.now c.args.g.now.ctx.time v c.new_validator-v.ensures c.requires.new t hs u c.requires.stand in
+    where_ok c.after_validator_created.result _ (λ e.
+    let keeps = keeps-ok t g.met.H.StakingHooks.lawful hs hs2 (created v) u u2 (lists_of s) ready (subst (λ r. Answers (t.told hs (created v) u) hs2 u2 r) e c.after_validator_created.ensures.told) in
+    subst (λ x. HoldsStake u2 (bonded_tokens x) (other_tokens x)) (sym (ap (λ r. r.staked) c.in_ok-add.ensures.ok))
+    (joined_tokens s c.args.m.now c.args.g.now.ctx.time v c.new_validator-v.ensures c.requires.new u2 (holds-kept _ u u2 _ _ keeps c.requires.accounts)))

@@ -1,0 +1,95 @@
+use Rattle.std.proofs.Common.{◌≡◌, ◌∙◌, None, ap, sym, subst}
+use Rattle.stk_keep.specs.Ground.{seen}
+use Rattle.stk_keep.specs.Hooks.{Stand}
+use Rattle.stk_keep.specs.Staked.{validator_of, validator_by_cons, with_validator, lists_of, bonded_tokens, other_tokens, HoldsStake}
+use Rattle.stk_keep.specs.World.{created}
+use Rattle.std.specs.Prelude.{Ok, Err}
+use Rattle.stk_keep.specs.Answers.{AnswersAs}
+use Rattle.stk_keep.proofs.HookLemmas.{Stand-after_ok, told-of_ok}
+use Rattle.stk_rules.specs.Delegating.{wallet, delegated}
+use Rattle.stk_book.specs.Calls.{behind_log}
+use Rattle.stk_book.proofs.PointLemmas.{IsSoundAt, to_points, from_points}
+use Rattle.stk_book.proofs.SoundLemmas.{found_itself}
+use Rattle.stk_book.proofs.ListLemmas.{lists-joined}
+use Rattle.stk_book.proofs.GroundLemmas.{holds-kept}
+use Rattle.stk_book.proofs.DelegateLemmas.{keeps-ok}
+use Rattle.stk_book.proofs.CreateLemmas.{created_then, answers_ok, answers_err, rates, sound-created, ready-created, joined_tokens}
+use Rattle.stk_book.proofs.staking.Staking.create_validator.Goals as goal
+
+pub delegate_to-delegated-requires-clause-stands : goal.delegate_to-delegated-requires-clause-stands
+delegate_to-delegated-requires-clause-stands g c =
+    let v = c.new_validator-v.result in
+    ap (λ r. validator_of r.staked v.operator) c.in_ok-add.ensures.ok ∙ found_itself c.args.self.now.staked v
+
+pub delegate_to-delegated-requires-clause-sound : goal.delegate_to-delegated-requires-clause-sound
+delegate_to-delegated-requires-clause-sound g c =
+    let s = c.args.self.now.staked in
+    let h = to_points c.requires.sound.0 s c.requires.sound.1 in
+    let v = c.new_validator-v.result in (
+      c.requires.sound.0,
+      from_points c.requires.sound.0 c.add.new.self.staked (subst (IsSoundAt c.requires.sound.0) (sym (ap (λ r. r.staked) c.in_ok-add.ensures.ok))
+          (sound-created c.requires.sound.0 s h c.args.m.now c.args.g.now.ctx.time v c.new_validator-v.ensures (rates c.args.m.now c.args.g.now.ctx.params.min_commission_rate (sym c.in_ok-form_create.ensures)) (sym c.in-None.ensures.value) (sym c.in-None-at_cons.ensures.value))),
+    )
+
+pub delegate_to-delegated-requires-clause-stand : goal.delegate_to-delegated-requires-clause-stand
+delegate_to-delegated-requires-clause-stand g c =
+    let s = c.args.self.now.staked in
+    let v = c.new_validator-v.result in
+    let t = g.H.StakingHooks.tells in
+    let hs = g.H.StakingHooks.held c.args.hooks.now in
+    let hs2 = g.H.StakingHooks.held c.after_validator_created.new.self in
+    let u = seen g.B.Bank.holdings c.args.g.now in
+    let u2 = seen g.B.Bank.holdings c.after_validator_created.new.g in
+    let ready = ready-created s c.args.m.now c.args.g.now.ctx.time v c.new_validator-v.ensures (sym c.in-None.ensures.value) t hs u c.requires.stand in
+    subst (Stand t hs2 u2) (sym (lists-joined s v) ∙ ap lists_of (sym (ap (λ r. r.staked) c.in_ok-add.ensures.ok)))
+    (Stand-after_ok t g.met.H.StakingHooks.lawful hs hs2 (created v) u u2 (lists_of s) ready c.in_ok-after_validator_created.ensures.told)
+
+pub delegate_to-delegated-requires-clause-accounts : goal.delegate_to-delegated-requires-clause-accounts
+delegate_to-delegated-requires-clause-accounts g c =
+    let s = c.args.self.now.staked in
+    let v = c.new_validator-v.result in
+    let t = g.H.StakingHooks.tells in
+    let hs = g.H.StakingHooks.held c.args.hooks.now in
+    let hs2 = g.H.StakingHooks.held c.after_validator_created.new.self in
+    let u = seen g.B.Bank.holdings c.args.g.now in
+    let u2 = seen g.B.Bank.holdings c.after_validator_created.new.g in
+    let ready = ready-created s c.args.m.now c.args.g.now.ctx.time v c.new_validator-v.ensures (sym c.in-None.ensures.value) t hs u c.requires.stand in
+    let keeps = keeps-ok t g.met.H.StakingHooks.lawful hs hs2 (created v) u u2 (lists_of s) ready c.in_ok-after_validator_created.ensures.told in
+    subst (λ x. HoldsStake u2 (bonded_tokens x) (other_tokens x)) (sym (ap (λ r. r.staked) c.in_ok-add.ensures.ok))
+    (joined_tokens s c.args.m.now c.args.g.now.ctx.time v c.new_validator-v.ensures (sym c.in-None.ensures.value) u2 (holds-kept _ u u2 _ _ keeps c.requires.accounts))
+
+pub returns-in-Ok-clause-told : goal.returns-in-Ok-clause-told
+returns-in-Ok-clause-told g c =
+    let s = c.args.self.now.staked in
+    let m = c.args.m.now in
+    let v = c.new_validator-v.result in
+    let t = g.H.StakingHooks.tells in
+    let hs = g.H.StakingHooks.held c.args.hooks.now in
+    let hs2 = g.H.StakingHooks.held c.after_validator_created.new.self in
+    let u = seen g.B.Bank.holdings c.args.g.now in
+    let u2 = seen g.B.Bank.holdings c.after_validator_created.new.g in
+    let given = told-of_ok (t.told hs (created v) u) hs2 u2 c.in_ok-after_validator_created.ensures.told in
+    let is = created_then t.told m s hs u v hs2 u2 given.0 c.new_validator-v.ensures (sym c.in_ok-form_create.ensures) (sym c.in-None.ensures.value) (sym c.in-None-at_cons.ensures.value) (sym c.is_other.ensures ∙ c.if-is_other.false) given.1 in
+    let staked : c.add.new.self.staked ≡ with_validator v s = ap (λ r. r.staked) c.in_ok-add.ensures.ok in
+    let last : AnswersAs (delegated t.told v m.validator m.amount.amount wallet (behind_log given.0 (with_validator v s) hs2 u2)) c.delegate_to-delegated.new.self.staked (g.H.StakingHooks.held c.delegate_to-delegated.new.hooks) (seen g.B.Bank.holdings c.delegate_to-delegated.new.g) (Ok c.in-Ok.field-0)
+    = subst (λ x. AnswersAs (delegated t.told v m.validator m.amount.amount wallet (behind_log given.0 x hs2 u2)) c.delegate_to-delegated.new.self.staked (g.H.StakingHooks.held c.delegate_to-delegated.new.hooks) (seen g.B.Bank.holdings c.delegate_to-delegated.new.g) (Ok c.in-Ok.field-0)) staked (c.in-Ok.ensures.told given.0) in
+    subst (λ r. AnswersAs r c.delegate_to-delegated.new.self.staked (g.H.StakingHooks.held c.delegate_to-delegated.new.hooks) (seen g.B.Bank.holdings c.delegate_to-delegated.new.g) (Ok tt)) (sym is)
+    (answers_ok _ _ _ _ _ last)
+
+pub returns-in-Err-clause-told : goal.returns-in-Err-clause-told
+returns-in-Err-clause-told g c =
+    let s = c.args.self.now.staked in
+    let m = c.args.m.now in
+    let v = c.new_validator-v.result in
+    let t = g.H.StakingHooks.tells in
+    let hs = g.H.StakingHooks.held c.args.hooks.now in
+    let hs2 = g.H.StakingHooks.held c.after_validator_created.new.self in
+    let u = seen g.B.Bank.holdings c.args.g.now in
+    let u2 = seen g.B.Bank.holdings c.after_validator_created.new.g in
+    let given = told-of_ok (t.told hs (created v) u) hs2 u2 c.in_ok-after_validator_created.ensures.told in
+    let is = created_then t.told m s hs u v hs2 u2 given.0 c.new_validator-v.ensures (sym c.in_ok-form_create.ensures) (sym c.in-None.ensures.value) (sym c.in-None-at_cons.ensures.value) (sym c.is_other.ensures ∙ c.if-is_other.false) given.1 in
+    let staked : c.add.new.self.staked ≡ with_validator v s = ap (λ r. r.staked) c.in_ok-add.ensures.ok in
+    let last : AnswersAs (delegated t.told v m.validator m.amount.amount wallet (behind_log given.0 (with_validator v s) hs2 u2)) c.delegate_to-delegated.new.self.staked (g.H.StakingHooks.held c.delegate_to-delegated.new.hooks) (seen g.B.Bank.holdings c.delegate_to-delegated.new.g) (Err c.in-Err.stop)
+    = subst (λ x. AnswersAs (delegated t.told v m.validator m.amount.amount wallet (behind_log given.0 x hs2 u2)) c.delegate_to-delegated.new.self.staked (g.H.StakingHooks.held c.delegate_to-delegated.new.hooks) (seen g.B.Bank.holdings c.delegate_to-delegated.new.g) (Err c.in-Err.stop)) staked (c.in-Err.ensures.told given.0) in
+    subst (λ r. AnswersAs r c.delegate_to-delegated.new.self.staked (g.H.StakingHooks.held c.delegate_to-delegated.new.hooks) (seen g.B.Bank.holdings c.delegate_to-delegated.new.g) (Err c.in-Err.stop)) (sym is)
+    (answers_err _ _ _ _ _ last)

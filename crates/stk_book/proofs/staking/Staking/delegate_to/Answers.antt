@@ -1,0 +1,135 @@
+use Rattle.std.proofs.Common.{◌≡◌, ◌∙◌, ap, sym, subst, arith}
+use Rattle.std.specs.Prelude.{Ok, ◌+◌}
+use Rattle.stk_keep.specs.Ground.{seen}
+use Rattle.stk_keep.specs.Hooks.{Stand, after}
+use Rattle.stk_keep.specs.Staked.{lists_of, with_validator, bonded_tokens, other_tokens, HoldsStake}
+use Rattle.stk_keep.specs.World.{modified}
+use Rattle.stk_keep.proofs.HookLemmas.{Stand-after_ok}
+use Rattle.stk_rules.specs.Delegating.{hook_before}
+use Rattle.stk_rules.specs.Stakes.{with_shares}
+use Rattle.stk_book.specs.Calls.{origin_of}
+use Rattle.stk_book.proofs.PointLemmas.{IsSoundAt, to_points, from_points}
+use Rattle.stk_book.proofs.DelegateLemmas.{ready-before, stand-before, origin-before, can_pay, reached, shares-given, held-most, ready-delegated, sound-delegated, lists-delegated_is, holds-delegated, keeps-ok, grown, ok_is}
+use Rattle.stk_book.proofs.GroundLemmas.{holds-kept}
+use Rattle.stk_book.proofs.staking.Staking.delegate_to.Goals as goal
+
+pub shares_given-requires : goal.shares_given-requires
+shares_given-requires g c = let h = to_points c.requires.sound.0 c.args.self.now.staked c.requires.sound.1 in (h.validators c.args.v.now.operator c.args.v.now c.requires.stands).tokens
+
+pub call_before-requires : goal.call_before-requires
+call_before-requires g c =
+    let s = c.args.self.now.staked in
+    let h = to_points c.requires.sound.0 s c.requires.sound.1 in
+    (lists_of s, ready-before c.requires.sound.0 s h c.args.v.now c.requires.stands c.args.who.now g.H.StakingHooks.tells (g.H.StakingHooks.held c.args.hooks.now) (seen g.B.Bank.holdings c.args.g.now) c.held-held.result (sym c.held-held.ensures.value) c.requires.stand)
+
+pub pay_in-requires-clause-backed : goal.pay_in-requires-clause-backed
+pay_in-requires-clause-backed g c =
+    let s = c.args.self.now.staked in
+    let h = to_points c.requires.sound.0 s c.requires.sound.1 in
+    (stand-before c.requires.sound.0 s h c.args.v.now c.requires.stands c.args.who.now c.held-held.result (sym c.held-held.ensures.value) g.H.StakingHooks.tells g.met.H.StakingHooks.lawful
+    (g.H.StakingHooks.held c.args.hooks.now) (g.H.StakingHooks.held c.call_before.new.hooks) (seen g.B.Bank.holdings c.args.g.now) (seen g.B.Bank.holdings c.call_before.new.g) c.requires.stand c.in_ok-call_before.ensures.told).in_order.bank
+
+pub pay_in-requires-clause-enough : goal.pay_in-requires-clause-enough
+pay_in-requires-clause-enough g c =
+    let s = c.args.self.now.staked in
+    let h = to_points c.requires.sound.0 s c.requires.sound.1 in
+    can_pay (origin_of c.args.origin) c.args.amount s (seen g.B.Bank.holdings c.call_before.new.g)
+    (origin-before c.requires.sound.0 s h c.args.v.now c.requires.stands c.args.who.now c.held-held.result (sym c.held-held.ensures.value) g.H.StakingHooks.tells g.met.H.StakingHooks.lawful
+    (g.H.StakingHooks.held c.args.hooks.now) (g.H.StakingHooks.held c.call_before.new.hooks) (seen g.B.Bank.holdings c.args.g.now) (seen g.B.Bank.holdings c.call_before.new.g) c.requires.stand c.in_ok-call_before.ensures.told
+    (origin_of c.args.origin) c.args.amount c.requires.origin)
+
+pub overflow_add-grown : goal.overflow_add-grown
+overflow_add-grown g c =
+    let s = c.args.self.now.staked in
+    let h = to_points c.requires.sound.0 s c.requires.sound.1 in
+    let at_u = reached c.requires.sound.0 s h c.args.v.now c.requires.stands c.args.who.now c.held-held.result (sym c.held-held.ensures.value) g.H.StakingHooks.tells g.met.H.StakingHooks.lawful
+    (g.H.StakingHooks.held c.args.hooks.now) (g.H.StakingHooks.held c.call_before.new.hooks) (seen g.B.Bank.holdings c.args.g.now) (seen g.B.Bank.holdings c.call_before.new.g) c.requires.stand c.in_ok-call_before.ensures.told
+    (origin_of c.args.origin) c.args.amount c.requires.origin c.requires.some c.requires.accounts (seen g.B.Bank.holdings c.pay_in.new.g) c.in_ok-pay_in.ensures.paid c.in_ok-pay_in.ensures.backed in
+    let few = at_u.tokens in
+    omega (arith, few)
+
+pub total_of-shares-requires : goal.total_of-shares-requires
+total_of-shares-requires g c =
+    let s = c.args.self.now.staked in
+    let h = to_points c.requires.sound.0 s c.requires.sound.1 in
+    let most = held-most c.requires.sound.0 s h c.args.v.now c.requires.stands c.args.who.now c.held-held.result (sym c.held-held.ensures.value) in
+    let given = shares-given c.args.v.now c.args.amount c.in_ok-issued.issued (sym c.in_ok-issued.ensures) in
+    let below = given.below in
+    omega (arith, most, below)
+
+pub after_delegation_modified-requires : goal.after_delegation_modified-requires
+after_delegation_modified-requires g c =
+    let s = c.args.self.now.staked in
+    let h = to_points c.requires.sound.0 s c.requires.sound.1 in
+    let given = shares-given c.args.v.now c.args.amount c.in_ok-issued.issued (sym c.in_ok-issued.ensures) in
+    let shares : Ok c.unwrap.result ≡ Ok (c.args.v.now.shares + c.in_ok-issued.issued) = sym c.unwrap.ensures ∙ c.add.ensures ∙ given.sum in
+    let at_u = reached c.requires.sound.0 s h c.args.v.now c.requires.stands c.args.who.now c.held-held.result (sym c.held-held.ensures.value) g.H.StakingHooks.tells g.met.H.StakingHooks.lawful
+    (g.H.StakingHooks.held c.args.hooks.now) (g.H.StakingHooks.held c.call_before.new.hooks) (seen g.B.Bank.holdings c.args.g.now) (seen g.B.Bank.holdings c.call_before.new.g) c.requires.stand c.in_ok-call_before.ensures.told
+    (origin_of c.args.origin) c.args.amount c.requires.origin c.requires.some c.requires.accounts (seen g.B.Bank.holdings c.pay_in.new.g) c.in_ok-pay_in.ensures.paid c.in_ok-pay_in.ensures.backed in (
+      after (hook_before c.args.v.now c.args.who.now c.held-held.result) (lists_of s),
+      ready-delegated c.requires.sound.0 s h c.args.v.now c.requires.stands c.args.who.now c.held-held.result (sym c.held-held.ensures.value)
+          c.args.amount c.in_ok-issued.issued c.total_of-shares.result c.unwrap.result given (ok_is _ _ shares) c.total_of-shares.ensures g.H.StakingHooks.tells (g.H.StakingHooks.held c.call_before.new.hooks) (seen g.B.Bank.holdings c.pay_in.new.g) at_u,
+    )
+
+pub returns-clause-sound : goal.returns-clause-sound
+returns-clause-sound g c =
+    let s = c.args.self.now.staked in
+    let h = to_points c.requires.sound.0 s c.requires.sound.1 in
+    let given = shares-given c.args.v.now c.args.amount c.in_ok-issued.issued (sym c.in_ok-issued.ensures) in
+    let shares : Ok c.unwrap.result ≡ Ok (c.args.v.now.shares + c.in_ok-issued.issued) = sym c.unwrap.ensures ∙ c.add.ensures ∙ given.sum in
+    let at_u = reached c.requires.sound.0 s h c.args.v.now c.requires.stands c.args.who.now c.held-held.result (sym c.held-held.ensures.value) g.H.StakingHooks.tells g.met.H.StakingHooks.lawful
+    (g.H.StakingHooks.held c.args.hooks.now) (g.H.StakingHooks.held c.call_before.new.hooks) (seen g.B.Bank.holdings c.args.g.now) (seen g.B.Bank.holdings c.call_before.new.g) c.requires.stand c.in_ok-call_before.ensures.told
+    (origin_of c.args.origin) c.args.amount c.requires.origin c.requires.some c.requires.accounts (seen g.B.Bank.holdings c.pay_in.new.g) c.in_ok-pay_in.ensures.paid c.in_ok-pay_in.ensures.backed in
+    let w = grown c.args.v.now c.args.amount c.unwrap.result in
+    let staked : c.put_shares.new.self.staked ≡ with_shares c.args.who.now c.args.v.now.operator c.total_of-shares.result (with_validator w s)
+    = ap (λ r. r.staked) c.in_ok-put_shares.ensures.ok ∙ ap (λ r. with_shares c.args.who.now c.args.v.now.operator c.total_of-shares.result r.staked) c.in_ok-put.ensures.ok in (
+      c.requires.sound.0,
+      from_points c.requires.sound.0 c.put_shares.new.self.staked (subst (IsSoundAt c.requires.sound.0) (sym staked)
+          (sound-delegated c.requires.sound.0 s h c.args.v.now c.requires.stands c.args.who.now c.held-held.result (sym c.held-held.ensures.value)
+          c.args.amount c.in_ok-issued.issued c.total_of-shares.result c.unwrap.result given (ok_is _ _ shares) c.total_of-shares.ensures g.H.StakingHooks.tells (g.H.StakingHooks.held c.call_before.new.hooks) (seen g.B.Bank.holdings c.pay_in.new.g) at_u)),
+    )
+
+pub returns-clause-stand : goal.returns-clause-stand
+returns-clause-stand g c =
+    let s = c.args.self.now.staked in
+    let h = to_points c.requires.sound.0 s c.requires.sound.1 in
+    let given = shares-given c.args.v.now c.args.amount c.in_ok-issued.issued (sym c.in_ok-issued.ensures) in
+    let shares : Ok c.unwrap.result ≡ Ok (c.args.v.now.shares + c.in_ok-issued.issued) = sym c.unwrap.ensures ∙ c.add.ensures ∙ given.sum in
+    let at_u = reached c.requires.sound.0 s h c.args.v.now c.requires.stands c.args.who.now c.held-held.result (sym c.held-held.ensures.value) g.H.StakingHooks.tells g.met.H.StakingHooks.lawful
+    (g.H.StakingHooks.held c.args.hooks.now) (g.H.StakingHooks.held c.call_before.new.hooks) (seen g.B.Bank.holdings c.args.g.now) (seen g.B.Bank.holdings c.call_before.new.g) c.requires.stand c.in_ok-call_before.ensures.told
+    (origin_of c.args.origin) c.args.amount c.requires.origin c.requires.some c.requires.accounts (seen g.B.Bank.holdings c.pay_in.new.g) c.in_ok-pay_in.ensures.paid c.in_ok-pay_in.ensures.backed in
+    let w = grown c.args.v.now c.args.amount c.unwrap.result in
+    let staked : c.put_shares.new.self.staked ≡ with_shares c.args.who.now c.args.v.now.operator c.total_of-shares.result (with_validator w s)
+    = ap (λ r. r.staked) c.in_ok-put_shares.ensures.ok ∙ ap (λ r. with_shares c.args.who.now c.args.v.now.operator c.total_of-shares.result r.staked) c.in_ok-put.ensures.ok in
+    let tells = g.H.StakingHooks.tells in
+    let l = after (hook_before c.args.v.now c.args.who.now c.held-held.result) (lists_of s) in
+    let hook = modified w c.args.who.now c.total_of-shares.result in
+    let ready = ready-delegated c.requires.sound.0 s h c.args.v.now c.requires.stands c.args.who.now c.held-held.result (sym c.held-held.ensures.value)
+    c.args.amount c.in_ok-issued.issued c.total_of-shares.result c.unwrap.result given (ok_is _ _ shares) c.total_of-shares.ensures g.H.StakingHooks.tells (g.H.StakingHooks.held c.call_before.new.hooks) (seen g.B.Bank.holdings c.pay_in.new.g) at_u in
+    subst (Stand tells (g.H.StakingHooks.held c.after_delegation_modified.new.self) (seen g.B.Bank.holdings c.after_delegation_modified.new.g))
+    (lists-delegated_is c.requires.sound.0 s h c.args.v.now c.requires.stands c.args.who.now c.held-held.result (sym c.held-held.ensures.value)
+    c.args.amount c.in_ok-issued.issued c.total_of-shares.result c.unwrap.result given (ok_is _ _ shares) c.total_of-shares.ensures g.H.StakingHooks.tells (g.H.StakingHooks.held c.call_before.new.hooks) (seen g.B.Bank.holdings c.pay_in.new.g) at_u ∙ ap lists_of (sym staked))
+    (Stand-after_ok tells g.met.H.StakingHooks.lawful (g.H.StakingHooks.held c.call_before.new.hooks) (g.H.StakingHooks.held c.after_delegation_modified.new.self) hook (seen g.B.Bank.holdings c.pay_in.new.g) (seen g.B.Bank.holdings c.after_delegation_modified.new.g) l ready c.in_ok-after_delegation_modified.ensures.told)
+
+pub returns-clause-accounts : goal.returns-clause-accounts
+returns-clause-accounts g c =
+    let s = c.args.self.now.staked in
+    let h = to_points c.requires.sound.0 s c.requires.sound.1 in
+    let given = shares-given c.args.v.now c.args.amount c.in_ok-issued.issued (sym c.in_ok-issued.ensures) in
+    let shares : Ok c.unwrap.result ≡ Ok (c.args.v.now.shares + c.in_ok-issued.issued) = sym c.unwrap.ensures ∙ c.add.ensures ∙ given.sum in
+    let at_u = reached c.requires.sound.0 s h c.args.v.now c.requires.stands c.args.who.now c.held-held.result (sym c.held-held.ensures.value) g.H.StakingHooks.tells g.met.H.StakingHooks.lawful
+    (g.H.StakingHooks.held c.args.hooks.now) (g.H.StakingHooks.held c.call_before.new.hooks) (seen g.B.Bank.holdings c.args.g.now) (seen g.B.Bank.holdings c.call_before.new.g) c.requires.stand c.in_ok-call_before.ensures.told
+    (origin_of c.args.origin) c.args.amount c.requires.origin c.requires.some c.requires.accounts (seen g.B.Bank.holdings c.pay_in.new.g) c.in_ok-pay_in.ensures.paid c.in_ok-pay_in.ensures.backed in
+    let w = grown c.args.v.now c.args.amount c.unwrap.result in
+    let staked : c.put_shares.new.self.staked ≡ with_shares c.args.who.now c.args.v.now.operator c.total_of-shares.result (with_validator w s)
+    = ap (λ r. r.staked) c.in_ok-put_shares.ensures.ok ∙ ap (λ r. with_shares c.args.who.now c.args.v.now.operator c.total_of-shares.result r.staked) c.in_ok-put.ensures.ok in
+    let tells = g.H.StakingHooks.tells in
+    let l = after (hook_before c.args.v.now c.args.who.now c.held-held.result) (lists_of s) in
+    let hook = modified w c.args.who.now c.total_of-shares.result in
+    let ready = ready-delegated c.requires.sound.0 s h c.args.v.now c.requires.stands c.args.who.now c.held-held.result (sym c.held-held.ensures.value)
+    c.args.amount c.in_ok-issued.issued c.total_of-shares.result c.unwrap.result given (ok_is _ _ shares) c.total_of-shares.ensures g.H.StakingHooks.tells (g.H.StakingHooks.held c.call_before.new.hooks) (seen g.B.Bank.holdings c.pay_in.new.g) at_u in
+    let keeps = keeps-ok tells g.met.H.StakingHooks.lawful (g.H.StakingHooks.held c.call_before.new.hooks) (g.H.StakingHooks.held c.after_delegation_modified.new.self) hook (seen g.B.Bank.holdings c.pay_in.new.g) (seen g.B.Bank.holdings c.after_delegation_modified.new.g) l ready c.in_ok-after_delegation_modified.ensures.told in
+    subst (λ x. HoldsStake (seen g.B.Bank.holdings c.after_delegation_modified.new.g) (bonded_tokens x) (other_tokens x)) (sym staked)
+    (holds-kept _ (seen g.B.Bank.holdings c.pay_in.new.g) (seen g.B.Bank.holdings c.after_delegation_modified.new.g) _ _ keeps
+    (holds-delegated c.requires.sound.0 s h c.args.v.now c.requires.stands c.args.who.now c.held-held.result (sym c.held-held.ensures.value)
+    c.args.amount c.in_ok-issued.issued c.total_of-shares.result c.unwrap.result given (ok_is _ _ shares) c.total_of-shares.ensures g.H.StakingHooks.tells (g.H.StakingHooks.held c.call_before.new.hooks) (seen g.B.Bank.holdings c.pay_in.new.g) at_u))

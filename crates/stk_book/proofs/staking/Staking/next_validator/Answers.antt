@@ -1,0 +1,11 @@
+use Rattle.std.proofs.Common.{◌∙◌, ap}
+use Rattle.std.specs.Prelude.{option_map}
+use Rattle.std.specs.Option.{option_copied}
+use Rattle.stk_types.specs.Orders.{addr_cmp}
+use Rattle.stk_table.specs.Tabled.{entry_above}
+use Rattle.stk_book.proofs.staking.Staking.next_validator.Goals as goal
+
+pub returns-in-None-clause-validator : goal.returns-in-None-clause-validator
+returns-in-None-clause-validator g c =
+    ap (option_map (λ e. e.1)) c.in-None.ensures.above
+    ∙ ap (λ r. option_map (λ e. e.1) (entry_above addr_cmp r.staked.validators (option_copied c.args.after))) c.self.view_is

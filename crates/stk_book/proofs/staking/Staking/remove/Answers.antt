@@ -1,0 +1,71 @@
+use Rattle.std.proofs.Common.{◌∙◌, ap, sym, subst}
+use Rattle.stk_keep.specs.Ground.{seen}
+use Rattle.stk_keep.specs.Hooks.{Stand}
+use Rattle.stk_keep.specs.Staked.{lists_of}
+use Rattle.stk_keep.specs.World.{removed}
+use Rattle.stk_keep.proofs.HookLemmas.{Stand-after_ok}
+use Rattle.stk_book.proofs.PointLemmas.{IsSoundAt, to_points, from_points}
+use Rattle.stk_book.proofs.IndexLemmas.{alone_without}
+use Rattle.stk_book.proofs.SoundLemmas.{sound-taken}
+use Rattle.stk_book.proofs.ListLemmas.{lists-left}
+use Rattle.stk_book.proofs.GroundLemmas.{stand-noted, keeps-noted}
+use Rattle.stk_book.proofs.DelegateLemmas.{keeps-ok}
+use Rattle.stk_book.proofs.RemoveLemmas.{ready-removed, sure_fault}
+use Rattle.stk_book.proofs.staking.Staking.remove.Goals as goal
+
+pub take-requires-clause-alone : goal.take-requires-clause-alone
+take-requires-clause-alone g c =
+    let s = c.args.self.now.staked in
+    let h = to_points c.requires.sound.0 s c.requires.sound.1 in
+    alone_without s.validators c.args.v.now h.validators_ascend c.requires.stands (λ o x e i. h.cons o c.args.v.now.operator x c.args.v.now e c.requires.stands i)
+
+pub after_validator_removed-requires : goal.after_validator_removed-requires
+after_validator_removed-requires g c =
+    let s = c.args.self.now.staked in
+    let h = to_points c.requires.sound.0 s c.requires.sound.1 in
+    (lists_of s, ready-removed c.requires.sound.0 s c.args.v.now h c.requires.stands c.requires.empty g.H.StakingHooks.tells (g.H.StakingHooks.held c.args.hooks.now) (seen g.B.Bank.holdings c.args.g.now) c.requires.stand)
+
+pub returns-in-Err-clause-sure : goal.returns-in-Err-clause-sure
+returns-in-Err-clause-sure g c = λ sure.
+    let s = c.args.self.now.staked in
+    let h = to_points c.requires.sound.0 s c.requires.sound.1 in
+    let t = g.H.StakingHooks.tells in
+    let hs = g.H.StakingHooks.held c.args.hooks.now in
+    let u = seen g.B.Bank.holdings c.args.g.now in
+    let ready = ready-removed c.requires.sound.0 s c.args.v.now h c.requires.stands c.requires.empty t hs u c.requires.stand in
+    sure_fault t g.met.H.StakingHooks.lawful hs (g.H.StakingHooks.held c.after_validator_removed.new.self) c.args.v.now u (seen g.B.Bank.holdings c.after_validator_removed.new.g) (lists_of s) c.in-Err.fault sure ready c.in-Err.ensures.told
+
+pub returns-clause-sound : goal.returns-clause-sound
+returns-clause-sound g c =
+    let s = c.args.self.now.staked in
+    let h = to_points c.requires.sound.0 s c.requires.sound.1 in (
+      c.requires.sound.0,
+      from_points c.requires.sound.0 c.take.new.self.staked (subst (IsSoundAt c.requires.sound.0) (sym (ap (λ r. r.staked) c.in_ok-take.ensures.ok))
+          (sound-taken c.requires.sound.0 s c.args.v.now h c.requires.stands c.requires.empty)),
+    )
+
+pub returns-clause-stand : goal.returns-clause-stand
+returns-clause-stand g c =
+    let s = c.args.self.now.staked in
+    let h = to_points c.requires.sound.0 s c.requires.sound.1 in
+    let t = g.H.StakingHooks.tells in
+    let hs = g.H.StakingHooks.held c.args.hooks.now in
+    let u = seen g.B.Bank.holdings c.args.g.now in
+    let u2 = seen g.B.Bank.holdings c.after_validator_removed.new.g in
+    let hs2 = g.H.StakingHooks.held c.after_validator_removed.new.self in
+    let ready = ready-removed c.requires.sound.0 s c.args.v.now h c.requires.stands c.requires.empty t hs u c.requires.stand in
+    let stand = Stand-after_ok t g.met.H.StakingHooks.lawful hs hs2 (removed c.args.v.now) u u2 (lists_of s) ready c.in-Ok.ensures.told in
+    stand-noted t hs2 u2 c.push.new.self (lists_of c.take.new.self.staked)
+    (subst (Stand t hs2 u2) (sym (lists-left s c.args.v.now.operator h.validators_ascend) ∙ ap lists_of (sym (ap (λ r. r.staked) c.in_ok-take.ensures.ok))) stand)
+
+pub returns-clause-keeps : goal.returns-clause-keeps
+returns-clause-keeps g c =
+    let s = c.args.self.now.staked in
+    let h = to_points c.requires.sound.0 s c.requires.sound.1 in
+    let t = g.H.StakingHooks.tells in
+    let hs = g.H.StakingHooks.held c.args.hooks.now in
+    let u = seen g.B.Bank.holdings c.args.g.now in
+    let u2 = seen g.B.Bank.holdings c.after_validator_removed.new.g in
+    let hs2 = g.H.StakingHooks.held c.after_validator_removed.new.self in
+    let ready = ready-removed c.requires.sound.0 s c.args.v.now h c.requires.stands c.requires.empty t hs u c.requires.stand in
+    keeps-noted _ u u2 _ c.push.new.self c.in_ok-push.ensures.ok (keeps-ok t g.met.H.StakingHooks.lawful hs hs2 (removed c.args.v.now) u u2 (lists_of s) ready c.in-Ok.ensures.told)

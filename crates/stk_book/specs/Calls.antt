@@ -1,0 +1,98 @@
+-- What calls of staking need, and what they leave that no rule says.
+use Rattle.std.specs.Prelude.{◌≡◌, ℕ, ◌+◌, ◌≤◌, ◌^◌, ◌==◌, nat_lt, Bool, true, if◌then◌else◌, List, [], Option, Some, None, option_map, Result, Ok, Err, ⊤}
+use Rattle.stk_types.specs.declared.account.Account.TheVariants as account
+use Rattle.stk_types.specs.declared.status.BondStatus.{BondStatus}
+use Rattle.stk_keep.specs.declared.entities.Validator.{Validator}
+use Rattle.stk_keep.specs.declared.facts.Fact.TheVariants as fact
+use Rattle.stk_keep.specs.declared.faults.Stop.{Stop}
+use Rattle.stk_keep.specs.declared.messages.CreateValidator.{CreateValidator}
+use Rattle.stk_keep.specs.declared.messages.EditValidator.{EditValidator}
+use Rattle.stk_keep.specs.declared.refusal.Refusal.{Refusal}
+use Rattle.stk_keep.specs.declared.refusal.Refusal.TheVariants.{NonPositive, CommissionRange, MinSelfNotPositive, SelfBelowMinimum, CommissionBelowMinimum}
+use Rattle.stk_keep.specs.Holdings.{balance_of}
+use Rattle.stk_keep.specs.Staked.{Staked, validator_of, with_validator, bonded_tokens, other_tokens, is_bonded}
+use Rattle.stk_keep.specs.Log.{Log}
+use Rattle.stk_keep.specs.Steps.{◌>>=◌, ◌>>◌, stop_if}
+use Rattle.stk_keep.specs.World.{View, World, noted}
+use Rattle.stk_rules.specs.Answers.{StopsForMemory, RefusesAs}
+use Rattle.stk_rules.specs.Delegating.{Origin, wallet, pool}
+use Rattle.stk_rules.specs.Sound.{StakedIsSound}
+use Rattle.stk_rules.specs.Stakes.{pool_of}
+use Rattle.stk_rules.specs.Validators.{are_out_of_range, edited}
+use Rattle.stk_book.specs.declared.origin.Origin as declared
+use Rattle.stk_book.specs.declared.origin.Origin.TheVariants as origin
+
+-- staking's own condition: its records are sound, with no unbonding later than some height
+abbrev pub IsSoundStake : Staked → Type 0
+IsSoundStake s = (height : ℕ) × StakedIsSound height s
+
+-- what a rule starts from: the module's records, what the hooks hold, and the ground
+abbrev pub over : {S H : Type 0} → S → H → View → World S H
+over s h v = record { mine = s; hooks = h; view = v; log = [] }
+
+-- the same behind what was logged so far
+abbrev pub behind_log : {S H : Type 0} → Log → S → H → View → World S H
+behind_log log s h v = record { mine = s; hooks = h; view = v; log = log }
+
+-- where the coins of a delegation come from, as rules have it
+abbrev pub origin_of : declared.Origin → Origin
+origin_of origin.Wallet = wallet
+origin_of (origin.Pool status) = pool status
+
+-- what is owed to validators from the account of a status
+abbrev pub tokens_of_pool : BondStatus → Staked → ℕ
+tokens_of_pool status s = if is_bonded status then bonded_tokens s else other_tokens s
+
+-- The account that the coins of a delegation come from has them, besides what is owed from it to validators.
+abbrev pub HasOrigin : Origin → ℕ → Staked → View → Type 0
+HasOrigin wallet amount s v = ⊤
+HasOrigin (pool from) amount s v = tokens_of_pool from s + amount ≤ balance_of v.bank (account.Module (pool_of from)) v.ctx.params.bond_denom
+
+-- the account that the coins of a delegation come from has them, unless it is the delegator's own
+abbrev pub CanPay : Origin → ℕ → View → Type 0
+CanPay wallet amount v = ⊤
+CanPay (pool from) amount v = amount ≤ balance_of v.bank (account.Module (pool_of from)) v.ctx.params.bond_denom
+
+-- what paying in answers and leaves of the ground: what the rule gives, or its refusal; or memory is wanting
+abbrev pub PaysAs : Result View Refusal → View → Result ⊤ Stop → Type 0
+PaysAs (Ok due) v (Ok _) = v ≡ due
+PaysAs (Ok due) v (Err why) = StopsForMemory why
+PaysAs (Err due) v (Ok _) = ⊥
+PaysAs (Err due) v (Err why) = RefusesAs due why
+
+-- an edit changes validators alone
+abbrev pub edited_over : EditValidator → Staked → View → Result (⊤ × Staked × View) Refusal
+edited_over m s v = edited m v.ctx.time v.ctx.params.min_commission_rate s >>= λ t. Ok (tt, t, v)
+
+-- with this validator in the place of the old one, where there is one
+abbrev pub with_if : Option Validator → Staked → Staked
+with_if None s = s
+with_if (Some v) s = with_validator v s
+
+-- with a validator that is changed so
+abbrev pub changed_at : (Validator → Validator) → List ℕ → Staked → Staked
+changed_at f operator s = with_if (option_map f (validator_of s operator)) s
+
+-- with a validator jailed, if so
+abbrev pub jailed_if : Bool → Validator → Staked → Staked
+jailed_if falls v s = if falls then with_validator (record v { jailed = true }) s else s
+
+-- with this told, if so
+abbrev pub jail_noted : Bool → Validator → View → View
+jail_noted falls v w = if falls then noted (fact.Jailed v.operator) w else w
+
+-- what is refused of a new validator whatever stands: no amount, rates that are none, a least self-delegation of 0 or above
+-- the amount, a rate below the chain's minimum (`MsgCreateValidator.ValidateBasic`)
+abbrev pub create_formed : CreateValidator → ℕ → Result ⊤ Refusal
+create_formed m minimum = do
+  stop_if (m.amount.amount == 0) NonPositive
+  stop_if (are_out_of_range m) CommissionRange
+  stop_if (m.min_self_delegation == 0) MinSelfNotPositive
+  stop_if (nat_lt m.amount.amount m.min_self_delegation) SelfBelowMinimum
+  stop_if (nat_lt m.rate minimum) CommissionBelowMinimum
+
+-- the rates of a new validator are rates: none above the highest, which is at most one
+pub record HasRates (m : CreateValidator) : Type 0 where
+  pub max_rate : m.max_rate ≤ 10 ^ 18
+  pub rate : m.rate ≤ m.max_rate
+  pub max_change : m.max_change_rate ≤ m.max_rate

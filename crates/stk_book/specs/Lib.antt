@@ -1,0 +1,5 @@
+pub mod Registered
+pub mod Joint
+pub mod Calls
+pub mod Trials
+pub mod Rows

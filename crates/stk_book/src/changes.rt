@@ -1,0 +1,221 @@
+//! Changes of a validator that other modules bring about: its jail, its status, a burn, and its removal.
+
+ghost use Rattle.std.specs.Prelude.{◌≡◌, ℕ, ◌-◌, ◌≤◌, ◌++◌, ◌∷◌, [], List, true, false, Some, IsSome, OnOk, IfErr, IsErr};
+ghost use Rattle.stk_keep.specs.declared.entities.Validator.{Validator};
+ghost use Rattle.stk_keep.specs.declared.facts.Fact.{Fact};
+ghost use Rattle.stk_keep.specs.declared.facts.Fact.TheVariants as fact;
+ghost use Rattle.stk_keep.specs.declared.faults.HookFault.TheVariants.{NoMemory};
+ghost use Rattle.stk_keep.specs.Ground.{seen, CanBeUndone};
+ghost use Rattle.stk_keep.specs.Hooks.{Stand, Keeps};
+ghost use Rattle.stk_keep.specs.Log.{Log};
+ghost use Rattle.stk_keep.specs.Staked.{validator_of, lists_of, is_unbonded};
+ghost use Rattle.stk_rules.specs.Answers.{Leaves};
+ghost use Rattle.stk_rules.specs.Unbonding.{validator_removed};
+ghost use Rattle.stk_book.specs.Registered.{behind};
+ghost use Rattle.stk_book.specs.Calls.{IsSoundStake, over, behind_log, changed_at};
+
+use crate::staking::Staking;
+use std::alloc::Global;
+use std::sync::ledger::Ledger;
+use stk_keep::{Bank, Fact, Facts, Ground, HookFault, StakingHooks, Validator};
+use stk_types::{Addr, BondStatus, Moment, Steps};
+
+impl Staking {
+    /// Jails the validator of an operator, and tells it (`jailValidator`). The only error is `NoMemory`.
+    pub fn jail<L: Ledger>(
+        &mut self,
+        facts: &mut Facts,
+        operator: &Addr,
+        steps: &mut Steps<L>,
+    ) -> Result<(), HookFault>
+        requires known { IsSome (validator_of self.old.staked operator.now) }
+        requires sound { IsSoundStake self.old.staked }
+        ensures jailed { OnOk result (self.new.staked ≡ changed_at (λ v. record v { jailed = true }) operator.now self.old.staked) }
+        ensures told { OnOk result (facts.new ≡ facts.old ++ fact.Jailed operator.now ∷ []) }
+        ensures sound { OnOk result (IsSoundStake self.new.staked) }
+        ensures fault { IfErr result (λ fault. fault ≡ NoMemory) }
+        ensures grown { (more : List Fact) × (facts.new ≡ facts.old ++ more) }
+        ensures behind { behind self.new ≡ behind self.old }
+        ensures spent { self.old.spent ≡ true → self.new.spent ≡ true }
+        ensures spent_answer { self.old.spent ≡ true → IsErr result }
+        ensures unspent { OnOk result (self.new.spent ≡ self.old.spent) }
+    {
+        self.known();
+        let mut v = *self.at(operator, steps).unwrap();
+        v.jailed = true;
+        self.put(&v, steps)?;
+        facts.push(Fact::Jailed {
+            validator: *operator,
+        })?;
+        Ok(())
+    }
+
+    /// Lets the validator of an operator out of jail, and tells it (`unjailValidator`). The only error is
+    /// `NoMemory`.
+    pub fn clear_jail<L: Ledger>(
+        &mut self,
+        facts: &mut Facts,
+        operator: &Addr,
+        steps: &mut Steps<L>,
+    ) -> Result<(), HookFault>
+        requires known { IsSome (validator_of self.old.staked operator.now) }
+        requires sound { IsSoundStake self.old.staked }
+        ensures cleared { OnOk result (self.new.staked ≡ changed_at (λ v. record v { jailed = false }) operator.now self.old.staked) }
+        ensures told { OnOk result (facts.new ≡ facts.old ++ fact.Unjailed operator.now ∷ []) }
+        ensures sound { OnOk result (IsSoundStake self.new.staked) }
+        ensures fault { IfErr result (λ fault. fault ≡ NoMemory) }
+        ensures grown { (more : List Fact) × (facts.new ≡ facts.old ++ more) }
+        ensures behind { behind self.new ≡ behind self.old }
+        ensures spent { self.old.spent ≡ true → self.new.spent ≡ true }
+        ensures spent_answer { self.old.spent ≡ true → IsErr result }
+        ensures unspent { OnOk result (self.new.spent ≡ self.old.spent) }
+    {
+        self.known();
+        let mut v = *self.at(operator, steps).unwrap();
+        v.jailed = false;
+        self.put(&v, steps)?;
+        facts.push(Fact::Unjailed {
+            validator: *operator,
+        })?;
+        Ok(())
+    }
+
+    /// Gives the validator of an operator a status, with the height and the time of its unbonding, and tells
+    /// it (`bondValidator`, `beginUnbondingValidator`, `completeUnbondingValidator`). The only error is
+    /// `NoMemory`.
+    pub fn set_status<L: Ledger>(
+        &mut self,
+        facts: &mut Facts,
+        operator: &Addr,
+        status: BondStatus,
+        height: u64,
+        time: Moment,
+        steps: &mut Steps<L>,
+    ) -> Result<(), HookFault>
+        requires known { IsSome (validator_of self.old.staked operator.now) }
+        requires sound { IsSoundStake self.old.staked }
+        ensures changed { OnOk result (self.new.staked ≡ changed_at (λ v. record v { status = status; unbonding_height = height; unbonding_time = time }) operator.now self.old.staked) }
+        ensures told { OnOk result (facts.new ≡ facts.old ++ fact.Changed operator.now status ∷ []) }
+        ensures sound { OnOk result (IsSoundStake self.new.staked) }
+        ensures fault { IfErr result (λ fault. fault ≡ NoMemory) }
+        ensures grown { (more : List Fact) × (facts.new ≡ facts.old ++ more) }
+        ensures behind { behind self.new ≡ behind self.old }
+        ensures spent { self.old.spent ≡ true → self.new.spent ≡ true }
+        ensures spent_answer { self.old.spent ≡ true → IsErr result }
+        ensures unspent { OnOk result (self.new.spent ≡ self.old.spent) }
+    {
+        self.known();
+        let mut v = *self.at(operator, steps).unwrap();
+        v.status = status;
+        v.unbonding_height = height;
+        v.unbonding_time = time;
+        self.put(&v, steps)?;
+        facts.push(Fact::Changed {
+            validator: *operator,
+            status,
+        })?;
+        Ok(())
+    }
+
+    /// Takes tokens from the validator of an operator, which it has (`RemoveTokens`). The coins stay where
+    /// they are, and nothing is told. The only error is `NoMemory`.
+    pub fn burn_tokens<L: Ledger>(
+        &mut self,
+        operator: &Addr,
+        amount: u128,
+        steps: &mut Steps<L>,
+    ) -> Result<(), HookFault>
+        requires known { (v : Validator) × ((validator_of self.old.staked operator.now ≡ Some v) × (amount ≤ v.tokens)) }
+        requires sound { IsSoundStake self.old.staked }
+        ensures burned { OnOk result (self.new.staked ≡ changed_at (λ v. record v { tokens = v.tokens - amount }) operator.now self.old.staked) }
+        ensures sound { OnOk result (IsSoundStake self.new.staked) }
+        ensures fault { IfErr result (λ fault. fault ≡ NoMemory) }
+        ensures behind { behind self.new ≡ behind self.old }
+        ensures spent { self.old.spent ≡ true → self.new.spent ≡ true }
+        ensures spent_answer { self.old.spent ≡ true → IsErr result }
+        ensures unspent { OnOk result (self.new.spent ≡ self.old.spent) }
+    {
+        self.known();
+        let mut v = *self.at(operator, steps).unwrap();
+        v.tokens -= amount;
+        self.put(&v, steps)?;
+        Ok(())
+    }
+
+    /// Takes the validator of an operator out, which is unbonded and has no shares, then calls its last hook,
+    /// and tells it (`RemoveValidator`).
+    ///
+    /// `Over` comes exactly where the hook exceeds, which sure hooks never do.
+    pub fn remove_validator<B: Bank, H: StakingHooks, L: Ledger>(
+        &mut self,
+        alloc: Global,
+        g: &mut Ground<B>,
+        hooks: &mut H,
+        operator: &Addr,
+        steps: &mut Steps<L>,
+    ) -> Result<(), HookFault>
+        requires known { (v : Validator) × ((validator_of self.old.staked operator.now ≡ Some v) × (v.shares ≡ 0) × (is_unbonded v.status ≡ true)) }
+        requires sound { IsSoundStake self.old.staked }
+        requires stand { Stand H.tells (H.held hooks.old) (seen B.holdings g.old) (lists_of self.old.staked) }
+
+        ensures told { (v : Validator) → validator_of self.old.staked operator.now ≡ Some v
+            → Leaves (validator_removed H.tells.told v (over self.old.staked (H.held hooks.old) (seen B.holdings g.old))) self.new.staked (H.held hooks.new) (seen B.holdings g.new) result }
+        ensures sure { H.tells.sure (H.held hooks.old) ≡ true → IfErr result (λ fault. fault ≡ NoMemory) }
+        ensures sound { OnOk result (IsSoundStake self.new.staked) }
+        ensures stand { OnOk result (Stand H.tells (H.held hooks.new) (seen B.holdings g.new) (lists_of self.new.staked)) }
+        ensures keeps { OnOk result (Keeps (H.tells.owes (H.held hooks.old) ≡ None) (seen B.holdings g.old) (seen B.holdings g.new)) }
+
+        // Whatever the answer.
+        ensures undone { CanBeUndone B.marks g.old g.new }
+        ensures bank { B.touches g.new.bank ≡ B.touches g.old.bank }
+        ensures behind { behind self.new ≡ behind self.old }
+        ensures hook_marks { H.marks hooks.new ≡ H.marks hooks.old }
+        ensures spent { self.old.spent ≡ true → self.new.spent ≡ true }
+        ensures spent_answer { self.old.spent ≡ true → IsErr result }
+        ensures unspent { OnOk result (self.new.spent ≡ self.old.spent) }
+    {
+        self.known();
+        let v = *self.at(operator, steps).unwrap();
+        self.remove(alloc, g, hooks, &v, steps)
+    }
+
+    /// The same, of this validator.
+    pub(crate) fn remove<B: Bank, H: StakingHooks, L: Ledger>(
+        &mut self,
+        alloc: Global,
+        g: &mut Ground<B>,
+        hooks: &mut H,
+        v: &Validator,
+        steps: &mut Steps<L>,
+    ) -> Result<(), HookFault>
+        requires stands { validator_of self.old.staked v.now.operator ≡ Some v.now }
+        requires empty { v.now.shares ≡ 0 }
+        requires sound { IsSoundStake self.old.staked }
+        requires stand { Stand H.tells (H.held hooks.old) (seen B.holdings g.old) (lists_of self.old.staked) }
+
+        ensures told { (log : Log) → Leaves (validator_removed H.tells.told v.now (behind_log log self.old.staked (H.held hooks.old) (seen B.holdings g.old))) self.new.staked (H.held hooks.new) (seen B.holdings g.new) result }
+        ensures sure { H.tells.sure (H.held hooks.old) ≡ true → IfErr result (λ fault. fault ≡ NoMemory) }
+        ensures sound { OnOk result (IsSoundStake self.new.staked) }
+        ensures stand { OnOk result (Stand H.tells (H.held hooks.new) (seen B.holdings g.new) (lists_of self.new.staked)) }
+        ensures keeps { OnOk result (Keeps (H.tells.owes (H.held hooks.old) ≡ None) (seen B.holdings g.old) (seen B.holdings g.new)) }
+
+        // Whatever the answer.
+        ensures undone { CanBeUndone B.marks g.old g.new }
+        ensures bank { B.touches g.new.bank ≡ B.touches g.old.bank }
+        ensures behind { behind self.new ≡ behind self.old }
+        ensures hook_marks { H.marks hooks.new ≡ H.marks hooks.old }
+        ensures spent { self.old.spent ≡ true → self.new.spent ≡ true }
+        ensures spent_answer { self.old.spent ≡ true → IsErr result }
+        ensures unspent { OnOk result (self.new.spent ≡ self.old.spent) }
+    {
+        self.take(v, steps)?;
+        match hooks.after_validator_removed(alloc, g, v, steps) {
+            Ok(()) => (),
+            Err(fault) => return Err(fault),
+        }
+        g.facts.push(Fact::Removed {
+            validator: v.operator,
+        })?;
+        Ok(())
+    }
+}

@@ -1,0 +1,183 @@
+//! Delegating to a validator.
+
+ghost use Rattle.std.specs.Prelude.{◌≡◌, ℕ, ◌+◌, ◌*◌, ◌^◌, ◌<◌, ◌≤◌, true, unwrap_or, Some, None, IsSome, OnOk, IsErr};
+ghost use Rattle.stk_keep.specs.declared.entities.Validator.{Validator};
+ghost use Rattle.stk_keep.specs.Answers.{Answers, AnswersAs};
+ghost use Rattle.stk_keep.specs.Ground.{seen, CanBeUndone};
+ghost use Rattle.stk_keep.specs.Hooks.{Lists, Ready, Stand};
+ghost use Rattle.stk_keep.specs.Log.{Log};
+ghost use Rattle.stk_keep.specs.Staked.{validator_of, lists_of, bonded_tokens, other_tokens, HoldsStake};
+ghost use Rattle.stk_rules.specs.Delegating.{shares_given, hook_before, delegated};
+ghost use Rattle.stk_rules.specs.Stakes.{refusal_of_shares};
+ghost use Rattle.stk_book.specs.Registered.{behind};
+ghost use Rattle.stk_book.specs.Calls.{IsSoundStake, over, behind_log, origin_of, HasOrigin};
+
+use crate::origin::Origin;
+use crate::paying::pay_in;
+use crate::staking::Staking;
+use std::alloc::Global;
+use std::sync::ledger::Ledger;
+use stk_dec::Dec;
+use stk_keep::{Bank, Ground, HookFault, Refusal, StakingHooks, Stop, Validator};
+use stk_shares::{ShareFault, issue};
+use stk_types::{Addr, Steps};
+
+impl Staking {
+    /// Delegates a positive amount to the validator of an operator (`x/staking/keeper`: `Delegate`), in this
+    /// order: the hook before; the coins move; tokens and shares grow; the hook after. Answers the issued
+    /// shares.
+    ///
+    /// It is refused as `RateInvalid` where shares stand over no tokens, else as `Overflow` where the new
+    /// shares or their sum with the old are over, else as `TinyDelegation` where they are 0, else as
+    /// `Overflow` where the hook before exceeds, else as `InsufficientFunds` where the delegator is short,
+    /// else as `Overflow` where the hook after exceeds.
+    pub fn delegate<B: Bank, H: StakingHooks, L: Ledger>(
+        &mut self,
+        alloc: Global,
+        g: &mut Ground<B>,
+        hooks: &mut H,
+        who: &Addr,
+        operator: &Addr,
+        amount: u128,
+        origin: Origin,
+        steps: &mut Steps<L>,
+    ) -> Result<Dec, Stop>
+        requires known { IsSome (validator_of self.old.staked operator.now) }
+        requires some { 0 < amount }
+        requires sound { IsSoundStake self.old.staked }
+        requires stand { Stand H.tells (H.held hooks.old) (seen B.holdings g.old) (lists_of self.old.staked) }
+        requires accounts { HoldsStake (seen B.holdings g.old) (bonded_tokens self.old.staked) (other_tokens self.old.staked) }
+        requires origin { HasOrigin (origin_of origin) amount self.old.staked (seen B.holdings g.old) }
+
+        ensures told { (v : Validator) → validator_of self.old.staked operator.now ≡ Some v
+            → AnswersAs (delegated H.tells.told v who.now amount (origin_of origin) (over self.old.staked (H.held hooks.old) (seen B.holdings g.old))) self.new.staked (H.held hooks.new) (seen B.holdings g.new) result }
+        ensures sound { OnOk result (IsSoundStake self.new.staked) }
+        ensures stand { OnOk result (Stand H.tells (H.held hooks.new) (seen B.holdings g.new) (lists_of self.new.staked)) }
+        ensures accounts { OnOk result (HoldsStake (seen B.holdings g.new) (bonded_tokens self.new.staked) (other_tokens self.new.staked)) }
+
+        // Whatever the answer.
+        ensures undone { CanBeUndone B.marks g.old g.new }
+        ensures bank { B.touches g.new.bank ≡ B.touches g.old.bank }
+        ensures behind { behind self.new ≡ behind self.old }
+        ensures hook_marks { H.marks hooks.new ≡ H.marks hooks.old }
+        ensures spent { self.old.spent ≡ true → self.new.spent ≡ true }
+        ensures spent_answer { self.old.spent ≡ true → IsErr result }
+        ensures unspent { OnOk result (self.new.spent ≡ self.old.spent) }
+    {
+        self.known();
+        let v = *self.at(operator, steps).unwrap();
+        self.delegate_to(alloc, g, hooks, &v, who, amount, origin, steps)
+    }
+
+    /// The same, to this validator.
+    pub(crate) fn delegate_to<B: Bank, H: StakingHooks, L: Ledger>(
+        &mut self,
+        alloc: Global,
+        g: &mut Ground<B>,
+        hooks: &mut H,
+        v: &Validator,
+        who: &Addr,
+        amount: u128,
+        origin: Origin,
+        steps: &mut Steps<L>,
+    ) -> Result<Dec, Stop>
+        requires stands { validator_of self.old.staked v.now.operator ≡ Some v.now }
+        requires some { 0 < amount }
+        requires sound { IsSoundStake self.old.staked }
+        requires stand { Stand H.tells (H.held hooks.old) (seen B.holdings g.old) (lists_of self.old.staked) }
+        requires accounts { HoldsStake (seen B.holdings g.old) (bonded_tokens self.old.staked) (other_tokens self.old.staked) }
+        requires origin { HasOrigin (origin_of origin) amount self.old.staked (seen B.holdings g.old) }
+
+        ensures told { (log : Log) → AnswersAs (delegated H.tells.told v.now who.now amount (origin_of origin) (behind_log log self.old.staked (H.held hooks.old) (seen B.holdings g.old))) self.new.staked (H.held hooks.new) (seen B.holdings g.new) result }
+        ensures sound { OnOk result (IsSoundStake self.new.staked) }
+        ensures stand { OnOk result (Stand H.tells (H.held hooks.new) (seen B.holdings g.new) (lists_of self.new.staked)) }
+        ensures accounts { OnOk result (HoldsStake (seen B.holdings g.new) (bonded_tokens self.new.staked) (other_tokens self.new.staked)) }
+
+        // Whatever the answer.
+        ensures undone { CanBeUndone B.marks g.old g.new }
+        ensures bank { B.touches g.new.bank ≡ B.touches g.old.bank }
+        ensures behind { behind self.new ≡ behind self.old }
+        ensures hook_marks { H.marks hooks.new ≡ H.marks hooks.old }
+        ensures spent { self.old.spent ≡ true → self.new.spent ≡ true }
+        ensures spent_answer { self.old.spent ≡ true → IsErr result }
+        ensures unspent { OnOk result (self.new.spent ≡ self.old.spent) }
+    {
+        let issued = shares_given(v, amount)?;
+        let held = self.held(who, &v.operator, steps);
+        call_before(alloc, g, hooks, v, who, &held, steps)?;
+        pay_in(alloc, g, who, v.status, amount, origin, steps)?;
+        let grown = Validator {
+            tokens: v.tokens + amount,
+            shares: v.shares.add(issued).unwrap(),
+            ..*v
+        };
+        let shares = total_of(&held, issued);
+        self.put(&grown, steps)?;
+        self.put_shares(who, &v.operator, shares, steps)?;
+        hooks.after_delegation_modified(alloc, g, &grown, who, shares, steps)?;
+        Ok(issued)
+    }
+}
+
+/// The shares that an amount gives (`Validator.AddTokensFromDel`). Refused where shares stand over no
+/// tokens, where the new shares or their sum with the old are over, and where they are 0.
+fn shares_given(v: &Validator, amount: u128) -> Result<Dec, Refusal>
+    requires { v.now.tokens ≤ 10 ^ 18 }
+    ensures { result ≡ shares_given v.now amount }
+{
+    let issued = match issue(v.tokens, v.shares, amount) {
+        Ok(issued) => issued,
+        Err(fault) => return Err(refusal_of_shares(fault)),
+    };
+    if let Err(over) = v.shares.add(issued) {
+        return Err(Refusal::Overflow(over));
+    }
+    if issued.raw() == 0 {
+        return Err(Refusal::TinyDelegation);
+    }
+    Ok(issued)
+}
+
+/// Why a message is refused whose shares are not given.
+fn refusal_of_shares(fault: ShareFault) -> Refusal
+    ensures { result ≡ refusal_of_shares fault }
+{
+    match fault {
+        ShareFault::RateInvalid => Refusal::RateInvalid,
+        ShareFault::NoTokens => Refusal::NoTokens,
+        ShareFault::Over(over) => Refusal::Overflow(over),
+    }
+}
+
+/// The shares of a delegation once so many were issued.
+fn total_of(held: &Option<Dec>, issued: Dec) -> Dec
+    requires { unwrap_or held.now 0 + issued < 10 ^ 38 }
+    ensures { result ≡ unwrap_or held.now 0 + issued }
+{
+    match held {
+        Some(held) => held.add(issued).unwrap(),
+        None => issued,
+    }
+}
+
+/// The hook before a delegation changes: it is new, or has shares.
+fn call_before<B: Bank, H: StakingHooks, L: Ledger>(
+    alloc: Global,
+    g: &mut Ground<B>,
+    hooks: &mut H,
+    v: &Validator,
+    who: &Addr,
+    held: &Option<Dec>,
+    steps: &mut Steps<L>,
+) -> Result<(), HookFault>
+    requires { (l : Lists) × Ready H.tells (H.held hooks.old) (seen B.holdings g.old) (hook_before v.now who.now held.now) l }
+    ensures told { Answers (H.tells.told (H.held hooks.old) (hook_before v.now who.now held.now) (seen B.holdings g.old)) (H.held hooks.new) (seen B.holdings g.new) result }
+    ensures undone { CanBeUndone B.marks g.old g.new }
+    ensures bank { B.touches g.new.bank ≡ B.touches g.old.bank }
+    ensures marks { H.marks hooks.new ≡ H.marks hooks.old }
+{
+    match held {
+        None => hooks.before_delegation_created(alloc, g, v, who, steps),
+        Some(shares) => hooks.before_shares_modified(alloc, g, v, who, *shares, steps),
+    }
+}

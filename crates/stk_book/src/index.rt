@@ -1,0 +1,121 @@
+//! A validator that joins or leaves two tables: that of validators, and that of the first operator of each
+//! consensus address.
+
+ghost use Rattle.std.specs.Prelude.{◌≡◌, ◌+◌, Some, None, length, OnOk, OnErr};
+ghost use Rattle.stk_types.specs.Orders.{addr_cmp, cons_cmp};
+ghost use Rattle.stk_table.specs.Tabled.{value_at, with_value, without_key, IsForgotten, IsGoneBack};
+ghost use Rattle.stk_keep.specs.Entries.{without};
+ghost use Rattle.std.specs.Option.{option_copied};
+ghost use Rattle.stk_book.specs.Registered.{IsIndex, operator_by_cons};
+ghost use Rattle.stk_book.specs.Joint.{listed, is_lower, Stays};
+
+use std::cmp::Ordering;
+use std::sync::ledger::Ledger;
+use stk_keep::Validator;
+use stk_table::{Mark, Table, TableFault};
+use stk_types::{Addr, ConsAddr, Steps};
+
+/// Puts a validator whose operator has none into both tables. Where memory is wanting, the entries of both
+/// stay.
+pub(crate) fn put_both<L: Ledger>(
+    validators: &mut Table<Addr, Validator>,
+    operators: &mut Table<ConsAddr, Addr>,
+    v: &Validator,
+    steps: &mut Steps<L>,
+) -> Result<(), TableFault>
+    requires new { value_at addr_cmp validators.old.entries v.now.operator ≡ None }
+    requires index { IsIndex validators.old.entries operators.old.entries }
+    ensures validators { OnOk result (validators.new ≡ with_value addr_cmp validators.old v.now.operator v.now) }
+    ensures index { OnOk result (IsIndex validators.new.entries operators.new.entries) }
+    ensures marks { OnOk result (operators.new.marks ≡ operators.old.marks) }
+    ensures validators_stay { OnErr result (Stays validators.old validators.new) }
+    ensures operators_entries { OnErr result (operators.new.entries ≡ operators.old.entries) }
+    ensures operators_marks { OnErr result (operators.new.marks ≡ operators.old.marks) }
+{
+    // It tells that the keys ascend.
+    let _ = validators.len();
+    let mark = operators.mark()?;
+    match list(operators, v, steps) {
+        Ok(()) => (),
+        Err(fault) => {
+            operators.back_to(mark);
+            return Err(fault);
+        }
+    }
+    match validators.put(&v.operator, *v, steps) {
+        Ok(()) => {
+            operators.forget(mark);
+            Ok(())
+        }
+        Err(fault) => {
+            operators.back_to(mark);
+            Err(fault)
+        }
+    }
+}
+
+/// Takes a validator out of both tables, whose consensus address no other has. Where memory is wanting, the
+/// entries of both stay.
+pub(crate) fn take_both<L: Ledger>(
+    validators: &mut Table<Addr, Validator>,
+    operators: &mut Table<ConsAddr, Addr>,
+    v: &Validator,
+    steps: &mut Steps<L>,
+) -> Result<(), TableFault>
+    requires stands { value_at addr_cmp validators.old.entries v.now.operator ≡ Some v.now }
+    requires alone { operator_by_cons (without addr_cmp validators.old.entries v.now.operator) v.now.cons ≡ None }
+    requires index { IsIndex validators.old.entries operators.old.entries }
+    ensures validators { OnOk result (validators.new ≡ without_key addr_cmp validators.old v.now.operator) }
+    ensures index { OnOk result (IsIndex validators.new.entries operators.new.entries) }
+    ensures marks { OnOk result (operators.new.marks ≡ operators.old.marks) }
+    ensures validators_stay { OnErr result (Stays validators.old validators.new) }
+    ensures operators_entries { OnErr result (operators.new.entries ≡ operators.old.entries) }
+    ensures operators_marks { OnErr result (operators.new.marks ≡ operators.old.marks) }
+{
+    // They tell that the keys ascend.
+    let _ = validators.len();
+    let _operators = operators.len();
+    let mark = operators.mark()?;
+    match operators.remove(&v.cons, steps) {
+        Ok(_) => (),
+        Err(fault) => {
+            operators.back_to(mark);
+            return Err(fault);
+        }
+    }
+    match validators.remove(&v.operator, steps) {
+        Ok(_) => {
+            operators.forget(mark);
+            Ok(())
+        }
+        Err(fault) => {
+            operators.back_to(mark);
+            Err(fault)
+        }
+    }
+}
+
+/// Lists a validator's operator under its consensus address, unless a lower one is listed there.
+fn list<L: Ledger>(
+    operators: &mut Table<ConsAddr, Addr>,
+    v: &Validator,
+    steps: &mut Steps<L>,
+) -> Result<(), TableFault>
+    ensures entries { OnOk result (operators.new.entries ≡ listed v.now operators.old.entries) }
+    ensures marks { operators.new.marks ≡ operators.old.marks }
+{
+    if is_lower(&v.operator, operators.get(&v.cons, steps)) {
+        return operators.put(&v.cons, v.operator, steps);
+    }
+    Ok(())
+}
+
+/// Whether an operator is lower than the one that is there, or there is none.
+fn is_lower(operator: &Addr, there: Option<&Addr>) -> bool
+    ensures { result ≡ is_lower operator.now (option_copied there.entry) }
+{
+    match there {
+        None => true,
+        Some(other) => operator.cmp(other) == Ordering::Less,
+    }
+}

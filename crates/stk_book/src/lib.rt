@@ -1,0 +1,29 @@
+//! Validators and delegations (Cosmos SDK v0.47: module `x/staking`): they are created, edited, delegated
+//! to and unbonded, over any lawful bank and hooks, and looked up by operator and by consensus address.
+#![tactic(auto)]
+
+mod admitting;
+mod changes;
+mod creating;
+mod delegating;
+mod editing;
+mod index;
+mod items;
+mod mark;
+mod origin;
+mod paying;
+mod records;
+mod rows;
+mod stake;
+mod staking;
+mod unbonding;
+
+pub use origin::Origin;
+pub use staking::Staking;
+
+#[cfg(test)]
+mod admit_tests;
+#[cfg(test)]
+mod change_tests;
+#[cfg(test)]
+mod tests;

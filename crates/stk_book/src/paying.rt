@@ -1,0 +1,109 @@
+//! The coins of a delegation, on their way to the account that holds a validator's tokens.
+
+ghost use Rattle.std.specs.Prelude.{◌≡◌, ◌<◌, ◌≤◌, ◌^◌, [], ◌∷◌, OnOk, IfOk, IfErr};
+ghost use Rattle.stk_types.specs.declared.account.Account.TheVariants as account;
+ghost use Rattle.stk_keep.specs.declared.faults.BankFault.TheVariants.{NoMemory};
+ghost use Rattle.stk_keep.specs.Ground.{seen, CanBeUndone};
+ghost use Rattle.stk_keep.specs.Holdings.{IsBacked, balance_of};
+ghost use Rattle.stk_keep.specs.World.{sent};
+ghost use Rattle.stk_rules.specs.Amounts.{bond_coins};
+ghost use Rattle.stk_rules.specs.Delegating.{paid_in};
+ghost use Rattle.stk_rules.specs.Stakes.{pool_of};
+ghost use Rattle.stk_book.specs.Calls.{origin_of, CanPay, PaysAs};
+
+use crate::origin::Origin;
+use std::alloc::Global;
+use std::sync::ledger::Ledger;
+use stk_coins::{Coin, Coins};
+use stk_keep::{Bank, BankFault, Ground, Refusal, Stop};
+use stk_types::{Account, Addr, BondStatus, Denom, Module, Steps};
+
+/// The account that holds the tokens of a validator of this status.
+pub(crate) fn pool_of(status: BondStatus) -> Module
+    ensures { result ≡ pool_of status }
+{
+    match status {
+        BondStatus::Bonded => Module::Bonded,
+        BondStatus::Unbonding | BondStatus::Unbonded => Module::NotBonded,
+    }
+}
+
+/// Moves the coins of a delegation to the account of a validator of this status: from the delegator, who
+/// may be short, or from the account of the origin, unless that is the same.
+pub(crate) fn pay_in<B: Bank, L: Ledger>(
+    alloc: Global,
+    g: &mut Ground<B>,
+    who: &Addr,
+    status: BondStatus,
+    amount: u128,
+    origin: Origin,
+    steps: &mut Steps<L>,
+) -> Result<(), Stop>
+    requires some { 0 < amount }
+    requires backed { IsBacked (B.holdings g.old.bank) }
+    requires enough { CanPay (origin_of origin) amount (seen B.holdings g.old) }
+    ensures paid { PaysAs (paid_in (origin_of origin) who.now status amount (seen B.holdings g.old)) (seen B.holdings g.new) result }
+    ensures backed { IsBacked (B.holdings g.new.bank) }
+    ensures undone { CanBeUndone B.marks g.old g.new }
+    ensures bank { B.touches g.new.bank ≡ B.touches g.old.bank }
+{
+    match origin {
+        Origin::Wallet => {
+            let from = Account::User(*who);
+            if g.bank.balance(&from, &g.ctx.params.bond_denom, steps) < amount {
+                return Err(Stop::Refused(Refusal::InsufficientFunds));
+            }
+            send_bond(alloc, g, &from, pool_of(status), amount, steps)?;
+        }
+        Origin::Pool(status_of) => {
+            let from = pool_of(status_of);
+            if from != pool_of(status) {
+                let from = Account::Module(from);
+                send_bond(alloc, g, &from, pool_of(status), amount, steps)?;
+            }
+        }
+    }
+    Ok(())
+}
+
+/// Sends so much of the bond denomination to a module's account. The only error is `NoMemory`.
+fn send_bond<B: Bank, L: Ledger>(
+    alloc: Global,
+    g: &mut Ground<B>,
+    from: &Account,
+    to: Module,
+    amount: u128,
+    steps: &mut Steps<L>,
+) -> Result<(), BankFault>
+    requires some { 0 < amount }
+    requires backed { IsBacked (B.holdings g.old.bank) }
+    requires enough { amount ≤ balance_of (B.holdings g.old.bank) from.now g.old.ctx.params.bond_denom }
+    ensures sent { OnOk result (seen B.holdings g.new ≡ sent from.now (account.Module to) (bond_coins (seen B.holdings g.old) amount) (seen B.holdings g.old)) }
+    ensures fault { IfErr result (λ fault. fault ≡ NoMemory) }
+    ensures backed { IsBacked (B.holdings g.new.bank) }
+    ensures undone { CanBeUndone B.marks g.old g.new }
+    ensures bank { B.touches g.new.bank ≡ B.touches g.old.bank }
+{
+    let coins = coins_of(alloc, &g.ctx.params.bond_denom, amount)?;
+    let to = Account::Module(to);
+    g.bank.send(alloc, &mut g.facts, from, &to, &coins, steps)
+}
+
+/// So much of a denomination, as coins.
+fn coins_of(alloc: Global, denom: &Denom, amount: u128) -> Result<Coins, BankFault>
+    requires some { 0 < amount }
+    requires most { amount < 10 ^ 38 }
+    ensures coins { IfOk result (λ coins. coins ≡ (denom.now, amount) ∷ []) }
+    ensures fault { IfErr result (λ fault. fault ≡ NoMemory) }
+{
+    let mut list = Vec::new(alloc);
+    list.push(Coin {
+        denom: *denom,
+        amount,
+    })?;
+    match Coins::of(list) {
+        Ok(coins) => Ok(coins),
+        // It never comes: one denomination stands once.
+        Err(_) => Err(BankFault::NoMemory),
+    }
+}

@@ -1,0 +1,153 @@
+//! Validators and delegations as items of the state.
+
+ghost use Rattle.std.specs.Prelude.{◌≡◌, length, IfOk, OnOk, OnErr};
+ghost use Rattle.stk_table.specs.Tabled.{with_mark};
+ghost use Rattle.stk_keep.specs.Staked.{Staked};
+ghost use Rattle.stk_book.specs.Rows.{items_of, is_stake};
+
+use crate::mark::TablesMark;
+use crate::rows::{changes_into, rows_into};
+use crate::stake::Stake;
+use crate::staking::Staking;
+use std::alloc::Global;
+use std::sync::ledger::Ledger;
+use stk_keep::{Item, RecordFault, Records, Validator};
+use stk_table::{Table, TableFault};
+use stk_types::{Addr, ConsAddr, Steps};
+
+impl Records for Staking {
+    ghost Kept = { Staked };
+
+    ghost kept = { λ s. s.staked };
+
+    ghost marks = { λ s. s.marks };
+
+    ghost settled = { λ s. s.settled };
+
+    ghost spent = { λ s. s.spent };
+
+    ghost items = { items_of };
+
+    ghost is_kind = { is_stake };
+
+    fn mark<L: Ledger>(
+        &mut self,
+        _alloc: Global,
+        _steps: &mut Steps<L>,
+    ) -> Result<(), RecordFault> {
+        if self.spent {
+            return Err(RecordFault::NoMemory);
+        }
+        let mark = mark_all(
+            &mut self.validators,
+            &mut self.operators,
+            &mut self.delegations,
+        )?;
+        match self.marks.push(mark) {
+            Ok(()) => Ok(()),
+            Err(failed) => {
+                let (validators, operators, delegations) = failed.value.parts();
+                self.validators.forget(validators);
+                self.operators.forget(operators);
+                self.delegations.forget(delegations);
+                Err(RecordFault::NoMemory)
+            }
+        }
+    }
+
+    fn back<L: Ledger>(&mut self, _steps: &mut Steps<L>) {
+        let mark = self.marks.pop().unwrap();
+        let (validators, operators, delegations) = mark.parts();
+        self.validators.back_to(validators);
+        self.operators.back_to(operators);
+        self.delegations.back_to(delegations);
+    }
+
+    fn forget<L: Ledger>(&mut self, _steps: &mut Steps<L>) {
+        let mark = self.marks.pop().unwrap();
+        let (validators, operators, delegations) = mark.parts();
+        self.validators.forget(validators);
+        self.operators.forget(operators);
+        self.delegations.forget(delegations);
+    }
+
+    fn items_into<L: Ledger>(
+        &self,
+        out: &mut Vec<Item>,
+        steps: &mut Steps<L>,
+    ) -> Result<(), RecordFault> {
+        rows_into(&self.validators, out, steps)?;
+        rows_into(&self.delegations, out, steps)
+    }
+
+    fn changes_into<L: Ledger>(
+        &self,
+        out: &mut Vec<(Item, bool)>,
+        steps: &mut Steps<L>,
+    ) -> Result<(), RecordFault> {
+        changes_into(&self.validators, out, steps)?;
+        changes_into(&self.delegations, out, steps)
+    }
+
+    fn load<L: Ledger>(
+        &mut self,
+        _alloc: Global,
+        item: &Item,
+        steps: &mut Steps<L>,
+    ) -> Result<bool, RecordFault> {
+        if self.spent {
+            return Err(RecordFault::NoMemory);
+        }
+        self.known();
+        match item {
+            Item::Validator { validator } => self.add(validator, steps)?,
+            Item::Delegation {
+                operator,
+                delegator,
+                shares,
+            } => self.put_shares(delegator, operator, *shares, steps)?,
+            _ => return Ok(false),
+        }
+        Ok(true)
+    }
+
+    fn settle<L: Ledger>(&mut self, _steps: &mut Steps<L>) {
+        self.validators.settle();
+        self.operators.settle();
+        self.delegations.settle();
+    }
+}
+
+/// Opens a mark of the three tables, or of none.
+fn mark_all(
+    validators: &mut Table<Addr, Validator>,
+    operators: &mut Table<ConsAddr, Addr>,
+    delegations: &mut Table<(Addr, Addr), Stake>,
+) -> Result<TablesMark, TableFault>
+    requires operators { length operators.old.marks ≡ length validators.old.marks }
+    requires delegations { length delegations.old.marks ≡ length validators.old.marks }
+    ensures depth { IfOk result (λ mark. mark ≡ length validators.old.marks) }
+    ensures validators { OnOk result (validators.new ≡ with_mark validators.old) }
+    ensures operators { OnOk result (operators.new ≡ with_mark operators.old) }
+    ensures delegations { OnOk result (delegations.new ≡ with_mark delegations.old) }
+    ensures validators_err { OnErr result (validators.new ≡ validators.old) }
+    ensures operators_err { OnErr result (operators.new ≡ operators.old) }
+    ensures delegations_err { OnErr result (delegations.new ≡ delegations.old) }
+{
+    let first = validators.mark()?;
+    let second = match operators.mark() {
+        Ok(second) => second,
+        Err(fault) => {
+            validators.back_to(first);
+            return Err(fault);
+        }
+    };
+    match delegations.mark() {
+        Ok(third) => Ok(TablesMark::of(first, second, third)),
+        Err(fault) => {
+            validators.back_to(first);
+            operators.back_to(second);
+            Err(fault)
+        }
+    }
+}

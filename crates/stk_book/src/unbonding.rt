@@ -1,0 +1,253 @@
+//! Look-ups, and unbonding shares of a delegation, as other modules use them.
+
+ghost use Rattle.std.specs.Prelude.{◌≡◌, ℕ, ◌-◌, ◌<◌, ◌≤◌, ◌^◌, ◌||◌, true, None, Some, IfOk, OnOk, IfErr, refl};
+ghost use Rattle.stk_keep.specs.Answers.{Follows};
+ghost use Rattle.stk_keep.specs.Ground.{seen, CanBeUndone};
+ghost use Rattle.stk_keep.specs.declared.faults.HookFault.TheVariants.{NoMemory};
+ghost use Rattle.stk_keep.specs.Hooks.{Lists, Ready, Stand, Keeps};
+ghost use Rattle.stk_keep.specs.Log.{Log};
+ghost use Rattle.stk_keep.specs.Orders.{same_addr};
+ghost use Rattle.stk_keep.specs.World.{modified};
+ghost use Rattle.stk_keep.specs.Staked.{Staked, validator_of, shares_of, lists_of, IsUnbonded};
+ghost use Rattle.stk_rules.specs.Answers.{Leaves};
+ghost use Rattle.stk_rules.specs.Unbonding.{shares_unbonded, unbonded_shares, falls_below_minimum, left_standing, removed_if_empty};
+ghost use Rattle.stk_book.specs.Registered.{behind, holding, Behind};
+ghost use Rattle.stk_book.specs.Calls.{IsSoundStake, over, behind_log, jailed_if, jail_noted};
+
+use crate::staking::Staking;
+use std::alloc::Global;
+use std::cmp::Ordering;
+use std::sync::ledger::Ledger;
+use stk_dec::Dec;
+use stk_keep::{Bank, Fact, Ground, HookFault, StakingHooks, Unbonder, Validator, ValidatorView};
+use stk_shares::{remove, value_even};
+use stk_types::{Addr, BondStatus, ConsAddr, Steps};
+
+impl ValidatorView for Staking {
+    ghost staked = { λ s. s.staked };
+
+    fn validator<L: Ledger>(&self, operator: &Addr, steps: &mut Steps<L>) -> Option<&Validator> {
+        self.at(operator, steps)
+    }
+
+    fn by_cons<L: Ledger>(&self, cons: &ConsAddr, steps: &mut Steps<L>) -> Option<&Validator> {
+        self.at_cons(cons, steps)
+    }
+}
+
+impl Unbonder for Staking {
+    ghost Held = { Staked };
+
+    ghost held = { λ s. s.staked };
+
+    ghost stake = { λ h. h };
+
+    ghost sound = { IsSoundStake };
+
+    ghost unbonds = { λ H told. shares_unbonded told };
+
+    ghost Marks = { Behind };
+
+    ghost marks = { behind };
+
+    fn shares_of<L: Ledger>(
+        &self,
+        who: &Addr,
+        operator: &Addr,
+        steps: &mut Steps<L>,
+    ) -> Option<Dec> {
+        self.held(who, operator, steps)
+    }
+
+    fn unbond<B: Bank, H: StakingHooks, L: Ledger>(
+        &mut self,
+        alloc: Global,
+        g: &mut Ground<B>,
+        hooks: &mut H,
+        who: &Addr,
+        operator: &Addr,
+        shares: Dec,
+        steps: &mut Steps<L>,
+    ) -> Result<u128, HookFault> {
+        self.known();
+        let v = *self.at(operator, steps).unwrap();
+        let held = self.held(who, operator, steps).unwrap();
+        self.unbond_from(alloc, g, hooks, &v, who, held, shares, steps)
+    }
+
+    ghost looks_up = { λ s. refl };
+}
+
+impl Staking {
+    /// Unbonds a part of the shares that a delegator holds of a validator (`Unbond`), in this order: the hook
+    /// before; jailing; what is left of the delegation, with the hook after; then tokens and shares leave the
+    /// validator, which goes where it is unbonded and empty. Answers the tokens that go out.
+    fn unbond_from<B: Bank, H: StakingHooks, L: Ledger>(
+        &mut self,
+        alloc: Global,
+        g: &mut Ground<B>,
+        hooks: &mut H,
+        v: &Validator,
+        who: &Addr,
+        held: Dec,
+        part: Dec,
+        steps: &mut Steps<L>,
+    ) -> Result<u128, HookFault>
+        requires stands { validator_of self.old.staked v.now.operator ≡ Some v.now }
+        requires holds { shares_of self.old.staked who.now v.now.operator ≡ Some held }
+        requires part { part ≤ held }
+        requires sound { IsSoundStake self.old.staked }
+        requires stand { Stand H.tells (H.held hooks.old) (seen B.holdings g.old) (lists_of self.old.staked) }
+
+        ensures told { Follows (unbonded_shares H.tells.told v.now who.now held part (over self.old.staked (H.held hooks.old) (seen B.holdings g.old))) self.new.staked (H.held hooks.new) (seen B.holdings g.new) result }
+        ensures unbonded { IfOk result (λ out. IsUnbonded who.now v.now.operator part out self.old.staked self.new.staked) }
+        ensures sound { OnOk result (IsSoundStake self.new.staked) }
+        ensures stand { OnOk result (Stand H.tells (H.held hooks.new) (seen B.holdings g.new) (lists_of self.new.staked)) }
+        ensures keeps { OnOk result (Keeps (H.tells.owes (H.held hooks.old) ≡ None) (seen B.holdings g.old) (seen B.holdings g.new)) }
+
+        // Whatever the answer.
+        ensures undone { CanBeUndone B.marks g.old g.new }
+        ensures bank { B.touches g.new.bank ≡ B.touches g.old.bank }
+        ensures behind { behind self.new ≡ behind self.old }
+        ensures hook_marks { H.marks hooks.new ≡ H.marks hooks.old }
+    {
+        hooks.before_shares_modified(alloc, g, v, who, held, steps)?;
+        let left = held.sub(part);
+        let now = self.jail_if_low(g, v, who, left, steps)?;
+        match self.leave_standing(alloc, g, hooks, &now, who, left, steps) {
+            Ok(()) => (),
+            Err(fault) => return Err(fault),
+        }
+        let (tokens, shares, out) = remove(v.tokens, v.shares, part);
+        let less = Validator {
+            tokens,
+            shares,
+            ..now
+        };
+        self.put(&less, steps)?;
+        match self.remove_if_empty(alloc, g, hooks, &less, steps) {
+            Ok(()) => Ok(out),
+            Err(fault) => Err(fault),
+        }
+    }
+
+    /// Jails a validator whose operator keeps these shares of it, where they are worth less than its least
+    /// self-delegation, and tells it. Answers the validator as it then stands.
+    fn jail_if_low<B: Bank, L: Ledger>(
+        &mut self,
+        g: &mut Ground<B>,
+        v: &Validator,
+        who: &Addr,
+        left: Dec,
+        steps: &mut Steps<L>,
+    ) -> Result<Validator, HookFault>
+        requires stands { validator_of self.old.staked v.now.operator ≡ Some v.now }
+        requires tokens { v.now.tokens ≤ 10 ^ 18 }
+        requires some { 0 < v.now.shares }
+        requires left { left ≤ v.now.shares }
+        ensures now { IfOk result (λ now. now ≡ record v.now { jailed = v.now.jailed || falls_below_minimum v.now who.now left }) }
+        ensures staked { OnOk result (self.new ≡ holding (jailed_if (falls_below_minimum v.now who.now left) v.now self.old.staked) self.old) }
+        ensures ground { OnOk result (seen B.holdings g.new ≡ jail_noted (falls_below_minimum v.now who.now left) v.now (seen B.holdings g.old)) }
+        ensures fault { IfErr result (λ fault. fault ≡ NoMemory) }
+
+        // Whatever the answer.
+        ensures undone { CanBeUndone B.marks g.old g.new }
+        ensures bank { g.new.bank ≡ g.old.bank }
+        ensures behind { behind self.new ≡ behind self.old }
+        ensures spent { self.old.spent ≡ true → self.new.spent ≡ true }
+    {
+        if !falls_below_minimum(v, who, left) {
+            return Ok(*v);
+        }
+        let mut now = *v;
+        now.jailed = true;
+        self.put(&now, steps)?;
+        g.facts.push(Fact::Jailed {
+            validator: v.operator,
+        })?;
+        Ok(now)
+    }
+
+    /// What is left of a delegation stands, with the hook after; where nothing is left, the delegation goes.
+    fn leave_standing<B: Bank, H: StakingHooks, L: Ledger>(
+        &mut self,
+        alloc: Global,
+        g: &mut Ground<B>,
+        hooks: &mut H,
+        v: &Validator,
+        who: &Addr,
+        left: Dec,
+        steps: &mut Steps<L>,
+    ) -> Result<(), HookFault>
+        requires ready { 0 < left → (l : Lists) × Ready H.tells (H.held hooks.old) (seen B.holdings g.old) (modified v.now who.now left) l }
+        ensures told { (log : Log) → Leaves (left_standing H.tells.told v.now who.now left (behind_log log self.old.staked (H.held hooks.old) (seen B.holdings g.old))) self.new.staked (H.held hooks.new) (seen B.holdings g.new) result }
+
+        // Whatever the answer.
+        ensures undone { CanBeUndone B.marks g.old g.new }
+        ensures bank { B.touches g.new.bank ≡ B.touches g.old.bank }
+        ensures behind { behind self.new ≡ behind self.old }
+        ensures hook_marks { H.marks hooks.new ≡ H.marks hooks.old }
+        ensures spent { self.old.spent ≡ true → self.new.spent ≡ true }
+    {
+        if left.raw() == 0 {
+            self.take_shares(who, &v.operator, steps)?;
+            return Ok(());
+        }
+        self.put_shares(who, &v.operator, left, steps)?;
+        hooks.after_delegation_modified(alloc, g, v, who, left, steps)
+    }
+
+    /// A validator that is unbonded and has no shares goes.
+    fn remove_if_empty<B: Bank, H: StakingHooks, L: Ledger>(
+        &mut self,
+        alloc: Global,
+        g: &mut Ground<B>,
+        hooks: &mut H,
+        v: &Validator,
+        steps: &mut Steps<L>,
+    ) -> Result<(), HookFault>
+        requires stands { validator_of self.old.staked v.now.operator ≡ Some v.now }
+        requires sound { IsSoundStake self.old.staked }
+        requires stand { Stand H.tells (H.held hooks.old) (seen B.holdings g.old) (lists_of self.old.staked) }
+        ensures told { (log : Log) → Leaves (removed_if_empty H.tells.told v.now (behind_log log self.old.staked (H.held hooks.old) (seen B.holdings g.old))) self.new.staked (H.held hooks.new) (seen B.holdings g.new) result }
+        ensures sound { OnOk result (IsSoundStake self.new.staked) }
+        ensures stand { OnOk result (Stand H.tells (H.held hooks.new) (seen B.holdings g.new) (lists_of self.new.staked)) }
+        ensures keeps { OnOk result (Keeps (H.tells.owes (H.held hooks.old) ≡ None) (seen B.holdings g.old) (seen B.holdings g.new)) }
+
+        // Whatever the answer.
+        ensures undone { CanBeUndone B.marks g.old g.new }
+        ensures bank { B.touches g.new.bank ≡ B.touches g.old.bank }
+        ensures behind { behind self.new ≡ behind self.old }
+        ensures hook_marks { H.marks hooks.new ≡ H.marks hooks.old }
+        ensures spent { self.old.spent ≡ true → self.new.spent ≡ true }
+    {
+        if v.status == BondStatus::Unbonded && v.shares.raw() == 0 {
+            return self.remove(alloc, g, hooks, v, steps);
+        }
+        Ok(())
+    }
+}
+
+/// Whether the delegator is the validator's operator, which is not jailed, and the shares left are worth
+/// less than its least self-delegation.
+fn falls_below_minimum(v: &Validator, who: &Addr, left: Dec) -> bool
+    requires tokens { v.now.tokens ≤ 10 ^ 18 }
+    requires some { 0 < v.now.shares }
+    requires left { left ≤ v.now.shares }
+    ensures { result ≡ falls_below_minimum v.now who.now left }
+{
+    if !is_same(who, &v.operator) {
+        return false;
+    }
+    if v.jailed {
+        return false;
+    }
+    value_even(v.tokens, v.shares, left).trunc() < v.min_self
+}
+
+/// Whether two addresses are one.
+fn is_same(a: &Addr, b: &Addr) -> bool
+    ensures { result ≡ same_addr a.now b.now }
+{
+    a.cmp(b) == Ordering::Equal
+}
