@@ -22,15 +22,18 @@ use Rattle.stk_app.proofs.PartLemmas.{too_long, none_fed}
 abbrev pub TookBytes : ℕ → List ℕ → Option (List ℕ) → Option (List ℕ) → Type 0
 TookBytes m piece left left' = IfSome left (λ bytes. Takes m bytes piece left')
 
-pub stands_first : (first w : Option (List ℕ)) → Stands first 0 1 None [] first w w
-stands_first first w = λ input told. record {
-  taken = [];
-  rest = input;
-  input_is = refl;
-  left_is = told;
-  count_is = refl;
-  fed = none_fed 1 None [] w (omega arith);
-}
+pub stands_first : (first w : Option (List ℕ)) (n : ℕ) (s : Stage) (line : List ℕ) → n ≡ 1 → s ≡ None → line ≡ [] → Stands first 0 n s line first w w
+stands_first first w n s line one none empty = rw (one, none, empty) (at_first first w)
+  where
+    at_first : (first w : Option (List ℕ)) → Stands first 0 1 None [] first w w
+    at_first first w = λ input told. record {
+      taken = [];
+      rest = input;
+      input_is = refl;
+      left_is = told;
+      count_is = refl;
+      fed = none_fed 1 None [] w (omega arith);
+    }
 
 pub read_ends : (first : Option (List ℕ)) (count n : ℕ) (s : Stage) (line : List ℕ) (left left' w w' : Option (List ℕ)) → Stands first count n s line left w w' → count ≤ most_bytes → Stays left left' → RunEnds first left' w w' ReadFault
 read_ends first count n s line left left' w w' at most same = λ input old told told_w.

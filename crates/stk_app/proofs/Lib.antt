@@ -4,3 +4,4 @@ pub mod PartLemmas
 pub mod DriveLemmas
 pub mod ReadLemmas
 pub mod SoundLemmas
+pub mod ReportLemmas

@@ -1,15 +1,16 @@
 -- One line, one end of a line, one piece of the input, and the end of the input.
-use Rattle.std.proofs.Common.{inl, inr, ◌≡◌, ◌∙◌, ℕ, ◌+◌, ◌<◌, ◌≤◌, Bool, true, false, ◌==◌, cond, lt-ltb, List, [], ◌∷◌, ◌++◌, length, take, drop, slice_index, Option, Some, None, Result, Ok, Err, OnOk, IfErr, IfSome, IfNone, refl, sym, ap, subst, append_assoc, arith, add-zero, length-append}
+use Rattle.std.proofs.Common.{inl, inr, ◌≡◌, ◌∙◌, ℕ, ◌+◌, ◌<◌, ◌≤◌, Bool, true, false, ◌==◌, cond, nat_lt, lt-ltb, List, [], ◌∷◌, ◌++◌, length, take, drop, slice_index, Option, Some, None, Result, Ok, Err, OnOk, IfErr, IfSome, IfNone, refl, sym, ap, subst, append_assoc, arith, add-zero, length-append}
 use Rattle.std.specs.Prelude.{⊤}
 use Rattle.std.proofs.lemmas.List.{append-nil, take-append-drop}
 use Rattle.memchr.specs.Find.{IsFirstByte, is_byte}
 use Rattle.stk_io.specs.Outside.{IsPart, AddsPart}
+use Rattle.stk_json.specs.Genesis.{genesis_of}
 use Rattle.stk_app.specs.declared.status.Stop.{Stop}
 use Rattle.stk_app.specs.declared.status.Stop.TheVariants.{BadInput, Long, Write, NoMemory}
 use Rattle.stk_app.specs.declared.status.EndStop.{EndStop}
 use Rattle.stk_app.specs.declared.status.EndStop.TheVariants as ends
 use Rattle.stk_app.specs.Lines.{whole_from, rest_from, last_line, lines_from}
-use Rattle.stk_app.specs.Machine.{Stage, Answer, longest, line_answer}
+use Rattle.stk_app.specs.Machine.{Stage, Answer, longest, line_answer, genesis_answer}
 use Rattle.stk_app.specs.Runs.{before, ran_from, AreAnswered, Named, Wrote, Held}
 use Rattle.stk_app.specs.Parts.{PartStops, Fed, Took, HasNoEnd, NotAnswered, NotExtended, lines_after, FinishEnds, FinishStops, Finishes, IsOfReport}
 use Rattle.stk_app.proofs.CutLemmas.{whole_none, rest_none, whole_one, rest_one, no_end_before, lines-append}
@@ -56,6 +57,13 @@ write_stops n s line a w w' h adds = λ old told. let x = adds old told in (x.0,
 
 pub full_stops : (n : ℕ) (s : Stage) (line : List ℕ) (a : Answer) (w w' : Option (List ℕ)) → line_answer n s line ≡ Ok a → AddsPart w w' a.text → PartStops n s (λ (more : List (List ℕ)). line ∷ more) (line ∷ []) w w' NoMemory
 full_stops n s line a w w' h adds = λ old told. let x = adds old told in (x.0, x.2, inl (wrote_first n s line a x.0 h x.1))
+
+-- the first line is a genesis
+pub first_answered : (n : ℕ) (s : Stage) (line : List ℕ) (a : Answer) → s ≡ None → length line ≤ longest → genesis_answer n (genesis_of line) ≡ Ok a → line_answer n s line ≡ Ok a
+unfolding line_answer
+first_answered n s line a none short is =
+    let fits : nat_lt longest (length line) ≡ false = grind (arith, short) in
+    rw none (rw fits is)
 
 -- ---- a line that is too long
 

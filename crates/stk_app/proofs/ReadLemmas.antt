@@ -1,6 +1,6 @@
 -- What is read: the coins of a block's transactions are lists of coins.
-use Rattle.std.proofs.Common.{◌≡◌, ℕ, ◌^◌, ◌<◌, ◌≤◌, Bool, true, false, cond, List, [], ◌∷◌, ◌++◌, map, All, IfSome, length, Option, Some, None, Result, Ok, Err, refl, subst, arith, rules, codes}
-use Rattle.std.specs.List.{AllByRecursion, cons_option, list_all}
+use Rattle.std.proofs.Common.{◌≡◌, ℕ, ◌^◌, ◌<◌, ◌≤◌, Bool, true, false, cond, List, [], ◌∷◌, ◌++◌, map, All, length, Option, Some, None, Result, Ok, Err, refl, subst, arith, rules, codes}
+use Rattle.std.specs.List.{AllByRecursion, list_all}
 use Rattle.std.specs.Char.{is_ascii_digit}
 use Rattle.std.specs.Str.Parse.{digits_value}
 use Rattle.std.proofs.lemmas.Int.Digits.{digits_value-lt}
@@ -24,6 +24,8 @@ use Rattle.stk_msgs.specs.declared.block.Tx.{Tx}
 use Rattle.stk_msgs.specs.declared.block.Block.{Block}
 use Rattle.stk_msgs.specs.declared.message.Msg.{Msg}
 use Rattle.stk_msgs.specs.declared.message.Msg.TheVariants as msg
+use Rattle.stk_msgs.specs.declared.message.CommunityPoolSpend.{CommunityPoolSpend}
+use Rattle.stk_msgs.specs.declared.message.FundCommunityPool.{FundCommunityPool}
 use Rattle.stk_msgs.specs.declared.message.Send.{Send}
 use Rattle.stk_json.specs.declared.kind.Kind.{Kind}
 use Rattle.stk_json.specs.declared.kind.Kind.TheVariants as kind
@@ -33,8 +35,7 @@ use Rattle.stk_json.specs.Nested.{each, with_front, list_at}
 use Rattle.stk_json.specs.Coin.{coin_of, coins_at, money_of}
 use Rattle.stk_json.specs.Messages as messages
 use Rattle.stk_json.specs.Block.{vote_of, evidence_of, tx_of, block_of_tree, block_of}
-use Rattle.stk_machine.specs.Transactions.{send_of, sends_of}
-use Rattle.stk_machine.specs.Laws.{HasCoins}
+use Rattle.stk_machine.specs.Promises.{MessageHasCoins, TxHasCoins}
 
 -- ---- what holds of what reading gives
 
@@ -144,22 +145,28 @@ holds_coins number name d =
 
 -- ---- messages
 
--- a message that is a send has a list of coins
-SendHasCoins : Msg → Type 0
-SendHasCoins m = IfSome (send_of m) (λ s. IsMoney s.coins)
+-- a message without coins of its own
+another : {A : Type 0} (r : Result A LineFault) (f : A → Msg) → ((x : A) → MessageHasCoins (f x)) → Holds MessageHasCoins (r >>= λ x. Ok (f x))
+another r f has = past _ _ r (λ x. given MessageHasCoins (f x) (has x))
 
--- a message of another kind
-another : {A : Type 0} (r : Result A LineFault) (f : A → Msg) → ((x : A) → send_of (f x) ≡ None) → Holds SendHasCoins (r >>= λ x. Ok (f x))
+-- a message with coins that are a list of coins
+with_coins : {A : Type 0} (P : A → Type 0) (r : Result A LineFault) (f : A → Msg) → Holds P r → ((x : A) → P x → MessageHasCoins (f x)) → Holds MessageHasCoins (r >>= λ x. Ok (f x))
+with_coins P r f h has = from _ _ _ r h (λ x money. given MessageHasCoins (f x) (has x money))
+
+SendHasCoins : Send → Type 0
+SendHasCoins s = IsMoney s.coins
+
+FundHasCoins : FundCommunityPool → Type 0
+FundHasCoins m = IsMoney m.coins
+
+SpendHasCoins : CommunityPoolSpend → Type 0
+SpendHasCoins m = IsMoney m.coins
+
+send_given : (sender : List ℕ) (to : Account) (coins : Money) → IsMoney coins → Holds SendHasCoins (Ok (record { from = sender; to = to; coins = coins }))
 unfolding SendHasCoins
-another r f none = past _ _ r (λ x. given SendHasCoins (f x) (no_coins (f x) (none x)))
-  where
-    no_coins : (m : Msg) → send_of m ≡ None → IfSome (send_of m) (λ (s : Send). IsMoney s.coins)
-    no_coins m e = rw e tt
-
-send_given : (sender : List ℕ) (to : Account) (coins : Money) → IsMoney coins → Holds (λ (s : Send). IsMoney s.coins) (Ok (record { from = sender; to = to; coins = coins }))
 send_given sender to coins money = given (λ (s : Send). IsMoney s.coins) (record { from = sender; to = to; coins = coins }) money
 
-holds_send : (d : Data) → Holds (λ (s : Send). IsMoney s.coins) (messages.send_of d)
+holds_send : (d : Data) → Holds SendHasCoins (messages.send_of d)
 unfolding messages.send_of
 holds_send d =
     past _ _ (user_at 91 (codes "from") d) (λ sender.
@@ -167,61 +174,79 @@ holds_send d =
     from _ _ _ (coins_at 93 (codes "coins") d) (holds_coins 93 (codes "coins") d) (λ coins money.
     past _ _ (only_named (codes "kind" ∷ codes "from" ∷ codes "to" ∷ codes "coins" ∷ []) d) (λ only. send_given sender to coins money))))
 
--- a message that is a send
-sent : (s : Send) → IsMoney s.coins → Holds SendHasCoins (Ok (msg.Send s))
-unfolding SendHasCoins
-sent s money = given (λ (m : Msg). IfSome (send_of m) (λ (s : Send). IsMoney s.coins)) (msg.Send s) money
+fund_given : (depositor : List ℕ) (coins : Money) → IsMoney coins → Holds FundHasCoins (Ok (record { depositor = depositor; coins = coins }))
+unfolding FundHasCoins
+fund_given depositor coins money = given (λ (m : FundCommunityPool). IsMoney m.coins) (record { depositor = depositor; coins = coins }) money
 
-holds_message : (d : Data) → Holds SendHasCoins (messages.message_of d)
-unfolding messages.message_of
+holds_fund : (d : Data) → Holds FundHasCoins (messages.fund_community_pool_of d)
+unfolding messages.fund_community_pool_of
+holds_fund d =
+    past _ _ (user_at 106 (codes "depositor") d) (λ depositor.
+    from _ _ _ (coins_at 93 (codes "coins") d) (holds_coins 93 (codes "coins") d) (λ coins money.
+    past _ _ (only_named (codes "kind" ∷ codes "depositor" ∷ codes "coins" ∷ []) d) (λ only. fund_given depositor coins money)))
+
+spend_given : (authority : List ℕ) (recipient : Account) (coins : Money) → IsMoney coins → Holds SpendHasCoins (Ok (record { authority = authority; recipient = recipient; coins = coins }))
+unfolding SpendHasCoins
+spend_given authority recipient coins money = given (λ (m : CommunityPoolSpend). IsMoney m.coins) (record { authority = authority; recipient = recipient; coins = coins }) money
+
+holds_spend : (d : Data) → Holds SpendHasCoins (messages.community_pool_spend_of d)
+unfolding messages.community_pool_spend_of
+holds_spend d =
+    past _ _ (user_at 107 (codes "authority") d) (λ authority.
+    past _ _ (account_at 108 (codes "recipient") d) (λ recipient.
+    from _ _ _ (coins_at 93 (codes "coins") d) (holds_coins 93 (codes "coins") d) (λ coins money.
+    past _ _ (only_named (codes "kind" ∷ codes "authority" ∷ codes "recipient" ∷ codes "coins" ∷ []) d) (λ only. spend_given authority recipient coins money))))
+
+holds_message : (d : Data) → Holds MessageHasCoins (messages.message_of d)
+unfolding messages.message_of SendHasCoins FundHasCoins SpendHasCoins
 holds_message d = past _ _ (member_at (spelled_by messages.kind_of) 90 (codes "kind") d) by
   where
-    by : (k : Kind) → Holds SendHasCoins (messages.message_of_kind k d)
-    by kind.Send = from _ _ _ (messages.send_of d) (holds_send d) sent
-    by kind.CreateValidator = another (messages.create_validator_of d) msg.CreateValidator (λ x. refl)
-    by kind.EditValidator = another (messages.edit_validator_of d) msg.EditValidator (λ x. refl)
-    by kind.Delegate = another (messages.delegate_of d) msg.Delegate (λ x. refl)
-    by kind.Undelegate = another (messages.undelegate_of d) msg.Undelegate (λ x. refl)
-    by kind.BeginRedelegate = another (messages.begin_redelegate_of d) msg.BeginRedelegate (λ x. refl)
-    by kind.CancelUnbonding = another (messages.cancel_unbonding_of d) msg.CancelUnbonding (λ x. refl)
-    by kind.Unjail = another (messages.unjail_of d) msg.Unjail (λ x. refl)
-    by kind.WithdrawReward = another (messages.withdraw_reward_of d) msg.WithdrawReward (λ x. refl)
-    by kind.WithdrawCommission = another (messages.withdraw_commission_of d) msg.WithdrawCommission (λ x. refl)
-    by kind.SetWithdrawAddress = another (messages.set_withdraw_address_of d) msg.SetWithdrawAddress (λ x. refl)
-    by kind.FundCommunityPool = another (messages.fund_community_pool_of d) msg.FundCommunityPool (λ x. refl)
-    by kind.CommunityPoolSpend = another (messages.community_pool_spend_of d) msg.CommunityPoolSpend (λ x. refl)
+    by : (k : Kind) → Holds MessageHasCoins (messages.message_of_kind k d)
+    by kind.Send = with_coins SendHasCoins (messages.send_of d) msg.Send (holds_send d) (λ x money. money)
+    by kind.CreateValidator = another (messages.create_validator_of d) msg.CreateValidator (λ x. tt)
+    by kind.EditValidator = another (messages.edit_validator_of d) msg.EditValidator (λ x. tt)
+    by kind.Delegate = another (messages.delegate_of d) msg.Delegate (λ x. tt)
+    by kind.Undelegate = another (messages.undelegate_of d) msg.Undelegate (λ x. tt)
+    by kind.BeginRedelegate = another (messages.begin_redelegate_of d) msg.BeginRedelegate (λ x. tt)
+    by kind.CancelUnbonding = another (messages.cancel_unbonding_of d) msg.CancelUnbonding (λ x. tt)
+    by kind.Unjail = another (messages.unjail_of d) msg.Unjail (λ x. tt)
+    by kind.WithdrawReward = another (messages.withdraw_reward_of d) msg.WithdrawReward (λ x. tt)
+    by kind.WithdrawCommission = another (messages.withdraw_commission_of d) msg.WithdrawCommission (λ x. tt)
+    by kind.SetWithdrawAddress = another (messages.set_withdraw_address_of d) msg.SetWithdrawAddress (λ x. tt)
+    by kind.FundCommunityPool = with_coins FundHasCoins (messages.fund_community_pool_of d) msg.FundCommunityPool (holds_fund d) (λ x money. money)
+    by kind.CommunityPoolSpend = with_coins SpendHasCoins (messages.community_pool_spend_of d) msg.CommunityPoolSpend (holds_spend d) (λ x money. money)
 
 -- ---- transactions and blocks
 
-TxHasCoins : Tx → Type 0
-TxHasCoins tx = IsMoney tx.fee × HoldsEach SendHasCoins tx.msgs
+TxIsRead : Tx → Type 0
+TxIsRead tx = IsMoney tx.fee × HoldsEach MessageHasCoins tx.msgs
 
-tx_given : (payer : List ℕ) (fee : Money) (msgs : List Msg) → IsMoney fee → HoldsEach SendHasCoins msgs → Holds TxHasCoins (Ok (record { payer = payer; fee = fee; msgs = msgs }))
-unfolding TxHasCoins
-tx_given payer fee msgs money each = given (λ (tx : Tx). IsMoney tx.fee × HoldsEach SendHasCoins tx.msgs) (record { payer = payer; fee = fee; msgs = msgs }) (money, each)
+tx_given : (payer : List ℕ) (fee : Money) (msgs : List Msg) → IsMoney fee → HoldsEach MessageHasCoins msgs → Holds TxIsRead (Ok (record { payer = payer; fee = fee; msgs = msgs }))
+unfolding TxIsRead
+tx_given payer fee msgs money each = given (λ (tx : Tx). IsMoney tx.fee × HoldsEach MessageHasCoins tx.msgs) (record { payer = payer; fee = fee; msgs = msgs }) (money, each)
 
-holds_tx : (d : Data) → Holds TxHasCoins (tx_of d)
+holds_tx : (d : Data) → Holds TxIsRead (tx_of d)
 unfolding tx_of
 holds_tx d =
     past _ _ (user_at 80 (codes "payer") d) (λ payer.
     from _ _ _ (coins_at 81 (codes "fee") d) (holds_coins 81 (codes "fee") d) (λ fee money.
-    from _ _ _ (list_at messages.message_of 82 (codes "msgs") d) (holds_list SendHasCoins messages.message_of holds_message 82 (codes "msgs") d) (λ msgs each.
+    from _ _ _ (list_at messages.message_of 82 (codes "msgs") d) (holds_list MessageHasCoins messages.message_of holds_message 82 (codes "msgs") d) (λ msgs each.
     past _ _ (only_named (codes "payer" ∷ codes "fee" ∷ codes "msgs" ∷ []) d) (λ only. tx_given payer fee msgs money each))))
 
 -- the height is in its range, and all transactions have lists of coins
 BlockIsRead : Block → Type 0
-BlockIsRead block = (block.height < 2 ^ 63) × HoldsEach TxHasCoins block.txs
+BlockIsRead block = (block.height < 2 ^ 63) × HoldsEach TxIsRead block.txs
 
 -- a whole number is in its range
 holds_number : (number : ℕ) (name : List ℕ) (d : Data) → Holds (λ (n : ℕ). n < 2 ^ 63) (number_at number name d)
 unfolding Holds
 holds_number number name d = search rules
 
-block_given : (height time : ℕ) (votes : List Vote) (evidence : List Evidence) (txs : List Tx) → height < 2 ^ 63 → HoldsEach TxHasCoins txs
+block_given : (height time : ℕ) (votes : List Vote) (evidence : List Evidence) (txs : List Tx) → height < 2 ^ 63 → HoldsEach TxIsRead txs
     → Holds BlockIsRead (Ok (record { height = height; time = time; votes = votes; evidence = evidence; txs = txs }))
 unfolding BlockIsRead
 block_given height time votes evidence txs low each =
-    given (λ (b : Block). (b.height < 2 ^ 63) × HoldsEach TxHasCoins b.txs) (record { height = height; time = time; votes = votes; evidence = evidence; txs = txs }) (low, each)
+    given (λ (b : Block). (b.height < 2 ^ 63) × HoldsEach TxIsRead b.txs) (record { height = height; time = time; votes = votes; evidence = evidence; txs = txs }) (low, each)
 
 holds_block : (d : Data) → Holds BlockIsRead (block_of_tree d)
 unfolding block_of_tree
@@ -231,7 +256,7 @@ holds_block d =
     past _ _ (moment_at 62 (codes "time") d) (λ time.
     past _ _ (list_at vote_of 63 (codes "votes") d) (λ votes.
     past _ _ (list_at evidence_of 64 (codes "evidence") d) (λ evidence.
-    from _ _ _ (list_at tx_of 65 (codes "txs") d) (holds_list TxHasCoins tx_of holds_tx 65 (codes "txs") d) (λ txs each.
+    from _ _ _ (list_at tx_of 65 (codes "txs") d) (holds_list TxIsRead tx_of holds_tx 65 (codes "txs") d) (λ txs each.
     past _ _ (only_named (codes "kind" ∷ codes "height" ∷ codes "time" ∷ codes "votes" ∷ codes "evidence" ∷ codes "txs" ∷ []) d) (λ only.
     block_given height time votes evidence txs low each)))))))
 
@@ -239,30 +264,21 @@ holds_line : (line : List ℕ) → Holds BlockIsRead (block_of line)
 unfolding block_of
 holds_line line = past _ _ (tree_of line) holds_block
 
--- ---- as the machine's law has it
+-- ---- as the machine's laws have it
 
-sends_have_coins : (msgs : List Msg) → HoldsEach SendHasCoins msgs → AllByRecursion (λ (s : Send). IsMoney s.coins) (sends_of msgs)
-unfolding HoldsEach SendHasCoins
-sends_have_coins [] h = tt
-sends_have_coins (m ∷ msgs) h = by (send_of m) h.0 (sends_have_coins msgs h.1)
-  where
-    by : (o : Option Send) → IfSome o (λ s. IsMoney s.coins) → AllByRecursion (λ (s : Send). IsMoney s.coins) (sends_of msgs) → AllByRecursion (λ (s : Send). IsMoney s.coins) (cons_option o (sends_of msgs))
-    by None money rest = rest
-    by (Some send) money rest = (money, rest)
-
-tx_has_coins : (tx : Tx) → TxHasCoins tx → HasCoins tx
-unfolding TxHasCoins
-tx_has_coins tx h = record { fee = h.0; sends = All-from_recursion (λ (s : Send). IsMoney s.coins) (sends_of tx.msgs) (sends_have_coins tx.msgs h.1) }
+tx_has_coins : (tx : Tx) → TxIsRead tx → TxHasCoins tx
+unfolding TxIsRead HoldsEach
+tx_has_coins tx h = record { fee = h.0; messages = All-from_recursion MessageHasCoins tx.msgs h.1 }
 
 -- all transactions of the block have lists of coins
 pub AllHaveCoins : Block → Type 0
-AllHaveCoins block = All HasCoins block.txs
+AllHaveCoins block = All TxHasCoins block.txs
 
 pub block_has_coins : (line : List ℕ) (block : Block) → block_of line ≡ Ok block → AllHaveCoins block
 unfolding AllHaveCoins HoldsEach BlockIsRead
-block_has_coins line block e = All-from_recursion HasCoins block.txs (by block.txs (holds_ok BlockIsRead (block_of line) block e (holds_line line)).1)
+block_has_coins line block e = All-from_recursion TxHasCoins block.txs (by block.txs (holds_ok BlockIsRead (block_of line) block e (holds_line line)).1)
   where
-    by : (txs : List Tx) → AllByRecursion TxHasCoins txs → AllByRecursion HasCoins txs
+    by : (txs : List Tx) → AllByRecursion TxIsRead txs → AllByRecursion TxHasCoins txs
     by [] h = tt
     by (tx ∷ txs) h = (tx_has_coins tx h.0, by txs h.1)
 
@@ -270,6 +286,6 @@ pub height_is_low : (line : List ℕ) (block : Block) → block_of line ≡ Ok b
 unfolding BlockIsRead
 height_is_low line block e = (holds_ok BlockIsRead (block_of line) block e (holds_line line)).0
 
-pub all_have_coins : (blocks : List Block) → AllByRecursion AllHaveCoins blocks → All (λ (b : Block). All HasCoins b.txs) blocks
+pub all_have_coins : (blocks : List Block) → AllByRecursion AllHaveCoins blocks → All (λ (b : Block). All TxHasCoins b.txs) blocks
 unfolding AllHaveCoins
-all_have_coins blocks h = All-from_recursion (λ (b : Block). All HasCoins b.txs) blocks h
+all_have_coins blocks h = All-from_recursion (λ (b : Block). All TxHasCoins b.txs) blocks h

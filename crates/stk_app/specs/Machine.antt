@@ -10,12 +10,15 @@ use Rattle.stk_msgs.specs.declared.block.Block.{Block}
 use Rattle.stk_msgs.specs.declared.block.Tx.{Tx}
 use Rattle.stk_json.specs.Genesis.{genesis_of}
 use Rattle.stk_json.specs.Block.{block_of}
-use Rattle.stk_json.specs.Written.{text_of_genesis, text_of_block, text_of_report}
-use Rattle.stk_machine.specs.State.{State}
-use Rattle.stk_machine.specs.Genesis.{genesis_condition, started}
-use Rattle.stk_machine.specs.Transactions.{are_sends}
-use Rattle.stk_machine.specs.Blocks.{Step, block_fault, block_applied}
-use Rattle.stk_chain.specs.Chained.{Chained, state_items}
+use Rattle.stk_json.specs.Written.{text_of_genesis, text_of_block}
+use Rattle.stk_keep.specs.declared.refusal.Refusal.{Refusal}
+use Rattle.stk_rules.specs.Chain.{State}
+use Rattle.stk_machine.specs.Built.{is_built, built_start, built_step, built_report}
+use Rattle.stk_machine.specs.GenesisConditions.{start_condition}
+use Rattle.stk_machine.specs.GenesisState.{Start, ground_at_start, empty_over}
+use Rattle.stk_machine.specs.Machine.{Step}
+use Rattle.stk_report.specs.Lines.{lines_of, text_of}
+use Rattle.stk_chain.specs.Chained.{Chained}
 use Rattle.stk_chain.specs.declared.fault.ChainFault.{ChainFault}
 use Rattle.stk_chain.specs.declared.fault.ChainFault.TheVariants as chain
 use Rattle.stk_app.specs.declared.status.Stop.{Stop}
@@ -65,37 +68,42 @@ not_applied n block.NoMemory = stop.NoMemory
 
 -- ---- the genesis
 
--- the genesis has neither validators nor delegations, which are not built
-abbrev pub has_accounts_only : Genesis → Bool
-has_accounts_only g = (length g.validators == 0) && (length g.delegations == 0)
+-- The state that a genesis starts. That one starts where no condition holds is a law; the accounts alone stand in its
+-- place elsewhere.
+abbrev pub begun : Genesis → Result Start Refusal → State
+begun g (Ok start) = start.state
+begun g (Err why) = empty_over (ground_at_start g)
+
+-- what a genesis starts, told by its supply
+abbrev pub told : State → Answer
+told s = record { text = text_of_genesis s.view.bank.supplies; stage = Some s }
 
 -- the answer to a genesis, of which this condition holds or none
 abbrev pub started_answer : ℕ → Genesis → Option ℕ → Result Answer Stop
-started_answer n g None = Ok (record { text = text_of_genesis (started g).holdings.supplies; stage = Some (started g) })
+started_answer n g None = Ok (told (begun g (built_start g)))
 started_answer n g (Some condition) = Err (stop.BadInput n (input.BadGenesis condition))
 
 abbrev pub genesis_answer : ℕ → Result Genesis LineFault → Result Answer Stop
 genesis_answer n (Err fault) = Err (not_read n fault)
-genesis_answer n (Ok g) =
-    if has_accounts_only g then started_answer n g (genesis_condition g) else Err (stop.BadInput n input.Unbuilt)
+genesis_answer n (Ok g) = started_answer n g (start_condition g)
 
 -- ---- a block
 
--- the block has no votes, no evidence and no messages but sends: nothing else is built
-abbrev pub has_sends_only : Block → Bool
-has_sends_only b = (length b.votes == 0) && (length b.evidence == 0) && list_all (λ (tx : Tx). are_sends tx.msgs) b.txs
+-- The block has no votes and no evidence, and messages of the kinds that are built: nothing else is.
+abbrev pub is_built_block : Block → Bool
+is_built_block b = (length b.votes == 0) && (length b.evidence == 0) && list_all (λ (tx : Tx). list_all is_built tx.msgs) b.txs
 
 abbrev pub stepped : Step → Answer
 stepped step = record { text = text_of_block step.report; stage = Some step.state }
 
--- the answer to a block that has this fault or none
-abbrev pub applied_answer : ℕ → State → Block → Option BlockFault → Result Answer Stop
-applied_answer n s b None = Ok (stepped (block_applied b s))
-applied_answer n s b (Some fault) = Err (not_applied n fault)
+-- the answer to a block: its step or its fault
+abbrev pub applied_answer : ℕ → Result Step BlockFault → Result Answer Stop
+applied_answer n (Ok step) = Ok (stepped step)
+applied_answer n (Err fault) = Err (not_applied n fault)
 
 abbrev pub block_answer : ℕ → State → Result Block LineFault → Result Answer Stop
 block_answer n s (Err fault) = Err (not_read n fault)
-block_answer n s (Ok b) = if has_sends_only b then applied_answer n s b (block_fault s b) else Err (stop.BadInput n input.Unbuilt)
+block_answer n s (Ok b) = if is_built_block b then applied_answer n (built_step b s) else Err (stop.BadInput n input.Unbuilt)
 
 -- ---- lines
 
@@ -111,4 +119,4 @@ line_answer n s line = if nat_lt longest (length line) then Err (stop.Long n) el
 -- the report of what the lines led to, or that the genesis is missing
 unfoldable pub report_of : Stage → Result (List ℕ) Stop
 report_of None = Err (stop.BadInput 1 input.Missing)
-report_of (Some s) = Ok (text_of_report s.holdings.supplies (state_items s))
+report_of (Some s) = Ok (text_of (lines_of (built_report s)))

@@ -8,7 +8,7 @@ use Rattle.stk_app.specs.declared.status.Stop.TheVariants as stop
 use Rattle.stk_app.specs.declared.status.EndStop.{EndStop}
 use Rattle.stk_app.specs.declared.status.EndStop.TheVariants as end
 use Rattle.stk_app.specs.Lines.{whole_from, rest_from, lines_from}
-use Rattle.stk_app.specs.Machine.{Stage, Answer, longest, line_answer, report_of}
+use Rattle.stk_app.specs.Machine.{Stage, Answer, longest, line_answer}
 use Rattle.stk_app.specs.Runs.{ran_from, AreAnswered, Named, Wrote, Held, Answered, Reported, Lacking}
 
 abbrev pub status_of : Stop → Status

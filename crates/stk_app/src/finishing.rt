@@ -26,7 +26,7 @@ fn report<K: Sink>(alloc: Global, sink: &mut K, chain: &Option<Chain>) -> Result
     let Some(chain) = chain else {
         return Err(EndStop::Lacking(1, InputFault::Missing));
     };
-    let Some(text) = report_text(alloc, chain) else {
+    let Ok(text) = report_text(alloc, chain) else {
         return Err(EndStop::NoMemory);
     };
     match write_all(sink, &text) {

@@ -19,4 +19,6 @@ mod outside_tests;
 #[cfg(test)]
 mod samples;
 #[cfg(test)]
+mod stake_tests;
+#[cfg(test)]
 mod tests;

@@ -3,8 +3,8 @@ ghost use Rattle.std.specs.List.{list_all};
 ghost use Rattle.stk_io.specs.Outside.{Rose};
 ghost use Rattle.stk_json.specs.Genesis.{genesis_of};
 ghost use Rattle.stk_json.specs.Block.{block_of};
-ghost use Rattle.stk_machine.specs.Transactions.{are_sends};
-ghost use Rattle.stk_app.specs.Machine.{line_answer, not_read, not_started, not_applied, genesis_answer, block_answer, has_accounts_only, has_sends_only, stage_of};
+ghost use Rattle.stk_machine.specs.Built.{is_built};
+ghost use Rattle.stk_app.specs.Machine.{line_answer, not_read, not_started, not_applied, genesis_answer, block_answer, is_built_block, stage_of};
 ghost use Rattle.stk_app.specs.Parts.{IsFault, LongOnly, NotAnswered, PartStops, Took, UnlessWrite};
 
 use crate::status::{InputFault, Stop};
@@ -51,32 +51,35 @@ fn not_applied(number: u64, fault: BlockFault) -> Stop
     }
 }
 
-/// Whether the genesis has neither validators nor delegations.
-fn has_accounts_only(genesis: &Genesis) -> bool
-    ensures { result ≡ has_accounts_only genesis.now }
+/// Whether a message is of a kind that is built.
+fn is_built(message: &Msg) -> bool
+    ensures { result ≡ is_built message.now }
 {
-    genesis.validators.len() == 0 && genesis.delegations.len() == 0
+    matches!(
+        message,
+        Msg::Send(_) | Msg::CreateValidator(_) | Msg::EditValidator(_) | Msg::Delegate(_)
+    )
 }
 
-/// Whether all messages are sends.
-fn are_sends(msgs: &[Msg]) -> bool
-    ensures { result ≡ are_sends msgs.now }
+/// Whether all messages are of kinds that are built.
+fn are_built(msgs: &[Msg]) -> bool
+    ensures { result ≡ list_all is_built msgs.now }
 {
-    msgs.iter().all(|msg| matches!(msg, Msg::Send(_)))
+    msgs.iter().all(|message| is_built(message))
 }
 
-/// Whether the transactions have no messages but sends.
-fn have_sends_only(txs: &[Tx]) -> bool
-    ensures { result ≡ list_all (λ (tx : Tx). are_sends tx.msgs) txs.now }
+/// Whether the transactions have no messages of other kinds.
+fn have_built_only(txs: &[Tx]) -> bool
+    ensures { result ≡ list_all (λ (tx : Tx). list_all is_built tx.msgs) txs.now }
 {
-    txs.iter().all(|tx| are_sends(tx.msgs.as_slice()))
+    txs.iter().all(|tx| are_built(tx.msgs.as_slice()))
 }
 
-/// Whether the block has no votes, no evidence and no messages but sends.
-fn has_sends_only(block: &Block) -> bool
-    ensures { result ≡ has_sends_only block.now }
+/// Whether the block has no votes, no evidence and no messages of other kinds.
+fn is_built_block(block: &Block) -> bool
+    ensures { result ≡ is_built_block block.now }
 {
-    block.votes.len() == 0 && block.evidence.len() == 0 && have_sends_only(block.txs.as_slice())
+    block.votes.len() == 0 && block.evidence.len() == 0 && have_built_only(block.txs.as_slice())
 }
 
 /// The answer to the first line: the chain that it starts, and its text.
@@ -88,9 +91,6 @@ fn begin(alloc: Global, number: u64, line: &[u8]) -> Result<(Chain, Vec<u8>), St
         Ok(genesis) => genesis,
         Err(fault) => return Err(not_read(number, fault)),
     };
-    if !has_accounts_only(&genesis) {
-        return Err(Stop::BadInput(number, InputFault::Unbuilt));
-    }
     let chain = match Chain::genesis(alloc, &genesis) {
         Ok((chain, _facts)) => chain,
         Err(fault) => return Err(not_started(number, fault)),
@@ -114,7 +114,7 @@ fn advance(alloc: Global, number: u64, chain: &mut Chain, line: &[u8]) -> Result
         Ok(block) => block,
         Err(fault) => return Err(not_read(number, fault)),
     };
-    if !has_sends_only(&block) {
+    if !is_built_block(&block) {
         return Err(Stop::BadInput(number, InputFault::Unbuilt));
     }
     let report = match chain.apply_block(alloc, &block) {

@@ -1,20 +1,23 @@
-ghost use Rattle.std.specs.Prelude.{◌≡◌, Ok, Some, IfSome};
+ghost use Rattle.std.specs.Prelude.{◌≡◌, Ok, Some, IfOk, IfErr};
 ghost use Rattle.stk_app.specs.Machine.{report_of};
 
+use crate::status::EndStop;
 use std::alloc::Global;
 use stk_chain::Chain;
-use stk_json::lines_of_report;
+use stk_report::{report, states_are_reported};
 
-/// The report of a chain; None where memory is wanting.
+/// The report of a chain: no rewards are pending, since none are kept yet. The only error is `NoMemory`.
 #[tactic(auto, unfolding(crate::specs::Machine::report_of))]
-pub fn report_text(alloc: Global, chain: &Chain) -> Option<Vec<u8>>
-    ensures { IfSome result (λ text. report_of (Some chain.now.state) ≡ Ok text.items) }
+pub fn report_text(alloc: Global, chain: &Chain) -> Result<Vec<u8>, EndStop>
+    ensures text { IfOk result (λ text. report_of (Some chain.now.state) ≡ Ok text.items) }
+    ensures fault { IfErr result (λ stop. stop ≡ EndStop.NoMemory) }
 {
-    let Ok(supply) = chain.supply(alloc) else {
-        return None;
-    };
+    states_are_reported();
     let Ok(items) = chain.items(alloc) else {
-        return None;
+        return Err(EndStop::NoMemory);
     };
-    lines_of_report(alloc, &supply, &items).ok()
+    match report(alloc, &items, &[]) {
+        Ok(text) => Ok(text),
+        Err(_) => Err(EndStop::NoMemory),
+    }
 }

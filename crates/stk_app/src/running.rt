@@ -4,8 +4,8 @@ ghost use Rattle.stk_app.specs.Lines.{last_line};
 ghost use Rattle.stk_app.specs.Machine.{longest, stage_of};
 ghost use Rattle.stk_app.specs.Outcome.{RunEnds, IsUntroubled, is_replay, most_bytes, UnlessReadFault, UnlessWriteFault};
 ghost use Rattle.stk_app.specs.Parts.{FinishStatus, Stands};
-ghost use Rattle.stk_machine.specs.Laws.{TransactionsEnd};
-ghost use Rattle.stk_app.specs.Laws.{SupplyStays};
+ghost use Rattle.stk_machine.specs.BuiltLaws.{BuiltTransactionsEnd};
+ghost use Rattle.stk_app.specs.Laws.{StakesAreHeld, SupplyStays};
 
 use crate::feeding::{Progress, feed};
 use crate::finishing::finish;
@@ -13,7 +13,9 @@ use crate::line::LONGEST;
 use crate::status::{LimitKind, Status, status_at_end, status_of};
 use std::alloc::Global;
 use stk_io::{Sink, Source, read_at_most};
-use stk_machine::{supplies_stay, transactions_end};
+use stk_machine::{
+    built_transactions_end, genesis_starts, staking_accounts_hold_what_is_owed, supplies_are_kept,
+};
 
 /// How many bytes are asked for at once.
 const PIECE: usize = 4096;
@@ -77,14 +79,39 @@ fn drive<S: Source, K: Sink>(alloc: Global, source: &mut S, sink: &mut K) -> Sta
         line: Vec::new(alloc),
         chain: None,
     };
+    take_all(alloc, source, sink, &mut progress)
+}
+
+/// Takes the source to its end, from the beginning of a run on. What was led on stays the caller's, so that no way out of
+/// the loop has a chain to let go of.
+fn take_all<S: Source, K: Sink>(
+    alloc: Global,
+    source: &mut S,
+    sink: &mut K,
+    progress: &mut Progress,
+) -> Status
+    requires number { progress.old.number ≡ 1 }
+    requires line { progress.old.line.items ≡ [] }
+    requires chain { stage_of progress.old.chain ≡ None }
+    ensures ends { RunEnds (S.left source.old) (S.left source.new) (K.written sink.old)
+        (K.written sink.new) result }
+    ensures busy { result ≡ Status.Usage → ⊥ }
+    ensures clean { result ≡ Status.Done → K.clean sink.new ≡ true }
+    ensures read_cause { result ≡ Status.ReadFault
+        → Rose (S.faults source.old) (S.faults source.new) }
+    ensures write_cause { result ≡ Status.WriteFault
+        → Rose (K.faults sink.old) (K.faults sink.new) }
+    ensures read_quiet { UnlessReadFault result (S.faults source.new ≡ S.faults source.old) }
+    ensures write_quiet { UnlessWriteFault result (K.faults sink.new ≡ K.faults sink.old) }
+{
     let mut piece = [0u8; PIECE];
     let mut taken = 0u64;
     while taken < MOST {
         match read_at_most(source, &mut piece, room(taken)) {
             Err(_) => return Status::ReadFault,
-            Ok(0) => return end(alloc, sink, &mut progress),
+            Ok(0) => return end(alloc, sink, progress),
             Ok(n) => {
-                if let Err(stop) = feed(alloc, sink, &mut progress, &piece[..n]) {
+                if let Err(stop) = feed(alloc, sink, progress, &piece[..n]) {
                     return status_of(stop);
                 }
                 taken += n as u64;
@@ -93,7 +120,7 @@ fn drive<S: Source, K: Sink>(alloc: Global, source: &mut S, sink: &mut K) -> Sta
     }
     match read_at_most(source, &mut piece, 1) {
         Err(_) => Status::ReadFault,
-        Ok(0) => end(alloc, sink, &mut progress),
+        Ok(0) => end(alloc, sink, progress),
         Ok(_) => {
             if piece[0] != b'\n' && progress.line.len() == LONGEST {
                 Status::Limit(progress.number, LimitKind::Line)
@@ -151,10 +178,13 @@ pub fn run<S: Source, K: Sink>(
         → (result ≡ Status.Done) ⊎ (result ≡ Status.NoMemory) }
     // What the machine keeps, at every input.
     ensures supply { SupplyStays }
-    ensures refusals { TransactionsEnd }
+    ensures stakes { StakesAreHeld }
+    ensures refusals { BuiltTransactionsEnd }
 {
-    supplies_stay();
-    transactions_end();
+    genesis_starts();
+    supplies_are_kept();
+    staking_accounts_hold_what_is_owed();
+    built_transactions_end();
     if !is_replay(words) {
         return Status::Usage;
     }

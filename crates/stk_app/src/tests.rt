@@ -91,14 +91,20 @@ fn a_genesis_is_read_and_judged(rt: HostRuntime) -> Result<(), Fail> {
 }
 
 #[test]
-fn what_is_not_built_is_said_to_be(rt: HostRuntime) -> Result<(), Fail> {
+fn a_delegation_to_nobody_starts_nothing(rt: HostRuntime) -> Result<(), Fail> {
     let alloc = rt.alloc();
     let delegated = format!(in alloc;
         "{}{}",
         GENESIS_HEAD,
         r#"],"validators":[],"delegations":[{"delegator":"1111111111111111111111111111111111111111","validator":"2222222222222222222222222222222222222222","amount":"5"}]}"#
     )?;
-    assert!(rt; is_first_fault(alloc, delegated.as_str(), InputFault::Unbuilt)?);
+    assert!(rt; is_first_fault(alloc, delegated.as_str(), InputFault::BadGenesis(7))?);
+    Ok(())
+}
+
+#[test]
+fn what_is_not_built_is_said_to_be(rt: HostRuntime) -> Result<(), Fail> {
+    let alloc = rt.alloc();
     assert!(rt;
         is_second_fault(
             alloc,

@@ -1,13 +1,15 @@
 -- The bank that a genesis starts.
 use Rattle.std.proofs.Common.{◌≡◌, ◌∙◌, ℕ, ◌+◌, ◌^◌, ◌≤◌, ◌<◌, Bool, true, false, cond, List, [], ◌∷◌, ◌++◌, map, take, length, get_or, Option, Some, None, refl, sym, ap, subst, arith}
 use Rattle.std.specs.Prelude.{unwrap_or, All}
-use Rattle.std.proofs.lemmas.List.Elements.{All-head, All-tail, All-more}
-use Rattle.std.proofs.lemmas.List.{map_more}
+use Rattle.std.proofs.lemmas.List.Elements.{All-nil, All-cons, All-head, All-tail, All-more, All-append}
+use Rattle.std.proofs.lemmas.List.{map_more, map-append}
 use Rattle.std.specs.Map.{lookup}
 use Rattle.std.specs.BTreeMap.{is_at}
 use Rattle.std.proofs.lemmas.Map.Text.{is_eq-slice_cmp}
 use Rattle.std.proofs.lemmas.Slice.Eq.{bytes_eq-Decides}
 use Rattle.stk_types.specs.declared.account.Account.{Account}
+use Rattle.stk_types.specs.declared.account.Account.TheVariants as account
+use Rattle.stk_types.specs.declared.account.Module.TheVariants as holder
 use Rattle.stk_types.specs.Orders.{denom_cmp}
 use Rattle.stk_coins.specs.Coins.{Money, IsMoney, amount_of}
 use Rattle.stk_coins.proofs.Order.{Above, Rises, rises_from_money, amount-above}
@@ -15,9 +17,11 @@ use Rattle.stk_keep.specs.Holdings.{Holdings}
 use Rattle.stk_bank.specs.Given.{coin_given, coins_given, all_given, held_by as given_by, given_of, IsBounded}
 use Rattle.stk_msgs.specs.declared.genesis.Genesis.{Genesis}
 use Rattle.stk_msgs.specs.declared.genesis.GenesisAccount.{GenesisAccount}
-use Rattle.stk_machine.specs.Genesis.{with_coins, balances_with, coins_joined, supplies_with, held_by, genesis_condition}
-use Rattle.stk_machine.proofs.Cases.{starts}
+use Rattle.stk_machine.specs.Genesis.{with_coins, balances_with, coins_joined, supplies_with, held_by}
+use Rattle.stk_machine.specs.GenesisConditions.{start_condition, accounts_at_start, delegated_coins}
 use Rattle.stk_machine.proofs.Kept.{amount_within}
+use Rattle.stk_machine.proofs.StartLemmas.{may_start}
+use Rattle.stk_chain.proofs.DelegatedLemmas.{amounts, delegated_most, one_money}
 use Rattle.stk_chain.proofs.SupplyLemmas.{Ascend, joined, amount-joined, ascend-joined, ascend_all, ascend-nil}
 
 -- an account with its coins
@@ -76,12 +80,26 @@ sum_accounts (x ∷ accounts) s d a m =
     let one : amount_of (coins_joined x.coins s) d ≡ amount_of s d + amount_of x.coins d = sum_coins x.coins s d a (rises_from_money x.coins (All-head HasMoney x accounts m)) in
     omega (arith, rest, one)
 
+-- the not-bonded account, which has what is delegated
+abbrev pub not_bonded : Genesis → GenesisAccount
+not_bonded g = record { address = account.Module holder.NotBonded; coins = delegated_coins g }
+
 -- of no denomination too much is given
-pub bounded : (g : Genesis) → genesis_condition g ≡ None → All HasMoney g.accounts → IsBounded (map pair_of g.accounts)
+pub bounded : (g : Genesis) → start_condition g ≡ None → HaveMoney g.accounts → IsBounded (map pair_of (accounts_at_start g))
 bounded g e m d =
-    let sum : amount_of (supplies_with g.accounts []) d ≡ 0 + given_of (map pair_of g.accounts) d = sum_accounts g.accounts [] d ascend-nil m in
-    let most : amount_of (supplies_with g.accounts []) d ≤ 10 ^ 18 = amount_within (supplies_with g.accounts []) d (starts g e).not_too_much in
+    let own : IsMoney (delegated_coins g) = one_money g.params.bond_denom (amounts g.delegations) (delegated_most g e) in
+    let money : All HasMoney (accounts_at_start g) = All-append HasMoney g.accounts (not_bonded g ∷ []) m (All-cons HasMoney (not_bonded g) [] own (All-nil HasMoney)) in
+    let sum : amount_of (supplies_with (accounts_at_start g) []) d ≡ 0 + given_of (map pair_of (accounts_at_start g)) d = sum_accounts (accounts_at_start g) [] d ascend-nil money in
+    let most : amount_of (supplies_with (accounts_at_start g) []) d ≤ 10 ^ 18 = amount_within (supplies_with (accounts_at_start g) []) d (may_start g e).not_too_much in
     omega (arith, sum, most)
+
+-- the pairs of all accounts, and last that of the not-bonded account
+pub all_pairs : (g : Genesis) (pairs pairs2 : List (Account × Money)) (coins : Money) → pairs ≡ map pair_of g.accounts → coins ≡ delegated_coins g → pairs2 ≡ pairs ++ (account.Module holder.NotBonded, coins) ∷ []
+    → pairs2 ≡ map pair_of (accounts_at_start g)
+all_pairs g pairs pairs2 coins e f is =
+    is ∙ ap (λ (p : List (Account × Money)). p ++ (account.Module holder.NotBonded, coins) ∷ []) e
+    ∙ ap (λ (c : Money). map pair_of g.accounts ++ (account.Module holder.NotBonded, c) ∷ []) f
+    ∙ sym (map-append pair_of g.accounts (not_bonded g ∷ []))
 
 -- one more account has its pair
 pub pairs_more : (accounts : List GenesisAccount) (i : ℕ) (a : GenesisAccount) (pairs pairs2 : List (Account × Money)) (coins : Money) → i < length accounts → a ≡ get_or accounts i a

@@ -17,7 +17,7 @@ use Rattle.stk_keep.proofs.HoldingLemmas.{denom_total}
 use Rattle.stk_msgs.specs.declared.genesis.GenesisAccount.{GenesisAccount}
 use Rattle.stk_machine.specs.Genesis.{coins_joined, supplies_with, has_too_much}
 use Rattle.stk_chain.specs.Supplies.{IsLow, IsHigh}
-use Rattle.stk_chain.proofs.MessageLemmas.{next, drop_end}
+use Rattle.stk_chain.proofs.PlaceLemmas.{next, drop_end}
 
 abbrev pub Ascend : Money → Type 0
 Ascend s = IsStrictlySortedBy denom_cmp (keys_of s)
@@ -25,7 +25,7 @@ Ascend s = IsStrictlySortedBy denom_cmp (keys_of s)
 same_amount : (s : Money) (e d : List ℕ) → is_at (denom_cmp e) d ≡ true → amount_of s e ≡ amount_of s d
 same_amount s e d p = ap (λ x. amount_of s x) ((bytes_eq-Decides e d).0 (sym (is_eq-slice_cmp e d) ∙ p))
 
-same_denom : (d : List ℕ) → is_at (denom_cmp d) d ≡ true
+pub same_denom : (d : List ℕ) → is_at (denom_cmp d) d ≡ true
 same_denom d = is_eq-slice_cmp d d ∙ (bytes_eq-Decides d d).1 refl
 
 -- ---- one coin
@@ -71,14 +71,14 @@ pub ascend_all : (coins s : Money) → Ascend s → Ascend (coins_joined coins s
 ascend_all [] s a = a
 ascend_all (c ∷ cs) s a = ascend_all cs (joined s c.0 c.1) (ascend-joined s c.0 c.1 a)
 
-grows : (coins s : Money) (e : List ℕ) → Ascend s → amount_of s e ≤ amount_of (coins_joined coins s) e
+pub grows : (coins s : Money) (e : List ℕ) → Ascend s → amount_of s e ≤ amount_of (coins_joined coins s) e
 grows [] s e a = omega arith
 grows (c ∷ cs) s e a =
     let one : amount_of s e ≤ amount_of (joined s c.0 c.1) e = grows_by s c.0 c.1 e a in
     let all : amount_of (joined s c.0 c.1) e ≤ amount_of (coins_joined cs (joined s c.0 c.1)) e = grows cs (joined s c.0 c.1) e (ascend-joined s c.0 c.1 a) in
     omega (arith, one, all)
 
-at_same : (b : Bool) → b ≡ true → (m t : ℕ) → cond b m t ≡ m
+pub at_same : (b : Bool) → b ≡ true → (m t : ℕ) → cond b m t ≡ m
 at_same true e m t = refl
 at_same false e m t = absurd cc
 
@@ -118,7 +118,7 @@ joined_all coins place s0 s most least so = sym (ap (λ l. coins_joined l s) (dr
 
 -- ---- accounts
 
-ascend_accounts : (accounts : List GenesisAccount) (s : Money) → Ascend s → Ascend (supplies_with accounts s)
+pub ascend_accounts : (accounts : List GenesisAccount) (s : Money) → Ascend s → Ascend (supplies_with accounts s)
 ascend_accounts [] s a = a
 ascend_accounts (x ∷ accounts) s a = ascend_accounts accounts (coins_joined x.coins s) (ascend_all x.coins s a)
 

@@ -1,32 +1,71 @@
 -- A chain as contracts see it.
-use Rattle.std.specs.Prelude.{◌≡◌, ℕ, ◌^◌, ◌<◌, Bool, List, [], ◌∷◌, Option, Some, None}
+use Rattle.std.specs.Prelude.{◌≡◌, Bool, List, [], ◌∷◌, ◌++◌, Option, Some, None}
 use Rattle.stk_coins.specs.declared.coin.Coin.{Coin}
 use Rattle.stk_keep.specs.declared.items.Item.{Item}
 use Rattle.stk_keep.specs.declared.items.Item.TheVariants as item
-use Rattle.stk_keep.specs.declared.params.Params.{Params}
-use Rattle.stk_keep.specs.Ground.{AreInRange, end_of_blocks}
-use Rattle.stk_keep.specs.Holdings.{IsBacked}
+use Rattle.stk_keep.specs.Ground.{seen, IsInOrder}
+use Rattle.stk_keep.specs.Holdings.{Holdings}
+use Rattle.stk_keep.specs.Staked.{Staked, bonded_tokens, other_tokens, HoldsStake}
+use Rattle.stk_keep.specs.World.{View}
+use Rattle.stk_rules.specs.Chain.{State}
 use Rattle.stk_bank.specs.Booked.{Booked}
-use Rattle.stk_bank.specs.Rows.{items_of}
-use Rattle.stk_machine.specs.State.{State}
+use Rattle.stk_book.specs.Calls.{IsSoundStake}
+use Rattle.stk_machine.specs.Built.{stake_over}
+use Rattle.stk_machine.specs.Items.{ground_items, staked_items}
+use Rattle.stk_chain.specs.declared.modules.Modules.{Modules}
 
 -- the machine's state, and whether memory was wanting in a block
 pub record Chained : Type 0 where
   pub state : State
   pub spent : Bool
 
--- What holds of a chain between blocks: the bank is in order and has no open mark; parameters, time and height are in
--- their ranges.
-pub record IsAtRest (book : Booked) (height time : ℕ) (params : Params) : Type 0 where
-  pub backed : IsBacked book.holdings
-  pub no_mark : book.marks ≡ []
-  pub in_range : AreInRange params
-  pub before_end : time < end_of_blocks
-  pub low : height < 2 ^ 63
+-- ---- the modules
 
--- the items of a state: the last height and time, the parameters, each balance and each supply
+-- the ground that modules stand on
+abbrev pub ground_of : Modules → View
+ground_of m = seen (λ (b : Booked). b.holdings) m.ground
+
+-- the machine's state that modules are
+abbrev pub stands : Modules → State
+stands m = stake_over m.staking.staked (ground_of m)
+
+-- what each module has at its open marks, the latest last
+pub record Marks : Type 0 where
+  pub bank : List Holdings
+  pub staking : List Staked
+
+abbrev pub marks_of : Modules → Marks
+marks_of m = record { bank = m.ground.bank.marks; staking = m.staking.marks }
+
+-- the marks with one more, of what stands now
+abbrev pub opened : Modules → Marks
+opened m = record {
+  bank = m.ground.bank.marks ++ m.ground.bank.holdings ∷ [];
+  staking = m.staking.marks ++ m.staking.staked ∷ [];
+}
+
+-- no mark is open
+abbrev pub no_marks : Marks
+no_marks = record { bank = []; staking = [] }
+
+-- What holds of modules between two messages: the ground is in order, validators and delegations are sound, and the
+-- staking accounts hold what is owed from them.
+pub record AreSteady (m : Modules) : Type 0 where
+  pub in_order : IsInOrder (ground_of m)
+  pub sound : IsSoundStake m.staking.staked
+  pub accounts : HoldsStake (ground_of m) (bonded_tokens m.staking.staked) (other_tokens m.staking.staked)
+
+-- The same between two blocks, where besides no mark is open and no fact is left.
+pub record AreAtRest (m : Modules) : Type 0 where
+  pub steady : AreSteady m
+  pub unmarked : marks_of m ≡ no_marks
+  pub no_facts : m.ground.facts ≡ []
+
+-- ---- items
+
+-- the items of a state: the last height and time, the parameters, each balance and supply, each validator and delegation
 abbrev pub state_items : State → List Item
-state_items s = item.Head s.height s.time ∷ item.Parameters s.params ∷ items_of s.holdings
+state_items w = ground_items w.view ++ staked_items w.mine.staked
 
 -- the coin of a supply
 unfoldable pub coin_in : Item → Option Coin

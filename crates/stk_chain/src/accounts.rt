@@ -1,16 +1,13 @@
 //! The accounts of a genesis: none may be a module's or stand twice.
 
-ghost use Rattle.std.specs.Prelude.{◌≡◌, ◌||◌, Bool, true, not, map, All, IfOk, IfErr, OnOk};
-ghost use Rattle.std.specs.BTreeMap.{is_at};
+ghost use Rattle.std.specs.Prelude.{◌≡◌, map, All, IfOk, IfErr, OnOk};
 ghost use Rattle.std.specs.List.{list_any};
-ghost use Rattle.stk_types.specs.Orders.{account_cmp};
-ghost use Rattle.stk_types.specs.declared.account.Account.{Account};
 ghost use Rattle.stk_coins.specs.Coins.{IsMoney};
-ghost use Rattle.stk_machine.specs.Genesis.{is_module, stands_twice, has_wrong_account};
+ghost use Rattle.stk_machine.specs.Genesis.{is_module, has_wrong_account};
 
 use crate::fault::ChainFault;
+use crate::repeats::has_repeat;
 use std::alloc::{AllocError, Global};
-use std::collections::BTreeSet;
 use stk_coins::Coins;
 use stk_msgs::GenesisAccount;
 use stk_types::{Account, Copied};
@@ -24,28 +21,11 @@ fn has_module(accounts: &[GenesisAccount]) -> bool
         .any(|account| matches!(account.address, Account::Module(_)))
 }
 
-/// Adds an account to a set; false where it was there already.
-fn add_account(seen: &mut BTreeSet<Account>, account: Account) -> Result<bool, AllocError>
-    ensures new { IfOk result (λ new. new ≡ not (list_any (is_at (account_cmp account)) seen.old.keys)) }
-    ensures added { IfOk result (λ new. new ≡ true → (test : Account → Bool) → list_any test seen.new.keys ≡ (test account || list_any test seen.old.keys)) }
+/// The addresses of accounts, in their order.
+fn addresses_of(alloc: Global, accounts: &[GenesisAccount]) -> Result<Vec<Account>, AllocError>
+    ensures { IfOk result (λ keys. keys.items ≡ map (λ a. a.address) accounts.now) }
 {
-    match seen.insert(account) {
-        Ok(new) => Ok(new),
-        Err(refused) => Err(AllocError::from(refused)),
-    }
-}
-
-/// Whether an account stands twice.
-fn has_repeat(alloc: Global, accounts: &[GenesisAccount]) -> Result<bool, AllocError>
-    ensures { IfOk result (λ again. again ≡ stands_twice account_cmp (map (λ a. a.address) accounts.now)) }
-{
-    let mut seen = BTreeSet::new(alloc);
-    for account in accounts {
-        if !add_account(&mut seen, account.address)? {
-            return Ok(true);
-        }
-    }
-    Ok(false)
+    accounts.iter().map(|a| a.address).collect(alloc)
 }
 
 /// Whether an account is a module's or stands twice.
@@ -58,7 +38,7 @@ pub(crate) fn has_wrong_account(
     if has_module(accounts) {
         return Ok(true);
     }
-    has_repeat(alloc, accounts)
+    has_repeat(alloc, &addresses_of(alloc, accounts)?)
 }
 
 /// Each account's address with a copy of its coins.

@@ -1,47 +1,40 @@
-ghost use Rattle.std.specs.Prelude.{◌≡◌, ◌<◌, ◌^◌, [], None, false, IfOk, IfErr};
-ghost use Rattle.stk_keep.specs.Holdings.{Holdings};
-ghost use Rattle.stk_keep.specs.declared.params.Params.{Params};
-ghost use Rattle.stk_machine.specs.Blocks.{IsBuilt, block_fault};
-ghost use Rattle.stk_machine.specs.Genesis.{IsBuiltGenesis, genesis_condition, started};
+ghost use Rattle.std.specs.Prelude.{◌≡◌, ◌<◌, ◌^◌, [], None, Ok, false, IfOk, IfErr, OnOk};
+ghost use Rattle.stk_machine.specs.Blocks.{block_fault};
+ghost use Rattle.stk_machine.specs.Built.{IsBuilt, built_start, stake_over};
+ghost use Rattle.stk_machine.specs.GenesisConditions.{start_condition};
+ghost use Rattle.stk_machine.specs.Items.{IsInKeyOrder};
 ghost use Rattle.stk_chain.specs.Answers.{IsGenesisFault, Applies};
 ghost use Rattle.stk_chain.specs.Chained.{state_items};
 
+use crate::block::{apply, fault_of};
+use crate::conditions::condition;
 use crate::fault::ChainFault;
-use crate::genesis::{condition, start_book};
-use crate::listing::{append_book, supply_of};
-use crate::ranges::is_past_blocks;
-use crate::transaction::apply_transactions;
+use crate::listing::{append_modules, supply_of};
+use crate::modules::Modules;
+use crate::start::start;
 use std::alloc::Global;
 use std::marker::{Brand, Model};
 use std::sync::ledger::Blank;
-use stk_bank::Book;
 use stk_coins::Coins;
-use stk_keep::{Facts, Item, Listed, Params, RecordFault};
+use stk_keep::{Facts, Item, RecordFault};
 use stk_msgs::{Block, BlockFault, BlockReport, Genesis};
-use stk_types::Moment;
 
 /// A chain. Contracts see the machine's state, and whether memory was wanting in a block.
 #[derive(Drop)]
 pub struct Chain {
-    book: Book,
-    height: u64,
-    time: Moment,
-    params: Params,
+    modules: Modules,
     spent: bool,
 }
 
 impl Model for Chain {
     ghost use Rattle.std.specs.Prelude.{◌≡◌, false};
-    ghost use Rattle.stk_chain.specs.Chained.{Chained, IsAtRest};
+    ghost use Rattle.stk_chain.specs.Chained.{Chained, stands, AreAtRest};
 
     ghost Value = { Chained };
 
-    ghost view = { λ c. record {
-      state = record { height = c.height; time = c.time; params = c.params; holdings = c.book.holdings };
-      spent = c.spent;
-    } };
+    ghost view = { λ c. record { state = stands c.modules; spent = c.spent } };
 
-    ghost invariant = { λ c. c.spent ≡ false → IsAtRest c.book c.height c.time c.params };
+    ghost invariant = { λ c. c.spent ≡ false → AreAtRest c.modules };
 }
 
 impl Chain {
@@ -50,21 +43,18 @@ impl Chain {
     /// The errors are `BadGenesis`, exactly where a condition keeps the genesis from starting a chain, with
     /// the smallest number of such, and `NoMemory`.
     pub fn genesis(alloc: Global, genesis: &Genesis) -> Result<(Chain, Facts), ChainFault>
-        requires { IsBuiltGenesis genesis.now }
-        ensures starts { IfOk result (λ _. genesis_condition genesis.now ≡ None) }
-        ensures chain { IfOk result (λ started_chain. started_chain.0 ≡ record { state = started genesis.now; spent = false }) }
-        ensures facts { IfOk result (λ started_chain. started_chain.1 ≡ []) }
-        ensures fault { IfErr result (IsGenesisFault (genesis_condition genesis.now)) }
+        ensures starts { IfOk result (λ _. start_condition genesis.now ≡ None) }
+        ensures chain { IfOk result (λ first. built_start genesis.now ≡ Ok (record { facts = first.1; state = first.0.state })) }
+        ensures unspent { IfOk result (λ first. first.0.spent ≡ false) }
+        ensures facts { IfOk result (λ first. first.1 ≡ []) }
+        ensures fault { IfErr result (IsGenesisFault (start_condition genesis.now)) }
     {
         if let Some(number) = condition(alloc, genesis)? {
             return Err(ChainFault::BadGenesis(number));
         }
-        let book = start_book::<Brand>(alloc, genesis, Blank::new(1))?;
+        let modules = start::<Brand>(alloc, genesis, Blank::new(1))?;
         let chain = Chain {
-            book,
-            height: 0,
-            time: genesis.time,
-            params: genesis.params,
+            modules,
             spent: false,
         };
         Ok((chain, Facts::new(alloc)))
@@ -84,22 +74,11 @@ impl Chain {
         if self.spent {
             return Err(BlockFault::NoMemory);
         }
-        if let Some(fault) = fault_of(self.height, self.time, block) {
+        if let Some(fault) = fault_of(&self.modules.ground.ctx, block) {
             return Err(fault);
         }
-        let txs = block.txs.as_slice();
-        match apply_transactions::<Brand>(alloc, &mut self.book, txs, Blank::new(1)) {
-            Ok(reports) => {
-                self.height = block.height;
-                self.time = block.time;
-                Ok(BlockReport {
-                    height: block.height,
-                    time: block.time,
-                    begun: Facts::new(alloc),
-                    txs: Listed::of(reports),
-                    ended: Facts::new(alloc),
-                })
-            }
+        match apply::<Brand>(alloc, &mut self.modules, block, Blank::new(1)) {
+            Ok(report) => Ok(report),
             Err(RecordFault::NoMemory) => {
                 self.spent = true;
                 Err(BlockFault::NoMemory)
@@ -108,9 +87,13 @@ impl Chain {
     }
 
     /// All that the chain keeps, as items: the last height and time, the parameters, the balances by account
-    /// and denomination, and the supplies by denomination. The only error is `NoMemory`.
+    /// and denomination, the supplies by denomination, the validators by operator and the delegations by
+    /// operator and delegator. Nothing else is kept yet; keys ascend in each of these lists. The only error is
+    /// `NoMemory`.
     pub fn items(&self, alloc: Global) -> Result<Vec<Item>, ChainFault>
         ensures items { IfOk result (λ items. items.items ≡ state_items self.now.state) }
+        ensures alone { self.now.state ≡ stake_over self.now.state.mine.staked self.now.state.view }
+        ensures order { OnOk result (IsInKeyOrder self.now.state) }
         ensures spent { IfOk result (λ _. self.now.spent ≡ false) }
         ensures fault { IfErr result (λ fault. fault ≡ ChainFault.NoMemory) }
     {
@@ -119,39 +102,25 @@ impl Chain {
         }
         let mut items = Vec::new(alloc);
         items.push(Item::Head {
-            height: self.height,
-            time: self.time,
+            height: self.modules.ground.ctx.height,
+            time: self.modules.ground.ctx.time,
         })?;
         items.push(Item::Parameters {
-            params: self.params,
+            params: self.modules.ground.ctx.params,
         })?;
-        append_book::<Brand>(&self.book, &mut items, Blank::new(1))?;
+        append_modules::<Brand>(&self.modules, &mut items, Blank::new(1))?;
         Ok(items)
     }
 
     /// How much there is of each denomination. The only error is `NoMemory`.
     pub fn supply(&self, alloc: Global) -> Result<Coins, ChainFault>
-        ensures coins { IfOk result (λ coins. coins ≡ self.now.state.holdings.supplies) }
+        ensures coins { IfOk result (λ coins. coins ≡ self.now.state.view.bank.supplies) }
         ensures spent { IfOk result (λ _. self.now.spent ≡ false) }
         ensures fault { IfErr result (λ fault. fault ≡ ChainFault.NoMemory) }
     {
         if self.spent {
             return Err(ChainFault::NoMemory);
         }
-        Ok(supply_of::<Brand>(alloc, &self.book, Blank::new(1))?)
+        Ok(supply_of::<Brand>(alloc, &self.modules.ground.bank, Blank::new(1))?)
     }
-}
-
-/// Why a block may not follow one of this height and time.
-fn fault_of(height: u64, time: Moment, block: &Block) -> Option<BlockFault>
-    requires { height < 2 ^ 63 }
-    ensures { (params : Params) (holdings : Holdings) → result ≡ block_fault (record { height = height; time = time; params = params; holdings = holdings }) block.now }
-{
-    if block.height != height + 1 {
-        return Some(BlockFault::BadHeight(height + 1));
-    }
-    if block.time < time || is_past_blocks(block.time) {
-        return Some(BlockFault::BadTime(time));
-    }
-    None
 }

@@ -1,16 +1,22 @@
 //! The chain: it starts from a genesis, applies blocks one after the other, and lists what it keeps.
 //!
 //! What it answers and keeps is what the machine of `stk_machine` gives, or that memory is wanting. What is
-//! built is any list of blocks of sends, with fees that stay with the fee collector (Cosmos SDK v0.47:
-//! `x/bank`, the fee of `x/auth`, and `runTx` of `baseapp`).
+//! built are geneses with validators and delegations, and blocks of sends, of new and edited validators and of
+//! delegations, over hooks that do nothing: fees stay with the fee collector, and all validators stay unbonded
+//! (Cosmos SDK v0.47: `x/bank`, `x/staking`, the fee of `x/auth`, and `runTx` of `baseapp`).
 #![tactic(auto)]
 
 mod accounts;
+mod block;
 mod chain;
+mod conditions;
 mod fault;
-mod genesis;
 mod listing;
+mod message;
+mod modules;
 mod ranges;
+mod repeats;
+mod start;
 mod supplies;
 mod transaction;
 
@@ -18,5 +24,9 @@ pub use chain::Chain;
 pub use fault::ChainFault;
 pub use stk_msgs::{Block, BlockFault, BlockReport, Genesis, Outcome, TxReport};
 
+#[cfg(test)]
+mod genesis_tests;
+#[cfg(test)]
+mod staking_tests;
 #[cfg(test)]
 mod tests;

@@ -1,12 +1,14 @@
-//! What a bank holds, as lists.
+//! What the modules keep, as lists.
 
 ghost use Rattle.std.specs.Prelude.{◌≡◌, ◌<◌, ◌++◌, IfOk, OnOk};
 ghost use Rattle.std.specs.List.{filter_map};
 ghost use Rattle.std.specs.Option.{option_to_list};
 ghost use Rattle.stk_bank.specs.Rows.{items_of};
+ghost use Rattle.stk_book.specs.Rows.{items_of as stake_items};
 ghost use Rattle.stk_keep.specs.Holdings.{IsBacked};
 ghost use Rattle.stk_chain.specs.Chained.{coin_in};
 
+use crate::modules::Modules;
 use std::alloc::{AllocFailed, Global};
 use std::sync::ledger::{Blank, Ledger};
 use stk_bank::Book;
@@ -14,8 +16,24 @@ use stk_coins::{Coin, Coins};
 use stk_keep::{Item, RecordFault, Records};
 use stk_types::Steps;
 
+/// Appends the items of all modules. After an error some of them may stand there.
+pub(crate) fn append_modules<L: Ledger>(
+    modules: &Modules,
+    items: &mut Vec<Item>,
+    blank: Blank,
+) -> Result<(), RecordFault>
+    requires name { blank.name ≡ L.name }
+    requires parts { blank.parts ≡ L.parts }
+    requires some { 0 < L.parts }
+    ensures { OnOk result (items.new.items ≡ items.old.items ++ (items_of modules.now.ground.bank.holdings ++ stake_items modules.now.staking.staked)) }
+{
+    let mut steps: Steps<L> = Steps::new(blank);
+    modules.ground.bank.items_into(items, &mut steps)?;
+    modules.staking.items_into(items, &mut steps)
+}
+
 /// Appends the items of a bank. After an error some of them may stand there.
-pub(crate) fn append_book<L: Ledger>(
+fn append_book<L: Ledger>(
     book: &Book,
     items: &mut Vec<Item>,
     blank: Blank,

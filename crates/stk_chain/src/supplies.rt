@@ -1,14 +1,16 @@
 //! The supplies of a genesis: of no denomination may there be too much, nor may there be too many.
 
-ghost use Rattle.std.specs.Prelude.{◌≡◌, ◌+◌, ◌^◌, ◌≤◌, ◌<◌, nat_lt, [], length, true, false, IfOk, MatchOption};
+ghost use Rattle.std.specs.Prelude.{◌≡◌, ◌+◌, ◌^◌, ◌≤◌, ◌<◌, nat_lt, [], map, sum, true, false, IfOk, IfErr, None, MatchOption};
 ghost use Rattle.stk_coins.specs.Coins.{amount_of, with_amount};
 ghost use Rattle.stk_machine.specs.Genesis.{coins_joined, supplies_with, denominations_with};
+ghost use Rattle.stk_machine.specs.GenesisConditions.{accounts_at_start, start_condition, delegated_coins};
 ghost use Rattle.stk_chain.specs.Supplies.{IsLow, IsHigh};
 
+use crate::fault::ChainFault;
 use std::alloc::{AllocError, Global};
 use std::collections::BTreeMap;
 use stk_coins::{Coin, Coins};
-use stk_msgs::GenesisAccount;
+use stk_msgs::{Genesis, GenesisAccount, GenesisDelegation};
 use stk_types::Denom;
 
 /// The most units that there may be of a denomination.
@@ -88,4 +90,87 @@ pub(crate) fn has_too_many(supplies: &BTreeMap<Denom, u128>, bond: &Denom) -> bo
     } else {
         MOST_DENOMINATIONS < others
     }
+}
+
+/// What is delegated, all together; None where it is more than there may be of a denomination.
+fn total_delegated(delegations: &[GenesisDelegation]) -> Option<u128>
+    ensures { MatchOption result (10 ^ 18 < sum (map (λ d. d.amount) delegations.now))
+        (λ total. (total ≡ sum (map (λ d. d.amount) delegations.now)) × (total ≤ 10 ^ 18)) }
+{
+    let mut total = 0;
+    for d in delegations {
+        if d.amount > MOST_SUPPLY - total {
+            return None;
+        }
+        total += d.amount;
+    }
+    Some(total)
+}
+
+/// What there is of each denomination with the coins of all accounts and what is delegated; None where there
+/// is too much of some.
+pub(crate) fn supplies_at_start(
+    alloc: Global,
+    genesis: &Genesis,
+) -> Result<Option<BTreeMap<Denom, u128>>, AllocError>
+    ensures { IfOk result (λ supplies. MatchOption supplies (IsHigh (supplies_with (accounts_at_start genesis.now) []))
+        (λ s. (s.entries ≡ supplies_with (accounts_at_start genesis.now) []) × IsLow s.entries)) }
+{
+    let delegations = genesis.delegations.as_slice();
+    match total_delegated(delegations) {
+        None => Ok(None),
+        Some(amount) => supplies_with_delegated(alloc, genesis, amount),
+    }
+}
+
+/// The same, where so much is delegated.
+fn supplies_with_delegated(
+    alloc: Global,
+    genesis: &Genesis,
+    amount: u128,
+) -> Result<Option<BTreeMap<Denom, u128>>, AllocError>
+    requires { amount ≡ sum (map (λ d. d.amount) genesis.now.delegations) }
+    ensures { IfOk result (λ supplies. MatchOption supplies (IsHigh (supplies_with (accounts_at_start genesis.now) []))
+        (λ s. (s.entries ≡ supplies_with (accounts_at_start genesis.now) []) × IsLow s.entries)) }
+{
+    let accounts = genesis.accounts.as_slice();
+    match supplies_of(alloc, accounts)? {
+        None => Ok(None),
+        Some(supplies) => join_delegated(supplies, genesis, amount),
+    }
+}
+
+/// Adds what is delegated to the supplies of the accounts; None where there would be too much of it.
+fn join_delegated(
+    mut supplies: BTreeMap<Denom, u128>,
+    genesis: &Genesis,
+    amount: u128,
+) -> Result<Option<BTreeMap<Denom, u128>>, AllocError>
+    requires accounts { supplies.entries ≡ supplies_with genesis.now.accounts [] }
+    requires low { IsLow supplies.entries }
+    requires amount { amount ≡ sum (map (λ d. d.amount) genesis.now.delegations) }
+    ensures { IfOk result (λ supplies. MatchOption supplies (IsHigh (supplies_with (accounts_at_start genesis.now) []))
+        (λ s. (s.entries ≡ supplies_with (accounts_at_start genesis.now) []) × IsLow s.entries)) }
+{
+    if amount == 0 {
+        return Ok(Some(supplies));
+    }
+    let denom = genesis.params.bond_denom;
+    if !join_coin(&mut supplies, &Coin { denom, amount })? {
+        return Ok(None);
+    }
+    Ok(Some(supplies))
+}
+
+/// What is delegated, as coins.
+pub(crate) fn delegated_coins(alloc: Global, genesis: &Genesis) -> Result<Coins, ChainFault>
+    requires starts { start_condition genesis.now ≡ None }
+    ensures coins { IfOk result (λ coins. coins ≡ delegated_coins genesis.now) }
+    ensures fault { IfErr result (λ fault. fault ≡ ChainFault.NoMemory) }
+{
+    let denom = genesis.params.bond_denom;
+    let amount = total_delegated(genesis.delegations.as_slice()).unwrap();
+    let mut coins = Vec::new(alloc);
+    coins.push(Coin { denom, amount })?;
+    Ok(Coins::of(coins).unwrap())
 }

@@ -4,5 +4,4 @@ pub mod ReadingOnLiterals
 pub mod TextLemmas
 pub mod ListLemmas
 pub mod LineLemmas
-pub mod HoldingLemmas
 pub mod OnWritten

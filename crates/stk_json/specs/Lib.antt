@@ -12,6 +12,5 @@ pub mod Values
 pub mod Facts
 pub mod Outcomes
 pub mod Written
-pub mod Runs
 pub mod Trees
 pub mod WrittenExample

@@ -7,8 +7,6 @@ use Rattle.stk_types.specs.declared.status.BondStatus.TheVariants as status
 use Rattle.stk_coins.specs.Coins.{Money}
 use Rattle.stk_keep.specs.declared.facts.Fact.{Fact}
 use Rattle.stk_keep.specs.declared.facts.Fact.TheVariants as fact
-use Rattle.stk_keep.specs.declared.items.Item.{Item}
-use Rattle.stk_keep.specs.declared.items.Item.TheVariants as item
 use Rattle.stk_keep.specs.declared.refusal.Refusal.TheVariants as refusal
 use Rattle.stk_msgs.specs.declared.report.BlockReport.{BlockReport}
 use Rattle.stk_msgs.specs.declared.report.Outcome.{Outcome}
@@ -16,7 +14,7 @@ use Rattle.stk_msgs.specs.declared.report.Outcome.TheVariants.{Accepted, FeeUnpa
 use Rattle.stk_json.specs.Line.{line_of}
 use Rattle.stk_json.specs.Facts.{fact_data}
 use Rattle.stk_json.specs.Outcomes.{outcome_data}
-use Rattle.stk_json.specs.Written.{text_of_genesis, text_of_block, text_of_report}
+use Rattle.stk_json.specs.Written.{text_of_genesis, text_of_block}
 
 -- users of twenty bytes 11, 22 and 33 (hexadecimal)
 abbrev pub ones : List ℕ
@@ -59,26 +57,11 @@ block_lines =
     ++ codes "\"height\":1,\"kind\":\"transfer\",\"to\":\"2222222222222222222222222222222222222222\"}\n"
     ++ codes "{\"height\":1,\"kind\":\"accepted\",\"tx\":0}\n"
 
--- the items that the run leaves, as far as they are balances, the supply and the community pool
-abbrev pub items : List Item
-items =
-    item.Balance (account.User ones) (codes "uatom") 890 ∷ item.Balance (account.User twos) (codes "uatom") 100
-    ∷ item.Balance (account.Module FeeCollector) (codes "uatom") 10 ∷ item.Supply (codes "uatom") 1000 ∷ item.Pool [] ∷ []
-
-abbrev pub report_lines : List ℕ
-report_lines =
-    codes "{\"coins\":[{\"amount\":\"1000\",\"denom\":\"uatom\"}],\"kind\":\"supply\"}\n"
-    ++ codes "{\"address\":\"1111111111111111111111111111111111111111\",\"coins\":[{\"amount\":\"890\",\"denom\":\"uatom\"}],\"kind\":\"account\"}\n"
-    ++ codes "{\"address\":\"2222222222222222222222222222222222222222\",\"coins\":[{\"amount\":\"100\",\"denom\":\"uatom\"}],\"kind\":\"account\"}\n"
-    ++ codes "{\"address\":\"fee_collector\",\"coins\":[{\"amount\":\"10\",\"denom\":\"uatom\"}],\"kind\":\"account\"}\n"
-    ++ codes "{\"coins\":[],\"kind\":\"pool\"}\n"
-
 pub record RunLines : Type 0 where
   pub genesis : text_of_genesis (uatom 1000) ≡ genesis_line
   pub block_is : text_of_block block ≡ block_lines
-  pub report : text_of_report (uatom 1000) items ≡ report_lines
 
--- ---- the order of a block, and accounts with several coins
+-- ---- the order of a block
 
 -- a block with a fact of its beginning, no transaction, and a fact of its end
 abbrev pub quiet : BlockReport
@@ -96,22 +79,8 @@ quiet_lines =
     ++ codes "{\"height\":7,\"kind\":\"jailed\",\"validator\":\"3333333333333333333333333333333333333333\"}\n"
     ++ codes "{\"height\":7,\"kind\":\"removed\",\"validator\":\"3333333333333333333333333333333333333333\"}\n"
 
--- balances of two coins of a user, with the supply between them
-abbrev pub two_coins : List Item
-two_coins =
-    item.Balance (account.User ones) (codes "stake") 5 ∷ item.Supply (codes "stake") 5
-    ∷ item.Balance (account.User ones) (codes "uatom") 890 ∷ []
-
-abbrev pub two_coins_lines : List ℕ
-two_coins_lines =
-    codes "{\"coins\":[],\"kind\":\"supply\"}\n"
-    ++ codes "{\"address\":\"1111111111111111111111111111111111111111\",\"coins\":[{\"amount\":\"5\",\"denom\":\"stake\"},"
-    ++ codes "{\"amount\":\"890\",\"denom\":\"uatom\"}],\"kind\":\"account\"}\n"
-    ++ codes "{\"coins\":[],\"kind\":\"pool\"}\n"
-
 pub record OrderedLines : Type 0 where
   pub beginning_first : text_of_block quiet ≡ quiet_lines
-  pub joined_coins : text_of_report [] two_coins ≡ two_coins_lines
 
 -- ---- facts
 

@@ -17,7 +17,6 @@ mod outcomes;
 mod params_reading;
 mod reading;
 mod reading_example;
-mod report;
 mod texts;
 mod tree;
 mod values;
@@ -25,9 +24,14 @@ mod written;
 
 pub use block_reading::read_block;
 pub use genesis_reading::read_genesis;
-pub use lines::{line_of_genesis, lines_of_block};
+pub use lines::{line_of_genesis, lines_of_block, push_line};
 pub use reading_example::lines_read_by_example;
-pub use report::lines_of_report;
+pub use texts::status_name;
+pub use tree::Tree;
+pub use values::{
+    account_value, address_value, coin_value, coins_value, dec_coins_value, decimal_value,
+    moment_value, whole_value, word_value,
+};
 pub use written::lines_written_by_example;
 
 #[cfg(test)]

@@ -18,7 +18,7 @@ use stk_msgs::{BlockReport, LineFault, Outcome, TxReport};
 use stk_types::Moment;
 
 /// Appends a line.
-pub(crate) fn push_line(alloc: Global, out: &mut Vec<u8>, tree: Tree) -> Result<(), LineFault>
+pub fn push_line(alloc: Global, out: &mut Vec<u8>, tree: Tree) -> Result<(), LineFault>
     requires { has_float (data_of tree) ≡ false }
     ensures ok { OnOk result (out.new.items ≡ out.old.items ++ line_of (data_of tree)) }
     ensures fault { IfErr result (λ fault. fault ≡ LineFault.NoMemory) }

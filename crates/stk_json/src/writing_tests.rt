@@ -1,10 +1,10 @@
-use crate::{line_of_genesis, lines_of_block, lines_of_report};
+use crate::{line_of_genesis, lines_of_block};
 use std::alloc::Global;
 use std::process::Abort;
 use std::test::Fail;
 use stk_coins::{Coin, Coins, DecCoin, DecCoins};
 use stk_dec::{Dec, Over, OverKind};
-use stk_keep::{Fact, Facts, Item, Listed, Refusal};
+use stk_keep::{Fact, Facts, Listed, Refusal};
 use stk_msgs::{BlockReport, Outcome, TxReport};
 use stk_types::{Account, Addr, BondStatus, Denom, Module, Moment};
 
@@ -301,36 +301,13 @@ fn each_outcome_has_its_line(rt: HostRuntime) -> Result<(), Fail> {
     Ok(())
 }
 
-fn balance(rt: &impl Abort, account: &Account, name: &str, amount: u128) -> Item {
-    Item::Balance {
-        account: *account,
-        denom: Denom::of(name.as_bytes()).expect(rt, "a denomination"),
-        amount,
-    }
-}
-
-/// The worked run's supply of the genesis, and its report with a second coin of the first account.
+/// The worked run's supply of the genesis.
 #[test]
-fn a_supply_and_what_accounts_hold_are_written(rt: HostRuntime) -> Result<(), Fail> {
+fn a_supply_is_written(rt: HostRuntime) -> Result<(), Fail> {
     let supply = uatom(&rt, 1000)?;
-    let user = Account::User(addr(&rt, 0x11));
-    let mut items = Vec::new(rt.alloc());
-    items.push(balance(&rt, &user, "stake", 5))?;
-    items.push(balance(&rt, &user, "uatom", 890))?;
-    let other = Account::User(addr(&rt, 0x22));
-    items.push(balance(&rt, &other, "uatom", 100))?;
-    let collector = Account::Module(Module::FeeCollector);
-    items.push(balance(&rt, &collector, "uatom", 10))?;
-    items.push(Item::Pool {
-        coins: DecCoins::new(rt.alloc()),
-    })?;
     let line = line_of_genesis(rt.alloc(), &supply)?;
     let wanted =
         "{\"height\":0,\"kind\":\"genesis\",\"supply\":[{\"amount\":\"1000\",\"denom\":\"uatom\"}]}\n";
     assert!(rt; line.as_slice() == wanted.as_bytes());
-    let text = lines_of_report(rt.alloc(), &supply, items.as_slice())?;
-    let wanted =
-        "{\"coins\":[{\"amount\":\"1000\",\"denom\":\"uatom\"}],\"kind\":\"supply\"}\n{\"address\":\"1111111111111111111111111111111111111111\",\"coins\":[{\"amount\":\"5\",\"denom\":\"stake\"},{\"amount\":\"890\",\"denom\":\"uatom\"}],\"kind\":\"account\"}\n{\"address\":\"2222222222222222222222222222222222222222\",\"coins\":[{\"amount\":\"100\",\"denom\":\"uatom\"}],\"kind\":\"account\"}\n{\"address\":\"fee_collector\",\"coins\":[{\"amount\":\"10\",\"denom\":\"uatom\"}],\"kind\":\"account\"}\n{\"coins\":[],\"kind\":\"pool\"}\n";
-    assert!(rt; text.as_slice() == wanted.as_bytes());
     Ok(())
 }

@@ -1,8 +1,7 @@
 //! Worked lines, computed from the definitions.
 ghost use Rattle.stk_json.specs.WrittenExample.{OrderedLines, OutcomeLines, PaymentLines, RewardLines, RunLines, ValidatorLines};
 
-/// What is written of a small run, from the genesis to the report; in which order a block and a report are written;
-/// and a line of each kind of fact and of outcome.
+/// What is written of a small run; in which order a block is written; and a line of each kind of fact and of outcome.
 pub fn lines_written_by_example()
     ensures run { RunLines }
     ensures order { OrderedLines }

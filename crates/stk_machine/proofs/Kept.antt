@@ -1,8 +1,8 @@
--- Supplies stay, and all accounts together hold them.
-use Rattle.std.proofs.Common.{◌≡◌, ◌∙◌, ℕ, ◌+◌, ◌^◌, ◌≤◌, ◌<◌, Bool, true, false, cond, nat_lt, List, [], ◌∷◌, Option, Some, None, Result, Ok, Err, refl, sym, ap, arith}
+-- What the accounts of a genesis hold is in order, and backed where there is not too much.
+use Rattle.std.proofs.Common.{◌≡◌, ◌∙◌, ℕ, ◌+◌, ◌^◌, ◌≤◌, ◌<◌, Bool, true, false, cond, nat_lt, List, [], ◌∷◌, Option, Some, refl, sym, ap, arith}
 use Rattle.std.specs.Prelude.{All, ◌||◌, unwrap_or}
 use Rattle.std.proofs.lemmas.Bool.Decides.{nat_tests}
-use Rattle.std.proofs.lemmas.List.Elements.{All-nil, All-head, All-tail}
+use Rattle.std.proofs.lemmas.List.Elements.{All-nil}
 use Rattle.std.proofs.lemmas.Map.Text.{is_eq-slice_cmp}
 use Rattle.std.proofs.lemmas.Slice.Eq.{bytes_eq-Decides}
 use Rattle.std.specs.declared.cmp.Ordering.{Ordering}
@@ -13,29 +13,15 @@ use Rattle.std.specs.BTreeMap.{is_at}
 use Rattle.std.specs.List.Sorted.{IsStrictlySortedBy}
 use Rattle.std.specs.Map.{keys_of, lookup}
 use Rattle.stk_types.specs.declared.account.Account.{Account}
-use Rattle.stk_types.specs.declared.account.Account.TheVariants as account
-use Rattle.stk_types.specs.declared.account.Module.TheVariants.{FeeCollector}
 use Rattle.stk_types.specs.Orders.{account_cmp, denom_cmp}
-use Rattle.stk_coins.specs.Coins.{Money, IsMoney, amount_of, with_amount}
-use Rattle.stk_keep.specs.declared.refusal.Refusal.{Refusal}
+use Rattle.stk_coins.specs.Coins.{Money, amount_of, with_amount}
 use Rattle.stk_keep.specs.Entries.{number_at, with_number, sum_where}
-use Rattle.stk_keep.specs.Holdings.{Balances, Holdings, moved, is_short, IsBacked}
+use Rattle.stk_keep.specs.Holdings.{Balances, IsBacked}
 use Rattle.stk_keep.specs.Orders.{place_cmp}
-use Rattle.stk_keep.specs.Steps.{◌>>=◌}
 use Rattle.stk_keep.proofs.EntryLemmas.{number-after, ascend-after, positive-after, sum-after, Respects}
-use Rattle.stk_keep.proofs.HoldingLemmas.{place_total, denom_total, of_denom, supplies-moved, backed-moved}
-use Rattle.stk_msgs.specs.declared.block.Block.{Block}
-use Rattle.stk_msgs.specs.declared.block.Tx.{Tx}
-use Rattle.stk_msgs.specs.declared.faults.BlockFault.{BlockFault}
+use Rattle.stk_keep.proofs.HoldingLemmas.{place_total, denom_total, of_denom}
 use Rattle.stk_msgs.specs.declared.genesis.GenesisAccount.{GenesisAccount}
-use Rattle.stk_msgs.specs.declared.message.Send.{Send}
-use Rattle.stk_msgs.specs.declared.report.Outcome.TheVariants.{FeeUnpaid}
-use Rattle.stk_machine.specs.Blocks.{block_fault, block_applied, reported, unless_fault, run_of}
-use Rattle.stk_machine.specs.Genesis.{with_coins, balances_with, coins_joined, supplies_with, held_by, started, has_too_much}
-use Rattle.stk_machine.specs.Laws.{HasCoins, SuppliesStay}
-use Rattle.stk_machine.specs.State.{State}
-use Rattle.stk_machine.specs.Transactions.{Progress, send_refusal, sent, unless_refused, sends_applied, sends_of, fee_paid, ended, transaction_applied, transactions_applied}
-use Rattle.stk_machine.proofs.Cases.{starts, may_be_sent}
+use Rattle.stk_machine.specs.Genesis.{with_coins, balances_with, coins_joined, supplies_with, held_by, has_too_much}
 
 -- ---- what a genesis gives
 
@@ -119,82 +105,3 @@ held_backed accounts e = let x : Summed (balances_with accounts []) (supplies_wi
   backed = x.held;
   bounded = λ d. amount_within (supplies_with accounts []) d e;
 }
-
--- ---- transactions
-
--- what is held stays backed, and the supplies stay
-abbrev pub Keeps : Holdings → Holdings → Type 0
-Keeps h h2 = IsBacked h2 × (h2.supplies ≡ h.supplies)
-
-keeps_on : (h h1 h2 : Holdings) → Keeps h h1 → Keeps h1 h2 → Keeps h h2
-keeps_on h h1 h2 a b = (b.0, b.1 ∙ a.1)
-
-moved_keeps : (from to : Account) (coins : Money) (h : Holdings) → IsMoney coins → is_short h from coins ≡ false → IsBacked h → Keeps h (moved from to coins h)
-moved_keeps from to coins h m e b = (backed-moved coins h from to b m e, supplies-moved coins h from to)
-
-abbrev pub SendsKeep : Progress → Result Progress (ℕ × Refusal) → Type 0
-SendsKeep p (Ok q) = Keeps p.holdings q.holdings
-SendsKeep p (Err stop) = Unit {0}
-
-sends_keep_on : (p q : Progress) (r : Result Progress (ℕ × Refusal)) → Keeps p.holdings q.holdings → SendsKeep q r → SendsKeep p r
-sends_keep_on p q (Ok end) a b = keeps_on p.holdings q.holdings end.holdings a b
-sends_keep_on p q (Err stop) a b = tt
-
--- the coins of a send are a list of coins
-abbrev pub HasMoney : Send → Type 0
-HasMoney send = IsMoney send.coins
-
-sends_keep : (place : ℕ) (sends : List Send) (p : Progress) → All HasMoney sends → IsBacked p.holdings → SendsKeep p (sends_applied place sends p)
-sends_keep place [] p m b = (b, refl)
-sends_keep place (send ∷ sends) p m b =
-    by (send_refusal send p.holdings) refl (sends_keep (place + 1) sends (sent send p) (All-tail HasMoney send sends m))
-  where
-    by : (o : Option Refusal) → send_refusal send p.holdings ≡ o → (IsBacked (sent send p).holdings → SendsKeep (sent send p) (sends_applied (place + 1) sends (sent send p)))
-        → SendsKeep p (unless_refused place o (sent send p) >>= λ next. sends_applied (place + 1) sends next)
-    by (Some why) e rest = tt
-    by None e rest =
-        let one : Keeps p.holdings (sent send p).holdings = moved_keeps (account.User send.from) send.to send.coins p.holdings (All-head HasMoney send sends m) (may_be_sent send p.holdings e).2 b in
-        sends_keep_on p (sent send p) (sends_applied (place + 1) sends (sent send p)) one (rest one.0)
-
-ended_keeps : (h : Holdings) (paid : Progress) (r : Result Progress (ℕ × Refusal)) → Keeps h paid.holdings → SendsKeep paid r → Keeps h (ended paid r).holdings
-ended_keeps h paid (Ok p) a b = keeps_on h paid.holdings p.holdings a b
-ended_keeps h paid (Err stop) a b = a
-
--- a transaction keeps the supplies, and that they are backed
-pub transaction_keeps : (tx : Tx) (h : Holdings) → HasCoins tx → IsBacked h → Keeps h (transaction_applied tx h).holdings
-transaction_keeps tx h coins b = by (is_short h (account.User tx.payer) tx.fee) refl
-  where
-    by : (short : Bool) → is_short h (account.User tx.payer) tx.fee ≡ short
-        → Keeps h (cond short (record { report = record { facts = []; outcome = FeeUnpaid }; holdings = h }) (ended (fee_paid tx h) (sends_applied 0 (sends_of tx.msgs) (fee_paid tx h)))).holdings
-    by true e = (b, refl)
-    by false e =
-        let fee : Keeps h (fee_paid tx h).holdings = moved_keeps (account.User tx.payer) (account.Module FeeCollector) tx.fee h coins.fee e b in
-        ended_keeps h (fee_paid tx h) (sends_applied 0 (sends_of tx.msgs) (fee_paid tx h)) fee (sends_keep 0 (sends_of tx.msgs) (fee_paid tx h) coins.sends fee.0)
-
-transactions_keep : (txs : List Tx) (h : Holdings) → All HasCoins txs → IsBacked h → Keeps h (transactions_applied txs h).holdings
-transactions_keep [] h coins b = (b, refl)
-transactions_keep (tx ∷ txs) h coins b =
-    let one : Keeps h (transaction_applied tx h).holdings = transaction_keeps tx h (All-head HasCoins tx txs coins) b in
-    keeps_on h (transaction_applied tx h).holdings (transactions_applied txs (transaction_applied tx h).holdings).holdings one
-    (transactions_keep txs (transaction_applied tx h).holdings (All-tail HasCoins tx txs coins) one.0)
-
--- ---- runs
-
-abbrev pub HaveCoins : Block → Type 0
-HaveCoins b = All HasCoins b.txs
-
-run_keeps : (blocks : List Block) (s : State) → All HaveCoins blocks → IsBacked s.holdings → Keeps s.holdings (run_of blocks s).state.holdings
-run_keeps [] s coins backed = (backed, refl)
-run_keeps (b ∷ blocks) s coins backed = by (block_fault s b) (run_keeps blocks (block_applied b s).state (All-tail HaveCoins b blocks coins))
-  where
-    by : (o : Option BlockFault) → (IsBacked (block_applied b s).state.holdings → Keeps (block_applied b s).state.holdings (run_of blocks (block_applied b s).state).state.holdings)
-        → Keeps s.holdings (unless_fault o s (reported (block_applied b s).report (run_of blocks (block_applied b s).state))).state.holdings
-    by (Some fault) rest = (backed, refl)
-    by None rest =
-        let one : Keeps s.holdings (block_applied b s).state.holdings = transactions_keep b.txs s.holdings (All-head HaveCoins b blocks coins) backed in
-        keeps_on s.holdings (block_applied b s).state.holdings (run_of blocks (block_applied b s).state).state.holdings one (rest one.0)
-
-pub supplies_stay : SuppliesStay
-supplies_stay g blocks e coins =
-    let kept : Keeps (held_by g.accounts) (run_of blocks (started g)).state.holdings = run_keeps blocks (started g) coins (held_backed g.accounts (starts g e).not_too_much) in
-    (kept.1, kept.0)

@@ -1,16 +1,10 @@
--- Parameters and times stay in their ranges.
-use Rattle.std.proofs.Common.{◌≡◌, ℕ, ◌^◌, ◌≤◌, ◌<◌, ◌&&◌, Bool, true, false, nat_lt, List, [], ◌∷◌, Option, Some, None, refl, sym, subst, arith}
+-- The test of ranges tells them.
+use Rattle.std.proofs.Common.{◌≡◌, ℕ, ◌^◌, ◌≤◌, ◌<◌, ◌&&◌, Bool, true, false, nat_lt, refl, arith}
 use Rattle.std.specs.Prelude.{nat_le}
 use Rattle.std.proofs.lemmas.Bool.Decides.{nat_tests}
 use Rattle.stk_keep.specs.declared.params.Params.{Params}
-use Rattle.stk_keep.specs.Ground.{AreInRange, end_of_blocks}
-use Rattle.stk_msgs.specs.declared.block.Block.{Block}
-use Rattle.stk_msgs.specs.declared.faults.BlockFault.{BlockFault}
-use Rattle.stk_machine.specs.Blocks.{block_fault, block_applied, reported, unless_fault, run_of}
-use Rattle.stk_machine.specs.Genesis.{are_in_range, is_within, started}
-use Rattle.stk_machine.specs.Laws.{ParametersInRange}
-use Rattle.stk_machine.specs.State.{State}
-use Rattle.stk_machine.proofs.Cases.{starts, time_of_next}
+use Rattle.stk_keep.specs.Ground.{AreInRange}
+use Rattle.stk_machine.specs.Genesis.{are_in_range, is_within}
 
 both : (a b : Bool) → (a && b) ≡ true → (a ≡ true) × (b ≡ true)
 both true true e = (refl, refl)
@@ -26,7 +20,6 @@ below n most e = grind (arith, nat_tests)
 within : (least most n : ℕ) → is_within least most n ≡ true → (least ≤ n) × (n ≤ most)
 within least most n e = let all = both (nat_le least n) (nat_le n most) e in (at_most least n all.0, at_most n most all.1)
 
--- the test of ranges tells them
 pub in_range : (p : Params) → are_in_range p ≡ true → AreInRange p
 in_range p e =
     let c12 = both _ (nat_lt p.max_age_num_blocks (2 ^ 63)) e in
@@ -61,31 +54,3 @@ in_range p e =
       max_age_duration = at_most p.max_age_duration (10 ^ 9) c11.1;
       max_age_num_blocks = below p.max_age_num_blocks (2 ^ 63) c12.1;
     }
-
--- ---- runs
-
-run_params : (blocks : List Block) (s : State) → (run_of blocks s).state.params ≡ s.params
-run_params [] s = refl
-run_params (b ∷ blocks) s = by (block_fault s b) (run_params blocks (block_applied b s).state)
-  where
-    by : (o : Option BlockFault) → (run_of blocks (block_applied b s).state).state.params ≡ s.params
-        → (unless_fault o s (reported (block_applied b s).report (run_of blocks (block_applied b s).state))).state.params ≡ s.params
-    by (Some fault) rest = refl
-    by None rest = rest
-
-run_time : (blocks : List Block) (s : State) → s.time < end_of_blocks → (run_of blocks s).state.time < end_of_blocks
-run_time [] s t = t
-run_time (b ∷ blocks) s t = by (block_fault s b) refl (run_time blocks (block_applied b s).state)
-  where
-    by : (o : Option BlockFault) → block_fault s b ≡ o → (b.time < end_of_blocks → (run_of blocks (block_applied b s).state).state.time < end_of_blocks)
-        → (unless_fault o s (reported (block_applied b s).report (run_of blocks (block_applied b s).state))).state.time < end_of_blocks
-    by (Some fault) e rest = t
-    by None e rest = rest (time_of_next s b e)
-
-before : (t : ℕ) → nat_le end_of_blocks t ≡ false → t < end_of_blocks
-before t e = grind (arith, nat_tests)
-
-pub parameters_in_range : ParametersInRange
-parameters_in_range g blocks e =
-    let same = run_params blocks (started g) in
-    (same, subst AreInRange (sym same) (in_range g.params (starts g e).in_range), run_time blocks (started g) (before g.time (starts g e).time))

@@ -1,5 +1,5 @@
--- What a genesis starts, and why it starts nothing.
-use Rattle.std.specs.Prelude.{◌≡◌, ℕ, ◌+◌, ◌^◌, ◌==◌, nat_lt, nat_le, not, ◌&&◌, ◌||◌, Bool, true, false, if◌then◌else◌, List, [], ◌∷◌, map, length, Option, Some, None}
+-- What the accounts of a genesis hold, and conditions on its parameters, its accounts and the amounts.
+use Rattle.std.specs.Prelude.{ℕ, ◌+◌, ◌^◌, ◌==◌, nat_lt, nat_le, ◌&&◌, ◌||◌, Bool, true, false, if◌then◌else◌, List, [], ◌∷◌, map, length, Option, Some, None}
 use Rattle.std.specs.List.{list_any}
 use Rattle.std.specs.declared.cmp.Ordering.{Ordering}
 use Rattle.std.specs.BTreeMap.{is_at}
@@ -9,12 +9,9 @@ use Rattle.stk_types.specs.Orders.{account_cmp}
 use Rattle.stk_coins.specs.Coins.{Money, amount_of, with_amount}
 use Rattle.stk_keep.specs.declared.params.Params.{Params}
 use Rattle.stk_keep.specs.Entries.{number_at, with_number}
-use Rattle.stk_keep.specs.Ground.{end_of_blocks}
 use Rattle.stk_keep.specs.Holdings.{Balances, Holdings}
 use Rattle.stk_keep.specs.Orders.{place_cmp}
-use Rattle.stk_msgs.specs.declared.genesis.Genesis.{Genesis}
 use Rattle.stk_msgs.specs.declared.genesis.GenesisAccount.{GenesisAccount}
-use Rattle.stk_machine.specs.State.{State}
 
 -- ---- what the accounts hold
 
@@ -41,10 +38,6 @@ supplies_with (a ∷ accounts) supplies = supplies_with accounts (coins_joined a
 -- what the accounts hold, and how much there is of it
 abbrev pub held_by : List GenesisAccount → Holdings
 held_by accounts = record { balances = balances_with accounts []; supplies = supplies_with accounts [] }
-
--- the state at the genesis
-abbrev pub started : Genesis → State
-started g = record { height = 0; time = g.time; params = g.params; holdings = held_by g.accounts }
 
 -- ---- why a genesis starts nothing
 
@@ -95,21 +88,3 @@ denominations_with bond supplies = length supplies + (if amount_of supplies bond
 abbrev pub first_that_holds : List (ℕ × Bool) → Option ℕ
 first_that_holds [] = None
 first_that_holds (c ∷ cs) = if c.1 then Some c.0 else first_that_holds cs
-
--- The number of the first condition that keeps a genesis from starting a chain: a parameter is out of its range, or the
--- time past the year 9899; an account is wrong; there is too much of a denomination; there are too many denominations.
--- The numbers 3 to 10 are conditions on validators and delegations, which this machine does not have yet.
-abbrev pub genesis_condition : Genesis → Option ℕ
-genesis_condition g =
-    let supplies = supplies_with g.accounts [] in
-    first_that_holds
-    ((1, not (are_in_range g.params) || nat_le end_of_blocks g.time)
-    ∷ (2, has_wrong_account g.accounts)
-    ∷ (11, has_too_much supplies)
-    ∷ (12, nat_lt 1_000_000 (denominations_with g.params.bond_denom supplies))
-    ∷ [])
-
--- the genesis has neither validators nor delegations
-pub record IsBuiltGenesis (g : Genesis) : Type 0 where
-  pub validators : g.validators ≡ []
-  pub delegations : g.delegations ≡ []

@@ -1,5 +1,4 @@
 -- Why a genesis starts nothing: all twelve conditions, of which the first that holds is named (own: their numbers and order).
--- Those on time, parameters, accounts and amounts are also the machine's of sends.
 use Rattle.std.specs.Prelude.{ℕ, ◌==◌, nat_lt, nat_le, not, ◌||◌, Bool, List, [], ◌∷◌, ◌++◌, map, sum, Option}
 use Rattle.std.specs.List.{list_any}
 use Rattle.stk_types.specs.declared.account.Account.TheVariants as account

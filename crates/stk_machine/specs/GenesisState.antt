@@ -7,13 +7,13 @@ use Rattle.stk_keep.specs.declared.refusal.Refusal.{Refusal}
 use Rattle.stk_keep.specs.declared.refusal.Refusal.TheVariants.{NoValidator, Overflow}
 use Rattle.stk_keep.specs.Staked.{Staked, validator_of}
 use Rattle.stk_keep.specs.Steps.{◌>>=◌, or_stop, stopping, each}
-use Rattle.stk_keep.specs.World.{World, View, over_view}
+use Rattle.stk_keep.specs.World.{World, View, Hook, Told, over_view}
 use Rattle.stk_msgs.specs.declared.genesis.Genesis.{Genesis}
 use Rattle.stk_msgs.specs.declared.genesis.GenesisDelegation.{GenesisDelegation}
 use Rattle.stk_msgs.specs.declared.genesis.GenesisValidator.{GenesisValidator}
 use Rattle.stk_rules.specs.Amounts.{over_facts}
 use Rattle.stk_rules.specs.BondedSet.{set_updated}
-use Rattle.stk_rules.specs.Chain.{Hooks, State, chain_told, staked_in, with_staked}
+use Rattle.stk_rules.specs.Chain.{State, chain_told, staked_in, with_staked}
 use Rattle.stk_rules.specs.Delegating.{pool, delegated}
 use Rattle.stk_rules.specs.Distribution.{nothing_shared}
 use Rattle.stk_rules.specs.Validators.{new_validator, stored}
@@ -37,18 +37,25 @@ empty_over v = record {
   log = [];
 }
 
--- A validator is there, unbonded and not jailed, without tokens, and its first hook is called (`InitGenesis`:
--- `AfterValidatorCreated`).
-abbrev pub validator_added : GenesisValidator → World Staked Hooks → Result (World Staked Hooks) Refusal
-validator_added v w = stopping Overflow (stored chain_told (new_validator (creation_of w.view.ctx.params.bond_denom v) w.view.ctx.time) w)
+module _ {H : Type 0} (told : H → Hook → View → Told H) where
+  -- A validator is there, unbonded and not jailed, without tokens, and its first hook is called (`InitGenesis`:
+  -- `AfterValidatorCreated`).
+  abbrev pub validator_added : GenesisValidator → World Staked H → Result (World Staked H) Refusal
+  validator_added v w = stopping Overflow (stored told (new_validator (creation_of w.view.ctx.params.bond_denom v) w.view.ctx.time) w)
 
--- A delegation to one of them, of coins that the not-bonded account has already, so that none move (`InitGenesis`:
--- `BeforeDelegationCreated`, `AfterDelegationModified`).
-abbrev pub delegation_added : GenesisDelegation → World Staked Hooks → Result (World Staked Hooks) Refusal
-delegation_added d w = do
-  v ← or_stop (validator_of w.mine d.validator) NoValidator
-  (issued, u) ← delegated chain_told v d.delegator d.amount (pool Unbonded) w
-  Ok u
+  -- A delegation to one of them, of coins that the not-bonded account has already, so that none move (`InitGenesis`:
+  -- `BeforeDelegationCreated`, `AfterDelegationModified`).
+  abbrev pub delegation_added : GenesisDelegation → World Staked H → Result (World Staked H) Refusal
+  delegation_added d w = do
+    v ← or_stop (validator_of w.mine d.validator) NoValidator
+    (issued, u) ← delegated told v d.delegator d.amount (pool Unbonded) w
+    Ok u
+
+  -- validators, then delegations, each in order
+  abbrev pub stake_added : Genesis → World Staked H → Result (World Staked H) Refusal
+  stake_added g w = do
+    u ← each (validator_added) g.validators w
+    each (delegation_added) g.delegations u
 
 -- the state without the facts that led to it
 abbrev pub without_facts : State → State
@@ -64,8 +71,7 @@ pub record Start : Type 0 where
 abbrev pub chain_started : Genesis → Result Start Refusal
 chain_started g = do
   let w = empty_over (ground_at_start g)
-  w1 ← each validator_added g.validators (staked_in w)
-  w2 ← each delegation_added g.delegations w1
-  w3 ← stopping Overflow (set_updated chain_told w2)
-  let done = with_staked w.mine w3
+  w1 ← stake_added chain_told g (staked_in w)
+  w2 ← stopping Overflow (set_updated chain_told w1)
+  let done = with_staked w.mine w2
   Ok (record { facts = done.view.facts; state = without_facts done })

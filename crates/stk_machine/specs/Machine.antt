@@ -11,17 +11,17 @@ use Rattle.stk_msgs.specs.declared.block.Block.{Block}
 use Rattle.stk_msgs.specs.declared.block.Tx.{Tx}
 use Rattle.stk_msgs.specs.declared.faults.BlockFault.{BlockFault}
 use Rattle.stk_msgs.specs.declared.faults.BlockFault.TheVariants.{UnknownVote, RepeatedVote, BadPower, BadEvidence, RatioLimit}
+use Rattle.stk_msgs.specs.declared.message.Msg.{Msg}
 use Rattle.stk_msgs.specs.declared.report.BlockReport.{BlockReport}
 use Rattle.stk_msgs.specs.declared.report.Outcome.{Outcome}
 use Rattle.stk_msgs.specs.declared.report.Outcome.TheVariants.{Accepted, FeeUnpaid, Refused}
 use Rattle.stk_msgs.specs.declared.report.TxReport.{TxReport}
 use Rattle.stk_rules.specs.Chain.{State, begin_block, end_block}
-use Rattle.stk_rules.specs.Effects.{Ending, accepted, unpaid, refused_at, transaction_applied}
+use Rattle.stk_rules.specs.Effects.{Effect, Ending, accepted, unpaid, refused_at, transaction_applied}
 use Rattle.stk_rules.specs.Laws.{next_block}
 use Rattle.stk_machine.specs.Blocks.{block_fault}
 use Rattle.stk_machine.specs.GenesisState.{without_facts}
 use Rattle.stk_machine.specs.Messages.{effect_of}
-use Rattle.stk_machine.specs.State as sends
 
 -- ---- transactions
 
@@ -40,10 +40,14 @@ pub record TxStep : Type 0 where
 abbrev pub reported_as : Ending × State → TxStep
 reported_as end = record { report = record { facts = end.1.view.facts; outcome = outcome_of end.0 }; state = end.1 }
 
--- A transaction: its fee, then its messages, which stand together; its facts are those since its beginning
--- (`BaseApp.runTx`).
+-- A transaction of which each message has this effect: its fee, then its messages, which stand together; its facts are
+-- those since its beginning (`BaseApp.runTx`).
+abbrev pub tx_applied_by : (Msg → Effect) → Tx → State → TxStep
+tx_applied_by effect tx w = reported_as (transaction_applied tx.payer tx.fee (map effect tx.msgs) (without_facts w))
+
+-- the same, where messages have the effects of the rules
 abbrev pub tx_applied : Tx → State → TxStep
-tx_applied tx w = reported_as (transaction_applied tx.payer tx.fee (map effect_of tx.msgs) (without_facts w))
+tx_applied tx w = tx_applied_by effect_of tx w
 
 -- the reports of transactions, and the state after them
 pub record TxSteps : Type 0 where
@@ -51,12 +55,15 @@ pub record TxSteps : Type 0 where
   pub state : State
 
 -- the transactions one after the other (`BaseApp.DeliverTx`)
-abbrev pub txs_applied : List Tx → State → TxSteps
-txs_applied [] w = record { reports = []; state = w }
-txs_applied (tx ∷ txs) w =
-    let one = tx_applied tx w in
-    let rest = txs_applied txs one.state in
+abbrev pub txs_applied_by : (Msg → Effect) → List Tx → State → TxSteps
+txs_applied_by effect [] w = record { reports = []; state = w }
+txs_applied_by effect (tx ∷ txs) w =
+    let one = tx_applied_by effect tx w in
+    let rest = txs_applied_by effect txs one.state in
     record { reports = one.report ∷ rest.reports; state = rest.state }
+
+abbrev pub txs_applied : List Tx → State → TxSteps
+txs_applied txs w = txs_applied_by effect_of txs w
 
 -- ---- why a block may not follow
 
@@ -97,15 +104,11 @@ abbrev pub stop_at : Option BlockFault → Result ⊤ BlockFault
 stop_at None = Ok tt
 stop_at (Some fault) = Err fault
 
--- what the machine of sends has of a state
-abbrev pub sends_part : State → sends.State
-sends_part w = record { height = w.view.ctx.height; time = w.view.ctx.time; params = w.view.ctx.params; holdings = w.view.bank }
-
 -- Height and time, then the votes in order, then the evidence in order, each against the state before the block (own:
 -- their order).
 abbrev pub block_checked : Block → State → Result ⊤ BlockFault
 block_checked b w = do
-  stop_at (block_fault (sends_part w) b)
+  stop_at (block_fault w.view.ctx.height w.view.ctx.time b)
   votes_checked w.mine.staked w.view.ctx.params.power_reduction [] b.votes
   evidence_checked b w.view.ctx.params.power_reduction 0 b.evidence
 
@@ -143,7 +146,10 @@ abbrev pub going_on : State → Result Step BlockFault → (State → Run) → R
 going_on w (Ok s) rest = record (rest s.state) { reports = s.report ∷ (rest s.state).reports }
 going_on w (Err fault) rest = record { reports = []; state = w; fault = Some fault }
 
--- the blocks one after the other, up to the first that has a fault
+-- the blocks one after the other by these steps, up to the first that has a fault
+abbrev pub run_by : (Block → State → Result Step BlockFault) → List Block → State → Run
+run_by next [] w = record { reports = []; state = w; fault = None }
+run_by next (b ∷ blocks) w = going_on w (next b w) (λ u. run_by next blocks u)
+
 abbrev pub run_of : List Block → State → Run
-run_of [] w = record { reports = []; state = w; fault = None }
-run_of (b ∷ blocks) w = going_on w (step b w) (λ u. run_of blocks u)
+run_of blocks w = run_by step blocks w

@@ -19,48 +19,53 @@ use Rattle.stk_msgs.specs.declared.report.Outcome.TheVariants.{Accepted, FeeUnpa
 use Rattle.stk_msgs.specs.declared.report.TxReport.{TxReport}
 use Rattle.stk_rules.specs.Chain.{State}
 use Rattle.stk_rules.specs.Conditions.{first_of}
-use Rattle.stk_rules.specs.Effects.{fee_paid}
+use Rattle.stk_rules.specs.Effects.{Effect, fee_paid}
 use Rattle.stk_rules.specs.Laws.{IsBracketed, HasShortfallWithin, burned_in}
 use Rattle.stk_rules.specs.Owed.{HoldsWhatIsOwed}
 use Rattle.stk_rules.specs.RefusalOrder.{refusal_of, IsRefusedBy}
 use Rattle.stk_rules.specs.Sound.{IsSound}
 use Rattle.stk_machine.specs.GenesisConditions.{start_condition}
 use Rattle.stk_machine.specs.GenesisState.{Start, chain_started, without_facts}
-use Rattle.stk_machine.specs.Machine.{Run, run_of, tx_applied}
+use Rattle.stk_machine.specs.Machine.{Run, run_of, tx_applied_by}
 use Rattle.stk_machine.specs.Messages.{effect_of, against}
 
 -- ---- how transactions end
 
--- the messages were carried out, one after the other
-abbrev pub AreCarriedOut : List Msg → State → State → Type 0
-AreCarriedOut [] w end = end ≡ w
-AreCarriedOut (m ∷ ms) w end = (next : State) × (effect_of m w ≡ Ok next) × AreCarriedOut ms next end
+module _ (effect : Msg → Effect) where
+  -- the messages were carried out by these effects, one after the other
+  abbrev pub AreCarriedOut : List Msg → State → State → Type 0
+  AreCarriedOut [] w end = end ≡ w
+  AreCarriedOut (m ∷ ms) w end = (next : State) × (effect m w ≡ Ok next) × AreCarriedOut ms next end
 
--- From what the fee left, the messages before this place were carried out, and the one there was refused so.
-pub record IsStoppedAt (place : ℕ) (why : Refusal) (msgs : List Msg) (paid : State) : Type 0 where
-  pub before : List Msg
-  pub message : Msg
-  pub after : List Msg
-  pub middle : State
-  pub messages_are : msgs ≡ before ++ message ∷ after
-  pub place_is : place ≡ length before
-  pub carried_out : AreCarriedOut before paid middle
-  pub refused : effect_of message middle ≡ Err why
+  -- From what the fee left, the messages before this place were carried out, and the one there was refused so.
+  pub record IsStoppedAt (place : ℕ) (why : Refusal) (msgs : List Msg) (paid : State) : Type 0 where
+    pub before : List Msg
+    pub message : Msg
+    pub after : List Msg
+    pub middle : State
+    pub messages_are : msgs ≡ before ++ message ∷ after
+    pub place_is : place ≡ length before
+    pub carried_out : AreCarriedOut before paid middle
+    pub refused : effect message middle ≡ Err why
 
--- How a transaction may end, from a state, with these facts, and what state then is:
-abbrev pub EndsSo : Tx → State → Outcome → List Fact → State → Type 0
--- the fee moved, and all messages were carried out;
-EndsSo tx w Accepted facts end =
-    (paid : State) × (fee_paid tx.payer tx.fee (without_facts w) ≡ Ok paid) × AreCarriedOut tx.msgs paid end × (facts ≡ end.view.facts)
--- the payer was short of the fee, and nothing changed;
-EndsSo tx w FeeUnpaid facts end = (fee_paid tx.payer tx.fee (without_facts w) ≡ Err refused.FeeUnpaid) × (end ≡ without_facts w) × (facts ≡ [])
--- the fee moved, a message was refused, and nothing else changed or is told.
-EndsSo tx w (Refused place why) facts end =
-    (paid : State) × (fee_paid tx.payer tx.fee (without_facts w) ≡ Ok paid) × IsStoppedAt place why tx.msgs paid × (end ≡ paid) × (facts ≡ paid.view.facts)
+  -- How a transaction may end, from a state, with these facts, and what state then is:
+  abbrev pub EndsSo : Tx → State → Outcome → List Fact → State → Type 0
+  -- the fee moved, and all messages were carried out;
+  EndsSo tx w Accepted facts end =
+      (paid : State) × (fee_paid tx.payer tx.fee (without_facts w) ≡ Ok paid) × AreCarriedOut tx.msgs paid end × (facts ≡ end.view.facts)
+  -- the payer was short of the fee, and nothing changed;
+  EndsSo tx w FeeUnpaid facts end = (fee_paid tx.payer tx.fee (without_facts w) ≡ Err refused.FeeUnpaid) × (end ≡ without_facts w) × (facts ≡ [])
+  -- the fee moved, a message was refused, and nothing else changed or is told.
+  EndsSo tx w (Refused place why) facts end =
+      (paid : State) × (fee_paid tx.payer tx.fee (without_facts w) ≡ Ok paid) × IsStoppedAt place why tx.msgs paid × (end ≡ paid) × (facts ≡ paid.view.facts)
+
+  -- Each transaction whose messages have these effects ends in one of these ways.
+  abbrev pub TransactionsEndBy : Type 0
+  TransactionsEndBy = (tx : Tx) (w : State) → let end = tx_applied_by effect tx w in EndsSo tx w end.report.outcome end.report.facts end.state
 
 -- Each transaction ends in one of these ways.
 abbrev pub AllTransactionsEnd : Type 0
-AllTransactionsEnd = (tx : Tx) (w : State) → let end = tx_applied tx w in EndsSo tx w end.report.outcome end.report.facts end.state
+AllTransactionsEnd = TransactionsEndBy effect_of
 
 -- ---- what a genesis and blocks lead to
 

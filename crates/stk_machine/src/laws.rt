@@ -1,38 +1,10 @@
 //! What the machine keeps, as functions that do nothing: their contracts are the laws.
 
-ghost use Rattle.stk_machine.specs.Laws.{SuppliesStay, TransactionsEnd, ParametersInRange};
+ghost use Rattle.stk_machine.specs.BuiltLaws.{GenesisStarts, SuppliesAreKept, ParametersAreKept, BuiltTransactionsEnd, BuiltMessagesNameConditions, StakingAccountsHoldWhatIsOwed, StakesAreSound, BuiltIsAPart};
 ghost use Rattle.stk_machine.specs.Promises.{AllTransactionsEnd, PlainMessagesNameConditions};
-ghost use Rattle.stk_machine.specs.Stages.{GenesesAgree, TransactionsAgree, BlocksAgree};
-
-/// Whatever the blocks, the supplies are those of the genesis, and all accounts together hold them.
-pub fn supplies_stay()
-    ensures { SuppliesStay }
-{}
-
-/// Each transaction ends in one of three ways: its messages are all carried out; its payer is short of the
-/// fee, and nothing changes; or a message is refused by the first condition that holds of it, and nothing
-/// but the fee has moved.
-pub fn transactions_end()
-    ensures { TransactionsEnd }
-{}
-
-/// Whatever the blocks, the parameters are those of the genesis, which are in their ranges.
-pub fn parameters_in_range()
-    ensures { ParametersInRange }
-{}
-
-/// The machine of sends is the whole machine with parts left out: without validators and delegations a genesis is
-/// refused by the same condition or starts the same; a transaction of sends ends, tells and leaves the same; and a block
-/// without votes and evidence has the same faults.
-pub fn sends_are_a_part()
-    ensures geneses { GenesesAgree }
-    ensures transactions { TransactionsAgree }
-    ensures blocks { BlocksAgree }
-{}
 
 /// Each transaction of the whole machine ends in one of three ways: its messages are all carried out; its fee is not
 /// paid, and nothing changes; or a message is refused, and nothing but the fee has moved.
-#[tactic(auto, using(crate::proofs::EndLemmas::transactions_end))]
 pub fn all_transactions_end()
     ensures { AllTransactionsEnd }
 {}
@@ -44,3 +16,52 @@ pub fn plain_messages_name_conditions()
 {
     stk_rules::laws::refusals_name_conditions();
 }
+
+// ---- the machine as far as it is built
+
+/// A genesis of which no condition holds starts the built machine: none of its validators and delegations is refused.
+pub fn genesis_starts()
+    ensures { GenesisStarts }
+{}
+
+/// Wherever blocks lead the built machine to, the supplies are those of the genesis, and all accounts together hold them.
+pub fn supplies_are_kept()
+    ensures { SuppliesAreKept }
+{}
+
+/// Wherever they lead to, the parameters are those of the genesis, which are in their ranges.
+pub fn parameters_are_kept()
+    ensures { ParametersAreKept }
+{}
+
+/// Each transaction of the built machine ends in one of three ways: its messages are all carried out; its fee is not
+/// paid, and nothing changes; or a message is refused, and nothing but the fee has moved.
+pub fn built_transactions_end()
+    ensures { BuiltTransactionsEnd }
+{}
+
+/// Each message of a kind that is built is refused by the first of its conditions that holds, and carried out where none
+/// does, in every state.
+pub fn built_messages_name_conditions()
+    ensures { BuiltMessagesNameConditions }
+{
+    stk_rules::laws::refusals_name_conditions();
+}
+
+/// After the genesis and after each block the bonded and the not-bonded account hold exactly the tokens of validators, in the
+/// bond denomination, and nothing else.
+pub fn staking_accounts_hold_what_is_owed()
+    ensures { StakingAccountsHoldWhatIsOwed }
+{}
+
+/// After the genesis and after each block validators and delegations are sound: shares are those of the delegations, each
+/// consensus address is one validator's, and rates are rates.
+pub fn stakes_are_sound()
+    ensures { StakesAreSound }
+{}
+
+/// The built machine is the whole machine with parts left out: messages that call no hooks have the same effect, and a block
+/// without votes and evidence has the same faults.
+pub fn built_is_a_part()
+    ensures { BuiltIsAPart }
+{}

@@ -1,14 +1,16 @@
 //! Worked rows, as functions that do nothing: their contracts are the rows.
 
-ghost use Rattle.stk_machine.specs.Worked.{OneSend, HeightMissed, TimeBefore, TimeAgain, TimePast, SecondSendShort, TwoDenominations, FeeTooHigh, ToAModule, NoCoins, MayStart, ParameterOutOfRange, ModuleAccount, AccountTwice, TooMuch};
+ghost use Rattle.stk_machine.specs.Worked.{OneAccountStarts, OneSend, HeightMissed, TimeBefore, TimeAgain, TimePast, SecondSendShort, TwoDenominations, FeeTooHigh, ToAModule, NoCoins, MayStart, ParameterOutOfRange, ModuleAccount, AccountTwice, TooMuch};
 ghost use Rattle.stk_machine.specs.WholeRows.{MayStartChain, WrongBeginnings, ValidatorsTwice, WrongRates, WrongDelegations, TooMuchDelegated, FirstIsNamed, WrongPlaces, WrongVotes, WrongEvidence, VotesComeFirst, LimitsOfBeginnings, OutcomesOfMessages};
 ghost use Rattle.stk_machine.specs.HistoryRows.{FeesOfThirtyBlocks, AllWithdraw};
 ghost use Rattle.stk_machine.specs.LifeRows.{GenesisIsTold, BlocksAreTold, EndIsReported};
 ghost use Rattle.stk_machine.specs.RandomRows.{RandomHistory, HoldsAfterHistory, BurnsAfterHistory};
+ghost use Rattle.stk_machine.specs.BuiltRows.{RateAboveHighest, GenesisStands, GenesisIsReported, RefusedMessages, SharesAtARate, SharesOver, FeeIsNotThere, RatesChangeDayByDay, TwoBlocksEnd, TwoBlocksAreReported};
 ghost use Rattle.stk_machine.specs.SoundRows.{SoundnessIsMet};
 
 /// Runs, transactions and geneses by example.
 pub fn machine_by_example()
+    ensures starts { OneAccountStarts }
     ensures one_send { OneSend }
     ensures height_missed { HeightMissed }
     ensures time_before { TimeBefore }
@@ -76,4 +78,26 @@ pub fn random_history_by_example()
 #[tactic(auto, using(crate::proofs::SoundLemmas::soundness_is_met))]
 pub fn soundness_by_example()
     ensures { SoundnessIsMet }
+{}
+
+/// Two validators and three delegations of a genesis, in the machine as far as it is built: what stands, and the report.
+pub fn built_genesis_by_example()
+    ensures rate { RateAboveHighest }
+    ensures stands { GenesisStands }
+    ensures reported { GenesisIsReported }
+{}
+
+/// Messages of that machine that create a validator and delegate, accepted and refused.
+pub fn built_messages_by_example()
+    ensures refused { RefusedMessages }
+    ensures shares { SharesAtARate }
+    ensures over { SharesOver }
+    ensures fee { FeeIsNotThere }
+{}
+
+/// Runs of that machine: rates that change day by day, and blocks that create, delegate and undo.
+pub fn built_runs_by_example()
+    ensures rates { RatesChangeDayByDay }
+    ensures outcomes { TwoBlocksEnd }
+    ensures report { TwoBlocksAreReported }
 {}

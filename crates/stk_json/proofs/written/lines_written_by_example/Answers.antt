@@ -4,11 +4,11 @@ use Rattle.stk_json.proofs.written.lines_written_by_example.Goals as goal
 
 pub returns-clause-run : goal.returns-clause-run
 unfolding written_on_literals
-returns-clause-run c = record { genesis = refl; block_is = refl; report = refl }
+returns-clause-run c = record { genesis = refl; block_is = refl }
 
 pub returns-clause-order : goal.returns-clause-order
 unfolding written_on_literals
-returns-clause-order c = record { beginning_first = refl; joined_coins = refl }
+returns-clause-order c = record { beginning_first = refl }
 
 pub returns-clause-payments : goal.returns-clause-payments
 unfolding written_on_literals

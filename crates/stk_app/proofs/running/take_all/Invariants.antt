@@ -1,0 +1,21 @@
+use Rattle.std.proofs.Common.{◌≤◌, ◌+◌, ◌-◌, ◌≡◌, length}
+use Rattle.stk_app.specs.Machine.{longest, stage_of}
+use Rattle.stk_app.specs.Outcome.{most_bytes}
+use Rattle.stk_app.specs.Parts.{Stands}
+use Rattle.stk_app.proofs.running.take_all.Given as goal
+
+abbrev pub decreases-loop-taken : goal.decreases-loop-taken
+decreases-loop-taken g l = most_bytes - l.taken
+
+abbrev pub invariant-loop-taken : goal.invariant-loop-taken
+invariant-loop-taken g l = record {
+  room : length l.piece ≡ 4096;
+  most : l.taken ≤ most_bytes;
+  number : l.progress.number ≤ 1 + l.taken;
+  short : length l.progress.line.items ≤ longest;
+  at : Stands (g.S.Source.left l.initial.source) l.taken l.progress.number (stage_of l.progress.chain) l.progress.line.items (g.S.Source.left l.source) (g.K.Sink.written l.initial.sink) (g.K.Sink.written l.sink);
+  read_later : g.S.Source.faults l.initial.source ≤ g.S.Source.faults l.source;
+  write_later : g.K.Sink.faults l.initial.sink ≤ g.K.Sink.faults l.sink;
+  read_quiet : g.S.Source.faults l.source ≡ g.S.Source.faults l.initial.source;
+  write_quiet : g.K.Sink.faults l.sink ≡ g.K.Sink.faults l.initial.sink;
+}

@@ -1,0 +1,32 @@
+use Rattle.std.proofs.Common.{ap}
+use Rattle.std.specs.Prelude.{is_some}
+use Rattle.stk_chain.specs.Chained.{ground_of}
+use Rattle.stk_chain.specs.declared.modules.Modules.{Modules}
+use Rattle.stk_chain.proofs.RestLemmas.{idle_stand, rests_next, one, delegated_view, delegated_added, never_refused}
+use Rattle.stk_chain.proofs.modules.Modules.add_delegation.Goals as goal
+
+pub delegate-delegated-requires-clause-known : goal.delegate-delegated-requires-clause-known
+delegate-delegated-requires-clause-known g c = ap is_some (one c.args.d.now c.requires.next.0 c.args.self.now c.requires.next.1).found
+
+pub delegate-delegated-requires-clause-some : goal.delegate-delegated-requires-clause-some
+delegate-delegated-requires-clause-some g c = (one c.args.d.now c.requires.next.0 c.args.self.now c.requires.next.1).some
+
+pub delegate-delegated-requires-clause-stand : goal.delegate-delegated-requires-clause-stand
+delegate-delegated-requires-clause-stand g c = idle_stand (ground_of c.args.self.now) c.args.self.now.staking.staked c.requires.rest.steady.in_order
+
+pub delegate-delegated-requires-clause-origin : goal.delegate-delegated-requires-clause-origin
+delegate-delegated-requires-clause-origin g c = (one c.args.d.now c.requires.next.0 c.args.self.now c.requires.next.1).funded
+
+pub returns-in-Ok-clause-added : goal.returns-in-Ok-clause-added
+returns-in-Ok-clause-added g c =
+    let m2 : Modules = record { ground = c.delegate-delegated.new.g; staking = c.delegate-delegated.new.self } in
+    delegated_added c.args.d.now c.requires.next.0 c.args.self.now c.requires.next.1 m2 c.in-Ok.field-0 c.in-Ok.ensures.told
+
+pub returns-in-Ok-clause-rest : goal.returns-in-Ok-clause-rest
+returns-in-Ok-clause-rest g c =
+    let m2 : Modules = record { ground = c.delegate-delegated.new.g; staking = c.delegate-delegated.new.self } in
+    rests_next c.args.self.now m2 c.requires.rest (delegated_view c.args.d.now c.requires.next.0 c.args.self.now c.requires.next.1 m2.staking.staked (ground_of m2) c.in-Ok.field-0 c.in-Ok.ensures.told)
+    c.in-Ok.ensures.undone.marks c.in-Ok.ensures.behind c.in-Ok.ensures.sound c.in-Ok.ensures.accounts
+
+pub never_refused-requires : goal.never_refused-requires
+never_refused-requires g c = never_refused c.args.d.now c.requires.next.0 c.args.self.now c.requires.next.1 c.delegate-delegated.new.self.staked (ground_of (record { ground = c.delegate-delegated.new.g; staking = c.delegate-delegated.new.self })) c.in-Err.why c.in-Err.ensures.told

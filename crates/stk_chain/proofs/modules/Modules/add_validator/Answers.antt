@@ -1,0 +1,41 @@
+use Rattle.std.proofs.Common.{◌∙◌, Ok, sym, ap, subst}
+use Rattle.stk_keep.specs.declared.messages.CreateValidator.{CreateValidator}
+use Rattle.stk_keep.specs.NoHooks.{nothing_told}
+use Rattle.stk_keep.specs.Staked.{validator_of, validator_by_cons}
+use Rattle.stk_rules.specs.Answers.{Leaves}
+use Rattle.stk_rules.specs.Validators.{new_validator, stored}
+use Rattle.stk_book.specs.Calls.{HasRates}
+use Rattle.stk_machine.proofs.UnhookedLemmas.{over}
+use Rattle.stk_chain.specs.Chained.{ground_of}
+use Rattle.stk_chain.specs.declared.modules.Modules.{Modules}
+use Rattle.stk_chain.proofs.RestLemmas.{idle_stand, rests_next, AdmittedAs, admitted_view, admitted_added}
+use Rattle.stk_chain.proofs.modules.Modules.add_validator.Goals as goal
+
+pub admit-requires-clause-new : goal.admit-requires-clause-new
+admit-requires-clause-new g c = ap (λ (m : CreateValidator). validator_of c.args.self.now.staking.staked m.validator) c.creation_of-m.ensures ∙ c.requires.new
+
+pub admit-requires-clause-new_cons : goal.admit-requires-clause-new_cons
+admit-requires-clause-new_cons g c = ap (λ (m : CreateValidator). validator_by_cons c.args.self.now.staking.staked m.cons) c.creation_of-m.ensures ∙ c.requires.new_cons
+
+pub admit-requires-clause-rates : goal.admit-requires-clause-rates
+admit-requires-clause-rates g c = subst HasRates (sym c.creation_of-m.ensures) c.requires.rates
+
+pub admit-requires-clause-stand : goal.admit-requires-clause-stand
+admit-requires-clause-stand g c = idle_stand (ground_of c.args.self.now) c.args.self.now.staking.staked c.requires.rest.steady.in_order
+
+pub returns-in-Ok-clause-added : goal.returns-in-Ok-clause-added
+returns-in-Ok-clause-added g c =
+    let m = c.args.self.now in
+    let m2 : Modules = record { ground = c.admit.new.g; staking = c.admit.new.self } in
+    let told : AdmittedAs c.args.v.now m.ground.ctx.params.bond_denom m.ground.ctx.time m.staking.staked (ground_of m) m2.staking.staked (ground_of m2) (Ok tt)
+    = subst (λ (x : CreateValidator). Leaves (stored nothing_told.told (new_validator x m.ground.ctx.time) (over tt m.staking.staked (ground_of m))) m2.staking.staked tt (ground_of m2) (Ok tt)) c.creation_of-m.ensures c.in-Ok.ensures.told in
+    admitted_added c.args.v.now m m2 told
+
+pub returns-in-Ok-clause-rest : goal.returns-in-Ok-clause-rest
+returns-in-Ok-clause-rest g c =
+    let m = c.args.self.now in
+    let m2 : Modules = record { ground = c.admit.new.g; staking = c.admit.new.self } in
+    let told : AdmittedAs c.args.v.now m.ground.ctx.params.bond_denom m.ground.ctx.time m.staking.staked (ground_of m) m2.staking.staked (ground_of m2) (Ok tt)
+    = subst (λ (x : CreateValidator). Leaves (stored nothing_told.told (new_validator x m.ground.ctx.time) (over tt m.staking.staked (ground_of m))) m2.staking.staked tt (ground_of m2) (Ok tt)) c.creation_of-m.ensures c.in-Ok.ensures.told in
+    rests_next m m2 c.requires.rest (admitted_view c.args.v.now m.ground.ctx.params.bond_denom m.ground.ctx.time m.staking.staked (ground_of m) m2.staking.staked (ground_of m2) told)
+    c.in-Ok.ensures.undone.marks c.in-Ok.ensures.behind c.in-Ok.ensures.sound c.in-Ok.ensures.accounts

@@ -1,0 +1,110 @@
+//! The messages, each carried out by its module.
+
+ghost use Rattle.std.specs.Prelude.{◌≡◌, not, true, OnOk};
+ghost use Rattle.std.specs.BTreeMap.{is_at};
+ghost use Rattle.stk_types.specs.Orders.{denom_cmp};
+ghost use Rattle.stk_machine.specs.Built.{is_built, built_effect, delegate_unhooked};
+ghost use Rattle.stk_rules.specs.Effects.{send};
+ghost use Rattle.stk_chain.specs.Answers.{MessageEnds, Follow};
+ghost use Rattle.stk_chain.specs.Chained.{stands, marks_of, AreSteady};
+
+use crate::modules::Modules;
+use std::alloc::Global;
+use std::cmp::Ordering;
+use std::sync::ledger::Ledger;
+use stk_book::Origin;
+use stk_keep::{NoHooks, Refusal, Stop, ValidatorView};
+use stk_msgs::{Delegate, Msg, Send};
+use stk_types::{Denom, Steps};
+
+impl Modules {
+    /// Carries out a message of a kind that is built, or answers why it is refused. After a refusal some of it
+    /// may stand.
+    pub(crate) fn apply_message<L: Ledger>(
+        &mut self,
+        alloc: Global,
+        message: &Msg,
+        steps: &mut Steps<L>,
+    ) -> Result<(), Stop>
+        requires built { is_built message.now ≡ true }
+        requires steady { AreSteady self.old }
+        ensures ends { MessageEnds (built_effect message.now (stands self.old)) (stands self.new) result }
+        ensures steady { OnOk result (AreSteady self.new) }
+        ensures ctx { self.new.ground.ctx ≡ self.old.ground.ctx }
+        ensures follow { Follow self.old.ground.facts self.new.ground.facts }
+        ensures marks { marks_of self.new ≡ marks_of self.old }
+    {
+        match message {
+            Msg::Send(m) => self.send(alloc, m, steps),
+            Msg::CreateValidator(m) => {
+                let ground = &mut self.ground;
+                self.staking
+                    .create_validator(alloc, ground, &mut NoHooks, m, steps)
+            }
+            Msg::EditValidator(m) => self.staking.edit_validator(&mut self.ground, m, steps),
+            Msg::Delegate(m) => self.delegate(alloc, m, steps),
+            _ => unreachable!(),
+        }
+    }
+
+    /// Coins go from a user to an account (`x/bank`: `msgServer.Send`).
+    fn send<L: Ledger>(&mut self, alloc: Global, m: &Send, steps: &mut Steps<L>) -> Result<(), Stop>
+        requires steady { AreSteady self.old }
+        ensures ends { MessageEnds (send m.now.from m.now.to m.now.coins (stands self.old)) (stands self.new) result }
+        ensures steady { OnOk result (AreSteady self.new) }
+        ensures ctx { self.new.ground.ctx ≡ self.old.ground.ctx }
+        ensures follow { Follow self.old.ground.facts self.new.ground.facts }
+        ensures marks { marks_of self.new ≡ marks_of self.old }
+    {
+        let facts = &mut self.ground.facts;
+        self.ground
+            .bank
+            .transfer(alloc, facts, &m.from, &m.to, &m.coins, steps)
+    }
+
+    /// A coin is delegated from the delegator's wallet (`x/staking/keeper`: `msgServer.Delegate`).
+    fn delegate<L: Ledger>(
+        &mut self,
+        alloc: Global,
+        m: &Delegate,
+        steps: &mut Steps<L>,
+    ) -> Result<(), Stop>
+        requires steady { AreSteady self.old }
+        ensures ends { MessageEnds (delegate_unhooked m.now.delegator m.now.validator m.now.amount (stands self.old)) (stands self.new) result }
+        ensures steady { OnOk result (AreSteady self.new) }
+        ensures ctx { self.new.ground.ctx ≡ self.old.ground.ctx }
+        ensures follow { Follow self.old.ground.facts self.new.ground.facts }
+        ensures marks { marks_of self.new ≡ marks_of self.old }
+    {
+        if m.amount.amount == 0 {
+            return Err(Stop::Refused(Refusal::NonPositive));
+        }
+        if self.staking.validator(&m.validator, steps).is_none() {
+            return Err(Stop::Refused(Refusal::NoValidator));
+        }
+        if is_other(&self.ground.ctx.params.bond_denom, &m.amount.denom) {
+            return Err(Stop::Refused(Refusal::WrongDenom));
+        }
+        let delegated = self.staking.delegate(
+            alloc,
+            &mut self.ground,
+            &mut NoHooks,
+            &m.delegator,
+            &m.validator,
+            m.amount.amount,
+            Origin::Wallet,
+            steps,
+        );
+        match delegated {
+            Ok(_) => Ok(()),
+            Err(stop) => Err(stop),
+        }
+    }
+}
+
+/// Whether two denominations are not one.
+fn is_other(denom: &Denom, other: &Denom) -> bool
+    ensures { result ≡ not (is_at (denom_cmp denom.now) other.now) }
+{
+    denom.cmp(other) != Ordering::Equal
+}

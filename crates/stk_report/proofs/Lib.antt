@@ -1,0 +1,15 @@
+pub mod LineLemmas
+pub mod OrderLemmas
+pub mod AccountLemmas
+pub mod ReportLemmas
+pub mod KeyLemmas
+pub mod EntryLemmas
+pub mod ToldLemmas
+pub mod ItemLemmas
+pub mod TotalLemmas
+pub mod GroupLemmas
+pub mod AccountOrderLemmas
+pub mod StateLemmas
+pub mod AskedLemmas
+pub mod AnswerGroupLemmas
+pub mod AnswerLemmas

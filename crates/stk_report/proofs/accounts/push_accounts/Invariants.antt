@@ -1,0 +1,11 @@
+use Rattle.std.proofs.Common.{◌≡◌, ◌++◌, map}
+use Rattle.std.specs.Prelude.{option_map}
+use Rattle.stk_report.specs.Groups.{accounts_in, opened}
+use Rattle.stk_report.specs.Lines.{account_line, text_of}
+use Rattle.stk_report.specs.Seen.{coins_seen}
+use Rattle.stk_report.proofs.accounts.push_accounts.Given as goal
+
+abbrev pub invariant-loop-place : goal.invariant-loop-place
+invariant-loop-place l =
+    l.out.items ++ text_of (map account_line (opened (option_map (λ o. (o.account, coins_seen o.coins.items)) l.last) (accounts_in l.place-iterator)))
+    ≡ l.fn.out.items ++ text_of (map account_line (accounts_in l.balances.entries))
