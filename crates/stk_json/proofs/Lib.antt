@@ -3,5 +3,5 @@ pub mod CoinLemmas
 pub mod ReadingOnLiterals
 pub mod TextLemmas
 pub mod ListLemmas
-pub mod LineLemmas
+pub mod WritingLemmas
 pub mod OnWritten

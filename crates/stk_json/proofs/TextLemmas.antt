@@ -1,5 +1,10 @@
--- The text of a decimal is ASCII.
+-- The text of a decimal and the name of a denomination are ASCII.
 use Rattle.std.specs.Result.{IsOk}
+use Rattle.std.specs.Prelude.{◌&&◌, nat_le}
+use Rattle.std.specs.List.{list_all}
+use Rattle.std.proofs.lemmas.Bool.{and_parts}
+use Rattle.std.proofs.lemmas.Bool.Decides.{nat_tests}
+use Rattle.stk_types.specs.Denom.{is_denom, is_denom_character, is_letter}
 use Rattle.std.proofs.Common.{take, length, refl, Result, Ok, Err, MatchResult, ◌≡◌, ℕ, zero, suc, ◌+◌, ◌<◌, ◌/◌, ◌%◌, ◌^◌, List, [], ◌∷◌, ◌++◌, Bool, true, false, arith, cond, ◌==◌, All}
 use Rattle.std.specs.Str.{IsUtf8}
 use Rattle.std.proofs.Math.Seq.{take-append_seam}
@@ -32,6 +37,26 @@ dec_text_is_utf8 n =
     let point : 46 < 128 = omega arith in
     let places : All IsSmall (46 ∷ last_digits 18 (n % 10 ^ 18)) = All-cons IsSmall 46 (last_digits 18 (n % 10 ^ 18)) point (last_digits_small 18 (n % 10 ^ 18)) in
     IsUtf8-from_ascii (dec_text n) (IsAscii-from_all (dec_text n) (All-append IsSmall (without_zeros (last_digits 20 (n / 10 ^ 18))) (46 ∷ last_digits 18 (n % 10 ^ 18)) whole places))
+
+letter_small : (c : ℕ) → is_letter c ≡ true → c < 128
+letter_small c h = grind (arith, nat_tests)
+
+denom_character_small : (c : ℕ) → is_denom_character c ≡ true → c < 128
+denom_character_small c h = grind (arith, nat_tests)
+
+denom_characters_small : (cs : List ℕ) → list_all is_denom_character cs ≡ true → All IsSmall cs
+denom_characters_small [] h = All-nil IsSmall
+denom_characters_small (c ∷ cs) h =
+    let parts = and_parts (is_denom_character c) (list_all is_denom_character cs) h in
+    All-cons IsSmall c cs (denom_character_small c parts.0) (denom_characters_small cs parts.1)
+
+pub denom_is_utf8 : (name : List ℕ) → is_denom name ≡ true → IsUtf8 name
+denom_is_utf8 [] h = absurd cc
+denom_is_utf8 (first ∷ others) h =
+    let parts = and_parts (is_letter first && nat_le 2 (length others) && nat_le (length others) 127) (list_all is_denom_character others) h in
+    let front = and_parts (is_letter first && nat_le 2 (length others)) (nat_le (length others) 127) parts.0 in
+    let letter = and_parts (is_letter first) (nat_le 2 (length others)) front.0 in
+    IsUtf8-from_ascii (first ∷ others) (IsAscii-from_all (first ∷ others) (All-cons IsSmall first others (letter_small first letter.0) (denom_characters_small others parts.1)))
 
 -- bytes that begin with those of a text, cut at its length
 pub front_of : (text rest bytes : List ℕ) (n : ℕ) → n ≡ length text → bytes ≡ text ++ rest → take n bytes ≡ text

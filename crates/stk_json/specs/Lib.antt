@@ -12,5 +12,5 @@ pub mod Values
 pub mod Facts
 pub mod Outcomes
 pub mod Written
-pub mod Trees
+pub mod Told
 pub mod WrittenExample

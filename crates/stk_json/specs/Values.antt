@@ -42,6 +42,10 @@ dec_coins_data coins = array (items_of (map (coin_data decimal_data) coins))
 abbrev pub address_data : List ℕ → Data
 address_data bytes = string (address_text bytes)
 
+-- a consensus address
+abbrev pub cons_data : List ℕ → Data
+cons_data bytes = string (address_text bytes)
+
 -- an account: a user by the address, a module by its name
 abbrev pub account_data : Account → Data
 account_data account = string (account_text account)

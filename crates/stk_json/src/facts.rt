@@ -1,19 +1,10 @@
-//! The objects of facts.
-ghost use Rattle.std.specs.Prelude.{◌≡◌, [], codes, IfOk, IfErr};
-ghost use Rattle.serde_json.specs.Data.{put};
-ghost use Rattle.serde_json.specs.View.{view};
-ghost use Rattle.stk_json.specs.Facts.{about, between, fact_data, fact_kind, fact_members};
-ghost use Rattle.stk_json.specs.Line.{told_members};
-ghost use Rattle.stk_json.specs.Values.{address_data, coins_data};
-ghost use Rattle.stk_json.specs.Trees.{data_of, members_in};
+//! The lines of facts. Members stand in ascending order of their names.
+ghost use Rattle.std.specs.Prelude.{◌≡◌, ◌++◌, [], IfErr, OnOk};
+ghost use Rattle.stk_json.specs.Facts.{about, fact_data};
+ghost use Rattle.stk_json.specs.Line.{line_of, told_at};
 
-use crate::texts::status_name;
-use crate::tree::Tree;
-use crate::values::{
-    account_value, address_value, coins_value, dec_coins_value, decimal_value, denom_value,
-    whole_value, word_value,
-};
-use serde_json::Value;
+use crate::told::Told;
+use crate::writing::push_line;
 use std::alloc::Global;
 use stk_coins::{Coin, Coins, DecCoins};
 use stk_dec::Dec;
@@ -21,239 +12,291 @@ use stk_keep::Fact;
 use stk_msgs::LineFault;
 use stk_types::{Account, Addr, BondStatus, Module};
 
-fn transfer(
+fn transfer<'a>(
     alloc: Global,
+    out: &mut Vec<u8>,
     height: u64,
-    from: &Account,
-    to: &Account,
-    coins: &Coins,
-) -> Result<Tree, LineFault>
-    ensures tree { IfOk result (λ tree. data_of tree
-        ≡ fact_data height (Fact.Transfer from.now to.now coins.now)) }
+    from: &'a Account,
+    to: &'a Account,
+    coins: &'a Coins,
+) -> Result<(), LineFault>
+    ensures ok { OnOk result (out.new.items ≡ out.old.items
+        ++ line_of (fact_data height (Fact.Transfer from.now to.now coins.now))) }
     ensures fault { IfErr result (λ fault. fault ≡ LineFault.NoMemory) }
 {
-    Tree::told_at(alloc, height, "transfer")?
-        .with(alloc, "from", account_value(alloc, from)?)?
-        .with(alloc, "to", account_value(alloc, to)?)?
-        .with(alloc, "coins", coins_value(alloc, coins)?)
+    let members = [
+        ("coins", Told::Coins(coins)),
+        ("from", Told::Account(from)),
+        ("height", Told::Count(height)),
+        ("kind", Told::Word("transfer")),
+        ("to", Told::Account(to)),
+    ];
+    push_line(alloc, out, &members)
 }
 
-fn burn(alloc: Global, height: u64, from: Module, coin: &Coin) -> Result<Tree, LineFault>
-    ensures tree { IfOk result (λ tree. data_of tree ≡ fact_data height (Fact.Burn from coin.now)) }
-    ensures fault { IfErr result (λ fault. fault ≡ LineFault.NoMemory) }
-{
-    Tree::told_at(alloc, height, "burn")?
-        .with(alloc, "from", word_value(alloc, from.name())?)?
-        .with(alloc, "denom", denom_value(alloc, &coin.denom)?)?
-        .with(alloc, "amount", whole_value(alloc, coin.amount)?)
-}
-
-/// A fact about a validator, of which its kind tells the rest.
-fn about(alloc: Global, height: u64, kind: &str, validator: &Addr) -> Result<Tree, LineFault>
-    ensures tree { IfOk result (λ tree. members_in tree
-        ≡ told_members height kind.now (about validator.now [])) }
-    ensures fault { IfErr result (λ fault. fault ≡ LineFault.NoMemory) }
-{
-    Tree::told_at(alloc, height, kind)?.with(alloc, "validator", address_value(alloc, validator)?)
-}
-
-/// A fact about a delegator at a validator.
-fn between(
+fn burn<'a>(
     alloc: Global,
+    out: &mut Vec<u8>,
     height: u64,
-    kind: &str,
-    delegator: &Addr,
-    validator: &Addr,
-) -> Result<Tree, LineFault>
-    ensures tree { IfOk result (λ tree. members_in tree
-        ≡ told_members height kind.now (between delegator.now validator.now [])) }
+    from: Module,
+    coin: &'a Coin,
+) -> Result<(), LineFault>
+    ensures ok { OnOk result (out.new.items ≡ out.old.items
+        ++ line_of (fact_data height (Fact.Burn from coin.now))) }
     ensures fault { IfErr result (λ fault. fault ≡ LineFault.NoMemory) }
 {
-    about(alloc, height, kind, validator)?.with(
-        alloc,
-        "delegator",
-        address_value(alloc, delegator)?,
-    )
+    let members = [
+        ("amount", Told::Amount(coin.amount)),
+        ("denom", Told::Denom(&coin.denom)),
+        ("from", Told::Module(from)),
+        ("height", Told::Count(height)),
+        ("kind", Told::Word("burn")),
+    ];
+    push_line(alloc, out, &members)
 }
 
-/// A fact that coins were paid to an address.
-fn with_payment(alloc: Global, tree: Tree, to: &Addr, coins: &Coins) -> Result<Tree, LineFault>
-    ensures tree { IfOk result (λ paid. members_in paid ≡ put (codes "to") (address_data to.now)
-        (put (codes "coins") (coins_data coins.now) (members_in tree))) }
-    ensures fault { IfErr result (λ fault. fault ≡ LineFault.NoMemory) }
-{
-    tree.with(alloc, "coins", coins_value(alloc, coins)?)?
-        .with(alloc, "to", address_value(alloc, to)?)
-}
-
-fn allocated(
+fn allocated<'a>(
     alloc: Global,
+    out: &mut Vec<u8>,
     height: u64,
-    validator: &Addr,
-    share: &DecCoins,
-) -> Result<Tree, LineFault>
-    ensures tree { IfOk result (λ tree. data_of tree
-        ≡ fact_data height (Fact.Allocated validator.now share.now)) }
+    validator: &'a Addr,
+    share: &'a DecCoins,
+) -> Result<(), LineFault>
+    ensures ok { OnOk result (out.new.items ≡ out.old.items
+        ++ line_of (fact_data height (Fact.Allocated validator.now share.now))) }
     ensures fault { IfErr result (λ fault. fault ≡ LineFault.NoMemory) }
 {
-    about(alloc, height, "allocated", validator)?.with(
-        alloc,
-        "coins",
-        dec_coins_value(alloc, share)?,
-    )
+    let members = [
+        ("coins", Told::DecCoins(share)),
+        ("height", Told::Count(height)),
+        ("kind", Told::Word("allocated")),
+        ("validator", Told::Address(validator)),
+    ];
+    push_line(alloc, out, &members)
 }
 
-fn pooled(alloc: Global, height: u64, coins: &DecCoins) -> Result<Tree, LineFault>
-    ensures tree { IfOk result (λ tree. data_of tree ≡ fact_data height (Fact.Pooled coins.now)) }
-    ensures fault { IfErr result (λ fault. fault ≡ LineFault.NoMemory) }
-{
-    Tree::told_at(alloc, height, "pooled")?.with(alloc, "coins", dec_coins_value(alloc, coins)?)
-}
-
-fn period_ended(
+fn pooled<'a>(
     alloc: Global,
+    out: &mut Vec<u8>,
     height: u64,
-    validator: &Addr,
+    coins: &'a DecCoins,
+) -> Result<(), LineFault>
+    ensures ok { OnOk result (out.new.items ≡ out.old.items
+        ++ line_of (fact_data height (Fact.Pooled coins.now))) }
+    ensures fault { IfErr result (λ fault. fault ≡ LineFault.NoMemory) }
+{
+    let members = [
+        ("coins", Told::DecCoins(coins)),
+        ("height", Told::Count(height)),
+        ("kind", Told::Word("pooled")),
+    ];
+    push_line(alloc, out, &members)
+}
+
+fn period_ended<'a>(
+    alloc: Global,
+    out: &mut Vec<u8>,
+    height: u64,
+    validator: &'a Addr,
     period: u64,
-    ratio: &DecCoins,
-) -> Result<Tree, LineFault>
-    ensures tree { IfOk result (λ tree. data_of tree
-        ≡ fact_data height (Fact.Period validator.now period ratio.now)) }
+    ratio: &'a DecCoins,
+) -> Result<(), LineFault>
+    ensures ok { OnOk result (out.new.items ≡ out.old.items
+        ++ line_of (fact_data height (Fact.Period validator.now period ratio.now))) }
     ensures fault { IfErr result (λ fault. fault ≡ LineFault.NoMemory) }
 {
-    about(alloc, height, "period", validator)?
-        .with(alloc, "period", Value::from(period))?
-        .with(alloc, "ratio", dec_coins_value(alloc, ratio)?)
+    let members = [
+        ("height", Told::Count(height)),
+        ("kind", Told::Word("period")),
+        ("period", Told::Count(period)),
+        ("ratio", Told::DecCoins(ratio)),
+        ("validator", Told::Address(validator)),
+    ];
+    push_line(alloc, out, &members)
 }
 
-fn started(
+fn started<'a>(
     alloc: Global,
+    out: &mut Vec<u8>,
     height: u64,
-    delegator: &Addr,
-    validator: &Addr,
+    delegator: &'a Addr,
+    validator: &'a Addr,
     period: u64,
     stake: Dec,
-) -> Result<Tree, LineFault>
-    ensures tree { IfOk result (λ tree. data_of tree
-        ≡ fact_data height (Fact.Started delegator.now validator.now period stake)) }
+) -> Result<(), LineFault>
+    ensures ok { OnOk result (out.new.items ≡ out.old.items
+        ++ line_of (fact_data height (Fact.Started delegator.now validator.now period stake))) }
     ensures fault { IfErr result (λ fault. fault ≡ LineFault.NoMemory) }
 {
-    between(alloc, height, "started", delegator, validator)?
-        .with(alloc, "period", Value::from(period))?
-        .with(alloc, "stake", decimal_value(alloc, stake)?)
+    let members = [
+        ("delegator", Told::Address(delegator)),
+        ("height", Told::Count(height)),
+        ("kind", Told::Word("started")),
+        ("period", Told::Count(period)),
+        ("stake", Told::Decimal(stake)),
+        ("validator", Told::Address(validator)),
+    ];
+    push_line(alloc, out, &members)
 }
 
-fn slashed(
+fn slashed<'a>(
     alloc: Global,
+    out: &mut Vec<u8>,
     height: u64,
-    validator: &Addr,
+    validator: &'a Addr,
     fraction: Dec,
     burned: u128,
-) -> Result<Tree, LineFault>
-    ensures tree { IfOk result (λ tree. data_of tree
-        ≡ fact_data height (Fact.Slashed validator.now fraction burned)) }
+) -> Result<(), LineFault>
+    ensures ok { OnOk result (out.new.items ≡ out.old.items
+        ++ line_of (fact_data height (Fact.Slashed validator.now fraction burned))) }
     ensures fault { IfErr result (λ fault. fault ≡ LineFault.NoMemory) }
 {
-    about(alloc, height, "slashed", validator)?
-        .with(alloc, "fraction", decimal_value(alloc, fraction)?)?
-        .with(alloc, "burned", whole_value(alloc, burned)?)
+    let members = [
+        ("burned", Told::Amount(burned)),
+        ("fraction", Told::Decimal(fraction)),
+        ("height", Told::Count(height)),
+        ("kind", Told::Word("slashed")),
+        ("validator", Told::Address(validator)),
+    ];
+    push_line(alloc, out, &members)
 }
 
-fn paid(
+fn paid<'a>(
     alloc: Global,
+    out: &mut Vec<u8>,
     height: u64,
-    delegator: &Addr,
-    validator: &Addr,
-    to: &Addr,
-    reward: &DecCoins,
-    coins: &Coins,
-) -> Result<Tree, LineFault>
-    ensures tree { IfOk result (λ tree. data_of tree
-        ≡ fact_data height (Fact.Paid delegator.now validator.now to.now reward.now coins.now)) }
+    delegator: &'a Addr,
+    validator: &'a Addr,
+    to: &'a Addr,
+    reward: &'a DecCoins,
+    coins: &'a Coins,
+) -> Result<(), LineFault>
+    ensures ok { OnOk result (out.new.items ≡ out.old.items
+        ++ line_of (fact_data height (Fact.Paid delegator.now validator.now to.now reward.now coins.now))) }
     ensures fault { IfErr result (λ fault. fault ≡ LineFault.NoMemory) }
 {
-    let tree = between(alloc, height, "paid", delegator, validator)?.with(
-        alloc,
-        "reward",
-        dec_coins_value(alloc, reward)?,
-    )?;
-    with_payment(alloc, tree, to, coins)
+    let members = [
+        ("coins", Told::Coins(coins)),
+        ("delegator", Told::Address(delegator)),
+        ("height", Told::Count(height)),
+        ("kind", Told::Word("paid")),
+        ("reward", Told::DecCoins(reward)),
+        ("to", Told::Address(to)),
+        ("validator", Told::Address(validator)),
+    ];
+    push_line(alloc, out, &members)
 }
 
-fn commission_paid(
+fn commission_paid<'a>(
     alloc: Global,
+    out: &mut Vec<u8>,
     height: u64,
-    validator: &Addr,
-    to: &Addr,
-    coins: &Coins,
-) -> Result<Tree, LineFault>
-    ensures tree { IfOk result (λ tree. data_of tree
-        ≡ fact_data height (Fact.Commission validator.now to.now coins.now)) }
+    validator: &'a Addr,
+    to: &'a Addr,
+    coins: &'a Coins,
+) -> Result<(), LineFault>
+    ensures ok { OnOk result (out.new.items ≡ out.old.items
+        ++ line_of (fact_data height (Fact.Commission validator.now to.now coins.now))) }
     ensures fault { IfErr result (λ fault. fault ≡ LineFault.NoMemory) }
 {
-    let tree = about(alloc, height, "commission", validator)?;
-    with_payment(alloc, tree, to, coins)
+    let members = [
+        ("coins", Told::Coins(coins)),
+        ("height", Told::Count(height)),
+        ("kind", Told::Word("commission")),
+        ("to", Told::Address(to)),
+        ("validator", Told::Address(validator)),
+    ];
+    push_line(alloc, out, &members)
 }
 
-fn changed(
+fn changed<'a>(
     alloc: Global,
+    out: &mut Vec<u8>,
     height: u64,
-    validator: &Addr,
+    validator: &'a Addr,
     status: BondStatus,
-) -> Result<Tree, LineFault>
-    ensures tree { IfOk result (λ tree. data_of tree
-        ≡ fact_data height (Fact.Changed validator.now status)) }
+) -> Result<(), LineFault>
+    ensures ok { OnOk result (out.new.items ≡ out.old.items
+        ++ line_of (fact_data height (Fact.Changed validator.now status))) }
     ensures fault { IfErr result (λ fault. fault ≡ LineFault.NoMemory) }
 {
-    about(alloc, height, "status", validator)?.with(
-        alloc,
-        "status",
-        word_value(alloc, status_name(status))?,
-    )
+    let members = [
+        ("height", Told::Count(height)),
+        ("kind", Told::Word("status")),
+        ("status", Told::Status(status)),
+        ("validator", Told::Address(validator)),
+    ];
+    push_line(alloc, out, &members)
 }
 
-/// What is told of a fact of a block of this height.
-pub fn fact_tree(alloc: Global, height: u64, fact: &Fact) -> Result<Tree, LineFault>
-    ensures tree { IfOk result (λ tree. data_of tree ≡ fact_data height fact.now) }
+/// A fact of a validator, of which its kind tells the rest.
+fn of_validator<'a>(
+    alloc: Global,
+    out: &mut Vec<u8>,
+    height: u64,
+    kind: &'a str,
+    validator: &'a Addr,
+) -> Result<(), LineFault>
+    ensures ok { OnOk result (out.new.items ≡ out.old.items
+        ++ line_of (told_at height kind.now (about validator.now []))) }
+    ensures fault { IfErr result (λ fault. fault ≡ LineFault.NoMemory) }
+{
+    let members = [
+        ("height", Told::Count(height)),
+        ("kind", Told::Word(kind)),
+        ("validator", Told::Address(validator)),
+    ];
+    push_line(alloc, out, &members)
+}
+
+/// Appends the line of a fact of a block of this height.
+pub fn push_fact(
+    alloc: Global,
+    out: &mut Vec<u8>,
+    height: u64,
+    fact: &Fact,
+) -> Result<(), LineFault>
+    ensures ok { OnOk result
+        (out.new.items ≡ out.old.items ++ line_of (fact_data height fact.now)) }
     ensures fault { IfErr result (λ fault. fault ≡ LineFault.NoMemory) }
 {
     match fact {
-        Fact::Transfer { from, to, coins } => transfer(alloc, height, from, to, coins),
-        Fact::Burn { from, coin } => burn(alloc, height, *from, coin),
-        Fact::Allocated { validator, share } => allocated(alloc, height, validator, share),
-        Fact::Pooled { coins } => pooled(alloc, height, coins),
+        Fact::Transfer { from, to, coins } => transfer(alloc, out, height, from, to, coins),
+        Fact::Burn { from, coin } => burn(alloc, out, height, *from, coin),
+        Fact::Allocated { validator, share } => allocated(alloc, out, height, validator, share),
+        Fact::Pooled { coins } => pooled(alloc, out, height, coins),
         Fact::Period {
             validator,
             period,
             ratio,
-        } => period_ended(alloc, height, validator, *period, ratio),
+        } => period_ended(alloc, out, height, validator, *period, ratio),
         Fact::Started {
             delegator,
             validator,
             period,
             stake,
-        } => started(alloc, height, delegator, validator, *period, *stake),
+        } => started(alloc, out, height, delegator, validator, *period, *stake),
         Fact::Slashed {
             validator,
             fraction,
             burned,
-        } => slashed(alloc, height, validator, *fraction, *burned),
+        } => slashed(alloc, out, height, validator, *fraction, *burned),
         Fact::Paid {
             delegator,
             validator,
             to,
             reward,
             coins,
-        } => paid(alloc, height, delegator, validator, to, reward, coins),
+        } => paid(alloc, out, height, delegator, validator, to, reward, coins),
         Fact::Commission {
             validator,
             to,
             coins,
-        } => commission_paid(alloc, height, validator, to, coins),
-        Fact::Changed { validator, status } => changed(alloc, height, validator, *status),
-        Fact::Jailed { validator } => about(alloc, height, "jailed", validator),
-        Fact::Unjailed { validator } => about(alloc, height, "unjailed", validator),
-        Fact::Tombstoned { validator } => about(alloc, height, "tombstoned", validator),
-        Fact::Removed { validator } => about(alloc, height, "removed", validator),
+        } => commission_paid(alloc, out, height, validator, to, coins),
+        Fact::Changed { validator, status } => changed(alloc, out, height, validator, *status),
+        Fact::Jailed { validator } => of_validator(alloc, out, height, "jailed", validator),
+        Fact::Unjailed { validator } => of_validator(alloc, out, height, "unjailed", validator),
+        Fact::Tombstoned { validator } => of_validator(alloc, out, height, "tombstoned", validator),
+        Fact::Removed { validator } => of_validator(alloc, out, height, "removed", validator),
     }
 }

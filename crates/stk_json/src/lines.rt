@@ -1,68 +1,54 @@
 //! The lines of a genesis and of a block.
-ghost use Rattle.std.specs.Prelude.{◌≡◌, ◌++◌, ◌∷◌, [], IfOk, IfErr, OnOk, false};
-ghost use Rattle.serde_json.specs.Written.{has_float};
+ghost use Rattle.std.specs.Prelude.{◌≡◌, ◌++◌, IfOk, IfErr, OnOk};
 ghost use Rattle.stk_json.specs.Line.{line_of};
-ghost use Rattle.stk_json.specs.Facts.{fact_data};
-ghost use Rattle.stk_json.specs.Outcomes.{outcome_data};
 ghost use Rattle.stk_json.specs.Written.{block_data, genesis_data, text_of_block, text_of_facts, text_of_genesis, text_of_tx, text_of_txs};
-ghost use Rattle.stk_json.specs.Trees.{data_of};
 
-use crate::facts::fact_tree;
-use crate::outcomes::outcome_tree;
-use crate::tree::Tree;
-use crate::values::{coins_value, moment_value};
+use crate::facts::push_fact;
+use crate::outcomes::push_outcome;
+use crate::told::Told;
+use crate::writing::push_line;
 use std::alloc::Global;
 use stk_coins::Coins;
-use stk_keep::{Fact, Facts};
-use stk_msgs::{BlockReport, LineFault, Outcome, TxReport};
+use stk_keep::Facts;
+use stk_msgs::{BlockReport, LineFault, TxReport};
 use stk_types::Moment;
 
-/// Appends a line.
-pub fn push_line(alloc: Global, out: &mut Vec<u8>, tree: Tree) -> Result<(), LineFault>
-    requires { has_float (data_of tree) ≡ false }
-    ensures ok { OnOk result (out.new.items ≡ out.old.items ++ line_of (data_of tree)) }
+/// Appends the line of a genesis.
+fn push_genesis<'a>(alloc: Global, out: &mut Vec<u8>, supply: &'a Coins) -> Result<(), LineFault>
+    ensures ok { OnOk result (out.new.items ≡ out.old.items ++ line_of (genesis_data supply.now)) }
     ensures fault { IfErr result (λ fault. fault ≡ LineFault.NoMemory) }
 {
-    let text = tree.into_value().to_string(alloc)?;
-    out.extend_from_slice(text.as_bytes())?;
-    out.push(b'\n')?;
-    Ok(())
+    let members = [
+        ("height", Told::Count(0)),
+        ("kind", Told::Word("genesis")),
+        ("supply", Told::Coins(supply)),
+    ];
+    push_line(alloc, out, &members)
 }
 
-fn genesis_tree(alloc: Global, supply: &Coins) -> Result<Tree, LineFault>
-    ensures tree { IfOk result (λ tree. data_of tree ≡ genesis_data supply.now) }
+/// Appends the line of a block itself.
+fn push_block(alloc: Global, out: &mut Vec<u8>, height: u64, time: Moment) -> Result<(), LineFault>
+    ensures ok { OnOk result (out.new.items ≡ out.old.items ++ line_of (block_data height time)) }
     ensures fault { IfErr result (λ fault. fault ≡ LineFault.NoMemory) }
 {
-    Tree::told_at(alloc, 0, "genesis")?.with(alloc, "supply", coins_value(alloc, supply)?)
-}
-
-fn block_tree(alloc: Global, height: u64, time: Moment) -> Result<Tree, LineFault>
-    ensures tree { IfOk result (λ tree. data_of tree ≡ block_data height time) }
-    ensures fault { IfErr result (λ fault. fault ≡ LineFault.NoMemory) }
-{
-    Tree::told_at(alloc, height, "block")?.with(alloc, "time", moment_value(alloc, time)?)
+    let members = [
+        ("height", Told::Count(height)),
+        ("kind", Told::Word("block")),
+        ("time", Told::Moment(time)),
+    ];
+    push_line(alloc, out, &members)
 }
 
 /// The line of a genesis, which tells the supply: `height` (0), `kind` (`"genesis"`) and `supply`, the coins.
 ///
 /// The only error is `NoMemory`.
-#[tactic(auto, using(crate::proofs::LineLemmas::coins_have_no_float))]
 pub fn line_of_genesis(alloc: Global, supply: &Coins) -> Result<Vec<u8>, LineFault>
     ensures text { IfOk result (λ text. text.items ≡ text_of_genesis supply.now) }
     ensures fault { IfErr result (λ fault. fault ≡ LineFault.NoMemory) }
 {
     let mut out = Vec::new(alloc);
-    push_line(alloc, &mut out, genesis_tree(alloc, supply)?)?;
+    push_genesis(alloc, &mut out, supply)?;
     Ok(out)
-}
-
-#[tactic(auto, using(crate::proofs::LineLemmas::fact_has_no_float))]
-fn push_fact(alloc: Global, out: &mut Vec<u8>, height: u64, fact: &Fact) -> Result<(), LineFault>
-    ensures ok { OnOk result
-        (out.new.items ≡ out.old.items ++ line_of (fact_data height fact.now)) }
-    ensures fault { IfErr result (λ fault. fault ≡ LineFault.NoMemory) }
-{
-    push_line(alloc, out, fact_tree(alloc, height, fact)?)
 }
 
 /// Appends a line for each fact.
@@ -76,21 +62,6 @@ fn push_facts(alloc: Global, out: &mut Vec<u8>, height: u64, facts: &Facts) -> R
         }
     }
     Ok(())
-}
-
-#[tactic(auto, using(crate::proofs::LineLemmas::outcome_has_no_float))]
-fn push_outcome(
-    alloc: Global,
-    out: &mut Vec<u8>,
-    height: u64,
-    place: usize,
-    outcome: Outcome,
-) -> Result<(), LineFault>
-    ensures ok { OnOk result
-        (out.new.items ≡ out.old.items ++ line_of (outcome_data height place outcome)) }
-    ensures fault { IfErr result (λ fault. fault ≡ LineFault.NoMemory) }
-{
-    push_line(alloc, out, outcome_tree(alloc, height, place, outcome)?)
 }
 
 /// Appends the lines of a transaction: its facts, then how it ended.
@@ -121,13 +92,6 @@ fn push_txs(
         push_tx(alloc, out, height, place, tx)?;
     }
     Ok(())
-}
-
-fn push_block(alloc: Global, out: &mut Vec<u8>, height: u64, time: Moment) -> Result<(), LineFault>
-    ensures ok { OnOk result (out.new.items ≡ out.old.items ++ line_of (block_data height time)) }
-    ensures fault { IfErr result (λ fault. fault ≡ LineFault.NoMemory) }
-{
-    push_line(alloc, out, block_tree(alloc, height, time)?)
 }
 
 /// The lines of a block: one with `height`, `kind` (`"block"`) and `time`; a line for each fact of its beginning;

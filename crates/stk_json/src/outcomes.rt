@@ -1,126 +1,155 @@
-//! The objects of how transactions ended.
-ghost use Rattle.std.specs.Prelude.{◌≡◌, [], ◌∷◌, codes, IfOk, IfErr};
-ghost use Rattle.stk_json.specs.Line.{told_members};
+//! The lines of how transactions ended. Members stand in ascending order of their names.
+ghost use Rattle.std.specs.Prelude.{◌≡◌, ◌++◌, [], codes, IfErr, OnOk};
+ghost use Rattle.stk_keep.specs.Refusals.{number_of};
+ghost use Rattle.stk_json.specs.Line.{line_of, told_at};
 ghost use Rattle.stk_json.specs.Outcomes.{outcome_data, refused_members};
-ghost use Rattle.stk_json.specs.Values.{count_data};
-ghost use Rattle.stk_json.specs.Trees.{data_of, members_in};
 
-use crate::texts::over_name;
-use crate::tree::Tree;
-use crate::values::{moment_value, whole_value, word_value};
-use serde_json::Value;
+use crate::told::Told;
+use crate::writing::push_line;
 use std::alloc::Global;
 use stk_dec::Over;
 use stk_keep::Refusal;
 use stk_msgs::{LineFault, Outcome};
 use stk_types::Moment;
 
-/// How the transaction at a place ended, as far as its kind tells.
-fn ended(alloc: Global, height: u64, place: usize, kind: &str) -> Result<Tree, LineFault>
-    ensures tree { IfOk result (λ tree. members_in tree
-        ≡ told_members height kind.now ((codes "tx", count_data place) ∷ [])) }
+fn accepted(alloc: Global, out: &mut Vec<u8>, height: u64, place: usize) -> Result<(), LineFault>
+    ensures ok { OnOk result (out.new.items ≡ out.old.items
+        ++ line_of (outcome_data height place Outcome.Accepted)) }
     ensures fault { IfErr result (λ fault. fault ≡ LineFault.NoMemory) }
 {
-    Tree::told_at(alloc, height, kind)?.with(alloc, "tx", Value::from(place))
+    let members = [
+        ("height", Told::Count(height)),
+        ("kind", Told::Word("accepted")),
+        ("tx", Told::Count(place as u64)),
+    ];
+    push_line(alloc, out, &members)
 }
 
-fn unpaid(alloc: Global, height: u64, place: usize) -> Result<Tree, LineFault>
-    ensures tree { IfOk result (λ tree. data_of tree ≡ outcome_data height place Outcome.FeeUnpaid) }
+fn unpaid(alloc: Global, out: &mut Vec<u8>, height: u64, place: usize) -> Result<(), LineFault>
+    ensures ok { OnOk result (out.new.items ≡ out.old.items
+        ++ line_of (outcome_data height place Outcome.FeeUnpaid)) }
     ensures fault { IfErr result (λ fault. fault ≡ LineFault.NoMemory) }
 {
-    let number = Refusal::FeeUnpaid.number();
-    ended(alloc, height, place, "refused")?.with(alloc, "number", Value::from(number))
+    let members = [
+        ("height", Told::Count(height)),
+        ("kind", Told::Word("refused")),
+        ("number", Told::Number(Refusal::FeeUnpaid)),
+        ("tx", Told::Count(place as u64)),
+    ];
+    push_line(alloc, out, &members)
 }
 
-/// A message that was refused for the reason of this number.
+/// A message that was refused for a reason of which the number tells all.
 fn refused(
     alloc: Global,
+    out: &mut Vec<u8>,
     height: u64,
     place: usize,
     message: usize,
-    number: u8,
-) -> Result<Tree, LineFault>
-    ensures tree { IfOk result (λ tree. members_in tree
-        ≡ told_members height (codes "refused") (refused_members place message number [])) }
+    reason: Refusal,
+) -> Result<(), LineFault>
+    ensures ok { OnOk result (out.new.items ≡ out.old.items ++ line_of
+        (told_at height (codes "refused") (refused_members place message (number_of reason) []))) }
     ensures fault { IfErr result (λ fault. fault ≡ LineFault.NoMemory) }
 {
-    ended(alloc, height, place, "refused")?
-        .with(alloc, "msg", Value::from(message))?
-        .with(alloc, "number", Value::from(number))
+    let members = [
+        ("height", Told::Count(height)),
+        ("kind", Told::Word("refused")),
+        ("msg", Told::Count(message as u64)),
+        ("number", Told::Number(reason)),
+        ("tx", Told::Count(place as u64)),
+    ];
+    push_line(alloc, out, &members)
 }
 
 /// A message that was refused because a validator stays jailed.
 fn still_jailed(
     alloc: Global,
+    out: &mut Vec<u8>,
     height: u64,
     place: usize,
     message: usize,
     until: Moment,
-) -> Result<Tree, LineFault>
-    ensures tree { IfOk result (λ tree. data_of tree
-        ≡ outcome_data height place (Outcome.Refused message (Refusal.StillJailed until))) }
+) -> Result<(), LineFault>
+    ensures ok { OnOk result (out.new.items ≡ out.old.items
+        ++ line_of (outcome_data height place (Outcome.Refused message (Refusal.StillJailed until)))) }
     ensures fault { IfErr result (λ fault. fault ≡ LineFault.NoMemory) }
 {
-    let number = Refusal::StillJailed(until).number();
-    refused(alloc, height, place, message, number)?.with(
-        alloc,
-        "until",
-        moment_value(alloc, until)?,
-    )
+    let members = [
+        ("height", Told::Count(height)),
+        ("kind", Told::Word("refused")),
+        ("msg", Told::Count(message as u64)),
+        ("number", Told::Number(Refusal::StillJailed(until))),
+        ("tx", Told::Count(place as u64)),
+        ("until", Told::Moment(until)),
+    ];
+    push_line(alloc, out, &members)
 }
 
 /// A message that was refused because a result would be past the limit.
 fn overflowed(
     alloc: Global,
+    out: &mut Vec<u8>,
     height: u64,
     place: usize,
     message: usize,
     over: Over,
-) -> Result<Tree, LineFault>
-    ensures tree { IfOk result (λ tree. data_of tree
-        ≡ outcome_data height place (Outcome.Refused message (Refusal.Overflow over))) }
+) -> Result<(), LineFault>
+    ensures ok { OnOk result (out.new.items ≡ out.old.items
+        ++ line_of (outcome_data height place (Outcome.Refused message (Refusal.Overflow over)))) }
     ensures fault { IfErr result (λ fault. fault ≡ LineFault.NoMemory) }
 {
-    let number = Refusal::Overflow(over).number();
-    refused(alloc, height, place, message, number)?
-        .with(alloc, "over", word_value(alloc, over_name(over.kind))?)?
-        .with(alloc, "a", whole_value(alloc, over.a)?)?
-        .with(alloc, "b", whole_value(alloc, over.b)?)?
-        .with(alloc, "c", whole_value(alloc, over.c)?)
+    let members = [
+        ("a", Told::Amount(over.a)),
+        ("b", Told::Amount(over.b)),
+        ("c", Told::Amount(over.c)),
+        ("height", Told::Count(height)),
+        ("kind", Told::Word("refused")),
+        ("msg", Told::Count(message as u64)),
+        ("number", Told::Number(Refusal::Overflow(over))),
+        ("over", Told::Over(over.kind)),
+        ("tx", Told::Count(place as u64)),
+    ];
+    push_line(alloc, out, &members)
 }
 
-/// A message that was refused for a reason.
-fn refused_for(
+/// Appends the line of a message that was refused for a reason.
+fn push_refused(
     alloc: Global,
+    out: &mut Vec<u8>,
     height: u64,
     place: usize,
     message: usize,
     reason: Refusal,
-) -> Result<Tree, LineFault>
-    ensures tree { IfOk result (λ tree. data_of tree
-        ≡ outcome_data height place (Outcome.Refused message reason)) }
+) -> Result<(), LineFault>
+    ensures ok { OnOk result (out.new.items ≡ out.old.items
+        ++ line_of (outcome_data height place (Outcome.Refused message reason))) }
     ensures fault { IfErr result (λ fault. fault ≡ LineFault.NoMemory) }
 {
     match reason {
-        Refusal::StillJailed(until) => still_jailed(alloc, height, place, message, until),
-        Refusal::Overflow(over) => overflowed(alloc, height, place, message, over),
-        _ => refused(alloc, height, place, message, reason.number()),
+        Refusal::StillJailed(until) => still_jailed(alloc, out, height, place, message, until),
+        Refusal::Overflow(over) => overflowed(alloc, out, height, place, message, over),
+        _ => refused(alloc, out, height, place, message, reason),
     }
 }
 
-/// How the transaction at this place ended.
-pub fn outcome_tree(
+/// Appends the line of how the transaction at this place of a block of this height ended.
+pub fn push_outcome(
     alloc: Global,
+    out: &mut Vec<u8>,
     height: u64,
     place: usize,
     outcome: Outcome,
-) -> Result<Tree, LineFault>
-    ensures tree { IfOk result (λ tree. data_of tree ≡ outcome_data height place outcome) }
+) -> Result<(), LineFault>
+    ensures ok { OnOk result
+        (out.new.items ≡ out.old.items ++ line_of (outcome_data height place outcome)) }
     ensures fault { IfErr result (λ fault. fault ≡ LineFault.NoMemory) }
 {
     match outcome {
-        Outcome::Accepted => ended(alloc, height, place, "accepted"),
-        Outcome::FeeUnpaid => unpaid(alloc, height, place),
-        Outcome::Refused(message, reason) => refused_for(alloc, height, place, message, reason),
+        Outcome::Accepted => accepted(alloc, out, height, place),
+        Outcome::FeeUnpaid => unpaid(alloc, out, height, place),
+        Outcome::Refused(message, reason) => {
+            push_refused(alloc, out, height, place, message, reason)
+        }
     }
 }

@@ -1,4 +1,3 @@
-pub mod LineLemmas
 pub mod OrderLemmas
 pub mod AccountLemmas
 pub mod ReportLemmas

@@ -3,7 +3,6 @@ use Rattle.std.specs.Prelude.{ℕ, List, [], ◌∷◌, ◌++◌, map, codes, tr
 use Rattle.std.specs.List.{flat_map}
 use Rattle.serde_json.specs.Data.{Data, Members, boolean, object, string}
 use Rattle.stk_types.specs.declared.account.Account.{Account}
-use Rattle.stk_types.specs.Address.{address_text}
 use Rattle.stk_coins.specs.Coins.{Money}
 use Rattle.stk_keep.specs.declared.entities.Purse.{Purse}
 use Rattle.stk_keep.specs.declared.entities.RedelegationEntry.{RedelegationEntry}
@@ -14,7 +13,7 @@ use Rattle.stk_msgs.specs.declared.report.Pending.{Pending}
 use Rattle.stk_machine.specs.Report.{Report}
 use Rattle.stk_json.specs.Facts.{between}
 use Rattle.stk_json.specs.Line.{line_of, members_of}
-use Rattle.stk_json.specs.Values.{account_data, address_data, coins_data, count_data, dec_coins_data, decimal_data, moment_data, status_name, whole_data}
+use Rattle.stk_json.specs.Values.{account_data, address_data, coins_data, cons_data, count_data, dec_coins_data, decimal_data, moment_data, status_name, whole_data}
 
 -- the members of an object of a kind
 abbrev pub kind_members : List ℕ → List (List ℕ × Data) → Members
@@ -22,10 +21,6 @@ kind_members kind ms = members_of ((codes "kind", string kind) ∷ ms)
 
 abbrev pub of_kind : List ℕ → List (List ℕ × Data) → Data
 of_kind kind ms = object (kind_members kind ms)
-
--- a consensus address
-abbrev pub cons_data : List ℕ → Data
-cons_data bytes = string (address_text bytes)
 
 -- how much there is of each denomination
 abbrev pub supply_line : Money → Data

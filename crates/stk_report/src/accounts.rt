@@ -4,7 +4,7 @@ ghost use Rattle.stk_types.specs.declared.account.Account.{Account};
 ghost use Rattle.stk_coins.specs.Coins.{Money};
 ghost use Rattle.stk_report.specs.Groups.{accounts_in, joined, opened};
 ghost use Rattle.stk_report.specs.Lines.{account_line, text_of};
-ghost use Rattle.stk_report.specs.Seen.{coins_seen};
+ghost use Rattle.stk_json.specs.Told.{coins_seen};
 
 use crate::lines::push_account;
 use std::alloc::Global;

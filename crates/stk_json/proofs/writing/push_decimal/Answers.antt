@@ -2,7 +2,7 @@ use Rattle.std.proofs.Common.{◌≡◌, take}
 use Rattle.std.specs.Str.{IsUtf8}
 use Rattle.stk_dec.specs.Texts.{dec_text}
 use Rattle.stk_json.proofs.TextLemmas.{dec_text_is_utf8, front_of, read_as_text}
-use Rattle.stk_json.proofs.texts.decimal_text.Goals as goal
+use Rattle.stk_json.proofs.writing.push_decimal.Goals as goal
 
 pub unwrap-digits-requires : goal.unwrap-digits-requires
 unwrap-digits-requires c =

@@ -1,8 +1,0 @@
-use Rattle.std.proofs.Common.{◌≡◌, ◌++◌, map}
-use Rattle.serde_json.specs.View.{view}
-use Rattle.stk_json.specs.Values.{coin_data, whole_data}
-use Rattle.stk_report.proofs.lines.supplies_value.Given as goal
-
-abbrev pub invariant-loop-denom : goal.invariant-loop-denom
-invariant-loop-denom l =
-    map view l.coins.items ++ map (coin_data whole_data) l.denom-iterator ≡ map (coin_data whole_data) l.supplies.entries
