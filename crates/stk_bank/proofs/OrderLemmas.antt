@@ -1,7 +1,7 @@
 -- The order in which the table of balances keeps its keys is that of places.
 use Rattle.std.proofs.Common.{◌≡◌, ◌∙◌, ℕ, Bool, true, false, List, Option, Some, None, refl, sym, ap, subst}
 use Rattle.std.specs.declared.cmp.Ordering.{Ordering}
-use Rattle.std.specs.Prelude.{not, option_map}
+use Rattle.std.specs.Prelude.{not}
 use Rattle.std.proofs.lemmas.Map.Text.{is_eq-slice_cmp}
 use Rattle.std.specs.BTreeMap.{is_at}
 use Rattle.std.specs.Ordering.{ordering_then}
@@ -11,7 +11,6 @@ use Rattle.std.specs.List.Sorted.{IsStrictlySortedBy}
 use Rattle.std.specs.Map.{keys_of}
 use Rattle.stk_types.specs.declared.account.Account.{Account}
 use Rattle.stk_types.specs.declared.account.Account.TheVariants as account
-use Rattle.stk_types.specs.declared.account.Module.{Module}
 use Rattle.stk_types.specs.declared.account.Module.TheVariants.{FeeCollector, Bonded, NotBonded, Distribution}
 use Rattle.stk_types.specs.contracts.account.AccountOrd.TheImpl.{ghosts}
 use Rattle.stk_types.specs.contracts.account.AccountPartialEq.TheImpl.{ghosts as equal_ghosts}

@@ -1,5 +1,5 @@
 -- The coins of an account are a list of coins.
-use Rattle.std.proofs.Common.{◌≡◌, ◌∙◌, ℕ, ◌+◌, ◌^◌, ◌<◌, ◌≤◌, Bool, true, false, cond, List, [], ◌∷◌, ◌++◌, Option, Some, None, length, append_assoc, refl, sym, ap, subst, arith, inl, inr}
+use Rattle.std.proofs.Common.{◌≡◌, ◌∙◌, ℕ, ◌^◌, ◌<◌, ◌≤◌, Bool, true, false, List, [], ◌∷◌, ◌++◌, Option, Some, None, length, append_assoc, refl, sym, ap, subst, arith, inl, inr}
 use Rattle.std.specs.Prelude.{All, map, unwrap_or}
 use Rattle.std.proofs.lemmas.List.Elements.{All-from_recursion, recursion_from_All}
 use Rattle.std.proofs.lemmas.Map.Keys.{IsDistinct-from_sorted}
@@ -21,7 +21,7 @@ use Rattle.stk_keep.specs.Holdings.{Holdings, Balances, balance_of, coin_if, coi
 use Rattle.stk_keep.specs.Orders.{place_cmp}
 use Rattle.stk_keep.proofs.HoldingLemmas.{place_total, denom_total, balance-most}
 use Rattle.stk_bank.proofs.OrderLemmas.{place_order, ordered_at}
-use Rattle.stk_bank.proofs.MemberLemmas.{Member, value_of, same_key, at_itself}
+use Rattle.stk_bank.proofs.MemberLemmas.{Member, value_of}
 use Rattle.stk_bank.proofs.WalkLemmas.{left_of, walk-more, walk-end}
 use Rattle.stk_bank.proofs.ItemLemmas.{same_account, same_place}
 use Rattle.stk_bank.proofs.CoinLemmas.{coins}

@@ -1,5 +1,5 @@
 -- Coins that move one after another, and what fits while they do.
-use Rattle.std.proofs.Common.{◌≡◌, ◌∙◌, ℕ, ◌+◌, ◌-◌, ◌*◌, ◌^◌, ◌≤◌, ◌<◌, Bool, true, false, cond, List, [], ◌∷◌, Option, Some, length, drop, refl, sym, ap, subst, arith, add-one}
+use Rattle.std.proofs.Common.{◌≡◌, ◌∙◌, ℕ, ◌+◌, ◌-◌, ◌*◌, ◌^◌, ◌≤◌, ◌<◌, Bool, true, false, cond, List, [], ◌∷◌, Some, length, drop, refl, sym, ap, subst, arith, add-one}
 use Rattle.std.specs.Prelude.{zero, suc, slice_get, nat_lt, ◌||◌, ◌==◌, Result, Ok, Err, ⊤, OnOk, OnErr}
 use Rattle.std.proofs.Math.ListN.{drop_of_length-le}
 use Rattle.std.proofs.lemmas.Bool.Decides.{nat_tests}
@@ -7,7 +7,7 @@ use Rattle.std.specs.BTreeMap.{is_at}
 use Rattle.stk_types.specs.declared.account.Account.{Account}
 use Rattle.stk_coins.specs.Coins.{Money, IsMoney}
 use Rattle.stk_coins.proofs.Order.{Rises, rises_from_money}
-use Rattle.stk_keep.specs.Holdings.{Holdings, balance_of, supply_of, total_of, with_balance, coin_moved, moved, is_short, coin_burned, burned, IsBacked}
+use Rattle.stk_keep.specs.Holdings.{Holdings, balance_of, supply_of, total_of, with_balance, coin_moved, moved, is_short, coin_burned, IsBacked}
 use Rattle.stk_keep.specs.Orders.{place_cmp}
 use Rattle.stk_keep.proofs.HoldingLemmas.{balance-changed, balance-most, balance-within, backed-coin_moved, backed-moved, backed-burned, first_enough, rest_enough, still_enough}
 use Rattle.stk_bank.specs.Booked.{Booked, holding}

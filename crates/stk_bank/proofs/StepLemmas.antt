@@ -1,10 +1,10 @@
 -- Two tables that are marked together, seen as one book.
-use Rattle.std.proofs.Common.{◌≡◌, ◌∙◌, ℕ, ◌+◌, ◌≤◌, Bool, true, false, cond, List, [], ◌∷◌, ◌++◌, Option, Some, None, length, refl, sym, ap, subst, arith}
-use Rattle.std.specs.Prelude.{suc, zero}
+use Rattle.std.proofs.Common.{◌≡◌, ◌∙◌, ℕ, ◌+◌, Bool, true, false, cond, List, [], ◌∷◌, ◌++◌, length, refl, sym, ap, subst, arith}
+use Rattle.std.specs.Prelude.{suc}
 use Rattle.std.proofs.lemmas.List.{length_push}
 use Rattle.std.specs.declared.cmp.Ordering.{Ordering}
 use Rattle.std.specs.declared.cmp.Ordering.TheVariants.{Less, Equal, Greater}
-use Rattle.std.specs.Ordering.{match_ordering, is_eq}
+use Rattle.std.specs.Ordering.{match_ordering}
 use Rattle.std.specs.Map.{remove_entry}
 use Rattle.std.specs.BTreeMap.{insert_entry, is_at}
 use Rattle.stk_types.specs.declared.account.Account.{Account}
@@ -12,9 +12,9 @@ use Rattle.stk_types.specs.Denom.{is_denom}
 use Rattle.stk_table.specs.Tabled.{Tabled, with_value, without_key, settled_now}
 use Rattle.stk_table.specs.Tabled as table
 use Rattle.stk_coins.specs.Coins.{Money}
-use Rattle.stk_keep.specs.Holdings.{Holdings, Balances}
+use Rattle.stk_keep.specs.Holdings.{Balances}
 use Rattle.stk_keep.specs.Orders.{place_cmp}
-use Rattle.stk_bank.specs.Booked.{Booked, booked, with_mark, side_by_side, IsGoneBack, IsForgotten, AreNamed, AreNamedAtMarks, AreInStep, numbers}
+use Rattle.stk_bank.specs.Booked.{booked, with_mark, side_by_side, IsGoneBack, IsForgotten, AreNamed, AreNamedAtMarks, AreInStep, numbers}
 
 -- ---- lists that end alike
 

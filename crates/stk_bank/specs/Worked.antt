@@ -1,6 +1,5 @@
 -- Worked rows of sends.
-use Rattle.std.specs.Prelude.{◌≡◌, ℕ, List, [], ◌∷◌, replicate, codes, Option, Some, None}
-use Rattle.stk_types.specs.declared.account.Account.{Account}
+use Rattle.std.specs.Prelude.{◌≡◌, ℕ, List, [], ◌∷◌, replicate, codes, Some, None}
 use Rattle.stk_types.specs.declared.account.Account.TheVariants as account
 use Rattle.stk_types.specs.declared.account.Module.TheVariants.{Bonded}
 use Rattle.stk_keep.specs.declared.refusal.Refusal.TheVariants.{NonPositive, ModuleRecipient, InsufficientFunds}

@@ -22,10 +22,10 @@ use Rattle.stk_rules.specs.Validators as rule
 use Rattle.stk_rules.specs.Sound.{ValidatorIsSound}
 use Rattle.stk_rules.specs.Validators.{new_validator, are_out_of_range}
 use Rattle.stk_book.specs.Calls.{HasRates, create_formed, over, behind_log}
-use Rattle.stk_book.proofs.PointLemmas.{IsSoundAt}
+use Rattle.stk_rules.proofs.SoundLemmas.{IsSoundAt}
 use Rattle.stk_book.proofs.IndexLemmas.{nobody_has}
-use Rattle.stk_book.proofs.SoundLemmas.{sound-joined}
-use Rattle.stk_book.proofs.TokenLemmas.{tokens-joined, counted}
+use Rattle.stk_rules.proofs.SoundLemmas.{sound-joined}
+use Rattle.stk_rules.proofs.TokenLemmas.{tokens-joined, counted}
 
 -- none of the conditions of form holds
 formed_all : (a b c d e : Bool) → (stop_if a NonPositive >> (stop_if b CommissionRange >> (stop_if c MinSelfNotPositive >> (stop_if d SelfBelowMinimum >> stop_if e CommissionBelowMinimum)))) ≡ Ok tt

@@ -24,10 +24,11 @@ use Rattle.stk_rules.specs.Delegating.{Origin, wallet, pool, shares_given, paid_
 use Rattle.stk_rules.specs.Sound.{ValidatorIsSound}
 use Rattle.stk_rules.specs.Stakes.{with_shares, refusal_of_shares}
 use Rattle.stk_book.specs.Calls.{HasOrigin, CanPay, PaysAs}
-use Rattle.stk_book.proofs.PointLemmas.{IsSoundAt}
-use Rattle.stk_book.proofs.SoundLemmas.{put_with, sound-changed, held_within}
+use Rattle.stk_rules.proofs.SoundLemmas.{IsSoundAt}
+use Rattle.stk_rules.proofs.SoundLemmas.{sound-changed, held_within}
+use Rattle.stk_rules.proofs.SoundLemmas.{put_with}
 use Rattle.stk_book.proofs.ListLemmas.{lists-changed, lists-delegated, itself_started}
-use Rattle.stk_book.proofs.TokenLemmas.{tokens-put, tokens-within, counted}
+use Rattle.stk_rules.proofs.TokenLemmas.{tokens-put, tokens-within, counted}
 use Rattle.stk_book.proofs.GroundLemmas.{IsPaid, from_bonded, from_other, holds-kept, paid-accounts, stand-paid}
 
 -- ---- a hook that answered Ok keeps what no hook changes

@@ -17,7 +17,7 @@ use Rattle.stk_keep.specs.Orders.{same_addr}
 use Rattle.stk_table.proofs.CallerLemmas.{value_at-insert_entry, value_at-remove_entry, sorted-remove_entry}
 use Rattle.stk_book.specs.Joint.{is_lower, listed}
 use Rattle.stk_book.specs.Registered.{Validators, Operators, operator_by_cons, IsIndex, AreKeyed, lower_of}
-use Rattle.stk_book.proofs.OrderLemmas.{addr_total, cons_total, same_is, same_itself, same_back}
+use Rattle.stk_rules.proofs.OrderLemmas.{addr_total, cons_total, same_is, same_itself, same_back}
 
 abbrev has_cons : Validator → List ℕ → Bool
 has_cons v c = is_eq (cons_cmp v.cons c)

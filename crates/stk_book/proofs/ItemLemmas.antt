@@ -20,8 +20,8 @@ use Rattle.stk_keep.specs.Staked.{Staked, validator_of, with_validator}
 use Rattle.stk_rules.specs.Stakes.{with_shares}
 use Rattle.stk_book.specs.Registered.{Validators, AreKeyed}
 use Rattle.stk_book.specs.Rows.{rows_of, items_of, changes_of, validator_item, delegation_item, validator_gone, delegation_gone, same_validator, same_shares}
-use Rattle.stk_book.proofs.OrderLemmas.{addr_total, pair_total}
-use Rattle.stk_book.proofs.PointLemmas.{exact_addr, exact_pair}
+use Rattle.stk_rules.proofs.OrderLemmas.{addr_total, pair_total}
+use Rattle.stk_rules.proofs.SoundLemmas.{exact_addr, exact_pair}
 use Rattle.stk_book.proofs.MemberLemmas.{Member, Once, member, contained, member-left, member-right, member-cases, once, once-append, value_of}
 use Rattle.stk_book.proofs.RowLemmas.{IsRowed, row_entry, row-member, added-only, added-all, rows-once, changes-once, stands-only, stands-all, gone-only, gone-all}
 use Rattle.stk_book.proofs.SameLemmas.{validator-yes, validator-no, shares-yes, shares-no}

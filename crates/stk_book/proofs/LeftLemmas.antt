@@ -18,8 +18,9 @@ use Rattle.stk_rules.specs.Sound.{ValidatorIsSound}
 use Rattle.stk_rules.specs.Stakes.{with_shares, without_shares}
 use Rattle.stk_rules.specs.Unbonding.{left_standing}
 use Rattle.stk_book.specs.Calls.{behind_log, jailed_if, jail_noted}
-use Rattle.stk_book.proofs.PointLemmas.{IsSoundAt}
-use Rattle.stk_book.proofs.SoundLemmas.{found_itself, sound-put, sound-changed}
+use Rattle.stk_rules.proofs.SoundLemmas.{IsSoundAt}
+use Rattle.stk_rules.proofs.SoundLemmas.{sound-changed}
+use Rattle.stk_rules.proofs.SoundLemmas.{found_itself, sound-put}
 use Rattle.stk_book.proofs.ListLemmas.{lists-changed, lists-put, started-twice, itself_started}
 use Rattle.stk_book.proofs.GroundLemmas.{stand-noted, keeps-noted}
 use Rattle.stk_book.proofs.DelegateLemmas.{ready-before, keeps-ok, held-most}

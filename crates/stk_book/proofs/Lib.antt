@@ -1,10 +1,7 @@
-pub mod OrderLemmas
 pub mod IndexLemmas
 pub mod StepLemmas
 pub mod MemberLemmas
-pub mod PointLemmas
 pub mod SoundLemmas
-pub mod TokenLemmas
 pub mod ListLemmas
 pub mod GroundLemmas
 pub mod DelegateLemmas

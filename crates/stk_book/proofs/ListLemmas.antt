@@ -13,8 +13,10 @@ use Rattle.stk_keep.specs.Staked.{Staked, validator_of, with_validator, lists_of
 use Rattle.stk_keep.specs.World.{modified}
 use Rattle.stk_rules.specs.Delegating.{hook_before}
 use Rattle.stk_rules.specs.Stakes.{without_validator}
-use Rattle.stk_book.proofs.OrderLemmas.{same_is, same_itself, same_back, pair_found}
-use Rattle.stk_book.proofs.SoundLemmas.{put_with, found-put, found-taken, at-number}
+use Rattle.stk_rules.proofs.OrderLemmas.{same_is, same_itself, same_back, pair_found}
+use Rattle.stk_book.proofs.SoundLemmas.{found-taken}
+use Rattle.stk_rules.proofs.SoundLemmas.{at-number}
+use Rattle.stk_rules.proofs.SoundLemmas.{put_with, found-put}
 
 swapped : (a b c d : Bool) → a ≡ b → c ≡ d → (a && c) ≡ (d && b)
 swapped a b c d e f = (λ i. e i && f i) ∙ order b d

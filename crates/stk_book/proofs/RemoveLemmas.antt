@@ -9,7 +9,7 @@ use Rattle.stk_keep.specs.Answers.{Answers}
 use Rattle.stk_keep.specs.Hooks.{Lists, Tells, Stand, Ready, Lawful, IsGiven}
 use Rattle.stk_keep.specs.Staked.{Staked, validator_of, lists_of}
 use Rattle.stk_keep.specs.World.{View, Told, gives, exceeds, removed}
-use Rattle.stk_book.proofs.PointLemmas.{IsSoundAt}
+use Rattle.stk_rules.proofs.SoundLemmas.{IsSoundAt}
 use Rattle.stk_book.proofs.SoundLemmas.{no_shares}
 
 pub ready-removed : (height : ℕ) (s : Staked) (v : Validator) → IsSoundAt height s → validator_of s v.operator ≡ Some v → v.shares ≡ 0 → {S : Type 0} (t : Tells S) (hs : S) (u : View) → Stand t hs u (lists_of s)

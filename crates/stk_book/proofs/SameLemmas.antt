@@ -10,7 +10,7 @@ use Rattle.stk_types.specs.declared.status.BondStatus.TheVariants.{Bonded, Unbon
 use Rattle.stk_keep.specs.declared.entities.Commission.{Commission}
 use Rattle.stk_keep.specs.declared.entities.Validator.{Validator}
 use Rattle.stk_book.specs.Rows.{same_flag, same_status, same_commission, same_validator, same_shares}
-use Rattle.stk_book.proofs.OrderLemmas.{equal, same_itself}
+use Rattle.stk_rules.proofs.OrderLemmas.{equal, same_itself}
 
 both : (a b : Bool) → (a && b) ≡ true → (a ≡ true) × (b ≡ true)
 both true true h = (refl, refl)

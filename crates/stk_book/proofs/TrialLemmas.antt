@@ -11,8 +11,8 @@ use Rattle.stk_keep.specs.Holdings.{IsBacked}
 use Rattle.stk_book.specs.Registered.{no_stake}
 use Rattle.stk_book.specs.Calls.{IsSoundStake, with_if, changed_at}
 use Rattle.stk_book.specs.Trials.{IsFit}
-use Rattle.stk_book.proofs.PointLemmas.{IsSoundAt, to_points, from_points}
-use Rattle.stk_book.proofs.TokenLemmas.{tokens-put}
+use Rattle.stk_rules.proofs.SoundLemmas.{IsSoundAt, to_points, from_points}
+use Rattle.stk_rules.proofs.TokenLemmas.{tokens-put}
 
 -- with fewer tokens
 abbrev burnt : ℕ → Validator → Validator

@@ -20,11 +20,13 @@ use Rattle.stk_rules.specs.Answers.{Leaves}
 use Rattle.stk_rules.specs.Stakes.{without_validator}
 use Rattle.stk_rules.specs.Unbonding.{removed_if_empty, falls_below_minimum}
 use Rattle.stk_book.specs.Calls.{behind_log, jailed_if}
-use Rattle.stk_book.proofs.OrderLemmas.{same_back, same_itself}
-use Rattle.stk_book.proofs.PointLemmas.{IsSoundAt}
-use Rattle.stk_book.proofs.SoundLemmas.{found-put, found-taken, at-number}
+use Rattle.stk_rules.proofs.OrderLemmas.{same_back, same_itself}
+use Rattle.stk_rules.proofs.SoundLemmas.{IsSoundAt}
+use Rattle.stk_book.proofs.SoundLemmas.{found-taken}
+use Rattle.stk_rules.proofs.SoundLemmas.{at-number}
+use Rattle.stk_rules.proofs.SoundLemmas.{found-put}
 use Rattle.stk_book.proofs.ListLemmas.{pair_is}
-use Rattle.stk_book.proofs.TokenLemmas.{tokens-put, tokens-left}
+use Rattle.stk_rules.proofs.TokenLemmas.{tokens-put, tokens-left}
 use Rattle.stk_book.proofs.UnbondLemmas.{now_of, less_of, ok_world, leaves_is}
 use Rattle.stk_book.proofs.LeftLemmas.{state_left, sound_now, sound_less, same_delegations, found_now, all_gone, held_few}
 

@@ -11,8 +11,8 @@ use Rattle.stk_keep.specs.Steps.{◌>>=◌, ◌>>◌, stop_if, or_stop}
 use Rattle.stk_rules.specs.Amounts.{seconds}
 use Rattle.stk_rules.specs.Validators.{edit_formed, rate_edited, minimum_edited, edited}
 use Rattle.stk_book.specs.Calls.{IsSoundStake}
-use Rattle.stk_book.proofs.PointLemmas.{to_points}
-use Rattle.stk_book.proofs.TokenLemmas.{tokens-put}
+use Rattle.stk_rules.proofs.SoundLemmas.{to_points}
+use Rattle.stk_rules.proofs.TokenLemmas.{tokens-put}
 
 -- a validator with another rate, or another least self-delegation
 record IsAlike (v w : Validator) : Type 0 where

@@ -132,36 +132,6 @@ module _ {K : Type 0} (cmp : K → K → Ordering) (o : IsTotalOrder cmp) where
   pub held_first : (all : List K) → HeldSoFar cmp all 0 []
   held_first all = record { rest = λ q. or_false (list_any (is_at (cmp q)) all) }
 
-  or_moved : (a b c : Bool) → (b || (a || c)) ≡ ((a || b) || c)
-  or_moved true true c = refl
-  or_moved true false c = refl
-  or_moved false b c = refl
-
-  pub held_added : (all : List K) (i : ℕ) (k : K) (seen seen2 : List K) → i < length all → k ≡ get_or all i k → HeldSoFar cmp all i seen
-      → ((test : K → Bool) → list_any test seen2 ≡ (test k || list_any test seen)) → HeldSoFar cmp all (i + 1) seen2
-  held_added all i k seen seen2 lt is so added = record {
-    rest = λ q. ap (λ b. list_any (is_at (cmp q)) (drop (i + 1) all) || b) (added (is_at (cmp q)))
-        ∙ or_moved (is_at (cmp q) k) (list_any (is_at (cmp q)) (drop (i + 1) all)) (list_any (is_at (cmp q)) seen)
-        ∙ sym (ap (λ (l : List K). list_any (is_at (cmp q)) l || list_any (is_at (cmp q)) seen) (next all i k lt is))
-        ∙ so.rest q;
-  }
-
-  any_same : (q k : K) (ks : List K) → is_at (cmp q) k ≡ true → list_any (is_at (cmp k)) ks ≡ list_any (is_at (cmp q)) ks
-  any_same q k ks e = ap (λ (test : K → Bool). list_any test ks) (λ i x. sym ((eq_by_cmp_equiv o).congr q k x e) i)
-
-  left_out : (a b c : Bool) → (a ≡ true → c ≡ true) → (b || c) ≡ ((a || b) || c)
-  left_out false b c h = refl
-  left_out true true c h = refl
-  left_out true false c h = h refl
-
-  -- one that was there already
-  pub held_kept : (all : List K) (i : ℕ) (k : K) (seen : List K) → i < length all → k ≡ get_or all i k → HeldSoFar cmp all i seen → list_any (is_at (cmp k)) seen ≡ true → HeldSoFar cmp all (i + 1) seen
-  held_kept all i k seen lt is so there = record {
-    rest = λ q. left_out (is_at (cmp q) k) (list_any (is_at (cmp q)) (drop (i + 1) all)) (list_any (is_at (cmp q)) seen) (λ e. sym (any_same q k seen e) ∙ there)
-        ∙ sym (ap (λ (l : List K). list_any (is_at (cmp q)) l || list_any (is_at (cmp q)) seen) (next all i k lt is))
-        ∙ so.rest q;
-  }
-
   pub held_all : (all : List K) (i : ℕ) (seen : List K) → i ≤ length all → length all ≤ i → HeldSoFar cmp all i seen → (q : K) → list_any (is_at (cmp q)) seen ≡ list_any (is_at (cmp q)) all
   held_all all i seen most least so q = sym (ap (λ (l : List K). list_any (is_at (cmp q)) l || list_any (is_at (cmp q)) seen) (drop_end all i most least)) ∙ so.rest q
 

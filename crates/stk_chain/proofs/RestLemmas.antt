@@ -24,7 +24,7 @@ use Rattle.stk_rules.specs.Validators.{new_validator, stored}
 use Rattle.stk_bank.specs.Booked.{behind as behind_book}
 use Rattle.stk_book.specs.Registered.{behind as behind_stake}
 use Rattle.stk_book.specs.Calls.{IsSoundStake}
-use Rattle.stk_book.proofs.PointLemmas.{from_points}
+use Rattle.stk_rules.proofs.SoundLemmas.{from_points}
 use Rattle.stk_msgs.specs.declared.genesis.Genesis.{Genesis}
 use Rattle.stk_msgs.specs.declared.genesis.GenesisDelegation.{GenesisDelegation}
 use Rattle.stk_msgs.specs.declared.genesis.GenesisValidator.{GenesisValidator}

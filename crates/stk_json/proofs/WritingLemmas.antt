@@ -1,9 +1,9 @@
 -- What a writer has written after a value, a member or a line.
 use Rattle.std.proofs.Common.{◌≡◌, ◌∙◌, ap, subst, ℕ, ◌+◌, List, [], ◌∷◌, ◌++◌, map, drop, Some, slice_get, append_assoc}
-use Rattle.json.specs.Token.{Token, key}
+use Rattle.json.specs.Token.{Token}
 use Rattle.json.specs.Print.{print}
 use Rattle.json.specs.Tree.{items_tokens, members_tokens}
-use Rattle.serde_json.specs.Data.{Data, Members, member}
+use Rattle.serde_json.specs.Data.{Data, Members}
 use Rattle.serde_json.specs.View.{items_of}
 use Rattle.serde_json.specs.Written.{items_outline, members_outline}
 use Rattle.serde_json.proofs.Texts.{print-outline}
@@ -29,12 +29,6 @@ pub element_written : {C : Type 0} (form : C → Data) (old new whole : List Tok
     → new ≡ old ++ data_tokens (form x) → old ++ values_tokens form (drop place xs) ≡ whole → new ++ values_tokens form (drop (place + 1) xs) ≡ whole
 element_written form old new whole xs place x found grown before =
     value_written form old new whole x (drop (place + 1) xs) grown (subst (λ ys. old ++ values_tokens form ys ≡ whole) (drop_next xs place x found) before)
-
--- one more member was written
-pub member_written : (old named new whole : List Token) (name : List ℕ) (d : Data) (ms : Members)
-    → named ≡ old ++ key name ∷ [] → new ≡ named ++ data_tokens d → old ++ rest_tokens (member name d ms) ≡ whole → new ++ rest_tokens ms ≡ whole
-member_written old named new whole name d ms keyed grown before =
-    rw (grown, keyed, append_assoc (old ++ key name ∷ []) (data_tokens d) (rest_tokens ms), append_assoc old (key name ∷ []) (data_tokens d ++ rest_tokens ms)) before
 
 -- the line of an object whose tokens a writer wrote after a text
 pub line_written : (text out : List ℕ) (tokens : List Token) (d : Data)

@@ -40,7 +40,8 @@ use Rattle.stk_machine.specs.Built.{IsBuilt, is_built, built_effect, built_step,
 use Rattle.stk_machine.specs.GenesisState.{without_facts}
 use Rattle.stk_machine.specs.Machine.{Step, reported_as, tx_applied_by, going_on, stop_at, block_checked}
 use Rattle.stk_machine.specs.Promises.{MessageHasCoins, TxHasCoins}
-use Rattle.stk_machine.proofs.StakeLemmas.{addr_total, found-put}
+use Rattle.stk_machine.proofs.StakeLemmas.{found-put}
+use Rattle.stk_rules.proofs.OrderLemmas.{addr_total}
 use Rattle.stk_machine.proofs.UnhookedLemmas.{over, as_state, grown_stake, create_is, delegate_is}
 use Rattle.std.specs.Cmp.{eq_by_cmp_equiv}
 

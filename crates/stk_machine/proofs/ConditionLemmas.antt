@@ -27,17 +27,8 @@ use Rattle.stk_rules.specs.Stakes.{pool_of, refusal_of_shares}
 use Rattle.stk_rules.specs.Validators.{new_validator, are_out_of_range, created}
 use Rattle.stk_machine.specs.Built.{no_hook, create_unhooked, delegate_unhooked}
 use Rattle.stk_machine.specs.BuiltLaws.{against_delegating, BuiltMessagesNameConditions}
+use Rattle.stk_rules.proofs.RefusalLemmas.{mapped, stop_step}
 use Rattle.stk_machine.proofs.UnhookedLemmas.{grown_stake}
-
--- what is done with an answer refuses nothing
-mapped : {A B : Type 0} (r : Result A Refusal) (g : A → B) → refused_in (r >>= λ a. Ok (g a)) ≡ refused_in r
-mapped (Ok a) g = refl
-mapped (Err e) g = refl
-
--- one condition, then the others
-stop_step : {A : Type 0} (b : Bool) (why : Refusal) (next : Result A Refusal) (rest : List (Option Refusal)) → refused_in next ≡ first_of rest → refused_in (stop_if b why >> next) ≡ first_of (when b why ∷ rest)
-stop_step true why next rest h = refl
-stop_step false why next rest h = h
 
 -- ---- shares
 

@@ -20,7 +20,8 @@ use Rattle.stk_msgs.specs.declared.genesis.Genesis.{Genesis}
 use Rattle.stk_msgs.specs.declared.genesis.GenesisValidator.{GenesisValidator}
 use Rattle.stk_rules.specs.Validators.{are_out_of_range}
 use Rattle.stk_machine.specs.GenesisConditions.{creation_of, has_operator_twice, has_cons_twice, has_wrong_rate, start_condition}
-use Rattle.stk_machine.proofs.StakeLemmas.{Validators, found-put, same_back}
+use Rattle.stk_machine.proofs.StakeLemmas.{Validators, found-put}
+use Rattle.stk_rules.proofs.OrderLemmas.{same_back}
 use Rattle.stk_machine.proofs.StartLemmas.{may_start, entrant, no_stake}
 
 -- validators that are still to come: none stands, by its operator or its consensus address, none of them is there twice, and

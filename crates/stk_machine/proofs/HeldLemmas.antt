@@ -29,7 +29,10 @@ use Rattle.stk_rules.specs.Stakes.{pool_of}
 use Rattle.stk_rules.specs.Validators.{new_validator}
 use Rattle.stk_machine.proofs.BuiltLemmas.{KeptBySteps, edited_to}
 use Rattle.stk_machine.proofs.PurseLemmas.{one-money, one-amount}
-use Rattle.stk_machine.proofs.StakeLemmas.{addr_total, same_back, ascend-put, all-put, all-found, tokens-put, tokens-joined, other-counted, counted}
+use Rattle.stk_machine.proofs.StakeLemmas.{all-put, all-found, other-counted}
+use Rattle.stk_rules.proofs.OrderLemmas.{addr_total, same_back}
+use Rattle.stk_rules.proofs.EntryLemmas.{ascend-put}
+use Rattle.stk_rules.proofs.TokenLemmas.{tokens-put, tokens-joined, counted}
 use Rattle.stk_machine.proofs.UnhookedLemmas.{grown_stake}
 
 -- a status that is not bonded

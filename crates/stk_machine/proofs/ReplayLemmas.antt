@@ -23,7 +23,8 @@ use Rattle.stk_machine.specs.GenesisState.{Start, ground_at_start}
 use Rattle.stk_machine.proofs.BuiltLemmas.{IsKept, run_kept}
 use Rattle.stk_machine.proofs.HeldLemmas.{IsHeld, held_by_steps, owes_no_more}
 use Rattle.stk_machine.proofs.PurseLemmas.{coins-one}
-use Rattle.stk_machine.proofs.StakeLemmas.{same_back, none-bonded}
+use Rattle.stk_machine.proofs.StakeLemmas.{none-bonded}
+use Rattle.stk_rules.proofs.OrderLemmas.{same_back}
 use Rattle.stk_machine.proofs.StartLemmas.{Started, started, may_start, start_in_order, start_holds, modules_hold}
 
 pub genesis_starts : GenesisStarts

@@ -36,9 +36,12 @@ use Rattle.stk_machine.specs.GenesisState.{ground_at_start, validator_added, del
 use Rattle.stk_machine.proofs.BuiltLemmas.{KeptBySteps, IsKept, edited_to, run_kept}
 use Rattle.stk_machine.proofs.EnterLemmas.{IsEntering, Enters, entering, one_enters}
 use Rattle.stk_machine.proofs.HeldLemmas.{IsHeld, held_by_steps, owes_no_more, others}
-use Rattle.stk_machine.proofs.PointLemmas.{IsSoundAt, from_points, sound-joined, sound-set, sound-more, later, none_sound}
+use Rattle.stk_machine.proofs.PointLemmas.{sound-set, sound-more}
+use Rattle.stk_rules.proofs.SoundLemmas.{IsSoundAt, from_points, sound-joined, later, none_sound}
 use Rattle.stk_machine.proofs.ReplayLemmas.{supplies_of, start_kept_with}
-use Rattle.stk_machine.proofs.StakeLemmas.{Validators, addr_total, all-found, found-put, some_is, tokens-within, other-counted, counted}
+use Rattle.stk_machine.proofs.StakeLemmas.{Validators, all-found, found-put, some_is, other-counted}
+use Rattle.stk_rules.proofs.OrderLemmas.{addr_total}
+use Rattle.stk_rules.proofs.TokenLemmas.{tokens-within, counted}
 use Rattle.stk_machine.proofs.StartLemmas.{Started, Added, one_added, entrant, no_stake, nothing_held}
 use Rattle.stk_machine.proofs.UnhookedLemmas.{over, grown_stake}
 

@@ -52,7 +52,10 @@ use Rattle.stk_machine.specs.GenesisConditions.{creation_of, has_operator_twice,
 use Rattle.stk_machine.specs.GenesisState.{ground_at_start, empty_over, validator_added, delegation_added, stake_added, without_facts}
 use Rattle.stk_machine.proofs.Kept.{held_backed}
 use Rattle.stk_machine.proofs.Ranges.{in_range}
-use Rattle.stk_machine.proofs.StakeLemmas.{Validators, found-put, ascend-put, addr_total, same_back, all-put, all-found, tokens-put, tokens-within, tokens-none, none-bonded, other-counted, counted}
+use Rattle.stk_machine.proofs.StakeLemmas.{Validators, found-put, all-put, all-found, tokens-none, none-bonded, other-counted}
+use Rattle.stk_rules.proofs.OrderLemmas.{addr_total, same_back}
+use Rattle.stk_rules.proofs.EntryLemmas.{ascend-put}
+use Rattle.stk_rules.proofs.TokenLemmas.{tokens-put, tokens-within, counted}
 use Rattle.stk_machine.proofs.UnhookedLemmas.{over, as_staked, grown_stake, delegation_added_is}
 
 -- ---- no condition holds

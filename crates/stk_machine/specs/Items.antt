@@ -1,11 +1,10 @@
 -- The items of a state: one for each record that a store keeps. Votes behind the window and ratios to which nothing refers
 -- are not kept.
-use Rattle.std.specs.Prelude.{◌≡◌, ℕ, ◌-◌, ◌%◌, Bool, List, [], ◌∷◌, ◌++◌, map, take, drop, length, reverse, Option, option_map, All}
+use Rattle.std.specs.Prelude.{◌≡◌, ℕ, ◌-◌, ◌%◌, Bool, List, [], ◌∷◌, ◌++◌, map, take, drop, length, reverse, option_map, All}
 use Rattle.std.specs.List.{filter_map, flat_map}
 use Rattle.std.specs.List.Sorted.{IsStrictlySortedBy}
 use Rattle.std.specs.Map.{keys_of}
 use Rattle.stk_types.specs.Orders.{addr_cmp, cons_cmp, denom_cmp}
-use Rattle.stk_keep.specs.declared.entities.Historical.{Historical}
 use Rattle.stk_keep.specs.declared.items.Item.{Item}
 use Rattle.stk_keep.specs.declared.items.Item.TheVariants as item
 use Rattle.stk_keep.specs.Holdings.{Holdings}

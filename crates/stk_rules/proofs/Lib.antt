@@ -1,2 +1,6 @@
 mod TieLemmas
-mod RefusalLemmas
+pub mod RefusalLemmas
+pub mod OrderLemmas
+pub mod EntryLemmas
+pub mod SoundLemmas
+pub mod TokenLemmas

@@ -32,7 +32,7 @@ use Rattle.stk_rules.specs.Window.{Signing, signing_of, may_leave, unjailed}
 use Rattle.stk_rules.specs.Withdrawals.{payee_set, commission_withdrawn, pool_spent, is_module}
 
 -- one condition, then the others
-stop_step : {A : Type 0} (b : Bool) (why : Refusal) (next : Result A Refusal) (rest : List (Option Refusal)) → refused_in next ≡ first_of rest → refused_in (stop_if b why >> next) ≡ first_of (when b why ∷ rest)
+pub stop_step : {A : Type 0} (b : Bool) (why : Refusal) (next : Result A Refusal) (rest : List (Option Refusal)) → refused_in next ≡ first_of rest → refused_in (stop_if b why >> next) ≡ first_of (when b why ∷ rest)
 stop_step true why next rest h = refl
 stop_step false why next rest h = h
 
@@ -42,7 +42,7 @@ bind_step (Ok a) f rest h = h a refl
 bind_step (Err e) f rest h = refl
 
 -- what is done with an answer refuses nothing
-mapped : {A B : Type 0} (r : Result A Refusal) (g : A → B) → refused_in (r >>= λ a. Ok (g a)) ≡ refused_in r
+pub mapped : {A B : Type 0} (r : Result A Refusal) (g : A → B) → refused_in (r >>= λ a. Ok (g a)) ≡ refused_in r
 mapped (Ok a) g = refl
 mapped (Err e) g = refl
 

@@ -1,4 +1,4 @@
-use Rattle.std.proofs.Common.{◌≡◌, ◌∙◌, ℕ, ◌<◌, ◌++◌, List, [], ◌∷◌, Option, Some, length, sym, ap, subst}
+use Rattle.std.proofs.Common.{◌≡◌, ◌∙◌, ◌<◌, ◌++◌, [], ◌∷◌, Some, length, sym, ap, subst}
 use Rattle.stk_table.specs.Tabled.{entry_above}
 use Rattle.stk_bank.proofs.WalkLemmas.{Walked, walked-more, walk-shorter, left_of}
 use Rattle.stk_bank.proofs.walk.rows_into.Goals as goal

@@ -1,4 +1,4 @@
-use Rattle.std.proofs.Common.{rules, ◌≡◌, ◌∙◌, ℕ, ◌+◌, ◌*◌, ◌^◌, ◌-◌, ◌≤◌, ◌<◌, ◌++◌, List, Bool, true, false, [], ◌∷◌, length, drop, refl, sym, ap, subst, arith}
+use Rattle.std.proofs.Common.{sym, subst}
 use Rattle.stk_bank.proofs.GiveLemmas.{Starting, starting-first}
 use Rattle.stk_bank.proofs.book.Book.start.Goals as goal
 

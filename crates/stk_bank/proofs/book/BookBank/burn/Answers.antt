@@ -1,4 +1,4 @@
-use Rattle.std.proofs.Common.{rules, ◌≡◌, ◌∙◌, ℕ, ◌+◌, ◌*◌, ◌^◌, ◌-◌, ◌≤◌, ◌<◌, ◌++◌, List, Bool, true, false, [], ◌∷◌, length, drop, refl, sym, ap, subst, arith}
+use Rattle.std.proofs.Common.{rules, sym, subst, arith}
 use Rattle.stk_types.specs.declared.account.Account.TheVariants as account
 use Rattle.stk_keep.specs.Holdings.{IsBacked}
 use Rattle.stk_bank.proofs.SendLemmas.{backed-burnt}

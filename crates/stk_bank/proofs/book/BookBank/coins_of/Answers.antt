@@ -1,4 +1,4 @@
-use Rattle.std.proofs.Common.{◌≡◌, ◌∙◌, sym, ap, subst}
+use Rattle.std.proofs.Common.{◌∙◌, sym, ap, subst}
 use Rattle.stk_coins.specs.Coins.{sorted_coins}
 use Rattle.stk_keep.specs.Holdings.{IsBacked, coins_of}
 use Rattle.stk_bank.proofs.PurseLemmas.{coins-below, sorted_already}

@@ -1,4 +1,4 @@
-use Rattle.std.proofs.Common.{◌≡◌, ◌∙◌, ℕ, ◌++◌, List, Bool, sym, ap, subst}
+use Rattle.std.proofs.Common.{◌∙◌, ap}
 use Rattle.stk_bank.proofs.ItemLemmas.{changes_at}
 use Rattle.stk_bank.proofs.records.BookRecords.changes_into.Goals as goal
 

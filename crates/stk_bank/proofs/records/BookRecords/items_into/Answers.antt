@@ -1,4 +1,4 @@
-use Rattle.std.proofs.Common.{◌≡◌, ◌∙◌, ℕ, ◌++◌, List, Bool, sym, ap, subst}
+use Rattle.std.proofs.Common.{subst}
 use Rattle.stk_keep.specs.Items.{IsOnce}
 use Rattle.stk_bank.specs.Rows.{items_of}
 use Rattle.stk_bank.proofs.ItemLemmas.{on_ok, items-once_at}

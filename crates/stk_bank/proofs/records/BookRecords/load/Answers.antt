@@ -1,6 +1,5 @@
-use Rattle.std.proofs.Common.{rules, ◌≡◌, ◌∙◌, ℕ, ◌+◌, ◌*◌, ◌^◌, ◌-◌, ◌≤◌, ◌<◌, ◌++◌, List, Bool, true, false, [], ◌∷◌, length, drop, refl, sym, ap, subst, arith}
-use Rattle.stk_keep.specs.Items.{IsAdded}
-use Rattle.stk_bank.specs.Rows.{is_holding, items_of}
+use Rattle.std.proofs.Common.{◌≡◌, ◌∙◌, true, false, refl, sym, ap}
+use Rattle.stk_bank.specs.Rows.{is_holding}
 use Rattle.stk_bank.proofs.ItemLemmas.{no_holding, balance-added, supply-added, added-same}
 use Rattle.stk_bank.proofs.records.BookRecords.load.Goals as goal
 

@@ -1,4 +1,4 @@
-use Rattle.std.proofs.Common.{rules, ◌≡◌, ◌∙◌, ℕ, ◌+◌, ◌*◌, ◌^◌, ◌-◌, ◌≤◌, ◌<◌, ◌++◌, List, Bool, true, false, [], ◌∷◌, length, drop, refl, sym, ap, subst, arith}
+use Rattle.std.proofs.Common.{◌∙◌, ◌++◌, [], ◌∷◌, length, sym, ap}
 use Rattle.stk_bank.specs.Booked.{numbers}
 use Rattle.stk_bank.proofs.StepLemmas.{numbers-push}
 use Rattle.stk_bank.proofs.records.BookRecords.mark.Goals as goal

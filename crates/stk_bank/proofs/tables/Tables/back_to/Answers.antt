@@ -1,4 +1,4 @@
-use Rattle.std.proofs.Common.{rules, ◌≡◌, ◌∙◌, ℕ, ◌+◌, ◌++◌, List, Bool, true, false, [], ◌∷◌, length, refl, sym, ap, subst, arith}
+use Rattle.std.proofs.Common.{◌∙◌, ◌+◌, length, sym, ap}
 use Rattle.stk_bank.proofs.StepLemmas.{in_step-back, booked-back, depth-booked}
 use Rattle.stk_bank.proofs.tables.Tables.back_to.Goals as goal
 

@@ -1,4 +1,4 @@
-use Rattle.std.proofs.Common.{rules, ◌≡◌, ◌∙◌, ℕ, ◌+◌, ◌*◌, ◌^◌, ◌-◌, ◌≤◌, ◌<◌, ◌++◌, List, Bool, true, false, [], ◌∷◌, length, drop, refl, sym, ap, subst, arith}
+use Rattle.std.proofs.Common.{arith}
 use Rattle.stk_bank.proofs.SendLemmas.{balance-in_supply}
 use Rattle.stk_bank.proofs.tables.Tables.burn_coin.Goals as goal
 

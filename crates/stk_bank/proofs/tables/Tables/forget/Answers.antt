@@ -1,4 +1,4 @@
-use Rattle.std.proofs.Common.{rules, ◌≡◌, ◌∙◌, ℕ, ◌+◌, ◌++◌, List, Bool, true, false, [], ◌∷◌, length, refl, sym, ap, subst, arith}
+use Rattle.std.proofs.Common.{◌∙◌, ◌+◌, length, sym, ap}
 use Rattle.stk_bank.proofs.StepLemmas.{in_step-forgotten, booked-forgotten, depth-booked}
 use Rattle.stk_bank.proofs.tables.Tables.forget.Goals as goal
 

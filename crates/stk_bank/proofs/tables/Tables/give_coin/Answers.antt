@@ -1,5 +1,4 @@
-use Rattle.std.proofs.Common.{rules, ◌≡◌, ◌∙◌, ℕ, ◌+◌, ◌*◌, ◌^◌, ◌-◌, ◌≤◌, ◌<◌, ◌++◌, List, Bool, true, false, [], ◌∷◌, length, drop, refl, sym, ap, subst, arith}
-use Rattle.stk_keep.specs.Holdings.{balance_of}
+use Rattle.std.proofs.Common.{arith}
 use Rattle.stk_bank.proofs.GiveLemmas.{given-fits}
 use Rattle.stk_bank.proofs.tables.Tables.give_coin.Goals as goal
 

@@ -1,6 +1,6 @@
-use Rattle.std.proofs.Common.{rules, ◌≡◌, ◌∙◌, ℕ, ◌+◌, ◌*◌, ◌^◌, ◌-◌, ◌≤◌, ◌<◌, ◌++◌, List, Bool, true, false, [], ◌∷◌, length, drop, refl, sym, ap, subst, arith}
-use Rattle.stk_bank.proofs.SendLemmas.{drop-at, drop-end}
-use Rattle.stk_bank.proofs.GiveLemmas.{giving-start, giving-bounded, giving-next, giving-end, supplies-end}
+use Rattle.std.proofs.Common.{◌+◌, drop}
+use Rattle.stk_bank.proofs.SendLemmas.{drop-at}
+use Rattle.stk_bank.proofs.GiveLemmas.{giving-start, giving-bounded, giving-next}
 use Rattle.stk_bank.proofs.tables.Tables.give_coins.Goals as goal
 
 pub loop-place-init : goal.loop-place-init

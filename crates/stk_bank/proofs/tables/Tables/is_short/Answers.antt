@@ -1,6 +1,5 @@
-use Rattle.std.proofs.Common.{rules, ◌≡◌, ◌∙◌, ℕ, ◌+◌, ◌*◌, ◌^◌, ◌-◌, ◌≤◌, ◌<◌, ◌++◌, List, Bool, true, false, [], ◌∷◌, length, drop, refl, sym, ap, subst, arith}
-use Rattle.stk_keep.specs.Holdings.{is_short}
-use Rattle.stk_bank.proofs.SendLemmas.{drop-at, short-at, short-after}
+use Rattle.std.proofs.Common.{arith}
+use Rattle.stk_bank.proofs.SendLemmas.{short-at, short-after}
 use Rattle.stk_bank.proofs.tables.Tables.is_short.Goals as goal
 
 pub returns-then-balance-coin-clause-short : goal.returns-then-balance-coin-clause-short

@@ -1,4 +1,4 @@
-use Rattle.std.proofs.Common.{rules, ◌≡◌, ◌∙◌, ℕ, ◌+◌, ◌*◌, ◌^◌, ◌-◌, ◌≤◌, ◌<◌, ◌++◌, List, Bool, true, false, [], ◌∷◌, length, drop, refl, sym, ap, subst, arith}
+use Rattle.std.proofs.Common.{◌+◌, drop, arith}
 use Rattle.stk_bank.proofs.SendLemmas.{drop-at, moving-start, moving-enough, moving-next}
 use Rattle.stk_bank.proofs.tables.Tables.move_coins.Goals as goal
 

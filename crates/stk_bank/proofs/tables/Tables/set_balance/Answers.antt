@@ -1,4 +1,3 @@
-use Rattle.std.proofs.Common.{rules, ◌≡◌, ◌∙◌, ℕ, ◌+◌, ◌++◌, List, Bool, true, false, [], ◌∷◌, length, refl, sym, ap, subst, arith}
 use Rattle.stk_bank.proofs.OrderLemmas.{removed_at}
 use Rattle.stk_bank.proofs.StepLemmas.{in_step-removed}
 use Rattle.stk_bank.proofs.tables.Tables.set_balance.Goals as goal

@@ -1,4 +1,4 @@
-use Rattle.std.proofs.Common.{rules, ◌≡◌, ◌∙◌, ℕ, ◌+◌, ◌++◌, List, Bool, true, false, [], ◌∷◌, length, refl, sym, ap, subst, arith}
+use Rattle.std.proofs.Common.{◌∙◌, ap}
 use Rattle.stk_bank.proofs.StepLemmas.{closed-both}
 use Rattle.stk_bank.proofs.tables.Tables.settle.Goals as goal
 

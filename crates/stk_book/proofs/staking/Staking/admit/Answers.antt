@@ -7,7 +7,7 @@ use Rattle.stk_keep.specs.Hooks.{Stand}
 use Rattle.stk_keep.specs.Staked.{lists_of, bonded_tokens, other_tokens, HoldsStake}
 use Rattle.stk_keep.specs.World.{created}
 use Rattle.stk_keep.proofs.HookLemmas.{Stand-after_ok}
-use Rattle.stk_book.proofs.PointLemmas.{IsSoundAt, to_points, from_points}
+use Rattle.stk_rules.proofs.SoundLemmas.{IsSoundAt, to_points, from_points}
 use Rattle.stk_book.proofs.ListLemmas.{lists-joined}
 use Rattle.stk_book.proofs.GroundLemmas.{holds-kept}
 use Rattle.stk_book.proofs.DelegateLemmas.{keeps-ok}

@@ -1,15 +1,15 @@
-use Rattle.std.proofs.Common.{◌≡◌, ◌∙◌, None, ap, sym, subst}
+use Rattle.std.proofs.Common.{◌≡◌, ◌∙◌, ap, sym, subst}
 use Rattle.stk_keep.specs.Ground.{seen}
 use Rattle.stk_keep.specs.Hooks.{Stand}
-use Rattle.stk_keep.specs.Staked.{validator_of, validator_by_cons, with_validator, lists_of, bonded_tokens, other_tokens, HoldsStake}
+use Rattle.stk_keep.specs.Staked.{validator_of, with_validator, lists_of, bonded_tokens, other_tokens, HoldsStake}
 use Rattle.stk_keep.specs.World.{created}
 use Rattle.std.specs.Prelude.{Ok, Err}
 use Rattle.stk_keep.specs.Answers.{AnswersAs}
 use Rattle.stk_keep.proofs.HookLemmas.{Stand-after_ok, told-of_ok}
 use Rattle.stk_rules.specs.Delegating.{wallet, delegated}
 use Rattle.stk_book.specs.Calls.{behind_log}
-use Rattle.stk_book.proofs.PointLemmas.{IsSoundAt, to_points, from_points}
-use Rattle.stk_book.proofs.SoundLemmas.{found_itself}
+use Rattle.stk_rules.proofs.SoundLemmas.{IsSoundAt, to_points, from_points}
+use Rattle.stk_rules.proofs.SoundLemmas.{found_itself}
 use Rattle.stk_book.proofs.ListLemmas.{lists-joined}
 use Rattle.stk_book.proofs.GroundLemmas.{holds-kept}
 use Rattle.stk_book.proofs.DelegateLemmas.{keeps-ok}

@@ -8,7 +8,7 @@ use Rattle.stk_keep.proofs.HookLemmas.{Stand-after_ok}
 use Rattle.stk_rules.specs.Delegating.{hook_before}
 use Rattle.stk_rules.specs.Stakes.{with_shares}
 use Rattle.stk_book.specs.Calls.{origin_of}
-use Rattle.stk_book.proofs.PointLemmas.{IsSoundAt, to_points, from_points}
+use Rattle.stk_rules.proofs.SoundLemmas.{IsSoundAt, to_points, from_points}
 use Rattle.stk_book.proofs.DelegateLemmas.{ready-before, stand-before, origin-before, can_pay, reached, shares-given, held-most, ready-delegated, sound-delegated, lists-delegated_is, holds-delegated, keeps-ok, grown, ok_is}
 use Rattle.stk_book.proofs.GroundLemmas.{holds-kept}
 use Rattle.stk_book.proofs.staking.Staking.delegate_to.Goals as goal

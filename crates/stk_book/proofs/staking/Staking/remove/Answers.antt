@@ -4,7 +4,7 @@ use Rattle.stk_keep.specs.Hooks.{Stand}
 use Rattle.stk_keep.specs.Staked.{lists_of}
 use Rattle.stk_keep.specs.World.{removed}
 use Rattle.stk_keep.proofs.HookLemmas.{Stand-after_ok}
-use Rattle.stk_book.proofs.PointLemmas.{IsSoundAt, to_points, from_points}
+use Rattle.stk_rules.proofs.SoundLemmas.{IsSoundAt, to_points, from_points}
 use Rattle.stk_book.proofs.IndexLemmas.{alone_without}
 use Rattle.stk_book.proofs.SoundLemmas.{sound-taken}
 use Rattle.stk_book.proofs.ListLemmas.{lists-left}

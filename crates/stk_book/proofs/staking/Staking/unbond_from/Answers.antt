@@ -7,8 +7,8 @@ use Rattle.stk_keep.specs.World.{modifying, modified}
 use Rattle.stk_keep.proofs.HookLemmas.{told-of_ok}
 use Rattle.stk_rules.specs.Unbonding.{falls_below_minimum}
 use Rattle.stk_book.specs.Calls.{jailed_if, jail_noted}
-use Rattle.stk_book.proofs.PointLemmas.{IsSoundAt, to_points, from_points}
-use Rattle.stk_book.proofs.SoundLemmas.{found_itself}
+use Rattle.stk_rules.proofs.SoundLemmas.{IsSoundAt, to_points, from_points}
+use Rattle.stk_rules.proofs.SoundLemmas.{found_itself}
 use Rattle.stk_book.proofs.GroundLemmas.{keeps_then}
 use Rattle.stk_book.proofs.DelegateLemmas.{ready-before}
 use Rattle.stk_book.proofs.UnbondLemmas.{Going, now_of, less_of, told-left_err, left_is, then_log, told-removed_err, told-removed_ok}

@@ -3,7 +3,7 @@ use Rattle.std.specs.Prelude.{IfOk, IsSome, is_some}
 use Rattle.std.specs.Option.{option_copied}
 use Rattle.stk_table.proofs.WalkLemmas.{is_some-map}
 use Rattle.stk_keep.specs.Staked.{validator_of, IsUnbonded}
-use Rattle.stk_book.proofs.PointLemmas.{to_points}
+use Rattle.stk_rules.proofs.SoundLemmas.{to_points}
 use Rattle.stk_book.proofs.unbonding.StakingUnbonder.unbond.Goals as goal
 
 pub unwrap-requires : goal.unwrap-requires

@@ -14,8 +14,11 @@ use Rattle.stk_keep.specs.declared.entities.Validator.{Validator}
 use Rattle.stk_keep.specs.Entries.{at, with, without}
 use Rattle.stk_keep.specs.Orders.{same_addr}
 use Rattle.stk_keep.specs.Staked.{tokens_where}
-use Rattle.stk_book.specs.Registered.{Validators}
-use Rattle.stk_book.proofs.OrderLemmas.{addr_total}
+use Rattle.stk_rules.proofs.OrderLemmas.{addr_total}
+
+-- validators by operator
+abbrev pub Validators : Type 0
+Validators = List (List ℕ × Validator)
 
 module _ (test : BondStatus → Bool) where
   -- the tokens of a validator that passes
