@@ -11,7 +11,7 @@ over them, alternately, and the least time of RUNS runs (3) counts:
 Of a replay it also tells the most memory, and when the first line is written where the input is piped in slowly.
 Wants `rt`, `cargo` and Debian's librust-serde-json-dev, and works in a temporary folder. `rt run` proves the crates
 where that was not done before."""
-import os, pathlib, shutil, subprocess, sys, tempfile, time
+import hashlib, os, pathlib, shutil, subprocess, sys, tempfile, time
 
 RUNS = int(sys.argv[1]) if len(sys.argv) > 1 else 3
 TOP = pathlib.Path(__file__).resolve().parents[2]
@@ -115,7 +115,8 @@ fn main(rt: HostRuntime) -> Result<()> {
 
 
 def address(number):
-    return f"{number + 16:040x}"
+    """Twenty bytes of a hash, as addresses of users are."""
+    return hashlib.sha256(str(number).encode()).hexdigest()[:40]
 
 
 def make_input(path, blocks):
