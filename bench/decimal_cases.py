@@ -1,7 +1,8 @@
 #!/usr/bin/env python3
-"""Cases of the calls of `stk_dec` with their answers by Python's exact integers, as Rattle source files.
+"""Cases of the calls of `stk_dec` with their answers by Python's exact integers, as a text in a Rattle source file: a line
+for each case, with the call, its operands, and the answer's units or what is over, with its operands.
 
-    python3 bench/decimal_cases.py && (cd crates/stk_dec && rt fmt)
+    python3 bench/decimal_cases.py
 
 Edges: 0, one unit, the limit less one unit, ties at the 36th digit behind the point and at the 18th, results just
 below and just at the limit; then random operands of all sizes. The output is the same at each run.
@@ -29,27 +30,27 @@ def even(a, c):
 
 def answer(value, kind, a, b, c):
     if value < LIMIT:
-        return f"Ok({value})"
-    return f"Err(Over {{ kind: OverKind::{kind}, a: {a}, b: {b}, c: {c} }})"
+        return f"{value}"
+    return f"{kind} {a} {b} {c}"
 
 
 def quotient(rounded, a, n, b):
-    return answer(rounded(a * n * 10**36 // b, ONE), "Quotient", a, n * ONE, b)
+    return answer(rounded(a * n * 10**36 // b, ONE), "quotient", a, n * ONE, b)
 
 
 CALLS = {
-    "Add": lambda a, b, c: answer(a + b, "Sum", a, b, 0),
-    "OfWhole": lambda a, b, c: answer(a * ONE, "Quotient", a, ONE, 1),
-    "MulEven": lambda a, b, c: answer(even(a * b, ONE), "Quotient", a, b, ONE),
-    "MulCut": lambda a, b, c: answer(a * b // ONE, "Quotient", a, b, ONE),
+    "Add": lambda a, b, c: answer(a + b, "sum", a, b, 0),
+    "OfWhole": lambda a, b, c: answer(a * ONE, "quotient", a, ONE, 1),
+    "MulEven": lambda a, b, c: answer(even(a * b, ONE), "quotient", a, b, ONE),
+    "MulCut": lambda a, b, c: answer(a * b // ONE, "quotient", a, b, ONE),
     "QuoEven": lambda a, b, c: quotient(even, a, 1, b),
     "QuoCut": lambda a, b, c: quotient(cut, a, 1, b),
     "QuoUp": lambda a, b, c: quotient(up, a, 1, b),
     "MulIntQuoEven": lambda a, b, c: quotient(even, a, b, c),
     "MulIntQuoCut": lambda a, b, c: quotient(cut, a, b, c),
-    "MulIntQuoInt": lambda a, b, c: answer(a * b // c, "Quotient", a, b, c),
-    "Trunc": lambda a, b, c: f"Ok({a // ONE})",
-    "RoundInt": lambda a, b, c: f"Ok({even(a, ONE)})",
+    "MulIntQuoInt": lambda a, b, c: answer(a * b // c, "quotient", a, b, c),
+    "Trunc": lambda a, b, c: f"{a // ONE}",
+    "RoundInt": lambda a, b, c: f"{even(a, ONE)}",
 }
 TOP = LIMIT - 1
 EDGES = {
@@ -118,23 +119,10 @@ for call, compute in CALLS.items():
     cases += [operands(call) for _ in range(16)]
     rows += [(call, a, b, c, compute(a, b, c)) for a, b, c in cases]
 
-FILES = {
-    "sums": ("SUMS", ["Add", "OfWhole", "MulEven"]),
-    "products": ("PRODUCTS", ["MulCut", "QuoEven"]),
-    "quotients": ("QUOTIENTS", ["QuoCut", "QuoUp"]),
-    "factors": ("FACTORS", ["MulIntQuoEven", "MulIntQuoCut"]),
-    "wholes": ("WHOLES", ["MulIntQuoInt", "Trunc", "RoundInt"]),
-}
-
-folder = pathlib.Path(__file__).parent.parent / "crates/stk_dec/src/tests"
-for file, (name, calls) in FILES.items():
-    chosen = [row for row in rows if row[0] in calls]
-    with open(folder / f"{file}.rt", "w") as out:
-        print("// Written by bench/decimal_cases.py.", file=out)
-        print("use super::{Call, Case};", file=out)
-        print("use crate::{Over, OverKind};", file=out)
-        print(file=out)
-        print(f"pub static {name}: [Case; {len(chosen)}] = [", file=out)
-        for call, a, b, c, want in chosen:
-            print(f"    Case {{ call: Call::{call}, a: {a}, b: {b}, c: {c}, want: {want} }},", file=out)
-        print("];", file=out)
+file = pathlib.Path(__file__).parent.parent / "crates/stk_dec/src/tests/cases.rt"
+with open(file, "w") as out:
+    print("// Written by bench/decimal_cases.py.", file=out)
+    print(f'pub static CASES: &str = "\\', file=out)
+    for call, *operands, want in rows:
+        print(call, *operands, want, file=out)
+    print('";', file=out)

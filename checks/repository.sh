@@ -1,16 +1,38 @@
 #!/usr/bin/env bash
-# What a reader of the repository relies on: the handles, a README line and must-fail edits for each crate.
+# What a reader of the repository relies on: the handles; a README that fits a screen's width and is short; a page for each
+# crate that says what is proved, what is only tested and what no clause says; the documents; and must-fail edits for each
+# crate that has code: at most six, besides the wrong bodies that every reader of the rules should see refused.
 set -u
 cd "$(dirname "$0")/.."
 bad=0
+# crates of laws, rows and tests alone, which have no body that could be wrong, and the program, whose body is one call
+no_edits=" stk_rules stk_rule_rows stk_bracket stk_owed stk_machine stk_histories stk_book_trials stk_bank_trials stk_f1_trials stk_chain_trials stk_report_trials stakeplay "
+wrong_bodies="invents_overflow|rounds_exact_quotient|cuts_slash_fraction|starts_after_removal|skips_slash_at_start|drops_slash_reference"
+wrong_bodies="$wrong_bodies|keeps_dead_records|drops_the_dust|burns_from_bonded|hides_a_burn|keeps_refused_reward|writes_before_commit"
+wrong_bodies="$wrong_bodies|sorts_all_validators|invents_(read|write|store)_fault|invents_not_found|restarts_from_genesis"
 say() { echo "repository: $*"; bad=1; }
 [ "$(cat HANDLES)" = "Handles allowed: none." ] || say "HANDLES is not the one line"
+lines="$(wc -l <README.md)"
+[ "$lines" -lt 120 ] || say "the README has $lines lines, and is to have fewer than 120"
+while IFS= read -r place; do say "README.md:$place has more than 120 columns"; done \
+    < <(LC_ALL=C.UTF-8 awk 'length($0) > 120 { print FNR }' README.md)
 for crate in $(sed -n 's/^\([a-z0-9_]*\):.*/\1/p' crates.txt); do
     grep -q "\`$crate\`" README.md || say "the README does not speak of $crate"
-    [ "$crate" = stakeplay ] || ls crates/"$crate"/must-fail/*.edit >/dev/null 2>&1 || say "$crate has no must-fail edit"
+    grep -q "^| $crate \|^| $crate,\|, $crate \|, $crate," docs/ARCHITECTURE.md || say "the map of crates does not have $crate"
+    for part in "# $crate" "## Proved, and by which contract" "## Only tested" "## Said by no clause"; do
+        grep -qx "$part" "crates/$crate/README.md" 2>/dev/null || say "crates/$crate/README.md has no line '$part'"
+    done
+    edits="$(ls crates/"$crate"/must-fail 2>/dev/null | grep '\.edit$')"
+    [[ "$no_edits" == *" $crate "* ]] || [ -n "$edits" ] || say "$crate has no must-fail edit"
+    [ "$(grep -Evc "^(|$wrong_bodies)(\.edit)?$" <<<"$edits")" -le 6 ] || say "$crate has more than six must-fail edits"
 done
-for page in ARCHITECTURE FORMATS PROOFS DECISIONS; do
+for page in THEOREM ARCHITECTURE FORMATS RULES PROOFS DECISIONS; do
     [ -s "docs/$page.md" ] || say "docs/$page.md is missing"
+    grep -q "docs/$page.md" README.md || say "the README does not lead to docs/$page.md"
 done
+# every refusal of the code stands in the table of FORMATS, under its number
+while read -r name number; do
+    grep -q "^| $number | \`$name\`" docs/FORMATS.md || say "docs/FORMATS.md does not have refusal $number, $name"
+done < <(sed -n 's/^ *Refusal::\([A-Za-z]*\)\((_)\)\{0,1\} => \([0-9]*\),$/\1 \3/p' crates/stk_keep/src/refusal.rt)
 [ $bad = 0 ] && echo "repository: all there"
 exit $bad

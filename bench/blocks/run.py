@@ -1,22 +1,28 @@
 #!/usr/bin/env python3
-"""Times reading, writing and replaying blocks of sends beside stock Rust: bench/blocks/run.py [RUNS]
+"""Times reading, writing and replaying blocks beside stock Rust: bench/blocks/run.py [RUNS]
 
-Makes inputs of 1,000, 10,000 and 100,000 blocks, each with a transaction of four sends and a fee. Three programs go
-over them, alternately, and the least time of RUNS runs (3) counts:
+Makes inputs of 1,000, 10,000 and 100,000 blocks, each with a transaction of four sends and a fee. Four programs go
+over them, alternately, and the least processor time of RUNS runs (3) counts, which other work on the machine changes less
+than the time by the clock:
 
   stock    a program of stock Rust: each line is parsed to `serde_json::Value` and written back
-  lines    `read_block` of each line, and `lines_of_block` of a report of its sends, without a chain
+  read     `read_block` of each line
+  lines    the same, and the lines of a report of its sends, without a chain
   replay   `stakeplay - replay`
 
-Of a replay it also tells the most memory, and when the first line is written where the input is piped in slowly.
-Wants `rt`, `cargo` and Debian's librust-serde-json-dev, and works in a temporary folder. `rt run` proves the crates
-where that was not done before."""
+Of a replay it also tells the most memory, and when the first line is written where the input is piped in slowly. Then
+it tells what a replay takes, of sends and of blocks with 100 votes each: `read` is its reading, `lines` without `read`
+its writing, and the rest is applying; and, where `perf` is there, the functions in which most time goes by.
+
+Wants `rt`, `cargo` and Debian's librust-serde-json-dev (and linux-perf), and works in a temporary folder. `rt run`
+proves the crates where that was not done before."""
 import hashlib, os, pathlib, shutil, subprocess, sys, tempfile, time
 
 RUNS = int(sys.argv[1]) if len(sys.argv) > 1 else 3
 TOP = pathlib.Path(__file__).resolve().parents[2]
 WORK = pathlib.Path(tempfile.mkdtemp(prefix="blocks-"))
 ACCOUNTS = 1000
+VOTERS = 100
 
 PARAMS = (
     '"params":{"bond_denom":"uatom","power_reduction":1000000,"unbonding_time":1814400,"max_validators":180,'
@@ -45,17 +51,55 @@ fn main() -> io::Result<()> {
 }
 """
 
-LINES = """
+# The crate in which both programs in Rattle are written, but for what is done with a block.
+AROUND = """
 #![tactic(auto)]
 
 use anyhow::Result;
+use json::Scratch;
+use memchr::memchr_iter;
 use std::alloc::{AllocError, Global};
 use std::io::{Read, Write};
-use stk_json::{lines_of_block, read_block};
+use stk_json::{push_lines_of_block, read_block};
 use stk_keep::{Fact, Facts, Listed};
 use stk_msgs::{Block, BlockReport, LineFault, Msg, Outcome, Tx, TxReport};
 use stk_types::{Account, Copied, Module};
+BODY
+fn main(rt: HostRuntime) -> Result<()> {
+    let alloc = rt.alloc();
+    let mut scratch = Scratch::new(alloc);
+    let mut input = Vec::new(alloc);
+    rt.stdin().read_to_end(&mut input)?;
+    let mut output = rt.stdout();
+    let mut text = Vec::new(alloc);
+    let mut start = 0;
+    for end in memchr_iter(b'\\n', &input) {
+        if let Some(line) = input.get(start..end) {
+            text.clear();
+            if answer(alloc, &mut scratch, line, &mut text).is_ok() {
+                output.write_all(&text)?;
+            }
+        }
+        start = end.saturating_add(1);
+    }
+    output.flush()?;
+    Ok(())
+}
+"""
 
+READ = """
+fn answer(
+    alloc: Global,
+    scratch: &mut Scratch,
+    line: &[u8],
+    _text: &mut Vec<u8>,
+) -> Result<(), LineFault> {
+    let _block = read_block(alloc, scratch, line)?;
+    Ok(())
+}
+"""
+
+LINES = """
 fn facts_of(alloc: Global, tx: &Tx) -> Result<Facts, LineFault> {
     let mut facts = Vec::new(alloc);
     facts.push(Fact::Transfer {
@@ -92,24 +136,15 @@ fn report_of(alloc: Global, block: &Block) -> Result<BlockReport, LineFault> {
     })
 }
 
-fn line_again(alloc: Global, line: &[u8]) -> Result<Vec<u8>, LineFault> {
-    let block = read_block(alloc, line)?;
+fn answer(
+    alloc: Global,
+    scratch: &mut Scratch,
+    line: &[u8],
+    text: &mut Vec<u8>,
+) -> Result<(), LineFault> {
+    let block = read_block(alloc, scratch, line)?;
     let report = report_of(alloc, &block)?;
-    lines_of_block(alloc, &report)
-}
-
-fn main(rt: HostRuntime) -> Result<()> {
-    let alloc = rt.alloc();
-    let mut input = Vec::new(alloc);
-    rt.stdin().read_to_end(&mut input)?;
-    let mut output = rt.stdout();
-    for line in input.split(|byte| *byte == b'\\n') {
-        if let Ok(text) = line_again(alloc, line) {
-            output.write_all(&text)?;
-        }
-    }
-    output.flush()?;
-    Ok(())
+    push_lines_of_block(alloc, text, &report)
 }
 """
 
@@ -119,12 +154,27 @@ def address(number):
     return hashlib.sha256(str(number).encode()).hexdigest()[:40]
 
 
-def make_input(path, blocks):
+def genesis(validators, delegations):
+    accounts = ",".join(
+        f'{{"address":"{address(n)}","coins":[{{"denom":"uatom","amount":"1000000000000"}}]}}' for n in range(ACCOUNTS)
+    )
+    return (
+        f'{{"kind":"genesis","time":"2024-01-01T00:00:00Z",{PARAMS},"accounts":[{accounts}],'
+        f'"validators":[{",".join(validators)}],"delegations":[{",".join(delegations)}]}}\n'
+    )
+
+
+def block(height, votes, txs):
+    return (
+        f'{{"kind":"block","height":{height},"time":"2024-01-01T00:00:05Z","votes":[{",".join(votes)}],"evidence":[],'
+        f'"txs":[{",".join(txs)}]}}\n'
+    )
+
+
+def make_sends(path, blocks):
+    """Each block has a transaction of four sends and a fee."""
     with open(path, "w") as out:
-        accounts = ",".join(
-            f'{{"address":"{address(n)}","coins":[{{"denom":"uatom","amount":"1000000000000"}}]}}' for n in range(ACCOUNTS)
-        )
-        out.write(f'{{"kind":"genesis","time":"2024-01-01T00:00:00Z",{PARAMS},"accounts":[{accounts}],"validators":[],"delegations":[]}}\n')
+        out.write(genesis([], []))
         draw = 1
         for height in range(1, blocks + 1):
             sends = []
@@ -136,10 +186,23 @@ def make_input(path, blocks):
                     f'"coins":[{{"denom":"uatom","amount":"{1 + draw % 999}"}}]}}'
                 )
             payer = address(height % ACCOUNTS)
-            out.write(
-                f'{{"kind":"block","height":{height},"time":"2024-01-01T00:00:05Z","votes":[],"evidence":[],"txs":[{{"payer":"{payer}",'
-                f'"fee":[{{"denom":"uatom","amount":"5"}}],"msgs":[{",".join(sends)}]}}]}}\n'
-            )
+            tx = f'{{"payer":"{payer}","fee":[{{"denom":"uatom","amount":"5"}}],"msgs":[{",".join(sends)}]}}'
+            out.write(block(height, [], [tx]))
+
+
+def make_votes(path, blocks):
+    """Each block after the first has a vote of each of 100 validators."""
+    validators = [
+        f'{{"operator":"{address(n)}","cons":"{address(-1 - n)}","rate":"0.1","max_rate":"0.2","max_change_rate":"0.01",'
+        '"min_self_delegation":"1"}'
+        for n in range(VOTERS)
+    ]
+    delegations = [f'{{"delegator":"{address(n)}","validator":"{address(n)}","amount":"10000000"}}' for n in range(VOTERS)]
+    votes = [f'{{"cons":"{address(-1 - n)}","power":10,"signed":true}}' for n in range(VOTERS)]
+    with open(path, "w") as out:
+        out.write(genesis(validators, delegations))
+        for height in range(1, blocks + 1):
+            out.write(block(height, votes if height > 1 else [], []))
 
 
 def build_stock():
@@ -157,35 +220,31 @@ def build_stock():
 
 def build_rattle():
     top = WORK / "rattle"
-    shutil.copytree(TOP / "crates", top / "crates", symlinks=True)
-    for edits in top.glob("crates/*/must-fail"):
-        shutil.rmtree(edits)
-    crate = top / "crates/line_bench"
-    (crate / "src").mkdir(parents=True)
-    (crate / "src/main.rt").write_text(LINES.lstrip())
-    (crate / "stdin").write_text("")
-    lines = (TOP / "crates.txt").read_text().rstrip() + "\nline_bench: stk_types stk_coins stk_keep stk_msgs stk_json anyhow\n"
-    (top / "crates.txt").write_text(lines)
+    shutil.copytree(TOP / "crates", top / "crates", symlinks=True, ignore=shutil.ignore_patterns("must-fail", "out"))
+    lines = [(TOP / "crates.txt").read_text().rstrip()]
+    for name, body in (("read_bench", READ), ("line_bench", LINES)):
+        (top / "crates" / name / "src").mkdir(parents=True)
+        (top / "crates" / name / "src/main.rt").write_text(AROUND.lstrip().replace("BODY\n", body))
+        (top / "crates" / name / "stdin").write_text("")
+        lines.append(f"{name}: stk_types stk_coins stk_keep stk_msgs stk_json json memchr anyhow")
+    (top / "crates.txt").write_text("\n".join(lines) + "\n")
     programs = []
-    for name in ("line_bench", "stakeplay"):
+    for name in ("read_bench", "line_bench", "stakeplay"):
         ran = subprocess.run(["rt", "run"], cwd=top / "crates" / name, stdin=subprocess.DEVNULL, capture_output=True, text=True)
         found = [p for p in (top / "crates" / name / "out").rglob(f"{name}*") if p.is_file() and os.access(p, os.X_OK)]
         if not found:
             sys.exit(ran.stdout + ran.stderr)
         programs.append(str(found[0]))
-    return [programs[0]], [programs[1], "-", "replay"]
+    return {"read": [programs[0]], "lines": [programs[1]], "replay": [programs[2], "-", "replay"]}
 
 
 def timed(command, path):
-    """Seconds of one run over the file."""
+    """Processor seconds of one run over the file, or None where the program refuses it."""
     with open(path, "rb") as source, open(os.devnull, "wb") as sink:
-        start = time.perf_counter()
         process = subprocess.Popen(command, stdin=source, stdout=sink)
-        status = process.wait()
-        seconds = time.perf_counter() - start
-    if status != 0:
-        sys.exit(f"{command} ended with status {status}")
-    return seconds
+        _, status, used = os.wait4(process.pid, 0)
+        process.returncode = os.waitstatus_to_exitcode(status)
+    return used.ru_utime + used.ru_stime if process.returncode == 0 else None
 
 
 def memory(command, path):
@@ -221,21 +280,57 @@ def first_line(command, path):
     return seconds
 
 
+def least(programs, path):
+    """The least seconds of RUNS runs of each program over the file, alternately; None where it refuses it."""
+    seconds = {name: [] for name in programs}
+    for _ in range(RUNS):
+        for name, command in programs.items():
+            seconds[name].append(timed(command, path))
+    return {name: None if None in times else min(times) for name, times in seconds.items()}
+
+
+def profile(what, seconds, blocks, told):
+    """A row of the table of what a replay takes; `told`: the lines without a chain are those of the replay."""
+    parts = {"reading": seconds["read"]}
+    if seconds["replay"] is None:
+        parts["applying and writing"] = None
+    elif told:
+        parts["applying"] = seconds["replay"] - seconds["lines"]
+        parts["writing"] = seconds["lines"] - seconds["read"]
+    else:
+        parts["applying and writing"] = seconds["replay"] - seconds["read"]
+    parts["stock"] = seconds["stock"]
+    for name, part in parts.items():
+        text = "   refused" if part is None else f"{part / blocks * 1e6:10.2f}"
+        print(f"{what:<12} {name:<21} {text}   microseconds for each block")
+
+
+def functions(command, path):
+    """The functions in which most of a replay's time goes by, as `perf` samples them."""
+    record = str(WORK / "perf.data")
+    with open(path, "rb") as source, open(os.devnull, "wb") as sink:
+        subprocess.run(["perf", "record", "-q", "-e", "cpu-clock", "-F", "2000", "-o", record, "--", *command], stdin=source, stdout=sink, check=True)
+    told = subprocess.run(["perf", "report", "-i", record, "--stdio", "--no-children", "-q", "-F", "overhead,sym"], capture_output=True, text=True)
+    print("\n".join([line.rstrip() for line in told.stdout.splitlines() if line.strip()][:20]))
+
+
 def main():
-    programs = {"stock": build_stock()}
-    programs["lines"], programs["replay"] = build_rattle()
+    programs = {"stock": build_stock(), **build_rattle()}
     print("blocks      program   seconds   of stock   most memory")
     for blocks in (1000, 10000, 100000):
         path = WORK / f"{blocks}.jsonl"
-        make_input(path, blocks)
-        least = {name: 10.0**9 for name in programs}
-        for _ in range(RUNS):
-            for name, command in programs.items():
-                least[name] = min(least[name], timed(command, path))
-        for name, seconds in least.items():
+        make_sends(path, blocks)
+        sends = least(programs, path)
+        for name, seconds in sends.items():
             most = memory(programs[name], path)
-            print(f"{blocks:<11} {name:<9} {seconds:7.3f}   {seconds / least['stock']:8.2f}   {most / 1024:8.1f} MB")
-    print(f"first line of a piped replay after {first_line(programs['replay'], WORK / '1000.jsonl') * 1000:.1f} ms")
+            print(f"{blocks:<11} {name:<9} {seconds:7.3f}   {seconds / sends['stock']:8.2f}   {most / 1024:8.1f} MB")
+    first = min(first_line(programs["replay"], WORK / "1000.jsonl") for _ in range(RUNS))
+    print(f"first line of a piped replay after {first * 1000:.1f} ms")
+    profile("sends", sends, 100000, True)
+    make_votes(WORK / "votes.jsonl", 10000)
+    profile("100 votes", least(programs, WORK / "votes.jsonl"), 10000, False)
+    if shutil.which("perf"):
+        functions(programs["replay"], WORK / "100000.jsonl")
 
 
 try:

@@ -123,6 +123,9 @@ fn main(rt: HostRuntime) -> ExitCode {
         ),
         Status::Limit(_, LimitKind::Line) => eprintln!(rt; "stakeplay: line {line}: limit line"),
         Status::Limit(_, LimitKind::Input) => eprintln!(rt; "stakeplay: line {line}: limit input"),
+        Status::Limit(_, LimitKind::Ratio(_)) => eprintln!(rt;
+            "stakeplay: line {line}: limit ratio"
+        ),
         Status::ReadFault => eprintln!(rt; "stakeplay: read fault"),
         Status::WriteFault => eprintln!(rt; "stakeplay: write fault"),
         Status::NoMemory => eprintln!(rt; "stakeplay: no memory"),

@@ -5,7 +5,7 @@ use Rattle.std.proofs.lemmas.List.{append-nil, take-append-drop, length-take-le}
 use Rattle.stk_io.specs.Outside.{Takes, Stays}
 use Rattle.stk_app.specs.declared.status.Status.{Status}
 use Rattle.stk_app.specs.declared.status.Status.TheVariants.{Done, Usage, BadInput, Limit, ReadFault, WriteFault, NoMemory}
-use Rattle.stk_app.specs.declared.status.LimitKind.TheVariants.{Line, Input}
+use Rattle.stk_app.specs.declared.status.LimitKind.TheVariants.{Line, Input, Ratio}
 use Rattle.stk_app.specs.declared.status.Stop.{Stop}
 use Rattle.stk_app.specs.declared.status.Stop.TheVariants as stops
 use Rattle.stk_app.specs.declared.status.EndStop.{EndStop}
@@ -92,6 +92,7 @@ join first count n s line left left' w w1 w' m piece stop status at took part en
 part_ends : (stop : Stop) (count : ℕ) → count ≤ most_bytes → (t r text : List ℕ) → length t ≡ count → PartEnds 1 None (lines_after [] t) (whole_from [] t) stop text → Ends t r (status_of stop) text
 part_ends (stops.BadInput m fault) count most t r text e h = (rw e most, inl (whole_from [] t, inl refl, h))
 part_ends (stops.Long m) count most t r text e h = (rw e (omega arith), h)
+part_ends (stops.Ratio m over) count most t r text e h = (rw e most, whole_from [] t, inl refl, h)
 part_ends stops.Write count most t r text e h = (rw e most, inl (whole_from [] t, inl refl, h))
 part_ends stops.NoMemory count most t r text e h = (rw e most, inl (whole_from [] t, inl refl, h))
 
@@ -161,6 +162,7 @@ end_as n s t line done text (BadInput m fault) most good number e (inl h) = (mos
 end_as n s t line done text (BadInput m fault) most good number e (inr h) = (most, inr (refl, all_lacking n s t line done text _ good number e h))
 end_as n s t line done text (Limit m Line) most good number e h = absurd h
 end_as n s t line done text (Limit m Input) most good number e h = absurd h
+end_as n s t line done text (Limit m (Ratio over)) most good number e h = (most, lines_of t, inr (refl, refl), named_along 1 None (whole_from [] t) done s (last_line line) [] (lines_of t) text _ good (all_lines t line e) (rw number at h))
 end_as n s t line done text ReadFault most good number e h = absurd h
 end_as n s t line done text WriteFault most good number e (inl h) = (most, inl (lines_of t, inr (refl, refl), wrote_along 1 None (whole_from [] t) done s (last_line line) [] (lines_of t) text good (all_lines t line e) (rw number at h)))
 end_as n s t line done text WriteFault most good number e (inr (inl h)) = (most, inr (inl (refl, all_reported n s t line done text good number e h)))
@@ -173,6 +175,7 @@ end_as n s t line done text NoMemory most good number e (inr h) = (most, inr (re
 line_as : (n : ℕ) (s : Stage) (line : List ℕ) (ls : List (List ℕ)) (text : List ℕ) (stop : Stop) → length line ≤ longest → LongOnly stop line → PartEnds n s (λ (_ : ⊤). ls) ls stop text → FinishAs n s ls (status_of stop) text
 line_as n s line ls text (stops.BadInput m fault) short long h = inl h
 line_as n s line ls text (stops.Long m) short long h = absurd (omega arith)
+line_as n s line ls text (stops.Ratio m over) short long h = h
 line_as n s line ls text stops.Write short long h = inl h
 line_as n s line ls text stops.NoMemory short long h = inl h
 
@@ -243,6 +246,8 @@ untroubled_end input taken rest text (BadInput n fault) e (most, inr (none, lack
     let f : (answer_to input).fault ≡ Some (stops.BadInput n fault) = rw (e, at_end taken rest none) (lacking_ran 1 None (lines_of taken) text (stops.BadInput n fault) lacking) in cc
 untroubled_end input taken rest text (Limit n Line) e h good short u r w =
     let f : (answer_to input).fault ≡ Some (stops.Long n) = rw e (named_ran 1 None (lines_of (taken ++ rest)) text (stops.Long n) (h.1 rest)) in cc
+untroubled_end input taken rest text (Limit n (Ratio over)) e (most, lines, ended, named) good short u r w =
+    let f : (answer_to input).fault ≡ Some (stops.Ratio n over) = rw e (ended_fault taken rest lines text (stops.Ratio n over) ended named) in cc
 untroubled_end input taken rest text (Limit n Input) e h good short u r w =
     let k : length input ≡ length h.first + length (h.byte ∷ []) + length rest = ap length (e ∙ ap (λ (t : List ℕ). t ++ rest) h.taken_is) ∙ length-append (h.first ++ h.byte ∷ []) rest ∙ ap (λ (m : ℕ). m + length rest) (length-append h.first (h.byte ∷ [])) in
     let full : length h.first ≡ most_bytes = h.full in
@@ -259,6 +264,7 @@ Stopped stop = Err stop
 pub end_cause : (stop : EndStop) (P : Type 0) → (Stopped stop ≡ Err ends.Report → P) → (Stopped stop ≡ Err ends.Flush → P) → (Stopped stop ≡ Err (ends.Line stops.Write) → P) → status_at_end stop ≡ WriteFault → P
 end_cause (ends.Line (stops.BadInput n fault)) P r f l h = absurd cc
 end_cause (ends.Line (stops.Long n)) P r f l h = absurd cc
+end_cause (ends.Line (stops.Ratio n over)) P r f l h = absurd cc
 end_cause (ends.Line stops.Write) P r f l h = l refl
 end_cause (ends.Line stops.NoMemory) P r f l h = absurd cc
 end_cause (ends.Lacking n fault) P r f l h = absurd cc

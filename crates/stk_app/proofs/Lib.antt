@@ -4,4 +4,5 @@ pub mod PartLemmas
 pub mod DriveLemmas
 pub mod ReadLemmas
 pub mod SoundLemmas
+pub mod NamedLemmas
 pub mod ReportLemmas

@@ -6,7 +6,7 @@ use Rattle.memchr.specs.Find.{IsFirstByte, is_byte}
 use Rattle.stk_io.specs.Outside.{IsPart, AddsPart}
 use Rattle.stk_json.specs.Genesis.{genesis_of}
 use Rattle.stk_app.specs.declared.status.Stop.{Stop}
-use Rattle.stk_app.specs.declared.status.Stop.TheVariants.{BadInput, Long, Write, NoMemory}
+use Rattle.stk_app.specs.declared.status.Stop.TheVariants.{BadInput, Long, Ratio, Write, NoMemory}
 use Rattle.stk_app.specs.declared.status.EndStop.{EndStop}
 use Rattle.stk_app.specs.declared.status.EndStop.TheVariants as ends
 use Rattle.stk_app.specs.Lines.{whole_from, rest_from, last_line, lines_from}
@@ -46,6 +46,7 @@ none_held n s lines = record { before = []; after = lines; middle = s; lines_are
 pub answer_stops : (n : ℕ) (s : Stage) (line : List ℕ) (w : Option (List ℕ)) (stop : Stop) → NotAnswered stop n s line → PartStops n s (λ (more : List (List ℕ)). line ∷ more) (line ∷ []) w w stop
 answer_stops n s line w (BadInput m fault) h = λ old told. ([], no_growth w old told, first_named n s line [] (BadInput m fault) h)
 answer_stops n s line w (Long m) h = λ old told. ([], no_growth w old told, λ more. first_named n s line more (Long m) h.0)
+answer_stops n s line w (Ratio m over) h = λ old told. ([], no_growth w old told, first_named n s line [] (Ratio m over) h)
 answer_stops n s line w Write h = absurd h
 answer_stops n s line w NoMemory h = λ old told. ([], no_growth w old told, inr (none_held n s (line ∷ [])))
 
@@ -89,6 +90,7 @@ extend_stops n s line bytes behind w (Long m) none h = λ old told. (
   no_growth w old told,
   λ more. rw h.0 (rw (append_assoc bytes behind more, lines-append bytes line (behind ++ more), whole_none bytes line none, rest_none bytes line none) (too_long (behind ++ more) (line ++ bytes) n s h.1)),
 )
+extend_stops n s line bytes behind w (Ratio m over) none h = absurd h
 extend_stops n s line bytes behind w Write none h = absurd h
 extend_stops n s line bytes behind w NoMemory none h = λ old told. ([], no_growth w old told, inr (none_held n s (whole_from line (bytes ++ behind))))
 

@@ -2,7 +2,7 @@
 use Rattle.std.proofs.Common.{inl, inr, ◌≡◌, ◌∙◌, ℕ, ◌+◌, ◌≤◌, List, [], ◌∷◌, ◌++◌, length, Option, Some, refl, sym, ap, append_assoc, arith, add-zero, length-append}
 use Rattle.std.proofs.lemmas.List.{append-nil}
 use Rattle.stk_app.specs.declared.status.Stop.{Stop}
-use Rattle.stk_app.specs.declared.status.Stop.TheVariants.{BadInput, Long, Write, NoMemory}
+use Rattle.stk_app.specs.declared.status.Stop.TheVariants.{BadInput, Long, Ratio, Write, NoMemory}
 use Rattle.stk_app.specs.Lines.{whole_from, rest_from, lines_from}
 use Rattle.stk_app.specs.Machine.{Stage}
 use Rattle.stk_app.specs.Runs.{before, ran_from, AreAnswered, Named, Wrote, Held}
@@ -104,6 +104,7 @@ pub ends_along : {X Y : Type 0} (n : ℕ) (s : Stage) (done : List (List ℕ)) (
     → ((y : Y) → lines' y ≡ done ++ lines (f y)) → ended' ≡ done ++ (ended ++ more) → PartEnds (n + length done) s' lines ended stop text → PartEnds n s lines' ended' stop (text' ++ text)
 ends_along n s done text' s' lines lines' f ended more ended' text (BadInput m fault) good same e h = named_along n s done text' s' ended more ended' text _ good e h
 ends_along n s done text' s' lines lines' f ended more ended' text (Long m) good same e h = λ y. named_along n s done text' s' (lines (f y)) [] (lines' y) text _ good (same y ∙ ap (λ (l : List (List ℕ)). done ++ l) (sym (append-nil (lines (f y))))) (h (f y))
+ends_along n s done text' s' lines lines' f ended more ended' text (Ratio m over) good same e h = named_along n s done text' s' ended more ended' text _ good e h
 ends_along n s done text' s' lines lines' f ended more ended' text Write good same e h = wrote_along n s done text' s' ended more ended' text good e h
 ends_along n s done text' s' lines lines' f ended more ended' text NoMemory good same e (inl h) = inl (wrote_along n s done text' s' ended more ended' text good e h)
 ends_along n s done text' s' lines lines' f ended more ended' text NoMemory good same e (inr h) = inr (held_along n s done text' s' ended more ended' text good e h)

@@ -12,6 +12,7 @@ use Rattle.stk_msgs.specs.declared.block.Block.{Block}
 use Rattle.stk_msgs.specs.declared.block.Tx.{Tx}
 use Rattle.stk_json.specs.Genesis.{genesis_of}
 use Rattle.stk_json.specs.Block.{block_of}
+use Rattle.stk_json.specs.Written.{text_of_block}
 use Rattle.stk_rules.specs.Chain.{State}
 use Rattle.stk_machine.specs.Built.{IsBuilt, is_built, built_start, built_step, built_run}
 use Rattle.stk_machine.specs.BuiltLaws.{GenesisStarts, Replay, state_after, SuppliesAreKept, HoldsStakes, StakingAccountsHoldWhatIsOwed}
@@ -28,7 +29,7 @@ use Rattle.stk_app.proofs.ReadLemmas.{AllHaveCoins, block_has_coins, all_have_co
 
 -- ---- a line that is answered
 
-within : (n : ℕ) (s : Stage) (line : List ℕ) (answer : Answer) → line_answer n s line ≡ Ok answer → answer_within n s line ≡ Ok answer
+pub within : (n : ℕ) (s : Stage) (line : List ℕ) (answer : Answer) → line_answer n s line ≡ Ok answer → answer_within n s line ≡ Ok answer
 unfolding line_answer
 within n s line answer e = by (nat_lt longest (length line)) e
   where
@@ -67,22 +68,23 @@ block_is_built block h =
     }
 
 -- a block that the line spells was applied
-record Led (line : List ℕ) (s : State) (answer : Answer) : Type 0 where
-  block : Block
-  line_is : block_of line ≡ Ok block
-  built : IsBuilt block
-  step : Step
-  step_is : built_step block s ≡ Ok step
-  stage_is : answer.stage ≡ Some step.state
+pub record Led (line : List ℕ) (s : State) (answer : Answer) : Type 0 where
+  pub block : Block
+  pub line_is : block_of line ≡ Ok block
+  pub built : IsBuilt block
+  pub step : Step
+  pub step_is : built_step block s ≡ Ok step
+  pub text_is : answer.text ≡ text_of_block step.report
+  pub stage_is : answer.stage ≡ Some step.state
 
-block_led : (n : ℕ) (line : List ℕ) (s : State) (r : Result Block LineFault) → block_of line ≡ r → (answer : Answer) → block_answer n s r ≡ Ok answer → Led line s answer
+pub block_led : (n : ℕ) (line : List ℕ) (s : State) (r : Result Block LineFault) → block_of line ≡ r → (answer : Answer) → block_answer n s r ≡ Ok answer → Led line s answer
 block_led n line s (Err fault) is answer e = absurd cc
 block_led n line s (Ok block) is answer e = by (is_built_block block) refl e
   where
     by_step : IsBuilt block → (r : Result Step BlockFault) → built_step block s ≡ r → applied_answer n r ≡ Ok answer → Led line s answer
     by_step built (Ok step) some h =
         let same : stepped step ≡ answer = cc in
-        record { block = block; line_is = is; built = built; step = step; step_is = some; stage_is = sym (ap (λ (a : Answer). a.stage) same) }
+        record { block = block; line_is = is; built = built; step = step; step_is = some; text_is = sym (ap (λ (a : Answer). a.text) same); stage_is = sym (ap (λ (a : Answer). a.stage) same) }
     by_step built (Err fault) none h = absurd cc
 
     by : (b : Bool) → is_built_block block ≡ b → cond b (applied_answer n (built_step block s)) (Err (stop.BadInput n input.Unbuilt)) ≡ Ok answer → Led line s answer

@@ -7,6 +7,8 @@ use Rattle.stk_rules.specs.Chain.{State}
 use Rattle.stk_machine.specs.Built.{built_start}
 use Rattle.stk_machine.specs.BuiltLaws.{HoldsStakes}
 use Rattle.stk_machine.specs.GenesisConditions.{start_condition}
+use Rattle.stk_app.specs.Conditions.{TellsConditions}
+use Rattle.stk_app.specs.Machine.{Answer, line_answer}
 use Rattle.stk_app.specs.Runs.{AreAnswered}
 
 -- The first line spells a genesis that starts this state.
@@ -26,3 +28,9 @@ SupplyStays = (line : List ℕ) (lines : List (List ℕ)) (text : List ℕ) (end
 -- validators, and those of all others.
 abbrev pub StakesAreHeld : Type 0
 StakesAreHeld = (line : List ℕ) (lines : List (List ℕ)) (text : List ℕ) (end : State) → AreAnswered 1 None (line ∷ lines) text (Some end) → HoldsStakes end
+
+-- And whatever line comes next, where it is answered: its text is that of a report in which each refusal names the first of
+-- the conditions of its message that holds in the state before that message. Messages that stand met none.
+abbrev pub RefusalsAreNamed : Type 0
+RefusalsAreNamed = (line : List ℕ) (lines : List (List ℕ)) (text : List ℕ) (s : State) → AreAnswered 1 None (line ∷ lines) text (Some s)
+    → (n : ℕ) (next : List ℕ) (answer : Answer) → line_answer n (Some s) next ≡ Ok answer → TellsConditions next s answer

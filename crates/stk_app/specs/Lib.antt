@@ -3,4 +3,5 @@ pub mod Machine
 pub mod Runs
 pub mod Outcome
 pub mod Parts
+pub mod Conditions
 pub mod Laws

@@ -1,5 +1,5 @@
 -- What the machine answers to each line of the input.
-use Rattle.std.specs.Prelude.{ℕ, List, length, nat_lt, ◌==◌, ◌&&◌, Bool, if◌then◌else◌, Option, Some, None, Result, Ok, Err}
+use Rattle.std.specs.Prelude.{◌≡◌, ℕ, List, length, nat_lt, ◌==◌, ◌&&◌, Bool, if◌then◌else◌, Option, Some, None, Result, Ok, Err}
 use Rattle.std.specs.List.{list_all}
 use Rattle.stk_msgs.specs.declared.faults.LineFault.{LineFault}
 use Rattle.stk_msgs.specs.declared.faults.LineFault.TheVariants as line
@@ -49,11 +49,17 @@ not_read n line.NotJson = stop.BadInput n input.NotJson
 not_read n (line.BadShape member) = stop.BadInput n (input.BadShape member)
 not_read n line.NoMemory = stop.NoMemory
 
--- why the genesis of this line starts no chain
-abbrev pub not_started : ℕ → ChainFault → Stop
-not_started n (chain.BadGenesis condition) = stop.BadInput n (input.BadGenesis condition)
-not_started n chain.BadItems = stop.NoMemory
-not_started n chain.NoMemory = stop.NoMemory
+-- a fault that a genesis may have: it has no items
+abbrev pub IsOfGenesis : ChainFault → Type 0
+IsOfGenesis (chain.BadGenesis condition) = Unit {0}
+IsOfGenesis chain.BadItems = ⊥
+IsOfGenesis chain.NoMemory = Unit {0}
+
+-- the genesis of this line starts no chain, for this fault
+abbrev pub IsNotStarted : ℕ → ChainFault → Stop → Type 0
+IsNotStarted n (chain.BadGenesis condition) why = why ≡ stop.BadInput n (input.BadGenesis condition)
+IsNotStarted n chain.BadItems why = ⊥
+IsNotStarted n chain.NoMemory why = why ≡ stop.NoMemory
 
 -- why the block of this line is not applied
 abbrev pub not_applied : ℕ → BlockFault → Stop
@@ -63,7 +69,7 @@ not_applied n (block.UnknownVote place) = stop.BadInput n (input.Block (block.Un
 not_applied n (block.RepeatedVote place) = stop.BadInput n (input.Block (block.RepeatedVote place))
 not_applied n (block.BadPower place) = stop.BadInput n (input.Block (block.BadPower place))
 not_applied n (block.BadEvidence place) = stop.BadInput n (input.Block (block.BadEvidence place))
-not_applied n (block.RatioLimit over) = stop.BadInput n (input.Block (block.RatioLimit over))
+not_applied n (block.RatioLimit over) = stop.Ratio n over
 not_applied n block.NoMemory = stop.NoMemory
 
 -- ---- the genesis

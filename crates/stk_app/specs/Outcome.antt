@@ -2,7 +2,7 @@
 use Rattle.std.specs.Prelude.{◌≡◌, ℕ, ◌+◌, ◌^◌, ◌≤◌, ◌⊎◌, ◌<◌, List, [], ◌∷◌, ◌++◌, length, Bool, false, bytes_eq, codes, Option, Some, None}
 use Rattle.stk_app.specs.declared.status.Status.{Status}
 use Rattle.stk_app.specs.declared.status.Status.TheVariants.{Done, Usage, BadInput, Limit, ReadFault, WriteFault, NoMemory}
-use Rattle.stk_app.specs.declared.status.LimitKind.TheVariants.{Line, Input}
+use Rattle.stk_app.specs.declared.status.LimitKind.TheVariants.{Line, Input, Ratio}
 use Rattle.stk_app.specs.declared.status.Stop.TheVariants as stop
 use Rattle.stk_app.specs.Lines.{whole_from, rest_from, lines_of}
 use Rattle.stk_app.specs.Machine.{longest}
@@ -44,6 +44,7 @@ Ends taken rest (BadInput n fault) text = (length taken ≤ most_bytes)
     ⊎ ((rest ≡ []) × Lacking 1 None (lines_of taken) text (stop.BadInput n fault)))
 Ends taken rest (Limit n Line) text = (length taken ≤ most_bytes + 1) × ((more : List ℕ) → Named 1 None (lines_of (taken ++ more)) text (stop.Long n))
 Ends taken rest (Limit n Input) text = Passed n taken text
+Ends taken rest (Limit n (Ratio over)) text = (length taken ≤ most_bytes) × (lines : List (List ℕ)) × AreEnded lines taken rest × Named 1 None lines text (stop.Ratio n over)
 Ends taken rest ReadFault text = (length taken ≤ most_bytes) × Answered 1 None (whole_from [] taken) text
 Ends taken rest WriteFault text = (length taken ≤ most_bytes)
     × (((lines : List (List ℕ)) × AreEnded lines taken rest × Wrote 1 None lines text)

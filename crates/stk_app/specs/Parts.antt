@@ -2,7 +2,7 @@
 use Rattle.std.specs.Prelude.{◌≡◌, ℕ, ◌+◌, ◌≤◌, ◌<◌, ◌==◌, ◌⊎◌, ⊤, false, List, [], ◌∷◌, ◌++◌, length, Option, Some, None, Result, Ok, Err}
 use Rattle.stk_app.specs.declared.status.Status.{Status}
 use Rattle.stk_app.specs.declared.status.Status.TheVariants.{Done, Usage, BadInput, Limit, ReadFault, WriteFault, NoMemory}
-use Rattle.stk_app.specs.declared.status.LimitKind.TheVariants.{Line, Input}
+use Rattle.stk_app.specs.declared.status.LimitKind.TheVariants.{Line, Input, Ratio}
 use Rattle.stk_app.specs.declared.status.Stop.{Stop}
 use Rattle.stk_app.specs.declared.status.Stop.TheVariants as stop
 use Rattle.stk_app.specs.declared.status.EndStop.{EndStop}
@@ -14,6 +14,7 @@ use Rattle.stk_app.specs.Runs.{ran_from, AreAnswered, Named, Wrote, Held, Answer
 abbrev pub status_of : Stop → Status
 status_of (stop.BadInput n fault) = BadInput n fault
 status_of (stop.Long n) = Limit n Line
+status_of (stop.Ratio n over) = Limit n (Ratio over)
 status_of stop.Write = WriteFault
 status_of stop.NoMemory = NoMemory
 
@@ -28,6 +29,7 @@ status_at_end end.NoMemory = NoMemory
 abbrev pub LongOnly : Stop → List ℕ → Type 0
 LongOnly (stop.BadInput n fault) line = Unit {0}
 LongOnly (stop.Long n) line = longest < length line
+LongOnly (stop.Ratio n over) line = Unit {0}
 LongOnly stop.Write line = Unit {0}
 LongOnly stop.NoMemory line = Unit {0}
 
@@ -46,6 +48,7 @@ Grows written written' text = (old : List ℕ) → written ≡ Some old → writ
 abbrev pub PartEnds : {X : Type 0} → ℕ → Stage → (X → List (List ℕ)) → List (List ℕ) → Stop → List ℕ → Type 0
 PartEnds n s lines ended (stop.BadInput m fault) text = Named n s ended text (stop.BadInput m fault)
 PartEnds n s lines ended (stop.Long m) text = (x : _) → Named n s (lines x) text (stop.Long m)
+PartEnds n s lines ended (stop.Ratio m over) text = Named n s ended text (stop.Ratio m over)
 PartEnds n s lines ended stop.Write text = Wrote n s ended text
 PartEnds n s lines ended stop.NoMemory text = Wrote n s ended text ⊎ Held n s ended text
 
@@ -111,6 +114,7 @@ FinishAs n s lines Usage text = ⊥
 FinishAs n s lines (BadInput m fault) text = Named n s lines text (stop.BadInput m fault) ⊎ Lacking n s lines text (stop.BadInput m fault)
 FinishAs n s lines (Limit m Line) text = ⊥
 FinishAs n s lines (Limit m Input) text = ⊥
+FinishAs n s lines (Limit m (Ratio over)) text = Named n s lines text (stop.Ratio m over)
 FinishAs n s lines ReadFault text = ⊥
 FinishAs n s lines WriteFault text = Wrote n s lines text ⊎ Reported n s lines text ⊎ (ran_from n s lines ≡ record { text = text; fault = None })
 FinishAs n s lines NoMemory text = (Wrote n s lines text ⊎ Held n s lines text) ⊎ Reported n s lines text
@@ -129,6 +133,7 @@ NotAnswered stop.NoMemory n s line = Unit {0}
 NotAnswered stop.Write n s line = ⊥
 NotAnswered (stop.BadInput m fault) n s line = line_answer n s line ≡ Err (stop.BadInput m fault)
 NotAnswered (stop.Long m) n s line = (line_answer n s line ≡ Err (stop.Long m)) × (longest < length line)
+NotAnswered (stop.Ratio m over) n s line = line_answer n s line ≡ Err (stop.Ratio m over)
 
 -- why bytes were not added to a line: it would be too long, or memory was wanting
 abbrev pub NotExtended : Stop → ℕ → List ℕ → List ℕ → Type 0
@@ -136,12 +141,14 @@ NotExtended stop.NoMemory n line bytes = Unit {0}
 NotExtended stop.Write n line bytes = ⊥
 NotExtended (stop.BadInput m fault) n line bytes = ⊥
 NotExtended (stop.Long m) n line bytes = (m ≡ n) × (longest < length (line ++ bytes))
+NotExtended (stop.Ratio m over) n line bytes = ⊥
 
 -- the fact holds, unless the sink failed
 abbrev pub UnlessWrite : {X : Type 0} → Result X Stop → Type 0 → Type 0
 UnlessWrite (Ok x) P = P
 UnlessWrite (Err (stop.BadInput n fault)) P = P
 UnlessWrite (Err (stop.Long n)) P = P
+UnlessWrite (Err (stop.Ratio n over)) P = P
 UnlessWrite (Err stop.Write) P = Unit {0}
 UnlessWrite (Err stop.NoMemory) P = P
 
@@ -159,3 +166,4 @@ IsFault stop.NoMemory answer = Unit {0}
 IsFault stop.Write answer = ⊥
 IsFault (stop.BadInput m fault) answer = answer ≡ Err (stop.BadInput m fault)
 IsFault (stop.Long m) answer = ⊥
+IsFault (stop.Ratio m over) answer = answer ≡ Err (stop.Ratio m over)

@@ -4,7 +4,7 @@ ghost use Rattle.stk_app.specs.Lines.{whole_from};
 ghost use Rattle.stk_app.specs.Machine.{longest, stage_of};
 ghost use Rattle.stk_app.specs.Parts.{PartStops, Fed, lines_after, HasNoEnd, NotExtended, UnlessWrite};
 
-use crate::line::{LONGEST, take_line};
+use crate::line::{Buffers, LONGEST, take_line};
 use crate::status::Stop;
 use memchr::memchr;
 use std::alloc::Global;
@@ -57,6 +57,7 @@ fn extend(number: u64, line: &mut Vec<u8>, bytes: &[u8]) -> Result<(), Stop>
 /// Takes the bytes up to the end of a line, and that end.
 fn end_line<K: Sink>(
     alloc: Global,
+    buffers: &mut Buffers,
     sink: &mut K,
     progress: &mut Progress,
     bytes: &[u8],
@@ -78,6 +79,7 @@ fn end_line<K: Sink>(
     }
     if let Err(stop) = take_line(
         alloc,
+        buffers,
         sink,
         progress.number,
         &mut progress.chain,
@@ -93,6 +95,7 @@ fn end_line<K: Sink>(
 /// Takes the next bytes of the source.
 pub fn feed<K: Sink>(
     alloc: Global,
+    buffers: &mut Buffers,
     sink: &mut K,
     progress: &mut Progress,
     piece: &[u8],
@@ -110,7 +113,7 @@ pub fn feed<K: Sink>(
 {
     let mut rest = piece;
     while let Some(end) = end_of_line(rest) {
-        if let Err(stop) = end_line(alloc, sink, progress, &rest[..end]) {
+        if let Err(stop) = end_line(alloc, buffers, sink, progress, &rest[..end]) {
             return Err(stop);
         }
         rest = after(rest, end + 1);

@@ -4,7 +4,7 @@ ghost use Rattle.stk_app.specs.Lines.{last_line};
 ghost use Rattle.stk_app.specs.Machine.{stage_of};
 ghost use Rattle.stk_app.specs.Parts.{EndLongOnly, IsOfReport, FinishStops, Finishes, UnlessWriteAtEnd};
 
-use crate::line::take_line;
+use crate::line::{Buffers, take_line};
 use crate::report::report_text;
 use crate::status::{EndStop, InputFault, Stop};
 use std::alloc::Global;
@@ -44,6 +44,7 @@ fn report<K: Sink>(alloc: Global, sink: &mut K, chain: &Option<Chain>) -> Result
 /// the flush.
 pub fn finish<K: Sink>(
     alloc: Global,
+    buffers: &mut Buffers,
     sink: &mut K,
     number: u64,
     chain: &mut Option<Chain>,
@@ -63,7 +64,7 @@ pub fn finish<K: Sink>(
     if line.is_empty() {
         return report(alloc, sink, chain);
     }
-    if let Err(stop) = take_line(alloc, sink, number, chain, line) {
+    if let Err(stop) = take_line(alloc, buffers, sink, number, chain, line) {
         return Err(EndStop::Line(stop));
     }
     report(alloc, sink, chain)

@@ -15,6 +15,8 @@ pub use status::{InputFault, LimitKind, Status};
 #[cfg(test)]
 mod block_tests;
 #[cfg(test)]
+mod limit_tests;
+#[cfg(test)]
 mod outside_tests;
 #[cfg(test)]
 mod samples;

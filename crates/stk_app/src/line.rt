@@ -4,14 +4,15 @@ ghost use Rattle.stk_io.specs.Outside.{Rose};
 ghost use Rattle.stk_json.specs.Genesis.{genesis_of};
 ghost use Rattle.stk_json.specs.Block.{block_of};
 ghost use Rattle.stk_machine.specs.Built.{is_built};
-ghost use Rattle.stk_app.specs.Machine.{line_answer, not_read, not_started, not_applied, genesis_answer, block_answer, is_built_block, stage_of};
+ghost use Rattle.stk_app.specs.Machine.{line_answer, not_read, not_applied, IsOfGenesis, IsNotStarted, genesis_answer, block_answer, is_built_block, stage_of};
 ghost use Rattle.stk_app.specs.Parts.{IsFault, LongOnly, NotAnswered, PartStops, Took, UnlessWrite};
 
 use crate::status::{InputFault, Stop};
+use json::Scratch;
 use std::alloc::Global;
 use stk_chain::{Chain, ChainFault};
 use stk_io::{Sink, SinkFault, write_all};
-use stk_json::{line_of_genesis, lines_of_block, read_block, read_genesis};
+use stk_json::{push_line_of_genesis, push_lines_of_block, read_block, read_genesis};
 use stk_msgs::{Block, BlockFault, Genesis, LineFault, Msg, Tx};
 
 /// The most bytes of a line, without its end.
@@ -28,25 +29,27 @@ fn not_read(number: u64, fault: LineFault) -> Stop
     }
 }
 
-/// Why a genesis starts no chain.
+/// Why a genesis starts no chain. It has no items that could be bad.
 fn not_started(number: u64, fault: ChainFault) -> Stop
-    ensures { result ≡ not_started number fault }
+    requires { IsOfGenesis fault }
+    ensures { IsNotStarted number fault result }
 {
     match fault {
         ChainFault::BadGenesis(condition) => {
             Stop::BadInput(number, InputFault::BadGenesis(condition))
         }
-        ChainFault::BadItems => Stop::NoMemory,
+        ChainFault::BadItems => unreachable!(),
         ChainFault::NoMemory => Stop::NoMemory,
     }
 }
 
 /// Why a block is not applied.
-fn not_applied(number: u64, fault: BlockFault) -> Stop
+pub(crate) fn not_applied(number: u64, fault: BlockFault) -> Stop
     ensures { result ≡ not_applied number fault }
 {
     match fault {
         BlockFault::NoMemory => Stop::NoMemory,
+        BlockFault::RatioLimit(over) => Stop::Ratio(number, over),
         fault => Stop::BadInput(number, InputFault::Block(fault)),
     }
 }
@@ -82,12 +85,21 @@ fn is_built_block(block: &Block) -> bool
     block.votes.len() == 0 && block.evidence.len() == 0 && have_built_only(block.txs.as_slice())
 }
 
-/// The answer to the first line: the chain that it starts, and its text.
-fn begin(alloc: Global, number: u64, line: &[u8]) -> Result<(Chain, Vec<u8>), Stop>
-    ensures ok { IfOk result (λ first. genesis_answer number (genesis_of line.now) ≡ Ok (record { text = first.1.items; stage = stage_of (Some first.0) })) }
+/// What is kept from line to line for its memory alone: the scratch of a line's tape, and the text of its answer.
+#[derive(Drop)]
+pub struct Buffers {
+    pub scratch: Scratch,
+    pub text: Vec<u8>,
+}
+
+/// The answer to the first line: the chain that it starts, and its text. A genesis may be far longer than a block, so it has
+/// a scratch of its own.
+fn begin(alloc: Global, text: &mut Vec<u8>, number: u64, line: &[u8]) -> Result<Chain, Stop>
+    requires { text.old.items ≡ [] }
+    ensures ok { IfOk result (λ chain. genesis_answer number (genesis_of line.now) ≡ Ok (record { text = text.new.items; stage = stage_of (Some chain) })) }
     ensures err { IfErr result (λ stop. IsFault stop (genesis_answer number (genesis_of line.now))) }
 {
-    let genesis = match read_genesis(alloc, line) {
+    let genesis = match read_genesis(alloc, &mut Scratch::new(alloc), line) {
         Ok(genesis) => genesis,
         Err(fault) => return Err(not_read(number, fault)),
     };
@@ -95,22 +107,32 @@ fn begin(alloc: Global, number: u64, line: &[u8]) -> Result<(Chain, Vec<u8>), St
         Ok((chain, _facts)) => chain,
         Err(fault) => return Err(not_started(number, fault)),
     };
-    let Ok(supply) = chain.supply(alloc) else {
-        return Err(Stop::NoMemory);
+    let supply = match chain.supply(alloc) {
+        Ok(supply) => supply,
+        Err(ChainFault::NoMemory) => return Err(Stop::NoMemory),
+        Err(_) => unreachable!(),
     };
-    match line_of_genesis(alloc, &supply) {
-        Ok(text) => Ok((chain, text)),
-        Err(_) => Err(Stop::NoMemory),
+    match push_line_of_genesis(alloc, text, &supply) {
+        Ok(()) => Ok(chain),
+        Err(LineFault::NoMemory) => Err(Stop::NoMemory),
+        Err(_) => unreachable!(),
     }
 }
 
 /// The answer to a line after the genesis, which leads the chain on.
 #[tactic(auto, using(crate::proofs::ReadLemmas::height_is_low))]
-fn advance(alloc: Global, number: u64, chain: &mut Chain, line: &[u8]) -> Result<Vec<u8>, Stop>
-    ensures ok { IfOk result (λ text. block_answer number chain.old.state (block_of line.now) ≡ Ok (record { text = text.items; stage = stage_of (Some chain.new) })) }
+fn advance(
+    alloc: Global,
+    buffers: &mut Buffers,
+    number: u64,
+    chain: &mut Chain,
+    line: &[u8],
+) -> Result<(), Stop>
+    requires { buffers.old.text.items ≡ [] }
+    ensures ok { OnOk result (block_answer number chain.old.state (block_of line.now) ≡ Ok (record { text = buffers.new.text.items; stage = stage_of (Some chain.new) })) }
     ensures err { IfErr result (λ stop. IsFault stop (block_answer number chain.old.state (block_of line.now))) }
 {
-    let block = match read_block(alloc, line) {
+    let block = match read_block(alloc, &mut buffers.scratch, line) {
         Ok(block) => block,
         Err(fault) => return Err(not_read(number, fault)),
     };
@@ -121,35 +143,38 @@ fn advance(alloc: Global, number: u64, chain: &mut Chain, line: &[u8]) -> Result
         Ok(report) => report,
         Err(fault) => return Err(not_applied(number, fault)),
     };
-    match lines_of_block(alloc, &report) {
-        Ok(text) => Ok(text),
-        Err(_) => Err(Stop::NoMemory),
+    match push_lines_of_block(alloc, &mut buffers.text, &report) {
+        Ok(()) => Ok(()),
+        Err(LineFault::NoMemory) => Err(Stop::NoMemory),
+        Err(_) => unreachable!(),
     }
 }
 
-/// The machine's answer to a line, which leads the chain to its next stage.
+/// The machine's answer to a line, which leads the chain to its next stage, and whose text takes the place of the last one.
 #[tactic(auto, unfolding(crate::specs::Machine::line_answer))]
 fn answer(
     alloc: Global,
+    buffers: &mut Buffers,
     number: u64,
     chain: &mut Option<Chain>,
     line: &[u8],
-) -> Result<Vec<u8>, Stop>
-    ensures ok { IfOk result (λ text. line_answer number (stage_of chain.old) line.now ≡ Ok (record { text = text.items; stage = stage_of chain.new })) }
+) -> Result<(), Stop>
+    ensures ok { OnOk result (line_answer number (stage_of chain.old) line.now ≡ Ok (record { text = buffers.new.text.items; stage = stage_of chain.new })) }
     ensures err { IfErr result (λ stop. NotAnswered stop number (stage_of chain.old) line.now) }
 {
     if line.len() > LONGEST {
         return Err(Stop::Long(number));
     }
+    buffers.text.clear();
     match chain {
-        Some(chain) => advance(alloc, number, chain, line),
+        Some(chain) => advance(alloc, buffers, number, chain, line),
         None => {
-            let (first, text) = match begin(alloc, number, line) {
+            let first = match begin(alloc, &mut buffers.text, number, line) {
                 Ok(first) => first,
                 Err(stop) => return Err(stop),
             };
             *chain = Some(first);
-            Ok(text)
+            Ok(())
         }
     }
 }
@@ -157,6 +182,7 @@ fn answer(
 /// Answers one line, and writes its text.
 pub fn take_line<K: Sink>(
     alloc: Global,
+    buffers: &mut Buffers,
     sink: &mut K,
     number: u64,
     chain: &mut Option<Chain>,
@@ -171,11 +197,10 @@ pub fn take_line<K: Sink>(
         → Rose (K.faults sink.old) (K.faults sink.new) }
     ensures quiet { UnlessWrite result (K.faults sink.new ≡ K.faults sink.old) }
 {
-    let text = match answer(alloc, number, chain, line) {
-        Ok(text) => text,
-        Err(stop) => return Err(stop),
-    };
-    match write_all(sink, &text) {
+    if let Err(stop) = answer(alloc, buffers, number, chain, line) {
+        return Err(stop);
+    }
+    match write_all(sink, &buffers.text) {
         Ok(()) => Ok(()),
         Err(SinkFault::Failed) => Err(Stop::Write),
         Err(SinkFault::NoMemory) => Err(Stop::NoMemory),

@@ -3,7 +3,8 @@ ghost use Rattle.stk_app.specs.Machine.{report_of};
 
 use crate::status::EndStop;
 use std::alloc::Global;
-use stk_chain::Chain;
+use stk_chain::{Chain, ChainFault};
+use stk_msgs::LineFault;
 use stk_report::{report, states_are_reported};
 
 /// The report of a chain: no rewards are pending, since none are kept yet. The only error is `NoMemory`.
@@ -13,11 +14,14 @@ pub fn report_text(alloc: Global, chain: &Chain) -> Result<Vec<u8>, EndStop>
     ensures fault { IfErr result (λ stop. stop ≡ EndStop.NoMemory) }
 {
     states_are_reported();
-    let Ok(items) = chain.items(alloc) else {
-        return Err(EndStop::NoMemory);
+    let items = match chain.items(alloc) {
+        Ok(items) => items,
+        Err(ChainFault::NoMemory) => return Err(EndStop::NoMemory),
+        Err(_) => unreachable!(),
     };
     match report(alloc, &items, &[]) {
         Ok(text) => Ok(text),
-        Err(_) => Err(EndStop::NoMemory),
+        Err(LineFault::NoMemory) => Err(EndStop::NoMemory),
+        Err(_) => unreachable!(),
     }
 }

@@ -4,17 +4,19 @@ ghost use Rattle.stk_app.specs.Lines.{last_line};
 ghost use Rattle.stk_app.specs.Machine.{longest, stage_of};
 ghost use Rattle.stk_app.specs.Outcome.{RunEnds, IsUntroubled, is_replay, most_bytes, UnlessReadFault, UnlessWriteFault};
 ghost use Rattle.stk_app.specs.Parts.{FinishStatus, Stands};
-ghost use Rattle.stk_machine.specs.BuiltLaws.{BuiltTransactionsEnd};
-ghost use Rattle.stk_app.specs.Laws.{StakesAreHeld, SupplyStays};
+ghost use Rattle.stk_machine.specs.BuiltLaws.{BuiltTransactionsEnd, BuiltMessagesNameConditions};
+ghost use Rattle.stk_app.specs.Laws.{RefusalsAreNamed, StakesAreHeld, SupplyStays};
 
 use crate::feeding::{Progress, feed};
 use crate::finishing::finish;
-use crate::line::LONGEST;
+use crate::line::{Buffers, LONGEST};
 use crate::status::{LimitKind, Status, status_at_end, status_of};
+use json::Scratch;
 use std::alloc::Global;
 use stk_io::{Sink, Source, read_at_most};
 use stk_machine::{
-    built_transactions_end, genesis_starts, staking_accounts_hold_what_is_owed, supplies_are_kept,
+    built_messages_name_conditions, built_transactions_end, genesis_starts,
+    staking_accounts_hold_what_is_owed, supplies_are_kept,
 };
 
 /// How many bytes are asked for at once.
@@ -38,7 +40,12 @@ fn room(taken: u64) -> usize
 }
 
 /// The input was read to its end.
-fn end<K: Sink>(alloc: Global, sink: &mut K, progress: &mut Progress) -> Status
+fn end<K: Sink>(
+    alloc: Global,
+    buffers: &mut Buffers,
+    sink: &mut K,
+    progress: &mut Progress,
+) -> Status
     requires { length progress.old.line.items ≤ longest }
     ensures status { FinishStatus progress.old.number (stage_of progress.old.chain) (last_line progress.old.line.items)
         (K.written sink.old) (K.written sink.new) result }
@@ -51,6 +58,7 @@ fn end<K: Sink>(alloc: Global, sink: &mut K, progress: &mut Progress) -> Status
 {
     match finish(
         alloc,
+        buffers,
         sink,
         progress.number,
         &mut progress.chain,
@@ -79,13 +87,18 @@ fn drive<S: Source, K: Sink>(alloc: Global, source: &mut S, sink: &mut K) -> Sta
         line: Vec::new(alloc),
         chain: None,
     };
-    take_all(alloc, source, sink, &mut progress)
+    let mut buffers = Buffers {
+        scratch: Scratch::new(alloc),
+        text: Vec::new(alloc),
+    };
+    take_all(alloc, &mut buffers, source, sink, &mut progress)
 }
 
 /// Takes the source to its end, from the beginning of a run on. What was led on stays the caller's, so that no way out of
 /// the loop has a chain to let go of.
 fn take_all<S: Source, K: Sink>(
     alloc: Global,
+    buffers: &mut Buffers,
     source: &mut S,
     sink: &mut K,
     progress: &mut Progress,
@@ -109,9 +122,9 @@ fn take_all<S: Source, K: Sink>(
     while taken < MOST {
         match read_at_most(source, &mut piece, room(taken)) {
             Err(_) => return Status::ReadFault,
-            Ok(0) => return end(alloc, sink, progress),
+            Ok(0) => return end(alloc, buffers, sink, progress),
             Ok(n) => {
-                if let Err(stop) = feed(alloc, sink, progress, &piece[..n]) {
+                if let Err(stop) = feed(alloc, buffers, sink, progress, &piece[..n]) {
                     return status_of(stop);
                 }
                 taken += n as u64;
@@ -120,7 +133,7 @@ fn take_all<S: Source, K: Sink>(
     }
     match read_at_most(source, &mut piece, 1) {
         Err(_) => Status::ReadFault,
-        Ok(0) => end(alloc, sink, progress),
+        Ok(0) => end(alloc, buffers, sink, progress),
         Ok(_) => {
             if piece[0] != b'\n' && progress.line.len() == LONGEST {
                 Status::Limit(progress.number, LimitKind::Line)
@@ -180,11 +193,14 @@ pub fn run<S: Source, K: Sink>(
     ensures supply { SupplyStays }
     ensures stakes { StakesAreHeld }
     ensures refusals { BuiltTransactionsEnd }
+    ensures conditions { BuiltMessagesNameConditions }
+    ensures named { RefusalsAreNamed }
 {
     genesis_starts();
     supplies_are_kept();
     staking_accounts_hold_what_is_owed();
     built_transactions_end();
+    built_messages_name_conditions();
     if !is_replay(words) {
         return Status::Usage;
     }

@@ -1,6 +1,7 @@
 ghost use Rattle.std.specs.Prelude.{◌≡◌};
 ghost use Rattle.stk_app.specs.Parts.{status_of, status_at_end};
 
+use stk_dec::Over;
 use stk_msgs::BlockFault;
 
 /// Why a line of the input is not answered.
@@ -27,6 +28,9 @@ pub enum LimitKind {
     Line,
     /// 2^40 bytes were taken, and the input goes on.
     Input,
+    /// A result of the beginning of a block would be 10^38 units or more, or a period that it ends is 10^18;
+    /// its operands.
+    Ratio(Over),
 }
 
 /// How a run ended.
@@ -53,6 +57,7 @@ pub enum Status {
 pub enum Stop {
     BadInput(u64, InputFault),
     Long(u64),
+    Ratio(u64, Over),
     Write,
     NoMemory,
 }
@@ -76,6 +81,7 @@ pub fn status_of(stop: Stop) -> Status
     match stop {
         Stop::BadInput(n, fault) => Status::BadInput(n, fault),
         Stop::Long(n) => Status::Limit(n, LimitKind::Line),
+        Stop::Ratio(n, over) => Status::Limit(n, LimitKind::Ratio(over)),
         Stop::Write => Status::WriteFault,
         Stop::NoMemory => Status::NoMemory,
     }

@@ -19,8 +19,8 @@ use Rattle.stk_keep.specs.Orders.{place_cmp}
 use Rattle.stk_keep.proofs.HoldingLemmas.{account_total}
 use Rattle.stk_bank.specs.Booked.{AreNamed}
 use Rattle.stk_bank.specs.Rows.{own_coin}
-use Rattle.stk_bank.proofs.OrderLemmas.{place_order, place_order_is}
-use Rattle.stk_bank.proofs.ItemLemmas.{same_account}
+use Rattle.stk_bank.proofs.KindLemmas.{place_order, place_order_is}
+use Rattle.stk_bank.proofs.KindLemmas.{same_account}
 
 -- ---- no name is before "A--"
 

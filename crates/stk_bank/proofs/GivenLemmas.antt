@@ -16,8 +16,8 @@ use Rattle.stk_keep.proofs.EntryLemmas.{ascend-after}
 use Rattle.stk_keep.proofs.HoldingLemmas.{place_total, denom_total, balance-changed, ascend-changed, backed-none}
 use Rattle.stk_bank.specs.Given.{coin_given, coins_given, all_given, given_of, given_to}
 use Rattle.stk_bank.specs.Laws.{AreCoins, EachHoldsWhatItIsGiven, SuppliesAreWhatAllAreGiven}
-use Rattle.stk_bank.proofs.MemberLemmas.{same_key}
-use Rattle.stk_bank.proofs.ItemLemmas.{same_place}
+use Rattle.stk_rows.proofs.MemberLemmas.{same_key}
+use Rattle.stk_bank.proofs.KindLemmas.{same_place}
 use Rattle.stk_bank.proofs.GiveLemmas.{supply-given, amount-cons}
 
 both_at : (r s : Ordering) → is_eq (ordering_then r s) ≡ is_eq r && is_eq s

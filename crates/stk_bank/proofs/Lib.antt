@@ -1,11 +1,9 @@
+pub mod KindLemmas
 pub mod OrderLemmas
 pub mod StepLemmas
 pub mod SendLemmas
 pub mod GiveLemmas
-pub mod MemberLemmas
-pub mod RowLemmas
 pub mod ItemLemmas
-pub mod WalkLemmas
 pub mod CoinLemmas
 pub mod PurseLemmas
 pub mod GivenLemmas

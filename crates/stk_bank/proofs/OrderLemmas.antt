@@ -7,6 +7,7 @@ use Rattle.std.specs.BTreeMap.{is_at}
 use Rattle.std.specs.Ordering.{ordering_then}
 use Rattle.stk_keep.specs.Holdings.{coin_if}
 use Rattle.stk_bank.specs.Rows.{own_coin}
+use Rattle.stk_bank.proofs.KindLemmas.{place_order, place_order_is}
 use Rattle.std.specs.List.Sorted.{IsStrictlySortedBy}
 use Rattle.std.specs.Map.{keys_of}
 use Rattle.stk_types.specs.declared.account.Account.{Account}
@@ -17,38 +18,6 @@ use Rattle.stk_types.specs.contracts.account.AccountPartialEq.TheImpl.{ghosts as
 use Rattle.stk_types.specs.Orders.{account_cmp, denom_cmp}
 use Rattle.stk_table.specs.Tabled.{Tabled, with_value, without_key}
 use Rattle.stk_keep.specs.Orders.{place_cmp}
-
--- the derived order of accounts
-abbrev pub account_order : Account → Account → Ordering
-account_order a b = ghosts.cmp a b
-
-same_order : (a b : Account) → account_order a b ≡ account_cmp a b
-same_order (account.User a) (account.User b) = refl
-same_order (account.User a) (account.Module n) = refl
-same_order (account.Module m) (account.User b) = refl
-same_order (account.Module FeeCollector) (account.Module FeeCollector) = refl
-same_order (account.Module FeeCollector) (account.Module Bonded) = refl
-same_order (account.Module FeeCollector) (account.Module NotBonded) = refl
-same_order (account.Module FeeCollector) (account.Module Distribution) = refl
-same_order (account.Module Bonded) (account.Module FeeCollector) = refl
-same_order (account.Module Bonded) (account.Module Bonded) = refl
-same_order (account.Module Bonded) (account.Module NotBonded) = refl
-same_order (account.Module Bonded) (account.Module Distribution) = refl
-same_order (account.Module NotBonded) (account.Module FeeCollector) = refl
-same_order (account.Module NotBonded) (account.Module Bonded) = refl
-same_order (account.Module NotBonded) (account.Module NotBonded) = refl
-same_order (account.Module NotBonded) (account.Module Distribution) = refl
-same_order (account.Module Distribution) (account.Module FeeCollector) = refl
-same_order (account.Module Distribution) (account.Module Bonded) = refl
-same_order (account.Module Distribution) (account.Module NotBonded) = refl
-same_order (account.Module Distribution) (account.Module Distribution) = refl
-
--- the order of the keys
-abbrev pub place_order : Account × List ℕ → Account × List ℕ → Ordering
-place_order x y = ordering_then (account_order x.0 y.0) (denom_cmp x.1 y.1)
-
-pub place_order_is : place_order ≡ place_cmp
-place_order_is = λ i. λ x y. ordering_then (same_order x.0 y.0 i) (denom_cmp x.1 y.1)
 
 pub put_at : (b b2 : Tabled (Account × List ℕ) ℕ) (k : Account × List ℕ) (n : ℕ) → b2 ≡ with_value place_order b k n → b2 ≡ with_value place_cmp b k n
 put_at b b2 k n e = subst (λ order. b2 ≡ with_value order b k n) place_order_is e

@@ -20,10 +20,11 @@ use Rattle.stk_coins.proofs.Sorting.{rises_sorted, amount-sorted}
 use Rattle.stk_keep.specs.Holdings.{Holdings, Balances, balance_of, coin_if, coins_of, IsBacked}
 use Rattle.stk_keep.specs.Orders.{place_cmp}
 use Rattle.stk_keep.proofs.HoldingLemmas.{place_total, denom_total, balance-most}
-use Rattle.stk_bank.proofs.OrderLemmas.{place_order, ordered_at}
-use Rattle.stk_bank.proofs.MemberLemmas.{Member, value_of}
-use Rattle.stk_bank.proofs.WalkLemmas.{left_of, walk-more, walk-end}
-use Rattle.stk_bank.proofs.ItemLemmas.{same_account, same_place}
+use Rattle.stk_bank.proofs.KindLemmas.{place_order}
+use Rattle.stk_bank.proofs.OrderLemmas.{ordered_at}
+use Rattle.stk_rows.proofs.MemberLemmas.{Member, value_of}
+use Rattle.stk_rows.proofs.WalkLemmas.{left_of, walk-more, walk-end}
+use Rattle.stk_bank.proofs.KindLemmas.{same_account, same_place}
 use Rattle.stk_bank.proofs.CoinLemmas.{coins}
 
 -- ---- in order

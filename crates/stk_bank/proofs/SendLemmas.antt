@@ -10,7 +10,7 @@ use Rattle.stk_coins.proofs.Order.{Rises, rises_from_money}
 use Rattle.stk_keep.specs.Holdings.{Holdings, balance_of, supply_of, total_of, with_balance, coin_moved, moved, is_short, coin_burned, IsBacked}
 use Rattle.stk_keep.specs.Orders.{place_cmp}
 use Rattle.stk_keep.proofs.HoldingLemmas.{balance-changed, balance-most, balance-within, backed-coin_moved, backed-moved, backed-burned, first_enough, rest_enough, still_enough}
-use Rattle.stk_bank.specs.Booked.{Booked, holding}
+use Rattle.stk_bank.specs.Booked.{Booked, holding, spent_now}
 
 -- ---- walks by place
 
@@ -120,12 +120,12 @@ balance-in_supply h who d b =
 
 module _ {E : Type 0} (old new : Booked) (b : IsBacked old.holdings) where
   pub backed-sent : (r : Result ⊤ E) (from to : Account) (coins : Money) → IsMoney coins → is_short old.holdings from coins ≡ false
-      → OnOk r (new ≡ holding (moved from to coins old.holdings) old) → OnErr r (new ≡ record old { spent = new.spent }) → IsBacked new.holdings
+      → OnOk r (new ≡ holding (moved from to coins old.holdings) old) → OnErr r (new ≡ spent_now old) → IsBacked new.holdings
   backed-sent (Ok x) from to coins m e ok err = subst (λ h. IsBacked h.holdings) (sym ok) (backed-moved coins old.holdings from to b m e)
   backed-sent (Err x) from to coins m e ok err = subst (λ h. IsBacked h.holdings) (sym err) b
 
   pub backed-burnt : (r : Result ⊤ E) (from : Account) (d : List ℕ) (n : ℕ) → (n ≡ 0 → ⊥) → n ≤ balance_of old.holdings from d
-      → OnOk r (new ≡ holding (coin_burned from d n old.holdings) old) → OnErr r (new ≡ record old { spent = new.spent }) → IsBacked new.holdings
+      → OnOk r (new ≡ holding (coin_burned from d n old.holdings) old) → OnErr r (new ≡ spent_now old) → IsBacked new.holdings
   backed-burnt (Ok x) from d n p le ok err =
       let z : (n == 0) ≡ false = grind (arith, nat_tests) in
       subst (λ h. IsBacked h.holdings) (sym ok) (subst (λ t. IsBacked (cond t old.holdings (coin_burned from d n old.holdings))) z (backed-burned old.holdings from d n b le))

@@ -14,23 +14,7 @@ use Rattle.stk_table.specs.Tabled as table
 use Rattle.stk_coins.specs.Coins.{Money}
 use Rattle.stk_keep.specs.Holdings.{Balances}
 use Rattle.stk_keep.specs.Orders.{place_cmp}
-use Rattle.stk_bank.specs.Booked.{booked, with_mark, side_by_side, IsGoneBack, IsForgotten, AreNamed, AreNamedAtMarks, AreInStep, numbers}
-
--- ---- lists that end alike
-
-push_not_nil : {A : Type 0} (xs : List A) (x : A) → [] ≡ xs ++ x ∷ [] → ⊥
-push_not_nil [] x e = absurd cc
-push_not_nil (y ∷ xs) x e = absurd cc
-
-pub same_last : {A : Type 0} (xs ys : List A) (x y : A) → xs ++ x ∷ [] ≡ ys ++ y ∷ [] → (xs ≡ ys) × (x ≡ y)
-same_last [] [] x y e = (refl, cc)
-same_last [] (b ∷ ys) x y e = let rest : [] ≡ ys ++ y ∷ [] = cc in absurd (push_not_nil ys y rest)
-same_last (a ∷ xs) [] x y e = let rest : [] ≡ xs ++ x ∷ [] = cc in absurd (push_not_nil xs x rest)
-same_last (a ∷ xs) (b ∷ ys) x y e =
-    let rest : xs ++ x ∷ [] ≡ ys ++ y ∷ [] = cc in
-    let first : a ≡ b = cc in
-    let more = same_last xs ys x y rest in
-    ((λ i. first i ∷ more.0 i), more.1)
+use Rattle.stk_bank.specs.Booked.{booked, with_mark, side_by_side, IsGoneBack, IsForgotten, AreNamed, AreNamedAtMarks, AreInStep}
 
 -- ---- marks side by side
 
@@ -158,16 +142,3 @@ module _ (b : Tabled (Account × List ℕ) ℕ) (s : Tabled (List ℕ) ℕ) (h :
   closed-both spent e =
       let n : length b.marks ≡ 0 = sym (length-side b.marks s.marks h.depth) ∙ ap length e in
       (none_from_length b.marks n, none_from_length s.marks (sym h.depth ∙ n))
-
--- ---- the depths of open marks
-
-pub numbers-push : {A : Type 0} (xs : List A) (x : A) → numbers (length (xs ++ x ∷ [])) ≡ numbers (length xs) ++ length xs ∷ []
-numbers-push xs x = ap numbers (length_push xs x ∙ one (length xs))
-  where
-    one : (n : ℕ) → n + 1 ≡ suc n
-    one n = omega arith
-
--- the latest mark is the deepest, and the others are as many as there are below it
-pub numbers-pop : {A : Type 0} (all ns : List ℕ) (n : ℕ) (xs ys : List A) (x : A) → all ≡ ns ++ n ∷ [] → all ≡ numbers (length xs) → ys ++ x ∷ [] ≡ xs → (ns ≡ numbers (length ys)) × (n ≡ length ys)
-numbers-pop all ns n xs ys x e f g =
-    same_last ns (numbers (length ys)) n (length ys) (sym e ∙ f ∙ ap (λ l. numbers (length l)) (sym g) ∙ numbers-push ys x)

@@ -1,10 +1,14 @@
 -- A book as contracts see it, and what its marks and its two tables do.
-use Rattle.std.specs.Prelude.{◌≡◌, ℕ, Bool, true, false, List, [], ◌∷◌, ◌++◌, length, zero, suc}
+use Rattle.std.specs.Prelude.{◌≡◌, ℕ, Bool, true, false, List, [], ◌∷◌, ◌++◌, length}
+use Rattle.std.specs.List.Sorted.{IsStrictlySortedBy}
+use Rattle.std.specs.Map.{keys_of}
 use Rattle.stk_types.specs.declared.account.Account.{Account}
 use Rattle.stk_types.specs.Denom.{is_denom}
+use Rattle.stk_types.specs.Orders.{denom_cmp}
 use Rattle.stk_table.specs.Tabled.{Tabled}
 use Rattle.stk_coins.specs.Coins.{Money, with_amount}
 use Rattle.stk_keep.specs.Holdings.{Holdings, Balances, no_holdings}
+use Rattle.stk_keep.specs.Orders.{place_cmp}
 
 -- what a book is seen as
 pub record Booked : Type 0 where
@@ -55,6 +59,11 @@ pub record IsForgotten (old new : Booked) : Type 0 where
 abbrev pub with_supply : Holdings → List ℕ → ℕ → Holdings
 with_supply h d n = record { balances = h.balances; supplies = with_amount h.supplies d n }
 
+-- the keys of balances and of supplies ascend
+pub record AreInOrder (h : Holdings) : Type 0 where
+  pub balances : IsStrictlySortedBy place_cmp (keys_of h.balances)
+  pub supplies : IsStrictlySortedBy denom_cmp (keys_of h.supplies)
+
 -- the entries of two tables side by side, mark by mark
 abbrev pub side_by_side : List Balances → List Money → List Holdings
 side_by_side [] ss = []
@@ -85,8 +94,3 @@ pub record AreInStep (balances : Tabled (Account × List ℕ) ℕ) (supplies : T
   pub depth : length balances.marks ≡ length supplies.marks
   pub named : AreNamed balances.entries
   pub named_at_marks : AreNamedAtMarks balances.marks
-
--- the numbers below n, in their order
-abbrev pub numbers : ℕ → List ℕ
-numbers zero = []
-numbers (suc n) = numbers n ++ n ∷ []

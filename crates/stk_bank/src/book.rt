@@ -1,5 +1,6 @@
-ghost use Rattle.std.specs.Prelude.{◌≡◌, ℕ, true, Err, [], length, IfOk, IfErr};
+ghost use Rattle.std.specs.Prelude.{◌≡◌, ℕ, true, Err, ◌++◌, ◌∷◌, [], length, OnOk, OnErr, IfOk, IfErr};
 ghost use Rattle.stk_keep.specs.Holdings.{IsBacked};
+ghost use Rattle.stk_keep.specs.declared.facts.Fact.TheVariants as fact;
 ghost use Rattle.stk_keep.specs.declared.faults.BankFault.TheVariants.{NoMemory};
 ghost use Rattle.stk_keep.specs.declared.faults.Stop.TheVariants as stop;
 ghost use Rattle.stk_bank.specs.Booked.{Booked, Behind, behind, new_book, holding};
@@ -25,13 +26,14 @@ pub struct Book {
 
 impl Model for Book {
     ghost use Rattle.std.specs.Prelude.{◌≡◌, length};
-    ghost use Rattle.stk_bank.specs.Booked.{Booked, numbers};
+    ghost use Rattle.std.specs.List.{range_with_len};
+    ghost use Rattle.stk_bank.specs.Booked.{Booked};
 
     ghost Value = { Booked };
 
     ghost view = { λ b. b.tables };
 
-    ghost invariant = { λ b. b.marks.items ≡ numbers (length b.tables.marks) };
+    ghost invariant = { λ b. b.marks.items ≡ range_with_len 0 (length b.tables.marks) };
 }
 
 impl Book {
@@ -155,11 +157,10 @@ impl Bank for Book {
             return Ok(());
         }
         let told = facts.len();
-        facts.push(Fact::Transfer {
-            from: *from,
-            to: *to,
-            coins: coins.copied()?,
-        })?;
+        if tell_transfer(facts, from, to, coins).is_err() {
+            self.tables.spend();
+            return Err(BankFault::NoMemory);
+        }
         if self.tables.send(from, to, coins, steps).is_err() {
             facts.cut(told);
             return Err(BankFault::NoMemory);
@@ -186,11 +187,32 @@ impl Bank for Book {
             return Err(BankFault::Short);
         }
         let told = facts.len();
-        facts.push(Fact::Burn { from, coin: *coin })?;
+        if facts.push(Fact::Burn { from, coin: *coin }).is_err() {
+            self.tables.spend();
+            return Err(BankFault::NoMemory);
+        }
         if self.tables.burn(&place, coin.amount, steps).is_err() {
             facts.cut(told);
             return Err(BankFault::NoMemory);
         }
         Ok(())
     }
+}
+
+/// Tells a transfer, or nothing where memory is wanting.
+fn tell_transfer(
+    facts: &mut Facts,
+    from: &Account,
+    to: &Account,
+    coins: &Coins,
+) -> Result<(), BankFault>
+    ensures ok { OnOk result (facts.new ≡ facts.old ++ fact.Transfer from.now to.now coins.now ∷ []) }
+    ensures err { OnErr result (facts.new ≡ facts.old) }
+{
+    facts.push(Fact::Transfer {
+        from: *from,
+        to: *to,
+        coins: coins.copied()?,
+    })?;
+    Ok(())
 }

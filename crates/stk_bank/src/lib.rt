@@ -3,11 +3,11 @@
 #![tactic(auto)]
 
 mod book;
+mod kinds;
 mod laws;
 mod mark;
 mod moves;
 mod records;
-mod row;
 mod tables;
 mod walk;
 mod worked;

@@ -3,7 +3,7 @@
 ghost use Rattle.std.specs.Prelude.{◌≡◌, ℕ, List, ◌+◌, ◌*◌, ◌^◌, ◌≤◌, ◌<◌, length, slice_get, Some, true, false, OnOk, OnErr};
 ghost use Rattle.stk_coins.specs.Coins.{amount_of};
 ghost use Rattle.stk_keep.specs.Holdings.{balance_of, supply_of, is_short, moved, coin_moved, coin_burned, IsBacked};
-ghost use Rattle.stk_bank.specs.Booked.{holding, IsGoneBack, IsForgotten};
+ghost use Rattle.stk_bank.specs.Booked.{holding, spent_now, IsGoneBack, IsForgotten};
 ghost use Rattle.stk_bank.specs.Given.{coin_given, coins_given};
 
 use crate::mark::TablesMark;
@@ -33,7 +33,8 @@ impl Tables {
         false
     }
 
-    /// Moves coins from one account to another, or changes no holdings where memory is wanting.
+    /// Moves coins from one account to another. Where memory is wanting the tables are spent, and else as they
+    /// were.
     pub(crate) fn send<L: Ledger>(
         &mut self,
         from: &Account,
@@ -44,16 +45,23 @@ impl Tables {
         requires backed { IsBacked self.old.holdings }
         requires enough { is_short self.old.holdings from.now coins.now ≡ false }
         ensures ok { OnOk result (self.new ≡ holding (moved from.now to.now coins.now self.old.holdings) self.old) }
-        ensures err { OnErr result (self.new ≡ record self.old { spent = self.new.spent }) }
-        ensures spent { self.old.spent ≡ true → self.new.spent ≡ true }
+        ensures err { OnErr result (self.new ≡ spent_now self.old) }
         ensures cost { steps.new ≤ steps.old + 4 * length coins.now }
     {
-        let mark = self.mark()?;
-        let change = self.move_coins(from, to, coins, steps);
-        self.close(mark, change)
+        match self.mark() {
+            Ok(mark) => {
+                let change = self.move_coins(from, to, coins, steps);
+                self.close(mark, change)
+            }
+            Err(fault) => {
+                self.spend();
+                Err(fault)
+            }
+        }
     }
 
-    /// Burns an amount of an account's balance, or changes no holdings where memory is wanting.
+    /// Burns an amount of an account's balance. Where memory is wanting the tables are spent, and else as they
+    /// were.
     pub(crate) fn burn<L: Ledger>(
         &mut self,
         place: &(Account, Denom),
@@ -63,12 +71,18 @@ impl Tables {
         requires backed { IsBacked self.old.holdings }
         requires enough { amount ≤ balance_of self.old.holdings place.now.0 place.now.1 }
         ensures ok { OnOk result (self.new ≡ holding (coin_burned place.now.0 place.now.1 amount self.old.holdings) self.old) }
-        ensures err { OnErr result (self.new ≡ record self.old { spent = self.new.spent }) }
-        ensures spent { self.old.spent ≡ true → self.new.spent ≡ true }
+        ensures err { OnErr result (self.new ≡ spent_now self.old) }
     {
-        let mark = self.mark()?;
-        let change = self.burn_coin(place, amount, steps);
-        self.close(mark, change)
+        match self.mark() {
+            Ok(mark) => {
+                let change = self.burn_coin(place, amount, steps);
+                self.close(mark, change)
+            }
+            Err(fault) => {
+                self.spend();
+                Err(fault)
+            }
+        }
     }
 
     /// Gives coins to an account; the supplies rise by them. Where memory is wanting some may be given.

@@ -1,13 +1,14 @@
 //! What a book keeps, as items of the state.
 
 ghost use Rattle.stk_keep.specs.Holdings.{Holdings};
+ghost use Rattle.stk_bank.specs.Booked.{AreInOrder};
 ghost use Rattle.stk_bank.specs.Rows.{items_of, is_holding};
 
 use crate::book::Book;
-use crate::walk::{changes_into, rows_into};
 use std::alloc::Global;
 use std::sync::ledger::Ledger;
 use stk_keep::{Item, RecordFault, Records};
+use stk_rows::Kinds;
 use stk_types::Steps;
 
 impl Records for Book {
@@ -21,9 +22,15 @@ impl Records for Book {
 
     ghost spent = { λ b. b.spent };
 
+    ghost AreInOrder = { AreInOrder };
+
     ghost items = { items_of };
 
     ghost is_kind = { is_holding };
+
+    fn ordered(&self) {
+        self.tables.known();
+    }
 
     fn mark<L: Ledger>(
         &mut self,
@@ -55,8 +62,7 @@ impl Records for Book {
         out: &mut Vec<Item>,
         steps: &mut Steps<L>,
     ) -> Result<(), RecordFault> {
-        rows_into(self.tables.balances(), out, steps)?;
-        rows_into(self.tables.supplies(), out, steps)
+        self.tables.kinds().items_into(out, steps)
     }
 
     fn changes_into<L: Ledger>(
@@ -64,8 +70,8 @@ impl Records for Book {
         out: &mut Vec<(Item, bool)>,
         steps: &mut Steps<L>,
     ) -> Result<(), RecordFault> {
-        changes_into(self.tables.balances(), out, steps)?;
-        changes_into(self.tables.supplies(), out, steps)
+        let alloc = *self.marks.allocator();
+        self.tables.kinds().changes_into(alloc, out, steps)
     }
 
     fn load<L: Ledger>(

@@ -7,14 +7,19 @@ ghost use Rattle.std.specs.BTreeMap.{insert_entry};
 ghost use Rattle.stk_types.specs.Orders.{denom_cmp};
 ghost use Rattle.stk_keep.specs.Holdings.{balance_of, supply_of, with_balance};
 ghost use Rattle.stk_keep.specs.Orders.{place_cmp};
-ghost use Rattle.stk_bank.specs.Booked.{new_book, holding, spent_now, with_mark, with_supply, AreNamed, IsGoneBack, IsForgotten};
+ghost use Rattle.stk_bank.specs.Booked.{new_book, holding, spent_now, with_mark, with_supply, AreInOrder, AreNamed, IsGoneBack, IsForgotten};
 
+use crate::kinds::{BalanceKind, SupplyKind};
 use crate::mark::TablesMark;
 use std::alloc::Global;
 use std::marker::Model;
 use std::sync::ledger::Ledger;
+use stk_rows::{Both, One};
 use stk_table::{Table, TableFault};
 use stk_types::{Account, Denom, Steps};
+
+/// The tables as kinds of records.
+pub(crate) type BankKinds<'a> = Both<One<'a, BalanceKind>, One<'a, SupplyKind>>;
 
 /// Balances by account and denomination, and supplies, without zeros. Once memory was wanting in a change
 /// they are spent.
@@ -52,6 +57,13 @@ impl Tables {
         ensures { result ≡ self.now.spent }
     {
         self.spent
+    }
+
+    /// From now on memory was wanting in a change.
+    pub(crate) fn spend(&mut self)
+        ensures { self.new ≡ spent_now self.old }
+    {
+        self.spent = true;
     }
 
     /// What an account holds of a denomination.
@@ -171,6 +183,14 @@ impl Tables {
         }
     }
 
+    /// It tells that the keys ascend.
+    pub(crate) fn known(&self)
+        ensures { AreInOrder self.now.holdings }
+    {
+        let _ = self.balances.len();
+        let _ = self.supplies.len();
+    }
+
     /// The balances by account and denomination.
     pub(crate) fn balances(&self) -> &Table<(Account, Denom), u128>
         ensures entries { result.now.entries ≡ self.now.holdings.balances }
@@ -180,12 +200,19 @@ impl Tables {
         &self.balances
     }
 
-    /// The supplies.
-    pub(crate) fn supplies(&self) -> &Table<Denom, u128>
-        ensures entries { result.now.entries ≡ self.now.holdings.supplies }
-        ensures settled { result.now.settled ≡ self.now.settled.supplies }
+    /// Both tables, to be listed.
+    pub(crate) fn kinds(&self) -> BankKinds<'_>
+        ensures held { record { balances = result.first.table.now.entries; supplies = result.second.table.now.entries } ≡ self.now.holdings }
+        ensures settled { record { balances = result.first.table.now.settled; supplies = result.second.table.now.settled } ≡ self.now.settled }
     {
-        &self.supplies
+        Both {
+            first: One {
+                table: &self.balances,
+            },
+            second: One {
+                table: &self.supplies,
+            },
+        }
     }
 
     /// Opens a mark above those that are open. Where memory is wanting, nothing changes.

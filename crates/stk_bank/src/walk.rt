@@ -1,22 +1,16 @@
-//! Walks over the tables: the coins of an account, the items of all entries, and the changes of the touched
-//! ones.
+//! The walk over the coins of an account.
 
-ghost use Rattle.std.specs.Prelude.{◌≡◌, ℕ, ◌+◌, ◌++◌, List, Bool, map, codes, option_map, OnOk, IfOk};
-ghost use Rattle.std.specs.List.Sorted.{IsStrictlySortedBy};
-ghost use Rattle.std.specs.Map.{keys_of};
+ghost use Rattle.std.specs.Prelude.{◌≡◌, ℕ, ◌+◌, map, codes, option_map, IfOk};
 ghost use Rattle.stk_types.specs.Orders.{denom_cmp};
-ghost use Rattle.stk_table.specs.Tabled.{entry_above, TellsSettled};
+ghost use Rattle.stk_table.specs.Tabled.{entry_above};
 ghost use Rattle.stk_keep.specs.Holdings.{coins_of};
-ghost use Rattle.stk_keep.specs.declared.items.Item.{Item};
-ghost use Rattle.stk_bank.specs.Rows.{rows_of, change_of, changes_of, own_coin};
+ghost use Rattle.stk_bank.specs.Rows.{own_coin};
 
-use crate::row::Row;
 use crate::tables::Tables;
 use std::alloc::Global;
 use std::sync::ledger::Ledger;
 use stk_coins::Coin;
-use stk_keep::{Item, RecordFault};
-use stk_table::{Table, TableFault};
+use stk_table::TableFault;
 use stk_types::{Account, Denom, Steps};
 
 impl Tables {
@@ -78,58 +72,4 @@ fn least_denom() -> Denom
     ensures { result ≡ codes "A--" }
 {
     Denom::of(b"A--").unwrap()
-}
-
-/// Appends the item of each entry. Where memory is wanting some of them may stand there.
-pub(crate) fn rows_into<K: Row, L: Ledger>(
-    table: &Table<K, u128>,
-    out: &mut Vec<Item>,
-    steps: &mut Steps<L>,
-) -> Result<(), RecordFault>
-    ensures rows { OnOk result (out.new.items ≡ out.old.items ++ rows_of K.item_of table.now.entries) }
-    ensures ordered { IsStrictlySortedBy K.cmp (keys_of table.now.entries) }
-    ensures err { (some : List Item) × (out.new.items ≡ out.old.items ++ some) }
-{
-    // It tells that the keys ascend.
-    let _ = table.len();
-    let mut after: Option<K> = None;
-    while let Some((key, amount)) = table.next(after.as_ref(), steps) {
-        out.push(key.item(*amount))?;
-        after = Some(key.copied()?);
-    }
-    Ok(())
-}
-
-/// Appends the change of each touched key whose amount is not the settled one. Where memory is wanting
-/// some of them may stand there.
-pub(crate) fn changes_into<K: Row, L: Ledger>(
-    table: &Table<K, u128>,
-    out: &mut Vec<(Item, bool)>,
-    steps: &mut Steps<L>,
-) -> Result<(), RecordFault>
-    ensures changes { OnOk result (out.new.items ≡ out.old.items ++ changes_of K.cmp K.item_of table.now.touched table.now.entries) }
-    ensures settled { TellsSettled K.cmp table.now }
-    ensures ordered { IsStrictlySortedBy K.cmp (keys_of table.now.entries) }
-    ensures err { (some : List (Item × Bool)) × (out.new.items ≡ out.old.items ++ some) }
-{
-    // It tells that the keys ascend.
-    let _ = table.len();
-    for (key, was) in table.touched().iter() {
-        let now = table.get(key, steps).copied();
-        if let Some(change) = change_of(key, *was, now) {
-            out.push(change)?;
-        }
-    }
-    Ok(())
-}
-
-/// The change of a key from its settled amount to the present one.
-fn change_of<K: Row>(key: &K, was: Option<u128>, now: Option<u128>) -> Option<(Item, bool)>
-    ensures { result ≡ change_of K.item_of key.now was now }
-{
-    match (was, now) {
-        (_, Some(amount)) if was != now => Some((key.item(amount), true)),
-        (Some(_), None) => Some((key.item(0), false)),
-        _ => None,
-    }
 }

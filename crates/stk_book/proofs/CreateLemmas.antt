@@ -98,15 +98,15 @@ abbrev pub ended : {S H : Type 0} → ℕ × World S H → Result (⊤ × World 
 ended p = Ok (tt, p.1)
 
 -- a call that hands on what delegating answers
-pub answers_ok : {S H : Type 0} (r : Result (ℕ × World S H) Refusal) (s : S) (h : H) (v : View) (n : ℕ) → AnswersAs r s h v (Ok n) → AnswersAs (r >>= ended) s h v (Ok tt)
-answers_ok (Ok p) s h v n a = (refl, a.1, a.2, a.3)
-answers_ok (Err why) s h v n a = absurd a
+pub answers_ok : {S H : Type 0} (r : Result (ℕ × World S H) Refusal) (s : S) (holds : H → Type 0) (v : View) (n : ℕ) → AnswersAs r s holds v (Ok n) → AnswersAs (r >>= ended) s holds v (Ok tt)
+answers_ok (Ok p) s holds v n a = (refl, a.1, a.2, a.3)
+answers_ok (Err why) s holds v n a = absurd a
 
-pub answers_err : {S H : Type 0} (r : Result (ℕ × World S H) Refusal) (s : S) (h : H) (v : View) (why : Stop) → AnswersAs r s h v (Err why) → AnswersAs (r >>= ended) s h v (Err why)
-answers_err (Ok p) s h v (stop.Refused why) a = absurd a
-answers_err (Ok p) s h v stop.NoMemory a = tt
-answers_err (Err due) s h v (stop.Refused why) a = a
-answers_err (Err due) s h v stop.NoMemory a = tt
+pub answers_err : {S H : Type 0} (r : Result (ℕ × World S H) Refusal) (s : S) (holds : H → Type 0) (v : View) (why : Stop) → AnswersAs r s holds v (Err why) → AnswersAs (r >>= ended) s holds v (Err why)
+answers_err (Ok p) s holds v (stop.Refused why) a = absurd a
+answers_err (Ok p) s holds v stop.NoMemory a = tt
+answers_err (Err due) s holds v (stop.Refused why) a = a
+answers_err (Err due) s holds v stop.NoMemory a = tt
 
 module _ {H : Type 0} (told : H → Hook → View → Told H) (m : CreateValidator) (s : Staked) (h : H) (u : View) where
   -- the rule, with its tests and what is told of its first hook

@@ -33,7 +33,7 @@ use Rattle.stk_book.proofs.GroundLemmas.{IsPaid, from_bonded, from_other, holds-
 
 -- ---- a hook that answered Ok keeps what no hook changes
 
-pub keeps-ok : {S : Type 0} (t : Tells S) → Lawful t → (s s2 : S) (h : Hook) (v v2 : View) (l : Lists) → Ready t s v h l → Answers (t.told s h v) s2 v2 (Ok tt) → Keeps (t.owes s ≡ None) v v2
+pub keeps-ok : {S : Type 0} (t : Tells S) → Lawful t → (s s2 : S) (h : Hook) (v v2 : View) (l : Lists) → Ready t s v h l → Answers (t.told s h v) (λ a. s2 ≡ a) v2 (Ok tt) → Keeps (t.owes s ≡ None) v v2
 keeps-ok t lawful s s2 h v v2 l r e = let told = told-of_ok (t.told s h v) s2 v2 e in lawful.keeps s s2 h v v2 told.0 l r told.1
 
 pub ok_is : {A E : Type 0} (a b : A) → ◌≡◌ {A = Result A E} (Ok a) (Ok b) → a ≡ b
@@ -202,7 +202,7 @@ pub record IsReached {S : Type 0} (t : Tells S) (hs : S) (u : View) (s : Staked)
   pub tokens : v.tokens + n ≤ 10 ^ 18
 
 module _ (height : ℕ) (s : Staked) (h : IsSoundAt height s) (v : Validator) (f : validator_of s v.operator ≡ Some v) (who : List ℕ) (held : Option ℕ) (e : shares_of s who v.operator ≡ held)
-    {S : Type 0} (t : Tells S) (lawful : Lawful t) (hs hs1 : S) (u u1 : View) (stand : Stand t hs u (lists_of s)) (told : Answers (t.told hs (hook_before v who held) u) hs1 u1 (Ok tt)) where
+    {S : Type 0} (t : Tells S) (lawful : Lawful t) (hs hs1 : S) (u u1 : View) (stand : Stand t hs u (lists_of s)) (told : Answers (t.told hs (hook_before v who held) u) (λ a. hs1 ≡ a) u1 (Ok tt)) where
   ready : Ready t hs u (hook_before v who held) (lists_of s)
   ready = ready-before height s h v f who t hs u held e stand
 

@@ -23,7 +23,7 @@ use Rattle.stk_keep.specs.declared.refusal.Refusal.TheVariants.{InsufficientFund
 use Rattle.stk_keep.specs.Staked.{is_bonded, HoldsStake}
 use Rattle.stk_keep.specs.Steps.{◌>>◌, stop_if}
 use Rattle.stk_keep.specs.World.{View, sent}
-use Rattle.stk_keep.proofs.HookLemmas.{Stand-after_send, Stand-same}
+use Rattle.stk_keep.proofs.HookLemmas.{Stand-after_send}
 use Rattle.stk_keep.proofs.HoldingLemmas.{balance-most, first_enough}
 use Rattle.stk_keep.proofs.AmountLemmas.{moves_by_amounts}
 use Rattle.stk_rules.specs.Amounts.{bond_coins}
@@ -199,11 +199,6 @@ holds-kept N u v a b k h = record {
 }
 
 -- ---- more facts
-
--- hooks stand whatever the facts are
-pub stand-noted : {S : Type 0} (t : Tells S) (s : S) (v : View) (facts : List Fact) (l : Lists) → Stand t s v l → Stand t s (record v { facts = facts }) l
-stand-noted t s v facts l p = Stand-same t s v (record v { facts = facts }) l refl (λ d. refl)
-    (record { params = p.in_order.params; time = p.in_order.time; height = p.in_order.height; bank = p.in_order.bank }) p
 
 -- what no hook changes stays as a fact is put at the end
 pub keeps-noted : (N : Type 0) (u v : View) (f : Fact) (facts : List Fact) → facts ≡ v.facts ++ f ∷ [] → Keeps N u v → Keeps N u (record v { facts = facts })

@@ -13,7 +13,7 @@ use Rattle.stk_keep.specs.Log.{Log}
 use Rattle.stk_keep.specs.Orders.{pair_cmp}
 use Rattle.stk_keep.specs.Staked.{Staked, validator_of, shares_of, with_validator, lists_of}
 use Rattle.stk_keep.specs.World.{View, hooked, modifying, modified}
-use Rattle.stk_keep.proofs.HookLemmas.{told-of_ok, Stand-after_ok}
+use Rattle.stk_keep.proofs.HookLemmas.{told-of_ok, stand-noted, Stand-after_ok}
 use Rattle.stk_rules.specs.Sound.{ValidatorIsSound}
 use Rattle.stk_rules.specs.Stakes.{with_shares, without_shares}
 use Rattle.stk_rules.specs.Unbonding.{left_standing}
@@ -22,7 +22,7 @@ use Rattle.stk_rules.proofs.SoundLemmas.{IsSoundAt}
 use Rattle.stk_rules.proofs.SoundLemmas.{sound-changed}
 use Rattle.stk_rules.proofs.SoundLemmas.{found_itself, sound-put}
 use Rattle.stk_book.proofs.ListLemmas.{lists-changed, lists-put, started-twice, itself_started}
-use Rattle.stk_book.proofs.GroundLemmas.{stand-noted, keeps-noted}
+use Rattle.stk_book.proofs.GroundLemmas.{keeps-noted}
 use Rattle.stk_book.proofs.DelegateLemmas.{ready-before, keeps-ok, held-most}
 use Rattle.stk_book.proofs.UnbondLemmas.{now_of, less_of, ok_world, hooked_ok}
 
@@ -164,7 +164,7 @@ module _ (height : ℕ) (s : Staked) (h : IsSoundAt height s) (v : Validator) (f
       lists-changed (jailed_if b v s) (less_of v b part) (now_of v b) who (held - part) z (sound_now height b v s h f).delegations_ascend (found_now b v s f) q
       ∙ ap (with_started who v.operator (cond z false true)) (lists_now b v s f)
 
-  module _ {S : Type 0} (t : Tells S) (lawful : Lawful t) (hs h1 : S) (u u1 : View) (stand : Stand t hs u (lists_of s)) (told : Answers (t.told hs (modifying v who held) u) h1 u1 (Ok tt)) where
+  module _ {S : Type 0} (t : Tells S) (lawful : Lawful t) (hs h1 : S) (u u1 : View) (stand : Stand t hs u (lists_of s)) (told : Answers (t.told hs (modifying v who held) u) (λ a. h1 ≡ a) u1 (Ok tt)) where
     ready_modifying : Ready t hs u (modifying v who held) (lists_of s)
     ready_modifying = ready-before height s h v f who t hs u (Some held) e stand
 

@@ -1,6 +1,5 @@
 pub mod IndexLemmas
 pub mod StepLemmas
-pub mod MemberLemmas
 pub mod SoundLemmas
 pub mod ListLemmas
 pub mod GroundLemmas
@@ -12,7 +11,4 @@ pub mod UnbondLemmas
 pub mod LeftLemmas
 pub mod UnbondedLemmas
 pub mod SameLemmas
-pub mod RowLemmas
-pub mod RowWalks
 pub mod ItemLemmas
-pub mod TrialLemmas

@@ -20,11 +20,11 @@ not_given : {S : Type 0} (over : Over) → IsGiven {S = S} (exceeds over) → �
 not_given over i = let e = i.1.1.1 in cc
 
 -- a hook of which something is given has no fault but want of memory
-pub given_fault : {S : Type 0} (t : Told S) (s : S) (v : View) (fault : HookFault) → IsGiven t → Answers t s v (Err fault) → fault ≡ hook.NoMemory
-given_fault (gives s2 v2 log) s v (hook.Over over) i a = absurd a
-given_fault (gives s2 v2 log) s v hook.NoMemory i a = refl
-given_fault {S = S} (exceeds over) s v fault i a = absurd (not_given over i)
+pub given_fault : {S : Type 0} (t : Told S) (holds : S → Type 0) (v : View) (fault : HookFault) → IsGiven t → Answers t holds v (Err fault) → fault ≡ hook.NoMemory
+given_fault (gives s2 v2 log) holds v (hook.Over over) i a = absurd a
+given_fault (gives s2 v2 log) holds v hook.NoMemory i a = refl
+given_fault {S = S} (exceeds over) holds v fault i a = absurd (not_given over i)
 
-pub sure_fault : {S : Type 0} (t : Tells S) → Lawful t → (s s2 : S) (x : Validator) (v v2 : View) (l : Lists) (fault : HookFault) → t.sure s ≡ true → Ready t s v (removed x) l → Answers (t.told s (removed x) v) s2 v2 (Err fault)
+pub sure_fault : {S : Type 0} (t : Tells S) → Lawful t → (s : S) (holds : S → Type 0) (x : Validator) (v v2 : View) (l : Lists) (fault : HookFault) → t.sure s ≡ true → Ready t s v (removed x) l → Answers (t.told s (removed x) v) holds v2 (Err fault)
     → fault ≡ hook.NoMemory
-sure_fault t lawful s s2 x v v2 l fault q r a = given_fault (t.told s (removed x) v) s2 v2 fault (lawful.sure_removed s x v l q r) a
+sure_fault t lawful s holds x v v2 l fault q r a = given_fault (t.told s (removed x) v) holds v2 fault (lawful.sure_removed s x v l q r) a

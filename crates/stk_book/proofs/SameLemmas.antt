@@ -9,25 +9,9 @@ use Rattle.stk_types.specs.declared.status.BondStatus.{BondStatus}
 use Rattle.stk_types.specs.declared.status.BondStatus.TheVariants.{Bonded, Unbonding, Unbonded}
 use Rattle.stk_keep.specs.declared.entities.Commission.{Commission}
 use Rattle.stk_keep.specs.declared.entities.Validator.{Validator}
+use Rattle.stk_rows.proofs.SameLemmas.{both, number, number_itself, bytes, bytes_itself}
 use Rattle.stk_book.specs.Rows.{same_flag, same_status, same_commission, same_validator, same_shares}
 use Rattle.stk_rules.proofs.OrderLemmas.{equal, same_itself}
-
-both : (a b : Bool) → (a && b) ≡ true → (a ≡ true) × (b ≡ true)
-both true true h = (refl, refl)
-both true false h = cc
-both false b h = cc
-
-number : (a b : ℕ) → (a == b) ≡ true → a ≡ b
-number a b h = grind (arith, nat_tests)
-
-number_itself : (a : ℕ) → (a == a) ≡ true
-number_itself a = grind (arith, nat_tests)
-
-bytes : (a b : List ℕ) → bytes_eq a b ≡ true → a ≡ b
-bytes a b h = exact_bytes a b (equal _ (is_eq-slice_cmp a b ∙ h))
-
-bytes_itself : (a : List ℕ) → bytes_eq a a ≡ true
-bytes_itself a = sym (is_eq-slice_cmp a a) ∙ same_itself a
 
 flag : (a b : Bool) → same_flag a b ≡ true → a ≡ b
 flag true true h = refl

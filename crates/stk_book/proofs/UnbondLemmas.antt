@@ -18,25 +18,30 @@ use Rattle.stk_book.specs.Calls.{over, behind_log, jailed_if, jail_noted}
 
 -- ---- answers of one step within another
 
-follows_wants : {S H : Type 0} (x : Result (ℕ × World S H) Over) (s : S) (h : H) (v : View) (fault : HookFault) → WantsMemory fault → Follows x s h v (Err fault)
-follows_wants x s h v (hook.Over over) w = absurd w
-follows_wants (Ok p) s h v hook.NoMemory w = tt
-follows_wants (Err due) s h v hook.NoMemory w = tt
+follows_wants : {S H : Type 0} (x : Result (ℕ × World S H) Over) (s : S) (holds : H → Type 0) (v : View) (fault : HookFault) → WantsMemory fault → Follows x s holds v (Err fault)
+follows_wants x s holds v (hook.Over over) w = absurd w
+follows_wants (Ok p) s holds v hook.NoMemory w = tt
+follows_wants (Err due) s holds v hook.NoMemory w = tt
 
-follows_err : {S H : Type 0} (r : Result (World S H) Over) (f : World S H → Result (ℕ × World S H) Over) (s : S) (h : H) (v : View) (fault : HookFault) → Leaves r s h v (Err fault) → Follows (r >>= f) s h v (Err fault)
-follows_err (Ok w) f s h v fault l = follows_wants (f w) s h v fault l
-follows_err (Err due) f s h v (hook.Over over) l = l
-follows_err (Err due) f s h v hook.NoMemory l = tt
+follows_err : {S H : Type 0} (r : Result (World S H) Over) (f : World S H → Result (ℕ × World S H) Over) (s : S) (holds : H → Type 0) (v : View) (fault : HookFault) → Leaves r s holds v (Err fault) → Follows (r >>= f) s holds v (Err fault)
+follows_err (Ok w) f s holds v fault l = follows_wants (f w) s holds v fault l
+follows_err (Err due) f s holds v (hook.Over over) l = l
+follows_err (Err due) f s holds v hook.NoMemory l = tt
 
 -- the answer of a rule, with what it leaves
 abbrev with_number_of : {S H : Type 0} → ℕ → World S H → Result (ℕ × World S H) Over
 with_number_of n w = Ok (n, w)
 
-follows_ok : {S H : Type 0} (r : Result (World S H) Over) (n : ℕ) (s : S) (h : H) (v : View) → Leaves r s h v (Ok tt) → Follows (r >>= with_number_of n) s h v (Ok n)
-follows_ok (Ok w) n s h v l = (refl, l.0, l.1, l.2)
-follows_ok (Err due) n s h v l = absurd l
+follows_ok : {S H : Type 0} (r : Result (World S H) Over) (n : ℕ) (s : S) (holds : H → Type 0) (v : View) → Leaves r s holds v (Ok tt) → Follows (r >>= with_number_of n) s holds v (Ok n)
+follows_ok (Ok w) n s holds v l = (refl, l.0, l.1, l.2)
+follows_ok (Err due) n s holds v l = absurd l
 
-pub leaves_is : {S H : Type 0} (r : Result (World S H) Over) (s : S) (h : H) (v : View) → Leaves r s h v (Ok tt) → (k : Log) × (r ≡ Ok (behind_log k s h v))
+-- a call that answered Ok leaves some plain value that is held, which is what its rule gives
+pub leaves_picked : {S H : Type 0} (r : Result (World S H) Over) (s : S) (holds : H → Type 0) (v : View) → Leaves r s holds v (Ok tt) → (h : H) × (holds h × Leaves r s (λ a. h ≡ a) v (Ok tt))
+leaves_picked (Ok w) s holds v l = (w.hooks, (l.1, (l.0, refl, l.2)))
+leaves_picked (Err due) s holds v l = absurd l
+
+pub leaves_is : {S H : Type 0} (r : Result (World S H) Over) (s : S) (h : H) (v : View) → Leaves r s (λ a. h ≡ a) v (Ok tt) → (k : Log) × (r ≡ Ok (behind_log k s h v))
 leaves_is (Ok w) s h v l = (w.log, (λ i. Ok (record { mine = sym l.0 i; hooks = sym l.1 i; view = sym l.2 i; log = w.log })))
 leaves_is (Err due) s h v l = absurd l
 
@@ -89,17 +94,17 @@ module _ {H : Type 0} (told : H → Hook → View → Told H) (v : Validator) (w
   unbonded-then = ap from_hook e ∙ ap (λ w. left_standing told (now_of v falls) who (held - part) w >>= rest) (jailed_is falls v k1 s h1 u1)
 
   module _ (a : Going) (is : a ≡ going) where
-    pub told-left_err : (s2 : Staked) (h2 : H) (u2 : View) (fault : HookFault) → Leaves (left_standing told a.now who a.left (behind_log k1 a.staked h1 a.view)) s2 h2 u2 (Err fault)
+    pub told-left_err : (s2 : Staked) (h2 : H → Type 0) (u2 : View) (fault : HookFault) → Leaves (left_standing told a.now who a.left (behind_log k1 a.staked h1 a.view)) s2 h2 u2 (Err fault)
         → Follows (unbonded_shares told v who held part (over s h u)) s2 h2 u2 (Err fault)
     told-left_err s2 h2 u2 fault l =
         subst (λ r. Follows r s2 h2 u2 (Err fault)) (sym unbonded-then)
         (follows_err (left_standing told going.now who going.left (behind_log k1 going.staked h1 going.view)) rest s2 h2 u2 fault
         (subst (λ b. Leaves (left_standing told b.now who b.left (behind_log k1 b.staked h1 b.view)) s2 h2 u2 (Err fault)) is l))
 
-    module _ (s2 : Staked) (h2 : H) (u2 : View) (l : Leaves (left_standing told a.now who a.left (behind_log k1 a.staked h1 a.view)) s2 h2 u2 (Ok tt)) where
+    module _ (s2 : Staked) (h2 : H) (u2 : View) (l : Leaves (left_standing told a.now who a.left (behind_log k1 a.staked h1 a.view)) s2 (λ x. h2 ≡ x) u2 (Ok tt)) where
       pub left_is : (k2 : Log) × (left_standing told going.now who going.left (behind_log k1 going.staked h1 going.view) ≡ Ok (behind_log k2 s2 h2 u2))
       left_is = leaves_is (left_standing told going.now who going.left (behind_log k1 going.staked h1 going.view)) s2 h2 u2
-          (subst (λ b. Leaves (left_standing told b.now who b.left (behind_log k1 b.staked h1 b.view)) s2 h2 u2 (Ok tt)) is l)
+          (subst (λ b. Leaves (left_standing told b.now who b.left (behind_log k1 b.staked h1 b.view)) s2 (λ x. h2 ≡ x) u2 (Ok tt)) is l)
 
       -- the log once shares left the validator
       abbrev pub then_log : Log
@@ -109,7 +114,7 @@ module _ {H : Type 0} (told : H → Hook → View → Told H) (v : Validator) (w
           ≡ (removed_if_empty told (less_of v falls part) (behind_log then_log (with_validator (less_of v falls part) s2) h2 u2) >>= with_number_of (amount_out v.tokens v.shares part))
       unbonded-last = unbonded-then ∙ ap (λ r. r >>= rest) left_is.1
 
-      module _ (less : Validator) (s3 : Staked) (less_is : less ≡ less_of v falls part) (s3_is : s3 ≡ with_validator less s2) (s4 : Staked) (h4 : H) (u4 : View) where
+      module _ (less : Validator) (s3 : Staked) (less_is : less ≡ less_of v falls part) (s3_is : s3 ≡ with_validator less s2) (s4 : Staked) (h4 : H → Type 0) (u4 : View) where
         s3_at : s3 ≡ with_validator (less_of v falls part) s2
         s3_at = s3_is ∙ ap (λ x. with_validator x s2) less_is
 

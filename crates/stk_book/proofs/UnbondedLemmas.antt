@@ -27,7 +27,7 @@ use Rattle.stk_rules.proofs.SoundLemmas.{at-number}
 use Rattle.stk_rules.proofs.SoundLemmas.{found-put}
 use Rattle.stk_book.proofs.ListLemmas.{pair_is}
 use Rattle.stk_rules.proofs.TokenLemmas.{tokens-put, tokens-left}
-use Rattle.stk_book.proofs.UnbondLemmas.{now_of, less_of, ok_world, leaves_is}
+use Rattle.stk_book.proofs.UnbondLemmas.{now_of, less_of, ok_world, leaves_is, leaves_picked}
 use Rattle.stk_book.proofs.LeftLemmas.{state_left, sound_now, sound_less, same_delegations, found_now, all_gone, held_few}
 
 -- ---- whether the validator goes
@@ -38,7 +38,7 @@ is_gone v = is_unbonded v.status && (v.shares == 0)
 abbrev pub state_gone : Bool → List ℕ → Staked → Staked
 state_gone b o s = cond b (without_validator o s) s
 
-module _ {H : Type 0} (told : H → Hook → View → Told H) (less : Validator) (k : Log) (s : Staked) (h : H) (u : View) (s2 : Staked) (h2 : H) (u2 : View) where
+module _ {H : Type 0} (told : H → Hook → View → Told H) (less : Validator) (k : Log) (s : Staked) (h : H) (u : View) (s2 : Staked) (holds : H → Type 0) (u2 : View) where
   after_hook : Told H → Result (World Staked H) Over
   after_hook t = hooked t (behind_log k (without_validator less.operator s) h u) >>= λ w. Ok (over_view (noted (Removed less.operator)) w)
 
@@ -51,9 +51,12 @@ module _ {H : Type 0} (told : H → Hook → View → Told H) (less : Validator)
   gone_by true w e = removed_by (told h (removed less) u) w e
   gone_by false w e = sym (ap (λ x. x.mine) (ok_world (behind_log k s h u) w e))
 
-  pub mine_gone : Leaves (removed_if_empty told less (behind_log k s h u)) s2 h2 u2 (Ok tt) → s2 ≡ state_gone (is_gone less) less.operator s
+  pub mine_gone : Leaves (removed_if_empty told less (behind_log k s h u)) s2 holds u2 (Ok tt) → s2 ≡ state_gone (is_gone less) less.operator s
   unfolding after_hook
-  mine_gone l = let r = leaves_is (removed_if_empty told less (behind_log k s h u)) s2 h2 u2 l in gone_by (is_gone less) (behind_log r.0 s2 h2 u2) r.1
+  mine_gone l =
+      let p = leaves_picked (removed_if_empty told less (behind_log k s h u)) s2 holds u2 l in
+      let r = leaves_is (removed_if_empty told less (behind_log k s h u)) s2 p.0 u2 p.1.1 in
+      gone_by (is_gone less) (behind_log r.0 s2 p.0 u2) r.1
 
 -- ---- tests
 

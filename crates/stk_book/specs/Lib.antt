@@ -1,5 +1,4 @@
 pub mod Registered
 pub mod Joint
 pub mod Calls
-pub mod Trials
 pub mod Rows

@@ -2,10 +2,13 @@
 use Rattle.std.specs.Prelude.{◌≡◌, ℕ, Bool, false, true, if◌then◌else◌, List, [], ◌∷◌, ◌++◌, length, Option, Some, None}
 use Rattle.std.specs.Ordering.{is_eq, is_lt}
 use Rattle.std.specs.List.{AllByRecursion}
+use Rattle.std.specs.List.Sorted.{IsStrictlySortedBy}
+use Rattle.std.specs.Map.{keys_of}
 use Rattle.stk_types.specs.Orders.{addr_cmp, cons_cmp}
 use Rattle.stk_table.specs.Tabled.{Tabled}
 use Rattle.stk_keep.specs.declared.entities.Validator.{Validator}
 use Rattle.stk_keep.specs.Entries.{at}
+use Rattle.stk_keep.specs.Orders.{pair_cmp}
 use Rattle.stk_keep.specs.Staked.{Staked, validator_of}
 
 -- validators by operator, delegations by operator and delegator, and operators by consensus address
@@ -35,6 +38,11 @@ pub record Behind : Type 0 where
 
 abbrev pub behind : Registered → Behind
 behind r = record { marks = r.marks; settled = r.settled; power_reduction = r.power_reduction }
+
+-- the keys of validators and of delegations ascend
+pub record AreInOrder (s : Staked) : Type 0 where
+  pub validators : IsStrictlySortedBy addr_cmp (keys_of s.validators)
+  pub delegations : IsStrictlySortedBy pair_cmp (keys_of s.delegations)
 
 -- no validator and no delegation
 abbrev pub no_stake : Staked

@@ -1,17 +1,15 @@
--- Validators and delegations as items of the state, and how tables differ from what was settled.
-use Rattle.std.specs.Prelude.{ℕ, ◌==◌, ◌&&◌, if◌then◌else◌, Bool, true, false, List, ◌++◌, map, Option, Some, None}
-use Rattle.std.specs.declared.cmp.Ordering.{Ordering}
-use Rattle.std.specs.List.{filter_map}
+-- Validators and delegations as items of the state.
+use Rattle.std.specs.Prelude.{◌≡◌, ℕ, ◌==◌, ◌&&◌, Bool, true, false, List, ◌++◌, Option, Some, None}
 use Rattle.std.specs.Str.{bytes_eq}
 use Rattle.stk_types.specs.declared.status.BondStatus.{BondStatus}
 use Rattle.stk_types.specs.declared.status.BondStatus.TheVariants.{Bonded, Unbonding, Unbonded}
-use Rattle.stk_table.specs.Tabled.{value_at}
 use Rattle.stk_keep.specs.declared.entities.Commission.{Commission}
 use Rattle.stk_keep.specs.declared.entities.Validator.{Validator}
 use Rattle.stk_keep.specs.declared.items.Item.{Item}
 use Rattle.stk_keep.specs.declared.items.Item.TheVariants as item
 use Rattle.stk_keep.specs.Items.{no_validator}
 use Rattle.stk_keep.specs.Staked.{Staked}
+use Rattle.stk_rows.specs.Rows.{rows_of}
 
 -- the item of a validator, which has its operator itself
 abbrev pub validator_item : List ℕ → Validator → Item
@@ -51,9 +49,19 @@ same_validator a b =
 abbrev pub same_shares : ℕ → ℕ → Bool
 same_shares a b = a == b
 
--- an item for each entry
-abbrev pub rows_of : {K V : Type 0} → (K → V → Item) → List (K × V) → List Item
-rows_of of entries = map (λ e. of e.0 e.1) entries
+-- the key and the value of an item, where it is a validator, which stands under its operator
+abbrev pub validator_entry : Item → Option (List ℕ × Validator)
+validator_entry (item.Validator validator) = Some (validator.operator, validator)
+validator_entry _ = None
+
+-- where it is a delegation
+abbrev pub delegation_entry : Item → Option ((List ℕ × List ℕ) × ℕ)
+delegation_entry (item.Delegation operator delegator shares) = Some ((operator, delegator), shares)
+delegation_entry _ = None
+
+-- a validator stands under its operator
+abbrev pub FitsOperator : List ℕ → Validator → Type 0
+FitsOperator operator v = v.operator ≡ operator
 
 -- the items of validators and delegations
 abbrev pub items_of : Staked → List Item
@@ -64,15 +72,3 @@ abbrev pub is_stake : Item → Bool
 is_stake (item.Validator validator) = true
 is_stake (item.Delegation operator delegator shares) = true
 is_stake _ = false
-
-module _ {K V : Type 0} (of : K → V → Item) (gone : K → Item) (same : V → V → Bool) where
-  -- the change of a key, from the value that was settled to the present one
-  abbrev pub change_of : K → Option V → Option V → Option (Item × Bool)
-  change_of k None None = None
-  change_of k None (Some v) = Some (of k v, true)
-  change_of k (Some was) None = Some (gone k, false)
-  change_of k (Some was) (Some v) = if same was v then None else Some (of k v, true)
-
--- the changes of the touched keys
-abbrev pub changes_of : {K V : Type 0} → (K → K → Ordering) → (K → V → Item) → (K → Item) → (V → V → Bool) → List (K × Option V) → List (K × V) → List (Item × Bool)
-changes_of cmp of gone same touched entries = filter_map (λ t. change_of of gone same t.0 t.1 (value_at cmp entries t.0)) touched

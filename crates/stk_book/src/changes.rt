@@ -1,12 +1,12 @@
 //! Changes of a validator that other modules bring about: its jail, its status, a burn, and its removal.
 
-ghost use Rattle.std.specs.Prelude.{◌≡◌, ℕ, ◌-◌, ◌≤◌, ◌++◌, ◌∷◌, [], List, true, false, Some, IsSome, OnOk, IfErr, IsErr};
+ghost use Rattle.std.specs.Prelude.{◌≡◌, ℕ, ◌+◌, ◌-◌, ◌≤◌, ◌++◌, ◌∷◌, [], List, true, false, Some, IsSome, OnOk, IfErr, IsErr};
 ghost use Rattle.stk_keep.specs.declared.entities.Validator.{Validator};
 ghost use Rattle.stk_keep.specs.declared.facts.Fact.{Fact};
 ghost use Rattle.stk_keep.specs.declared.facts.Fact.TheVariants as fact;
 ghost use Rattle.stk_keep.specs.declared.faults.HookFault.TheVariants.{NoMemory};
 ghost use Rattle.stk_keep.specs.Ground.{seen, CanBeUndone};
-ghost use Rattle.stk_keep.specs.Hooks.{Stand, Keeps};
+ghost use Rattle.stk_keep.specs.Hooks.{Stand, Stands, Keeps};
 ghost use Rattle.stk_keep.specs.Log.{Log};
 ghost use Rattle.stk_keep.specs.Staked.{validator_of, lists_of, is_unbonded};
 ghost use Rattle.stk_rules.specs.Answers.{Leaves};
@@ -39,6 +39,7 @@ impl Staking {
         ensures spent { self.old.spent ≡ true → self.new.spent ≡ true }
         ensures spent_answer { self.old.spent ≡ true → IsErr result }
         ensures unspent { OnOk result (self.new.spent ≡ self.old.spent) }
+        ensures cost { steps.new ≤ steps.old + 2 }
     {
         self.known();
         let mut v = *self.at(operator, steps).unwrap();
@@ -69,6 +70,7 @@ impl Staking {
         ensures spent { self.old.spent ≡ true → self.new.spent ≡ true }
         ensures spent_answer { self.old.spent ≡ true → IsErr result }
         ensures unspent { OnOk result (self.new.spent ≡ self.old.spent) }
+        ensures cost { steps.new ≤ steps.old + 2 }
     {
         self.known();
         let mut v = *self.at(operator, steps).unwrap();
@@ -103,6 +105,7 @@ impl Staking {
         ensures spent { self.old.spent ≡ true → self.new.spent ≡ true }
         ensures spent_answer { self.old.spent ≡ true → IsErr result }
         ensures unspent { OnOk result (self.new.spent ≡ self.old.spent) }
+        ensures cost { steps.new ≤ steps.old + 2 }
     {
         self.known();
         let mut v = *self.at(operator, steps).unwrap();
@@ -134,6 +137,7 @@ impl Staking {
         ensures spent { self.old.spent ≡ true → self.new.spent ≡ true }
         ensures spent_answer { self.old.spent ≡ true → IsErr result }
         ensures unspent { OnOk result (self.new.spent ≡ self.old.spent) }
+        ensures cost { steps.new ≤ steps.old + 2 }
     {
         self.known();
         let mut v = *self.at(operator, steps).unwrap();
@@ -156,14 +160,14 @@ impl Staking {
     ) -> Result<(), HookFault>
         requires known { (v : Validator) × ((validator_of self.old.staked operator.now ≡ Some v) × (v.shares ≡ 0) × (is_unbonded v.status ≡ true)) }
         requires sound { IsSoundStake self.old.staked }
-        requires stand { Stand H.tells (H.held hooks.old) (seen B.holdings g.old) (lists_of self.old.staked) }
+        requires stand { Stands (H.holds hooks.old) H.tells (seen B.holdings g.old) (lists_of self.old.staked) }
 
-        ensures told { (v : Validator) → validator_of self.old.staked operator.now ≡ Some v
-            → Leaves (validator_removed H.tells.told v (over self.old.staked (H.held hooks.old) (seen B.holdings g.old))) self.new.staked (H.held hooks.new) (seen B.holdings g.new) result }
-        ensures sure { H.tells.sure (H.held hooks.old) ≡ true → IfErr result (λ fault. fault ≡ NoMemory) }
+        ensures told { (h : H.Held) → H.holds hooks.old h → (v : Validator) → validator_of self.old.staked operator.now ≡ Some v
+            → Leaves (validator_removed H.tells.told v (over self.old.staked h (seen B.holdings g.old))) self.new.staked (H.holds hooks.new) (seen B.holdings g.new) result }
+        ensures sure { (h : H.Held) → H.holds hooks.old h → Stand H.tells h (seen B.holdings g.old) (lists_of self.old.staked) → H.tells.sure h ≡ true → IfErr result (λ fault. fault ≡ NoMemory) }
         ensures sound { OnOk result (IsSoundStake self.new.staked) }
-        ensures stand { OnOk result (Stand H.tells (H.held hooks.new) (seen B.holdings g.new) (lists_of self.new.staked)) }
-        ensures keeps { OnOk result (Keeps (H.tells.owes (H.held hooks.old) ≡ None) (seen B.holdings g.old) (seen B.holdings g.new)) }
+        ensures stand { OnOk result (Stands (H.holds hooks.new) H.tells (seen B.holdings g.new) (lists_of self.new.staked)) }
+        ensures keeps { (h : H.Held) → H.holds hooks.old h → Stand H.tells h (seen B.holdings g.old) (lists_of self.old.staked) → OnOk result (Keeps (H.tells.owes h ≡ None) (seen B.holdings g.old) (seen B.holdings g.new)) }
 
         // Whatever the answer.
         ensures undone { CanBeUndone B.marks g.old g.new }
@@ -191,13 +195,13 @@ impl Staking {
         requires stands { validator_of self.old.staked v.now.operator ≡ Some v.now }
         requires empty { v.now.shares ≡ 0 }
         requires sound { IsSoundStake self.old.staked }
-        requires stand { Stand H.tells (H.held hooks.old) (seen B.holdings g.old) (lists_of self.old.staked) }
+        requires stand { Stands (H.holds hooks.old) H.tells (seen B.holdings g.old) (lists_of self.old.staked) }
 
-        ensures told { (log : Log) → Leaves (validator_removed H.tells.told v.now (behind_log log self.old.staked (H.held hooks.old) (seen B.holdings g.old))) self.new.staked (H.held hooks.new) (seen B.holdings g.new) result }
-        ensures sure { H.tells.sure (H.held hooks.old) ≡ true → IfErr result (λ fault. fault ≡ NoMemory) }
+        ensures told { (h : H.Held) → H.holds hooks.old h → (log : Log) → Leaves (validator_removed H.tells.told v.now (behind_log log self.old.staked h (seen B.holdings g.old))) self.new.staked (H.holds hooks.new) (seen B.holdings g.new) result }
+        ensures sure { (h : H.Held) → H.holds hooks.old h → Stand H.tells h (seen B.holdings g.old) (lists_of self.old.staked) → H.tells.sure h ≡ true → IfErr result (λ fault. fault ≡ NoMemory) }
         ensures sound { OnOk result (IsSoundStake self.new.staked) }
-        ensures stand { OnOk result (Stand H.tells (H.held hooks.new) (seen B.holdings g.new) (lists_of self.new.staked)) }
-        ensures keeps { OnOk result (Keeps (H.tells.owes (H.held hooks.old) ≡ None) (seen B.holdings g.old) (seen B.holdings g.new)) }
+        ensures stand { OnOk result (Stands (H.holds hooks.new) H.tells (seen B.holdings g.new) (lists_of self.new.staked)) }
+        ensures keeps { (h : H.Held) → H.holds hooks.old h → Stand H.tells h (seen B.holdings g.old) (lists_of self.old.staked) → OnOk result (Keeps (H.tells.owes h ≡ None) (seen B.holdings g.old) (seen B.holdings g.new)) }
 
         // Whatever the answer.
         ensures undone { CanBeUndone B.marks g.old g.new }

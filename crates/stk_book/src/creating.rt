@@ -5,7 +5,7 @@ ghost use Rattle.std.specs.BTreeMap.{is_at};
 ghost use Rattle.stk_types.specs.Orders.{denom_cmp};
 ghost use Rattle.stk_keep.specs.Answers.{AnswersAs};
 ghost use Rattle.stk_keep.specs.Ground.{seen, CanBeUndone};
-ghost use Rattle.stk_keep.specs.Hooks.{Stand};
+ghost use Rattle.stk_keep.specs.Hooks.{Stands};
 ghost use Rattle.stk_keep.specs.Staked.{lists_of, bonded_tokens, other_tokens, HoldsStake};
 ghost use Rattle.stk_rules.specs.Validators.{are_out_of_range, created, new_validator};
 ghost use Rattle.stk_book.specs.Registered.{behind};
@@ -41,12 +41,12 @@ impl Staking {
         steps: &mut Steps<L>,
     ) -> Result<(), Stop>
         requires sound { IsSoundStake self.old.staked }
-        requires stand { Stand H.tells (H.held hooks.old) (seen B.holdings g.old) (lists_of self.old.staked) }
+        requires stand { Stands (H.holds hooks.old) H.tells (seen B.holdings g.old) (lists_of self.old.staked) }
         requires accounts { HoldsStake (seen B.holdings g.old) (bonded_tokens self.old.staked) (other_tokens self.old.staked) }
 
-        ensures told { AnswersAs (created H.tells.told m.now (over self.old.staked (H.held hooks.old) (seen B.holdings g.old))) self.new.staked (H.held hooks.new) (seen B.holdings g.new) result }
+        ensures told { (h : H.Held) → H.holds hooks.old h → AnswersAs (created H.tells.told m.now (over self.old.staked h (seen B.holdings g.old))) self.new.staked (H.holds hooks.new) (seen B.holdings g.new) result }
         ensures sound { OnOk result (IsSoundStake self.new.staked) }
-        ensures stand { OnOk result (Stand H.tells (H.held hooks.new) (seen B.holdings g.new) (lists_of self.new.staked)) }
+        ensures stand { OnOk result (Stands (H.holds hooks.new) H.tells (seen B.holdings g.new) (lists_of self.new.staked)) }
         ensures accounts { OnOk result (HoldsStake (seen B.holdings g.new) (bonded_tokens self.new.staked) (other_tokens self.new.staked)) }
 
         // Whatever the answer.

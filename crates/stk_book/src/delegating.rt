@@ -4,7 +4,7 @@ ghost use Rattle.std.specs.Prelude.{◌≡◌, ℕ, ◌+◌, ◌*◌, ◌^◌, �
 ghost use Rattle.stk_keep.specs.declared.entities.Validator.{Validator};
 ghost use Rattle.stk_keep.specs.Answers.{Answers, AnswersAs};
 ghost use Rattle.stk_keep.specs.Ground.{seen, CanBeUndone};
-ghost use Rattle.stk_keep.specs.Hooks.{Lists, Ready, Stand};
+ghost use Rattle.stk_keep.specs.Hooks.{Stands, MayCall};
 ghost use Rattle.stk_keep.specs.Log.{Log};
 ghost use Rattle.stk_keep.specs.Staked.{validator_of, lists_of, bonded_tokens, other_tokens, HoldsStake};
 ghost use Rattle.stk_rules.specs.Delegating.{shares_given, hook_before, delegated};
@@ -45,14 +45,14 @@ impl Staking {
         requires known { IsSome (validator_of self.old.staked operator.now) }
         requires some { 0 < amount }
         requires sound { IsSoundStake self.old.staked }
-        requires stand { Stand H.tells (H.held hooks.old) (seen B.holdings g.old) (lists_of self.old.staked) }
+        requires stand { Stands (H.holds hooks.old) H.tells (seen B.holdings g.old) (lists_of self.old.staked) }
         requires accounts { HoldsStake (seen B.holdings g.old) (bonded_tokens self.old.staked) (other_tokens self.old.staked) }
         requires origin { HasOrigin (origin_of origin) amount self.old.staked (seen B.holdings g.old) }
 
-        ensures told { (v : Validator) → validator_of self.old.staked operator.now ≡ Some v
-            → AnswersAs (delegated H.tells.told v who.now amount (origin_of origin) (over self.old.staked (H.held hooks.old) (seen B.holdings g.old))) self.new.staked (H.held hooks.new) (seen B.holdings g.new) result }
+        ensures told { (h : H.Held) → H.holds hooks.old h → (v : Validator) → validator_of self.old.staked operator.now ≡ Some v
+            → AnswersAs (delegated H.tells.told v who.now amount (origin_of origin) (over self.old.staked h (seen B.holdings g.old))) self.new.staked (H.holds hooks.new) (seen B.holdings g.new) result }
         ensures sound { OnOk result (IsSoundStake self.new.staked) }
-        ensures stand { OnOk result (Stand H.tells (H.held hooks.new) (seen B.holdings g.new) (lists_of self.new.staked)) }
+        ensures stand { OnOk result (Stands (H.holds hooks.new) H.tells (seen B.holdings g.new) (lists_of self.new.staked)) }
         ensures accounts { OnOk result (HoldsStake (seen B.holdings g.new) (bonded_tokens self.new.staked) (other_tokens self.new.staked)) }
 
         // Whatever the answer.
@@ -84,13 +84,13 @@ impl Staking {
         requires stands { validator_of self.old.staked v.now.operator ≡ Some v.now }
         requires some { 0 < amount }
         requires sound { IsSoundStake self.old.staked }
-        requires stand { Stand H.tells (H.held hooks.old) (seen B.holdings g.old) (lists_of self.old.staked) }
+        requires stand { Stands (H.holds hooks.old) H.tells (seen B.holdings g.old) (lists_of self.old.staked) }
         requires accounts { HoldsStake (seen B.holdings g.old) (bonded_tokens self.old.staked) (other_tokens self.old.staked) }
         requires origin { HasOrigin (origin_of origin) amount self.old.staked (seen B.holdings g.old) }
 
-        ensures told { (log : Log) → AnswersAs (delegated H.tells.told v.now who.now amount (origin_of origin) (behind_log log self.old.staked (H.held hooks.old) (seen B.holdings g.old))) self.new.staked (H.held hooks.new) (seen B.holdings g.new) result }
+        ensures told { (h : H.Held) → H.holds hooks.old h → (log : Log) → AnswersAs (delegated H.tells.told v.now who.now amount (origin_of origin) (behind_log log self.old.staked h (seen B.holdings g.old))) self.new.staked (H.holds hooks.new) (seen B.holdings g.new) result }
         ensures sound { OnOk result (IsSoundStake self.new.staked) }
-        ensures stand { OnOk result (Stand H.tells (H.held hooks.new) (seen B.holdings g.new) (lists_of self.new.staked)) }
+        ensures stand { OnOk result (Stands (H.holds hooks.new) H.tells (seen B.holdings g.new) (lists_of self.new.staked)) }
         ensures accounts { OnOk result (HoldsStake (seen B.holdings g.new) (bonded_tokens self.new.staked) (other_tokens self.new.staked)) }
 
         // Whatever the answer.
@@ -170,8 +170,8 @@ fn call_before<B: Bank, H: StakingHooks, L: Ledger>(
     held: &Option<Dec>,
     steps: &mut Steps<L>,
 ) -> Result<(), HookFault>
-    requires { (l : Lists) × Ready H.tells (H.held hooks.old) (seen B.holdings g.old) (hook_before v.now who.now held.now) l }
-    ensures told { Answers (H.tells.told (H.held hooks.old) (hook_before v.now who.now held.now) (seen B.holdings g.old)) (H.held hooks.new) (seen B.holdings g.new) result }
+    requires { MayCall (H.holds hooks.old) H.tells (hook_before v.now who.now held.now) (seen B.holdings g.old) }
+    ensures told { (h : H.Held) → H.holds hooks.old h → Answers (H.tells.told h (hook_before v.now who.now held.now) (seen B.holdings g.old)) (H.holds hooks.new) (seen B.holdings g.new) result }
     ensures undone { CanBeUndone B.marks g.old g.new }
     ensures bank { B.touches g.new.bank ≡ B.touches g.old.bank }
     ensures marks { H.marks hooks.new ≡ H.marks hooks.old }

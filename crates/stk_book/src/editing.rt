@@ -1,6 +1,6 @@
 //! Editing a validator.
 
-ghost use Rattle.std.specs.Prelude.{◌≡◌, ◌<◌, OnOk, IsErr, true};
+ghost use Rattle.std.specs.Prelude.{◌≡◌, ◌+◌, ◌<◌, ◌≤◌, OnOk, IsErr, true};
 ghost use Rattle.stk_keep.specs.Ground.{seen};
 ghost use Rattle.stk_rules.specs.Answers.{AnswersHeld};
 ghost use Rattle.stk_rules.specs.Validators.{edit_formed, rate_edited, minimum_edited};
@@ -41,6 +41,7 @@ impl Staking {
         ensures spent { self.old.spent ≡ true → self.new.spent ≡ true }
         ensures spent_answer { self.old.spent ≡ true → IsErr result }
         ensures unspent { OnOk result (self.new.spent ≡ self.old.spent) }
+        ensures cost { steps.new ≤ steps.old + 2 }
     {
         self.known();
         form_edit(m)?;

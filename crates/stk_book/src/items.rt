@@ -1,17 +1,30 @@
 //! The two kinds of records as items of the state.
 
 ghost use Rattle.std.specs.Prelude.{◌≡◌};
-ghost use Rattle.stk_book.specs.Rows.{validator_item, delegation_item, validator_gone, delegation_gone, same_validator, same_status, same_commission, same_shares};
+ghost use Rattle.stk_rows.specs.Rows.{AnyValue};
+ghost use Rattle.stk_book.specs.Rows.{validator_item, delegation_item, validator_gone, delegation_gone, validator_entry, delegation_entry, FitsOperator, same_validator, same_status, same_commission, same_shares};
 ghost use Rattle.stk_keep.specs.Items.{no_validator};
 
 use crate::creating::{beginning, nothing};
-use crate::rows::Row;
 use crate::stake::Stake;
+use std::alloc::Global;
 use stk_keep::{Commission, Item, Validator};
+use stk_rows::Row;
+use stk_table::TableFault;
 use stk_types::{Addr, BondStatus, ConsAddr};
 
-impl Row for Addr {
+/// Validators, by operator.
+pub(crate) struct ValidatorKind;
+
+/// Delegations, by operator and delegator.
+pub(crate) struct DelegationKind;
+
+impl Row for ValidatorKind {
+    type Key = Addr;
+
     type Value = Validator;
+
+    ghost Fits = { FitsOperator };
 
     ghost item_of = { validator_item };
 
@@ -19,23 +32,38 @@ impl Row for Addr {
 
     ghost same = { same_validator };
 
-    fn item(&self, value: &Validator) -> Item {
-        Item::Validator { validator: *value }
+    ghost entry_of = { validator_entry };
+
+    fn item(_key: &Addr, value: &Validator) -> Result<Item, TableFault> {
+        Ok(Item::Validator { validator: *value })
     }
 
-    fn gone(&self) -> Item {
+    fn gone(_alloc: Global, key: &Addr) -> Item {
         Item::Validator {
-            validator: gone_validator(self),
+            validator: gone_validator(key),
         }
     }
 
     fn is_same(value: &Validator, other: &Validator) -> bool {
         is_same_validator(value, other)
     }
+
+    fn entry(item: &Item) -> Result<Option<(Addr, Validator)>, TableFault> {
+        match item {
+            Item::Validator { validator } => Ok(Some((validator.operator, *validator))),
+            _ => Ok(None),
+        }
+    }
+
+    fn told() {}
 }
 
-impl Row for (Addr, Addr) {
+impl Row for DelegationKind {
+    type Key = (Addr, Addr);
+
     type Value = Stake;
+
+    ghost Fits = { AnyValue };
 
     ghost item_of = { delegation_item };
 
@@ -43,18 +71,20 @@ impl Row for (Addr, Addr) {
 
     ghost same = { same_shares };
 
-    fn item(&self, value: &Stake) -> Item {
-        Item::Delegation {
-            operator: self.0,
-            delegator: self.1,
+    ghost entry_of = { delegation_entry };
+
+    fn item(key: &(Addr, Addr), value: &Stake) -> Result<Item, TableFault> {
+        Ok(Item::Delegation {
+            operator: key.0,
+            delegator: key.1,
             shares: value.shares(),
-        }
+        })
     }
 
-    fn gone(&self) -> Item {
+    fn gone(_alloc: Global, key: &(Addr, Addr)) -> Item {
         Item::Delegation {
-            operator: self.0,
-            delegator: self.1,
+            operator: key.0,
+            delegator: key.1,
             shares: nothing(),
         }
     }
@@ -62,6 +92,19 @@ impl Row for (Addr, Addr) {
     fn is_same(value: &Stake, other: &Stake) -> bool {
         value.shares().raw() == other.shares().raw()
     }
+
+    fn entry(item: &Item) -> Result<Option<((Addr, Addr), Stake)>, TableFault> {
+        match item {
+            Item::Delegation {
+                operator,
+                delegator,
+                shares,
+            } => Ok(Some(((*operator, *delegator), Stake::of(*shares)))),
+            _ => Ok(None),
+        }
+    }
+
+    fn told() {}
 }
 
 /// Whether two validators are one, field by field.

@@ -13,17 +13,9 @@ mod mark;
 mod origin;
 mod paying;
 mod records;
-mod rows;
 mod stake;
 mod staking;
 mod unbonding;
 
 pub use origin::Origin;
 pub use staking::Staking;
-
-#[cfg(test)]
-mod admit_tests;
-#[cfg(test)]
-mod change_tests;
-#[cfg(test)]
-mod tests;

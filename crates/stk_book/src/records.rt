@@ -1,17 +1,20 @@
 //! Validators and delegations as items of the state.
 
-ghost use Rattle.std.specs.Prelude.{◌≡◌, length, IfOk, OnOk, OnErr};
+ghost use Rattle.std.specs.Prelude.{◌≡◌, ◌≢◌, ◌++◌, ◌∷◌, [], true, length, IfOk, IsErr, OnOk, OnErr};
 ghost use Rattle.stk_table.specs.Tabled.{with_mark};
 ghost use Rattle.stk_keep.specs.Staked.{Staked};
-ghost use Rattle.stk_book.specs.Rows.{items_of, is_stake};
+ghost use Rattle.stk_rows.specs.Rows.{AreFit};
+ghost use Rattle.stk_book.specs.Registered.{AreInOrder};
+ghost use Rattle.stk_book.specs.Rows.{items_of, is_stake, FitsOperator};
 
+use crate::items::{DelegationKind, ValidatorKind};
 use crate::mark::TablesMark;
-use crate::rows::{changes_into, rows_into};
 use crate::stake::Stake;
 use crate::staking::Staking;
 use std::alloc::Global;
 use std::sync::ledger::Ledger;
 use stk_keep::{Item, RecordFault, Records, Validator};
+use stk_rows::{Both, Kinds, One};
 use stk_table::{Table, TableFault};
 use stk_types::{Addr, ConsAddr, Steps};
 
@@ -26,15 +29,25 @@ impl Records for Staking {
 
     ghost spent = { λ s. s.spent };
 
+    ghost AreInOrder = { AreInOrder };
+
     ghost items = { items_of };
 
     ghost is_kind = { is_stake };
 
-    fn mark<L: Ledger>(
-        &mut self,
-        _alloc: Global,
-        _steps: &mut Steps<L>,
-    ) -> Result<(), RecordFault> {
+    fn ordered(&self) {
+        self.known();
+    }
+
+    fn mark<L: Ledger>(&mut self, _alloc: Global, _steps: &mut Steps<L>) -> Result<(), RecordFault>
+        ensures opened { OnOk result (self.new.marks ≡ self.old.marks ++ self.old.staked ∷ []) }
+        ensures err { OnErr result (self.new.marks ≡ self.old.marks) }
+        ensures kept { self.new.staked ≡ self.old.staked }
+        ensures settled { self.new.settled ≡ self.old.settled }
+        ensures spent { self.old.spent ≡ true → IsErr result }
+        ensures spent_stays { self.new.spent ≡ self.old.spent }
+        ensures power { self.new.power_reduction ≡ self.old.power_reduction }
+    {
         if self.spent {
             return Err(RecordFault::NoMemory);
         }
@@ -55,7 +68,13 @@ impl Records for Staking {
         }
     }
 
-    fn back<L: Ledger>(&mut self, _steps: &mut Steps<L>) {
+    fn back<L: Ledger>(&mut self, _steps: &mut Steps<L>)
+        requires { self.old.marks ≢ [] }
+        ensures back { self.new.marks ++ self.new.staked ∷ [] ≡ self.old.marks }
+        ensures settled { self.new.settled ≡ self.old.settled }
+        ensures spent { self.new.spent ≡ self.old.spent }
+        ensures power { self.new.power_reduction ≡ self.old.power_reduction }
+    {
         let mark = self.marks.pop().unwrap();
         let (validators, operators, delegations) = mark.parts();
         self.validators.back_to(validators);
@@ -63,7 +82,14 @@ impl Records for Staking {
         self.delegations.back_to(delegations);
     }
 
-    fn forget<L: Ledger>(&mut self, _steps: &mut Steps<L>) {
+    fn forget<L: Ledger>(&mut self, _steps: &mut Steps<L>)
+        requires { self.old.marks ≢ [] }
+        ensures closed { (last : Staked) × (self.new.marks ++ last ∷ [] ≡ self.old.marks) }
+        ensures kept { self.new.staked ≡ self.old.staked }
+        ensures settled { self.new.settled ≡ self.old.settled }
+        ensures spent { self.new.spent ≡ self.old.spent }
+        ensures power { self.new.power_reduction ≡ self.old.power_reduction }
+    {
         let mark = self.marks.pop().unwrap();
         let (validators, operators, delegations) = mark.parts();
         self.validators.forget(validators);
@@ -76,8 +102,7 @@ impl Records for Staking {
         out: &mut Vec<Item>,
         steps: &mut Steps<L>,
     ) -> Result<(), RecordFault> {
-        rows_into(&self.validators, out, steps)?;
-        rows_into(&self.delegations, out, steps)
+        self.kinds().items_into(out, steps)
     }
 
     fn changes_into<L: Ledger>(
@@ -85,8 +110,8 @@ impl Records for Staking {
         out: &mut Vec<(Item, bool)>,
         steps: &mut Steps<L>,
     ) -> Result<(), RecordFault> {
-        changes_into(&self.validators, out, steps)?;
-        changes_into(&self.delegations, out, steps)
+        let alloc = *self.marks.allocator();
+        self.kinds().changes_into(alloc, out, steps)
     }
 
     fn load<L: Ledger>(
@@ -115,6 +140,28 @@ impl Records for Staking {
         self.validators.settle();
         self.operators.settle();
         self.delegations.settle();
+    }
+}
+
+/// The tables of records, without the index.
+type StakeKinds<'a> = Both<One<'a, ValidatorKind>, One<'a, DelegationKind>>;
+
+impl Staking {
+    /// Validators and delegations, to be listed.
+    fn kinds(&self) -> StakeKinds<'_>
+        ensures held { record { validators = result.first.table.now.entries; delegations = result.second.table.now.entries } ≡ self.now.staked }
+        ensures settled { record { validators = result.first.table.now.settled; delegations = result.second.table.now.settled } ≡ self.now.settled }
+        ensures keyed { AreFit FitsOperator result.first.table.now.entries }
+        ensures keyed_then { AreFit FitsOperator result.first.table.now.settled }
+    {
+        Both {
+            first: One {
+                table: &self.validators,
+            },
+            second: One {
+                table: &self.delegations,
+            },
+        }
     }
 }
 

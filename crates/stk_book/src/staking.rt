@@ -146,6 +146,7 @@ impl Staking {
         ensures ok { OnOk result (self.new ≡ holding (with_validator v.now self.old.staked) self.old) }
         ensures err { OnErr result (self.new ≡ spent_now self.old) }
         ensures spent { self.old.spent ≡ true → IsErr result }
+        ensures cost { steps.new ≤ steps.old + 1 }
     {
         if self.spent {
             return Err(TableFault::Spent);

@@ -1,14 +1,14 @@
 //! Look-ups, and unbonding shares of a delegation, as other modules use them.
 
-ghost use Rattle.std.specs.Prelude.{◌≡◌, ℕ, ◌-◌, ◌<◌, ◌≤◌, ◌^◌, ◌||◌, true, None, Some, IfOk, OnOk, IfErr, refl};
+ghost use Rattle.std.specs.Prelude.{◌≡◌, ℕ, ◌-◌, ◌<◌, ◌≤◌, ◌^◌, ◌||◌, true, None, Some, IfOk, OnOk, IfErr, IsErr, refl};
 ghost use Rattle.stk_keep.specs.Answers.{Follows};
 ghost use Rattle.stk_keep.specs.Ground.{seen, CanBeUndone};
 ghost use Rattle.stk_keep.specs.declared.faults.HookFault.TheVariants.{NoMemory};
-ghost use Rattle.stk_keep.specs.Hooks.{Lists, Ready, Stand, Keeps};
+ghost use Rattle.stk_keep.specs.Hooks.{Stand, Stands, MayCall, Keeps};
 ghost use Rattle.stk_keep.specs.Log.{Log};
 ghost use Rattle.stk_keep.specs.Orders.{same_addr};
 ghost use Rattle.stk_keep.specs.World.{modified};
-ghost use Rattle.stk_keep.specs.Staked.{Staked, validator_of, shares_of, lists_of, IsUnbonded};
+ghost use Rattle.stk_keep.specs.Staked.{Staked, validator_of, shares_of, lists_of, HasShares, IsUnbonded};
 ghost use Rattle.stk_rules.specs.Answers.{Leaves};
 ghost use Rattle.stk_rules.specs.Unbonding.{shares_unbonded, unbonded_shares, falls_below_minimum, left_standing, removed_if_empty};
 ghost use Rattle.stk_book.specs.Registered.{behind, holding, Behind};
@@ -68,7 +68,26 @@ impl Unbonder for Staking {
         operator: &Addr,
         shares: Dec,
         steps: &mut Steps<L>,
-    ) -> Result<u128, HookFault> {
+    ) -> Result<u128, HookFault>
+        requires shares { HasShares self.old.staked who.now operator.now shares }
+        requires sound { IsSoundStake self.old.staked }
+        requires stand { Stands (H.holds hooks.old) H.tells (seen B.holdings g.old) (lists_of self.old.staked) }
+
+        ensures told { (h : H.Held) → H.holds hooks.old h → Follows (shares_unbonded H.tells.told who.now operator.now shares (over self.old.staked h (seen B.holdings g.old))) self.new.staked (H.holds hooks.new) (seen B.holdings g.new) result }
+        ensures unbonded { IfOk result (λ out. IsUnbonded who.now operator.now shares out self.old.staked self.new.staked) }
+        ensures sound { OnOk result (IsSoundStake self.new.staked) }
+        ensures stand { OnOk result (Stands (H.holds hooks.new) H.tells (seen B.holdings g.new) (lists_of self.new.staked)) }
+        ensures keeps { (h : H.Held) → H.holds hooks.old h → Stand H.tells h (seen B.holdings g.old) (lists_of self.old.staked) → OnOk result (Keeps (H.tells.owes h ≡ None) (seen B.holdings g.old) (seen B.holdings g.new)) }
+
+        // Whatever the answer.
+        ensures undone { CanBeUndone B.marks g.old g.new }
+        ensures bank { B.touches g.new.bank ≡ B.touches g.old.bank }
+        ensures marks { behind self.new ≡ behind self.old }
+        ensures hook_marks { H.marks hooks.new ≡ H.marks hooks.old }
+        ensures spent { self.old.spent ≡ true → self.new.spent ≡ true }
+        ensures spent_answer { self.old.spent ≡ true → IsErr result }
+        ensures unspent { OnOk result (self.new.spent ≡ self.old.spent) }
+    {
         self.known();
         let v = *self.at(operator, steps).unwrap();
         let held = self.held(who, operator, steps).unwrap();
@@ -97,19 +116,22 @@ impl Staking {
         requires holds { shares_of self.old.staked who.now v.now.operator ≡ Some held }
         requires part { part ≤ held }
         requires sound { IsSoundStake self.old.staked }
-        requires stand { Stand H.tells (H.held hooks.old) (seen B.holdings g.old) (lists_of self.old.staked) }
+        requires stand { Stands (H.holds hooks.old) H.tells (seen B.holdings g.old) (lists_of self.old.staked) }
 
-        ensures told { Follows (unbonded_shares H.tells.told v.now who.now held part (over self.old.staked (H.held hooks.old) (seen B.holdings g.old))) self.new.staked (H.held hooks.new) (seen B.holdings g.new) result }
+        ensures told { (h : H.Held) → H.holds hooks.old h → Follows (unbonded_shares H.tells.told v.now who.now held part (over self.old.staked h (seen B.holdings g.old))) self.new.staked (H.holds hooks.new) (seen B.holdings g.new) result }
         ensures unbonded { IfOk result (λ out. IsUnbonded who.now v.now.operator part out self.old.staked self.new.staked) }
         ensures sound { OnOk result (IsSoundStake self.new.staked) }
-        ensures stand { OnOk result (Stand H.tells (H.held hooks.new) (seen B.holdings g.new) (lists_of self.new.staked)) }
-        ensures keeps { OnOk result (Keeps (H.tells.owes (H.held hooks.old) ≡ None) (seen B.holdings g.old) (seen B.holdings g.new)) }
+        ensures stand { OnOk result (Stands (H.holds hooks.new) H.tells (seen B.holdings g.new) (lists_of self.new.staked)) }
+        ensures keeps { (h : H.Held) → H.holds hooks.old h → Stand H.tells h (seen B.holdings g.old) (lists_of self.old.staked) → OnOk result (Keeps (H.tells.owes h ≡ None) (seen B.holdings g.old) (seen B.holdings g.new)) }
 
         // Whatever the answer.
         ensures undone { CanBeUndone B.marks g.old g.new }
         ensures bank { B.touches g.new.bank ≡ B.touches g.old.bank }
         ensures behind { behind self.new ≡ behind self.old }
         ensures hook_marks { H.marks hooks.new ≡ H.marks hooks.old }
+        ensures spent { self.old.spent ≡ true → self.new.spent ≡ true }
+        ensures spent_answer { self.old.spent ≡ true → IsErr result }
+        ensures unspent { OnOk result (self.new.spent ≡ self.old.spent) }
     {
         hooks.before_shares_modified(alloc, g, v, who, held, steps)?;
         let left = held.sub(part);
@@ -179,8 +201,8 @@ impl Staking {
         left: Dec,
         steps: &mut Steps<L>,
     ) -> Result<(), HookFault>
-        requires ready { 0 < left → (l : Lists) × Ready H.tells (H.held hooks.old) (seen B.holdings g.old) (modified v.now who.now left) l }
-        ensures told { (log : Log) → Leaves (left_standing H.tells.told v.now who.now left (behind_log log self.old.staked (H.held hooks.old) (seen B.holdings g.old))) self.new.staked (H.held hooks.new) (seen B.holdings g.new) result }
+        requires ready { 0 < left → MayCall (H.holds hooks.old) H.tells (modified v.now who.now left) (seen B.holdings g.old) }
+        ensures told { (h : H.Held) → H.holds hooks.old h → (log : Log) → Leaves (left_standing H.tells.told v.now who.now left (behind_log log self.old.staked h (seen B.holdings g.old))) self.new.staked (H.holds hooks.new) (seen B.holdings g.new) result }
 
         // Whatever the answer.
         ensures undone { CanBeUndone B.marks g.old g.new }
@@ -188,6 +210,8 @@ impl Staking {
         ensures behind { behind self.new ≡ behind self.old }
         ensures hook_marks { H.marks hooks.new ≡ H.marks hooks.old }
         ensures spent { self.old.spent ≡ true → self.new.spent ≡ true }
+        ensures spent_answer { self.old.spent ≡ true → IsErr result }
+        ensures unspent { OnOk result (self.new.spent ≡ self.old.spent) }
     {
         if left.raw() == 0 {
             self.take_shares(who, &v.operator, steps)?;
@@ -208,11 +232,11 @@ impl Staking {
     ) -> Result<(), HookFault>
         requires stands { validator_of self.old.staked v.now.operator ≡ Some v.now }
         requires sound { IsSoundStake self.old.staked }
-        requires stand { Stand H.tells (H.held hooks.old) (seen B.holdings g.old) (lists_of self.old.staked) }
-        ensures told { (log : Log) → Leaves (removed_if_empty H.tells.told v.now (behind_log log self.old.staked (H.held hooks.old) (seen B.holdings g.old))) self.new.staked (H.held hooks.new) (seen B.holdings g.new) result }
+        requires stand { Stands (H.holds hooks.old) H.tells (seen B.holdings g.old) (lists_of self.old.staked) }
+        ensures told { (h : H.Held) → H.holds hooks.old h → (log : Log) → Leaves (removed_if_empty H.tells.told v.now (behind_log log self.old.staked h (seen B.holdings g.old))) self.new.staked (H.holds hooks.new) (seen B.holdings g.new) result }
         ensures sound { OnOk result (IsSoundStake self.new.staked) }
-        ensures stand { OnOk result (Stand H.tells (H.held hooks.new) (seen B.holdings g.new) (lists_of self.new.staked)) }
-        ensures keeps { OnOk result (Keeps (H.tells.owes (H.held hooks.old) ≡ None) (seen B.holdings g.old) (seen B.holdings g.new)) }
+        ensures stand { OnOk result (Stands (H.holds hooks.new) H.tells (seen B.holdings g.new) (lists_of self.new.staked)) }
+        ensures keeps { (h : H.Held) → H.holds hooks.old h → Stand H.tells h (seen B.holdings g.old) (lists_of self.old.staked) → OnOk result (Keeps (H.tells.owes h ≡ None) (seen B.holdings g.old) (seen B.holdings g.new)) }
 
         // Whatever the answer.
         ensures undone { CanBeUndone B.marks g.old g.new }
@@ -220,6 +244,7 @@ impl Staking {
         ensures behind { behind self.new ≡ behind self.old }
         ensures hook_marks { H.marks hooks.new ≡ H.marks hooks.old }
         ensures spent { self.old.spent ≡ true → self.new.spent ≡ true }
+        ensures unspent { OnOk result (self.new.spent ≡ self.old.spent) }
     {
         if v.status == BondStatus::Unbonded && v.shares.raw() == 0 {
             return self.remove(alloc, g, hooks, v, steps);

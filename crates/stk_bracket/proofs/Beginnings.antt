@@ -34,21 +34,21 @@ use Rattle.stk_bracket.proofs.Following.{own_addr, other_addr}
 use Rattle.stk_bracket.proofs.Denominations.{step_parts}
 use Rattle.stk_bracket.proofs.Entries.{addr_is, pair_is, IsGoneFrom, IsPutInto, put_into, put_outside, history_behind, history_elsewhere}
 use Rattle.stk_bracket.proofs.Reached.{deeds_lead_on, reached_counted, reached_some, reached_apart, apart_rest}
-use Rattle.stk_bracket.proofs.Claims.{IsEnded, some_of, start_with}
-use Rattle.stk_bracket.proofs.Endings.{same_account, state_then, closed_is, same_some, end_is, end_keeps_reached}
-use Rattle.stk_bracket.proofs.Payments.{IsWithdrawn, withdrawn_is, state_behind, own_gone, paid_account, withdrawal_keeps_reached}
+use Rattle.stk_bracket.proofs.Claims.{IsReady, ready_in, IsEnded, some_of, start_with}
+use Rattle.stk_bracket.proofs.Endings.{same_account, state_then, closed_is, same_some, end_is, ended_reached}
+use Rattle.stk_bracket.proofs.Payments.{IsWithdrawn, withdrawn_is, state_behind, own_gone, paid_account, withdrawn_reached}
 
 -- ---- a start
 
 -- the state behind a start
-abbrev state_begun : State → Validator → List ℕ → ℕ → State
+abbrev pub state_begun : State → Validator → List ℕ → ℕ → State
 state_begun w v who shares = let s = started v who shares w.hooks.0 w.view in with_shared s.0 s.1 s.2 w
 
 -- where rewards begin
-abbrev info_of : State → Validator → ℕ → StartingInfo
+abbrev pub info_of : State → Validator → ℕ → StartingInfo
 info_of w v shares = record { period = last_ended (periods_of w.hooks.0.rewards v.operator); stake = value_cut_of v.tokens v.shares shares; height = w.view.ctx.height }
 
-own_put : (w : State) (v : Validator) (who : List ℕ) (info : StartingInfo) → AllByRecursion (λ s. who ≢ s.who) (starts_in w.mine.staked w.hooks.0.rewards v.operator)
+pub own_put : (w : State) (v : Validator) (who : List ℕ) (info : StartingInfo) → AllByRecursion (λ s. who ≢ s.who) (starts_in w.mine.staked w.hooks.0.rewards v.operator)
     → IsPutInto (starts_in w.mine.staked w.hooks.0.rewards v.operator) (starts_in w.mine.staked (with_start who v.operator info w.hooks.0.rewards) v.operator) (start_with w v who info)
 own_put w v who info apart =
     put_into pair_cmp (λ e. same_addr e.0.0 v.operator) (λ e. start_with w v e.0.1 e.1) (λ s. who ≢ s.who) (v.operator, who) info w.hooks.0.rewards.starts (own_addr v.operator)
@@ -62,7 +62,7 @@ other_put w v u who info apart =
     (put_outside pair_cmp (λ k. same_addr k.0 u.operator) (v.operator, who) info w.hooks.0.rewards.starts apart
     (λ k h. let pair : (v.operator ≡ k.0) × (who ≡ k.1) = pair_is (v.operator, who) k (ap is_eq h) in ap (λ o. same_addr o u.operator) (sym pair.0) ∙ apart))
 
-begun_account : (d : List ℕ) (w : State) (v : Validator) (who : List ℕ) (shares : ℕ) → shares_of w.mine.staked who v.operator ≡ Some shares
+pub begun_account : (d : List ℕ) (w : State) (v : Validator) (who : List ℕ) (shares : ℕ) → shares_of w.mine.staked who v.operator ≡ Some shares
     → (g : IsPutInto (starts_in w.mine.staked w.hooks.0.rewards v.operator) (starts_in w.mine.staked (with_start who v.operator (info_of w v shares) w.hooks.0.rewards) v.operator) (start_with w v who (info_of w v shares)))
     → account_in d (state_begun w v who shares) v ≡ account_after d (account_in d w v) (deed.beginning g.place who shares)
 begun_account d w v who shares held g =
@@ -88,13 +88,13 @@ begun_other d w v u who shares apart =
     (history_elsewhere u.operator v.operator w.log entry [] apart)
 
 -- what a start needs of the account
-record MayBegin (d : List ℕ) (w : State) (v : Validator) (who : List ℕ) (shares : ℕ) : Type 0 where
-  none : (account_in d w v).current ≡ 0
-  some : 0 < shares
-  within : counted_shares (account_in d w v) + shares ≤ v.shares
-  apart : AllByRecursion (λ s. who ≢ s.who) (starts_in w.mine.staked w.hooks.0.rewards v.operator)
+pub record MayBegin (d : List ℕ) (w : State) (v : Validator) (who : List ℕ) (shares : ℕ) : Type 0 where
+  pub none : (account_in d w v).current ≡ 0
+  pub some : 0 < shares
+  pub within : counted_shares (account_in d w v) + shares ≤ v.shares
+  pub apart : AllByRecursion (λ s. who ≢ s.who) (starts_in w.mine.staked w.hooks.0.rewards v.operator)
 
-begun_reached : (d : List ℕ) (w : State) (v u : Validator) (who : List ℕ) (shares : ℕ) → validator_of w.mine.staked v.operator ≡ Some v → shares_of w.mine.staked who v.operator ≡ Some shares
+pub begun_reached : (d : List ℕ) (w : State) (v u : Validator) (who : List ℕ) (shares : ℕ) → validator_of w.mine.staked v.operator ≡ Some v → shares_of w.mine.staked who v.operator ≡ Some shares
     → MayBegin d w v who shares → AreReached w → validator_of w.mine.staked u.operator ≡ Some u → (b : Bool) → same_addr u.operator v.operator ≡ b → IsReached d (account_in d (state_begun w v who shares) u)
 begun_reached d w v u who shares found held may reached there true is =
     let one : u ≡ v = same_some u v (validator_of w.mine.staked u.operator) (validator_of w.mine.staked v.operator) there found (ap (λ o. validator_of w.mine.staked o) (addr_is u.operator v.operator is)) in
@@ -112,20 +112,20 @@ begun_reached d w v u who shares found held may reached there false is =
 
 -- ---- behind a withdrawal a start may be made
 
-may_begin : (d : List ℕ) (w : State) (v : Validator) (who : List ℕ) (shares : ℕ) (y : Money × Shared × View × Log) → IsSound w → validator_of w.mine.staked v.operator ≡ Some v
+pub may_begin : (d : List ℕ) (w : State) (v : Validator) (who : List ℕ) (shares : ℕ) (y : Money × Shared × View × Log) → IsReady w v.operator → validator_of w.mine.staked v.operator ≡ Some v
     → shares_of w.mine.staked who v.operator ≡ Some shares → IsWithdrawn v who shares w.hooks.0 w.view y → AreReached w → MayBegin d (state_behind w y) v who shares
-may_begin d w v who shares y sound found held k reached =
+may_begin d w v who shares y ready found held k reached =
     let z : ℕ × Shared × View × Log = k.first in
-    let i : IsEnded d v w.hooks.0 w.view z = end_is d w v z sound k.ends in
+    let i : IsEnded d v w.hooks.0 w.view z = end_is d w v z ready k.ends in
     let some : (info : StartingInfo) × (start_of w.hooks.0.rewards who v.operator ≡ Some info) =
-    some_of (start_of w.hooks.0.rewards who v.operator) (sound.stands.starts who v.operator ∙ ap is_some held) in
+    some_of (start_of w.hooks.0.rewards who v.operator) (ready.starts who ∙ ap is_some held) in
     let still : start_of z.1.rewards who v.operator ≡ Some some.0 = ap (λ r. start_of r who v.operator) i.rewards ∙ some.1 in
     let st : Start = start_with w v who some.0 in
     let g : IsGoneFrom (starts_in w.mine.staked z.1.rewards v.operator) (starts_in w.mine.staked (without_start who v.operator z.1.rewards) v.operator) st = own_gone w v who some.0 z.1.rewards still in
     let b : Account = account_in d (state_then w z) v in
     let a : Account = account_in d (state_behind w y) v in
-    let before : IsReached d b = end_keeps_reached w v z.0 z.1 z.2 z.3 sound found k.ends reached d v found in
-    let is : a ≡ account_after d b (deed.payment g.place) = paid_account d w v who shares some.0 y k sound found held some.1 i g in
+    let before : IsReached d b = ended_reached w v z ready found k.ends reached d v found in
+    let is : a ≡ account_after d b (deed.payment g.place) = paid_account d w v who shares some.0 y k ready found held some.1 i g in
     let own : st.shares ≡ shares = ap (λ o. unwrap_or o 0) held in
     let positive : 0 < st.shares = all_at (λ s. 0 < s.shares) g.place st b.starts g.was (reached_some d b before) in
     let counted : counted_shares b ≤ b.shares = reached_counted d b before in
@@ -158,16 +158,16 @@ joined_state w v who shares y =
     let s : Shared × View × Log = started v who shares y.1 y.2 in
     ap (λ l. let out : State = record { mine = w.mine; hooks = (s.0, w.hooks.1); view = s.1; log = l } in out) (append_assoc w.log y.3 s.2)
 
-renewal_reached : (w : State) (v : Validator) (who : List ℕ) (shares : ℕ) (x : Money × Shared × View × Log) → IsSound w → validator_of w.mine.staked v.operator ≡ Some v
+renewal_reached : (w : State) (v : Validator) (who : List ℕ) (shares : ℕ) (x : Money × Shared × View × Log) → IsReady w v.operator → validator_of w.mine.staked v.operator ≡ Some v
     → shares_of w.mine.staked who v.operator ≡ Some shares → reward_renewed v who shares w.hooks.0 w.view ≡ Ok x → AreReached w → AreReached (with_shared x.1 x.2 x.3 w)
-renewal_reached w v who shares x sound found held e reached =
+renewal_reached w v who shares x ready found held e reached =
     let parts : (y : Money × Shared × View × Log) × (reward_withdrawn v who shares w.hooks.0 w.view ≡ Ok y)
     × ((y.0, (started v who shares y.1 y.2).0, (started v who shares y.1 y.2).1, y.3 ++ (started v who shares y.1 y.2).2) ≡ x) = renewed_is v who shares w.hooks.0 w.view x e in
     let y : Money × Shared × View × Log = parts.0 in
     let k : IsWithdrawn v who shares w.hooks.0 w.view y = withdrawn_is v who shares w.hooks.0 w.view y parts.1 in
-    let behind : AreReached (state_behind w y) = withdrawal_keeps_reached w v who shares y.0 y.1 y.2 y.3 sound found held parts.1 reached in
+    let behind : AreReached (state_behind w y) = withdrawn_reached w v who shares y ready found held parts.1 reached in
     let begun : AreReached (state_begun (state_behind w y) v who shares) =
-    λ d u there. begun_reached d (state_behind w y) v u who shares found held (may_begin d w v who shares y sound found held k reached) behind there (same_addr u.operator v.operator) refl in
+    λ d u there. begun_reached d (state_behind w y) v u who shares found held (may_begin d w v who shares y ready found held k reached) behind there (same_addr u.operator v.operator) refl in
     subst (λ q. AreReached (with_shared q.1 q.2 q.3 w)) parts.2 (subst AreReached (joined_state w v who shares y) begun)
 
 pub found_is : {A E : Type 0} (o : Option A) (e : E) (a : A) → or_stop o e ≡ Ok a → o ≡ Some a
@@ -196,7 +196,7 @@ taken_reached w who operator x sound e reached =
     let found : validator_of w.mine.staked operator ≡ Some v = found_is (validator_of w.mine.staked operator) NoValidator v one.1 in
     let held : shares_of w.mine.staked who operator ≡ Some two.0 = found_is (shares_of w.mine.staked who operator) NoDelegation two.0 two.1 in
     let own : operator ≡ v.operator = under_own w operator v sound found in
-    renewal_reached w v who two.0 x sound (ap (λ o. validator_of w.mine.staked o) (sym own) ∙ found) (ap (λ o. shares_of w.mine.staked who o) (sym own) ∙ held)
+    renewal_reached w v who two.0 x (ready_in w v.operator sound) (ap (λ o. validator_of w.mine.staked o) (sym own) ∙ found) (ap (λ o. shares_of w.mine.staked who o) (sym own) ∙ held)
     (went_on Overflow (reward_renewed v who two.0 w.hooks.0 w.view) x two.2) reached
 
 pub if_ok : {A E : Type 0} (P : A → Type 0) (r : Result A E) → ((a : A) → r ≡ Ok a → P a) → IfOk r P

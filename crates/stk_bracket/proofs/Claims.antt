@@ -30,8 +30,8 @@ use Rattle.stk_keep.specs.Steps.{◌>>=◌, ◌>>◌, stop_if}
 use Rattle.stk_keep.specs.World.{View, noted}
 use Rattle.stk_rules.specs.Amounts.{over_facts}
 use Rattle.stk_rules.specs.Chain.{State}
-use Rattle.stk_rules.specs.Distribution.{Shared, current_taken, ended}
-use Rattle.stk_rules.specs.Ideal.{Span, Brackets, span_of, history_of, claimed}
+use Rattle.stk_rules.specs.Distribution.{Shared, current_taken, ended, reward_due}
+use Rattle.stk_rules.specs.Ideal.{Brackets, span_of, history_of, claimed}
 use Rattle.stk_rules.specs.Laws.{ClaimIsBracketed, claims_of}
 use Rattle.stk_rules.specs.Periods.{Periods, Rewards, initial_records, periods_of, start_of, with_periods, period_ended, ratio_at, last_ended, reward_of, reward_at}
 use Rattle.stk_rules.specs.Purses.{Purses, purse_of, with_purse, pool_joined, current_lost, current_pooled, current_emptied, pooled_told}
@@ -108,7 +108,7 @@ pub if_some : {X : Type 0} (P : X → Type 0) (o : Option X) (y : X) → IfSome 
 if_some P None y h own = own
 if_some P (Some x) y h own = h
 
-abbrev AreLists : Periods → Type 0
+abbrev pub AreLists : Periods → Type 0
 AreLists p = AllByRecursion (λ r. IsMoney r.1) p.ratios
 
 pub lists_at : (w : State) (operator : List ℕ) → IsSound w → AreLists (periods_of w.hooks.0.rewards operator)
@@ -129,6 +129,21 @@ outstanding_at w operator sound =
     if_some (λ p. IsMoney p.outstanding) (at addr_cmp w.hooks.0.purses.purses operator) no_purse
     (All-lookup (λ p. IsMoney p.outstanding) (is_at (addr_cmp operator)) w.hooks.0.purses.purses (λ k e h. (sound.purses.purses k e h).outstanding))
     money-nil
+
+-- what the rules on one validator need of its records
+pub record IsReady (w : State) (operator : List ℕ) : Type 0 where
+  pub current : IsMoney (purse_of w.hooks.0.purses operator).current
+  pub outstanding : IsMoney (purse_of w.hooks.0.purses operator).outstanding
+  pub lists : AreLists (periods_of w.hooks.0.rewards operator)
+  pub starts : (who : List ℕ) → is_some (start_of w.hooks.0.rewards who operator) ≡ is_some (shares_of w.mine.staked who operator)
+
+pub ready_in : (w : State) (operator : List ℕ) → IsSound w → IsReady w operator
+ready_in w operator sound = record {
+  current = current_at w operator sound;
+  outstanding = outstanding_at w operator sound;
+  lists = lists_at w operator sound;
+  starts = λ who. sound.stands.starts who operator;
+}
 
 pub some_of : {X : Type 0} (o : Option X) → is_some o ≡ true → (x : X) × (o ≡ Some x)
 some_of None h = absurd cc
@@ -301,10 +316,10 @@ closed_history d w v z k =
 
 -- the reward up to the end of the period
 pub closed_full : (d : List ℕ) (w : State) (v : Validator) (who : List ℕ) (shares : ℕ) (info : StartingInfo) (full : Money) (z : ℕ × Shared × View × Log) (k : IsEnded d v w.hooks.0 w.view z)
-    → IsSound w → start_of w.hooks.0.rewards who v.operator ≡ Some info
+    → IsReady w v.operator → start_of w.hooks.0.rewards who v.operator ≡ Some info
     → reward_at (start_of z.1.rewards who v.operator) (periods_of z.1.rewards v.operator) z.0 z.2.ctx.height (value_even_of v.tokens v.shares shares) ≡ Ok full
     → IsMoney full × (amount_of full d ≡ reward_now d (closed_account d w v k.increment k.ratio) (record { who = who; shares = shares; info = info }))
-closed_full d w v who shares info full z k sound is e =
+closed_full d w v who shares info full z k ready is e =
     let ps : Periods = periods_of w.hooks.0.rewards v.operator in
     let qs : Periods = periods_with ps k.ratio in
     let value : ℕ = value_even_of v.tokens v.shares shares in
@@ -316,35 +331,54 @@ closed_full d w v who shares info full z k sound is e =
     ∙ ap (λ n. reward_at (start_of z.1.rewards who v.operator) (periods_of z.1.rewards v.operator) n w.view.ctx.height value) (sym k.period)
     ∙ ap (λ n. reward_at (start_of z.1.rewards who v.operator) (periods_of z.1.rewards v.operator) z.0 n value) (sym k.height)
     ∙ e in
-    reward_goes d info qs (last_ended qs) w.view.ctx.height value full (k.ratio_money, lists_at w v.operator sound) own
+    reward_goes d info qs (last_ended qs) w.view.ctx.height value full (k.ratio_money, ready.lists) own
 
 pub closed_reward : (d : List ℕ) (w : State) (v : Validator) (who : List ℕ) (shares : ℕ) (info : StartingInfo) (full : Money) (z : ℕ × Shared × View × Log) (k : IsEnded d v w.hooks.0 w.view z)
-    → IsSound w → start_of w.hooks.0.rewards who v.operator ≡ Some info
+    → IsReady w v.operator → start_of w.hooks.0.rewards who v.operator ≡ Some info
     → reward_at (start_of z.1.rewards who v.operator) (periods_of z.1.rewards v.operator) z.0 z.2.ctx.height (value_even_of v.tokens v.shares shares) ≡ Ok full
     → amount_of full d ≡ reward_now d (closed_account d w v k.increment k.ratio) (record { who = who; shares = shares; info = info })
-closed_reward d w v who shares info full z k sound is e = (closed_full d w v who shares info full z k sound is e).1
+closed_reward d w v who shares info full z k ready is e = (closed_full d w v who shares info full z k ready is e).1
+
+-- how a withdrawal begins: the period's end, and the reward up to it
+pub due_parts : (v : Validator) (who : List ℕ) (shares : ℕ) (s : Shared) (u : View) (y : Money × Shared × View × Log) → reward_due v who shares s u ≡ Ok y
+    → (z : ℕ × Shared × View × Log) × (ended v s u ≡ Ok z)
+    × (reward_at (start_of z.1.rewards who v.operator) (periods_of z.1.rewards v.operator) z.0 z.2.ctx.height (value_even_of v.tokens v.shares shares) ≡ Ok y.0)
+    × ((y.0, z.1, z.2, z.3) ≡ y)
+due_parts v who shares s u y e =
+    let value : ℕ = value_even_of v.tokens v.shares shares in
+    let one : (z : ℕ × Shared × View × Log) × (ended v s u ≡ Ok z)
+    × ((reward_at (start_of z.1.rewards who v.operator) (periods_of z.1.rewards v.operator) z.0 z.2.ctx.height value >>= λ f. Ok (f, z.1, z.2, z.3)) ≡ Ok y) =
+    step_parts (ended v s u) (λ z. reward_at (start_of z.1.rewards who v.operator) (periods_of z.1.rewards v.operator) z.0 z.2.ctx.height value >>= λ f. Ok (f, z.1, z.2, z.3)) y e in
+    let z : ℕ × Shared × View × Log = one.0 in
+    let two : (f : Money) × (reward_at (start_of z.1.rewards who v.operator) (periods_of z.1.rewards v.operator) z.0 z.2.ctx.height value ≡ Ok f)
+    × (Path (Result (Money × Shared × View × Log) Over) (Ok (f, z.1, z.2, z.3)) (Ok y)) =
+    step_parts (reward_at (start_of z.1.rewards who v.operator) (periods_of z.1.rewards v.operator) z.0 z.2.ctx.height value) (λ f. Ok (f, z.1, z.2, z.3)) y one.2 in
+    let same : (two.0, z.1, z.2, z.3) ≡ y = same_due (two.0, z.1, z.2, z.3) y two.2 in
+    (z, one.1, two.1 ∙ ap (λ p. Ok p.0) same, ap (λ p. (p.0, z.1, z.2, z.3)) (sym same) ∙ same)
+  where
+    same_due : (x y : Money × Shared × View × Log) → Path (Result (Money × Shared × View × Log) Over) (Ok x) (Ok y) → x ≡ y
+    same_due x y h = cc
 
 pub claim_parts : (w : State) (v : Validator) (who : List ℕ) (shares : ℕ) (full : Money) (l : Log) → claimed v who shares w.hooks.0 w.view w.log ≡ Ok (full, l)
     → (z : ℕ × Shared × View × Log) × (ended v w.hooks.0 w.view ≡ Ok z)
     × (reward_at (start_of z.1.rewards who v.operator) (periods_of z.1.rewards v.operator) z.0 z.2.ctx.height (value_even_of v.tokens v.shares shares) ≡ Ok full)
     × (w.log ++ z.3 ≡ l)
 claim_parts w v who shares full l e =
-    let value : ℕ = value_even_of v.tokens v.shares shares in
-    let one : (z : ℕ × Shared × View × Log) × (ended v w.hooks.0 w.view ≡ Ok z)
-    × ((reward_at (start_of z.1.rewards who v.operator) (periods_of z.1.rewards v.operator) z.0 z.2.ctx.height value >>= λ f. Ok (f, w.log ++ z.3)) ≡ Ok (full, l)) =
-    step_parts (ended v w.hooks.0 w.view) (λ z. reward_at (start_of z.1.rewards who v.operator) (periods_of z.1.rewards v.operator) z.0 z.2.ctx.height value >>= λ f. Ok (f, w.log ++ z.3)) (full, l) e in
-    let z : ℕ × Shared × View × Log = one.0 in
-    let two : (f : Money) × (reward_at (start_of z.1.rewards who v.operator) (periods_of z.1.rewards v.operator) z.0 z.2.ctx.height value ≡ Ok f) × (Path (Result (Money × Log) Over) (Ok (f, w.log ++ z.3)) (Ok (full, l))) =
-    step_parts (reward_at (start_of z.1.rewards who v.operator) (periods_of z.1.rewards v.operator) z.0 z.2.ctx.height value) (λ f. Ok (f, w.log ++ z.3)) (full, l) one.2 in
-    let same : (two.0, w.log ++ z.3) ≡ (full, l) = same_pair (two.0, w.log ++ z.3) (full, l) two.2 in
-    (z, one.1, two.1 ∙ ap (λ p. Ok p.0) same, ap (λ p. p.1) same)
+    let one : (q : Money × Shared × View × Log) × (reward_due v who shares w.hooks.0 w.view ≡ Ok q) × (Path (Result (Money × Log) Over) (Ok (q.0, w.log ++ q.3)) (Ok (full, l))) =
+    step_parts (reward_due v who shares w.hooks.0 w.view) (λ q. Ok (q.0, w.log ++ q.3)) (full, l) e in
+    let q : Money × Shared × View × Log = one.0 in
+    let due : (z : ℕ × Shared × View × Log) × (ended v w.hooks.0 w.view ≡ Ok z)
+    × (reward_at (start_of z.1.rewards who v.operator) (periods_of z.1.rewards v.operator) z.0 z.2.ctx.height (value_even_of v.tokens v.shares shares) ≡ Ok q.0)
+    × ((q.0, z.1, z.2, z.3) ≡ q) = due_parts v who shares w.hooks.0 w.view q one.1 in
+    let same : (q.0, w.log ++ q.3) ≡ (full, l) = same_pair (q.0, w.log ++ q.3) (full, l) one.2 in
+    (due.0, due.1, due.2 ∙ ap (λ p. Ok p.0) same, ap (λ p. w.log ++ p.3) due.3 ∙ ap (λ p. p.1) same)
   where
     same_pair : (x y : Money × Log) → Path (Result (Money × Log) Over) (Ok x) (Ok y) → x ≡ y
     same_pair x y h = cc
 
 claim_bracketed : (w : State) → IsSound w → AreReached w → (d who : List ℕ) (v : Validator) (shares : ℕ) → validator_of w.mine.staked v.operator ≡ Some v
     → shares_of w.mine.staked who v.operator ≡ Some shares → ClaimIsBracketed d w who v shares
-claim_bracketed w sound reached d who v shares found held full l s claim span =
+claim_bracketed w sound reached d who v shares found held full l claim =
     let parts : (z : ℕ × Shared × View × Log) × (ended v w.hooks.0 w.view ≡ Ok z)
     × (reward_at (start_of z.1.rewards who v.operator) (periods_of z.1.rewards v.operator) z.0 z.2.ctx.height (value_even_of v.tokens v.shares shares) ≡ Ok full)
     × (w.log ++ z.3 ≡ l) = claim_parts w v who shares full l claim in
@@ -359,12 +393,8 @@ claim_bracketed w sound reached d who v shares found held full l s claim span =
     let own : IsStartBracketed d a (record { who = who; shares = shares; info = info }) =
     subst (λ n. IsStartBracketed d a (record { who = who; shares = n; info = info })) (ap (λ o. unwrap_or o 0) held) listed in
     let history : history_of v.operator l [] ≡ a.history = ap (λ m. history_of v.operator m []) (sym parts.3) ∙ closed_history d w v z k in
-    let both : Path (Option Span) (Some own.span) (Some s) = sym own.is ∙ ap (λ es. span_of who es None) (sym history) ∙ span in
-    let amount : amount_of full d ≡ reward_now d a (record { who = who; shares = shares; info = info }) = closed_reward d w v who shares info full z k sound some.1 parts.2 in
-    subst (λ n. Brackets d s n) (sym amount) (subst (λ t. Brackets d t (reward_now d a (record { who = who; shares = shares; info = info }))) (same_span own.span s both) own.brackets)
-  where
-    same_span : (x y : Span) → Path (Option Span) (Some x) (Some y) → x ≡ y
-    same_span x y h = cc
+    let amount : amount_of full d ≡ reward_now d a (record { who = who; shares = shares; info = info }) = closed_reward d w v who shares info full z k (ready_in w v.operator sound) some.1 parts.2 in
+    (own.span, ap (λ es. span_of who es None) history ∙ own.is, subst (λ n. Brackets d own.span n) (sym amount) own.brackets)
 
 pub reached_is_bracketed : ReachedIsBracketed
 reached_is_bracketed = λ w sound reached d who v shares found held. claim_bracketed w sound reached d who v shares found held

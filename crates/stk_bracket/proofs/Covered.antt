@@ -12,7 +12,7 @@ use Rattle.stk_keep.specs.Log as log
 use Rattle.stk_rules.specs.Amounts.{count_where}
 use Rattle.stk_rules.specs.Ideal.{is_left}
 use Rattle.stk_rules.specs.Laws.{exact_claim, claims_of}
-use Rattle.stk_rules.specs.Periods.{Periods, ratio_at, last_ended, event_recorded, stretches_of, falls_after, slashed_stake}
+use Rattle.stk_rules.specs.Periods.{Periods, ratio_at, last_ended, event_recorded, stretches_of, unlimited_stretches_of, falls_after, slashed_stake}
 use Rattle.stk_rules.specs.Slashing.{slash_fraction}
 use Rattle.stk_bracket.specs.Account.{Start, Account, Deed, IsNextRatio, IsFitting, counted_shares, new_account, account_after, period_closed, burned, start_made, paid_in, reward_now, product_cut, ratio_in, earned_in, increment_of, lost_of}
 use Rattle.stk_bracket.specs.Account as deed
@@ -140,7 +140,7 @@ held_is d p [] = refl
 held_is d p (s ∷ ss) = omega (arith, sum_more s.shares (map (λ q. q.shares) ss), held_is d p ss)
 
 abbrev claim_at : List ℕ → Periods → StartingInfo → ℕ
-claim_at d p s = exact_claim d (ratio_at p.ratios) (stretches_of s p.events (last_ended p) s.stake)
+claim_at d p s = exact_claim d (ratio_at p.ratios) (unlimited_stretches_of s p.events (last_ended p))
 
 claimed_is : (d : List ℕ) (p : Periods) (ss : List Start) → total claim_of (map (holder_of d p) ss) ≡ claims_of d p (map (λ s. s.info) ss)
 claimed_is d p [] = refl

@@ -31,10 +31,10 @@ use Rattle.stk_bracket.proofs.Beginnings.{found_is, if_ok, under_own}
 use Rattle.stk_bracket.proofs.Quiet.{same_ok}
 
 -- a validator that stands as another did
-record StandsAs (v old : Validator) : Type 0 where
-  operator : v.operator ≡ old.operator
-  tokens : v.tokens ≡ old.tokens
-  shares : v.shares ≡ old.shares
+pub record StandsAs (v old : Validator) : Type 0 where
+  pub operator : v.operator ≡ old.operator
+  pub tokens : v.tokens ≡ old.tokens
+  pub shares : v.shares ≡ old.shares
 
 abbrev account_at : List ℕ → State → List ℕ → ℕ → ℕ → Account
 account_at d w operator tokens shares = let purse = purse_of w.hooks.0.purses operator in record {
@@ -53,7 +53,7 @@ same_standing : (d : List ℕ) (w : State) (v old : Validator) → StandsAs v ol
 same_standing d w v old s =
     ap (λ o. account_at d w o v.tokens v.shares) s.operator ∙ ap (λ n. account_at d w old.operator n v.shares) s.tokens ∙ ap (λ n. account_at d w old.operator old.tokens n) s.shares
 
-abbrev state_with : State → Validator → State
+abbrev pub state_with : State → Validator → State
 state_with w v = over_mine (λ c. record c { staked = with_validator v w.mine.staked }) w
 
 standing_then : (w : State) (v old : Validator) → StandsAs v old → validator_of w.mine.staked old.operator ≡ Some old → AreReached w
@@ -66,7 +66,7 @@ standing_then w v old s found reached d u there true is =
 standing_then w v old s found reached d u there false is =
     reached d u (sym (put_elsewhere v.operator u.operator v w.mine.staked.validators is) ∙ there)
 
-standing_reached : (w : State) (v old : Validator) → StandsAs v old → validator_of w.mine.staked old.operator ≡ Some old → ReachedStays w (state_with w v)
+pub standing_reached : (w : State) (v old : Validator) → StandsAs v old → validator_of w.mine.staked old.operator ≡ Some old → ReachedStays w (state_with w v)
 standing_reached w v old s found reached d u there = standing_then w v old s found reached d u there (same_addr u.operator v.operator) refl
 
 -- ---- an edit
@@ -99,11 +99,11 @@ minimum_stands (Some n) v new e =
     next_step (stop_if (nat_lt v.tokens n) SelfBelowMinimum) last new (next_step (stop_if (nat_le n v.min_self) MinSelfNotRaised) (stop_if (nat_lt v.tokens n) SelfBelowMinimum >> last) new e) in
     subst (λ x. StandsAs x v) (same_ok out new went) (record { operator = refl; tokens = refl; shares = refl })
 
-stands_through : (a b c : Validator) → StandsAs a b → StandsAs b c → StandsAs a c
+pub stands_through : (a b c : Validator) → StandsAs a b → StandsAs b c → StandsAs a c
 stands_through a b c s t = record { operator = s.operator ∙ t.operator; tokens = s.tokens ∙ t.tokens; shares = s.shares ∙ t.shares }
 
 -- a validator that is found stands under its own operator
-found_own : (w : State) (operator : List ℕ) (v : Validator) → IsSound w → or_stop (validator_of w.mine.staked operator) NoValidator ≡ Ok v → validator_of w.mine.staked v.operator ≡ Some v
+pub found_own : (w : State) (operator : List ℕ) (v : Validator) → IsSound w → or_stop (validator_of w.mine.staked operator) NoValidator ≡ Ok v → validator_of w.mine.staked v.operator ≡ Some v
 found_own w operator v sound e =
     let found : validator_of w.mine.staked operator ≡ Some v = found_is (validator_of w.mine.staked operator) NoValidator v e in
     ap (λ o. validator_of w.mine.staked o) (sym (under_own w operator v sound found)) ∙ found

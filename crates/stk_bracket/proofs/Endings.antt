@@ -28,7 +28,7 @@ use Rattle.stk_bracket.specs.States.{starts_in, account_in, AreReached, IsClaimC
 use Rattle.stk_bracket.proofs.Following.{own_addr, other_addr}
 use Rattle.stk_bracket.proofs.Entries.{addr_is, put_there, put_elsewhere, history_elsewhere}
 use Rattle.stk_bracket.proofs.Reached.{deeds_lead_on, cut_is_bounded}
-use Rattle.stk_bracket.proofs.Claims.{IsEnded, ended_is, periods_with, closed_account, closed_history, closed_reward, current_at, outstanding_at, lists_at, some_of, start_with, own_start, claim_parts}
+use Rattle.stk_bracket.proofs.Claims.{IsReady, ready_in, IsEnded, ended_is, periods_with, closed_account, closed_history, closed_reward, some_of, start_with, own_start, claim_parts}
 
 -- ---- accounts that agree field by field
 
@@ -114,28 +114,30 @@ closed_reached_at : (d : List ℕ) (w : State) (v : Validator) (z : ℕ × Share
 closed_reached_at d w v z k reached =
     deeds_lead_on d (account_in d w v) (deed.ending k.increment k.ratio ∷ []) reached (record { increment_is = k.increment_is; ratio_is = k.ratio_is }, tt)
 
-pub end_is : (d : List ℕ) (w : State) (v : Validator) (z : ℕ × Shared × View × Log) → IsSound w → ended v w.hooks.0 w.view ≡ Ok z → IsEnded d v w.hooks.0 w.view z
-end_is d w v z sound e = ended_is d v w.hooks.0 w.view z (current_at w v.operator sound) (outstanding_at w v.operator sound) (lists_at w v.operator sound) e
+pub end_is : (d : List ℕ) (w : State) (v : Validator) (z : ℕ × Shared × View × Log) → IsReady w v.operator → ended v w.hooks.0 w.view ≡ Ok z → IsEnded d v w.hooks.0 w.view z
+end_is d w v z ready e = ended_is d v w.hooks.0 w.view z ready.current ready.outstanding ready.lists e
 
-reached_then : (d : List ℕ) (w : State) (v u : Validator) (z : ℕ × Shared × View × Log) → IsSound w → validator_of w.mine.staked v.operator ≡ Some v → ended v w.hooks.0 w.view ≡ Ok z → AreReached w
+reached_then : (d : List ℕ) (w : State) (v u : Validator) (z : ℕ × Shared × View × Log) → IsReady w v.operator → validator_of w.mine.staked v.operator ≡ Some v → ended v w.hooks.0 w.view ≡ Ok z → AreReached w
     → validator_of w.mine.staked u.operator ≡ Some u → (b : Bool) → same_addr u.operator v.operator ≡ b → IsReached d (account_in d (state_then w z) u)
-reached_then d w v u z sound found e reached there true is =
+reached_then d w v u z ready found e reached there true is =
     let op : u.operator ≡ v.operator = addr_is u.operator v.operator is in
     let one : u ≡ v = same_some u v (validator_of w.mine.staked u.operator) (validator_of w.mine.staked v.operator) there found (ap (λ o. validator_of w.mine.staked o) op) in
-    let k : IsEnded d v w.hooks.0 w.view z = end_is d w v z sound e in
+    let k : IsEnded d v w.hooks.0 w.view z = end_is d w v z ready e in
     subst (λ x. IsReached d (account_in d (state_then w z) x)) (sym one)
     (subst (λ a. IsReached d a) (sym (closed_is d w v z k)) (closed_reached_at d w v z k (reached d v found)))
-reached_then d w v u z sound found e reached there false is =
+reached_then d w v u z ready found e reached there false is =
     let ne : u.operator ≢ v.operator = λ h. true_not_false (sym (ap (λ o. same_addr o v.operator) h ∙ own_addr v.operator) ∙ is) in
-    let k : IsEnded d v w.hooks.0 w.view z = end_is d w v z sound e in
+    let k : IsEnded d v w.hooks.0 w.view z = end_is d w v z ready e in
     subst (λ a. IsReached d a) (sym (other_is d w v u z k is (other_addr v.operator u.operator (λ h. ne (sym h))))) (reached d u there)
   where
     true_not_false : true ≡ false → ⊥
     true_not_false h = cc
 
+pub ended_reached : (w : State) (v : Validator) (z : ℕ × Shared × View × Log) → IsReady w v.operator → validator_of w.mine.staked v.operator ≡ Some v → ended v w.hooks.0 w.view ≡ Ok z → AreReached w → AreReached (state_then w z)
+ended_reached w v z ready found e reached d u there = reached_then d w v u z ready found e reached there (same_addr u.operator v.operator) refl
+
 pub end_keeps_reached : EndKeepsReached
-end_keeps_reached = λ w v period s view more sound found e reached d u there.
-    reached_then d w v u (period, s, view, more) sound found e reached there (same_addr u.operator v.operator) refl
+end_keeps_reached = λ w v period s view more sound found e reached. ended_reached w v (period, s, view, more) (ready_in w v.operator sound) found e reached
 
 -- ---- what an exhausted outstanding record cuts
 
@@ -150,7 +152,7 @@ claim_cut w sound reached d who v shares found held full l more period s view cl
     let reward : reward_at (start_of s.rewards who v.operator) (periods_of s.rewards v.operator) period view.ctx.height (value_even_of v.tokens v.shares shares) ≡ Ok full =
     subst (λ y. reward_at (start_of y.1.rewards who v.operator) (periods_of y.1.rewards v.operator) y.0 y.2.ctx.height (value_even_of v.tokens v.shares shares) ≡ Ok full) same parts.2 in
     let logged : w.log ++ more ≡ l = ap (λ y. w.log ++ y.3) (sym same) ∙ parts.3 in
-    let k : IsEnded d v w.hooks.0 w.view z = end_is d w v z sound end in
+    let k : IsEnded d v w.hooks.0 w.view z = end_is d w v z (ready_in w v.operator sound) end in
     let a : Account = closed_account d w v k.increment k.ratio in
     let some : (info : StartingInfo) × (start_of w.hooks.0.rewards who v.operator ≡ Some info) =
     some_of (start_of w.hooks.0.rewards who v.operator) (sound.stands.starts who v.operator ∙ ap is_some held) in
@@ -159,7 +161,7 @@ claim_cut w sound reached d who v shares found held full l more period s view cl
     own_start w v who info (IsCutWithin d a) some.1 (recursion_from_All (IsCutWithin d a) (starts_in w.mine.staked w.hooks.0.rewards v.operator) (cut_is_bounded d a (closed_reached_at d w v z k (reached d v found)))) in
     let own : IsCutWithin d a (record { who = who; shares = shares; info = info }) =
     subst (λ n. IsCutWithin d a (record { who = who; shares = n; info = info })) (ap (λ o. unwrap_or o 0) held) listed in
-    let amount : amount_of full d ≡ reward_now d a (record { who = who; shares = shares; info = info }) = closed_reward d w v who shares info full z k sound some.1 reward in
+    let amount : amount_of full d ≡ reward_now d a (record { who = who; shares = shares; info = info }) = closed_reward d w v who shares info full z k (ready_in w v.operator sound) some.1 reward in
     let is : account_in d (state_then w z) v ≡ a = closed_is d w v z k in
     let left : amount_of (purse_of s.purses v.operator).outstanding d ≡ a.outstanding = ap (λ x. x.outstanding) is in
     let over : overclaim_of d (history_of v.operator l []) (ratio_at (periods_of s.rewards v.operator).ratios period) ≡ overclaim d a =

@@ -22,3 +22,12 @@ pub mod Beginnings
 pub mod Quiet
 pub mod Edits
 pub mod Sharing
+pub mod Hooked
+pub mod Growing
+pub mod Delegating
+pub mod Leaving
+pub mod Undelegating
+pub mod Creating
+pub mod Bonding
+pub mod Maturing
+pub mod Allocating

@@ -22,11 +22,10 @@ use Rattle.stk_keep.specs.Steps.{◌>>=◌}
 use Rattle.stk_keep.specs.World.{View, noted}
 use Rattle.stk_rules.specs.Amounts.{over_facts}
 use Rattle.stk_rules.specs.Chain.{State, with_shared}
-use Rattle.stk_rules.specs.Distribution.{Shared, ended, reward_withdrawn, payee_of, paid_to}
+use Rattle.stk_rules.specs.Distribution.{Shared, ended, reward_due, reward_withdrawn, payee_of, paid_to}
 use Rattle.stk_rules.specs.Ideal.{history_of}
 use Rattle.stk_rules.specs.Periods.{Rewards, periods_of, start_of, without_start, reward_at}
 use Rattle.stk_rules.specs.Purses.{Purses, purse_of, with_purse, pool_joined, paid_out, pooled_told}
-use Rattle.stk_rules.specs.Sound.{IsSound}
 use Rattle.stk_bracket.specs.Account.{Start, Account, IsReached, reward_now, paid_in, account_after}
 use Rattle.stk_bracket.specs.Account as deed
 use Rattle.stk_bracket.specs.States.{starts_in, account_in, AreReached, WithdrawalKeepsReached}
@@ -34,8 +33,8 @@ use Rattle.stk_bracket.proofs.Following.{own_addr, other_addr}
 use Rattle.stk_bracket.proofs.Denominations.{step_parts}
 use Rattle.stk_bracket.proofs.Entries.{addr_is, pair_is, put_there, put_elsewhere, IsGoneFrom, gone_from, kept_by}
 use Rattle.stk_bracket.proofs.Reached.{deeds_lead_on}
-use Rattle.stk_bracket.proofs.Claims.{IsEnded, closed_account, closed_full, some_of, start_with}
-use Rattle.stk_bracket.proofs.Endings.{same_account, state_then, closed_is, same_some, end_is, end_keeps_reached}
+use Rattle.stk_bracket.proofs.Claims.{IsReady, ready_in, IsEnded, closed_account, closed_full, due_parts, some_of, start_with}
+use Rattle.stk_bracket.proofs.Endings.{same_account, state_then, closed_is, same_some, end_is, ended_reached}
 
 -- ---- the purse of a validator of which a reward was paid
 
@@ -116,18 +115,20 @@ withdrawn_of v who shares s u z full r e f g = record {
 
 pub withdrawn_is : (v : Validator) (who : List ℕ) (shares : ℕ) (s : Shared) (u : View) (y : Money × Shared × View × Log) → reward_withdrawn v who shares s u ≡ Ok y → IsWithdrawn v who shares s u y
 withdrawn_is v who shares s u y e =
-    let value : ℕ = value_even_of v.tokens v.shares shares in
-    let one : (z : ℕ × Shared × View × Log) × (ended v s u ≡ Ok z)
-    × ((reward_at (start_of z.1.rewards who v.operator) (periods_of z.1.rewards v.operator) z.0 z.2.ctx.height value >>= λ full. paid_out v.operator full z.1.purses >>= λ r. Ok (withdrawn_with v who z r)) ≡ Ok y) =
-    step_parts (ended v s u)
-    (λ z. reward_at (start_of z.1.rewards who v.operator) (periods_of z.1.rewards v.operator) z.0 z.2.ctx.height value >>= λ full. paid_out v.operator full z.1.purses >>= λ r. Ok (withdrawn_with v who z r)) y e in
-    let z : ℕ × Shared × View × Log = one.0 in
-    let two : (full : Money) × (reward_at (start_of z.1.rewards who v.operator) (periods_of z.1.rewards v.operator) z.0 z.2.ctx.height value ≡ Ok full)
-    × ((paid_out v.operator full z.1.purses >>= λ r. Ok (withdrawn_with v who z r)) ≡ Ok y) =
-    step_parts (reward_at (start_of z.1.rewards who v.operator) (periods_of z.1.rewards v.operator) z.0 z.2.ctx.height value) (λ full. paid_out v.operator full z.1.purses >>= λ r. Ok (withdrawn_with v who z r)) y one.2 in
-    let three : (r : Money × Purses) × (paid_out v.operator two.0 z.1.purses ≡ Ok r) × (Path (Result (Money × Shared × View × Log) Over) (Ok (withdrawn_with v who z r)) (Ok y)) =
-    step_parts (paid_out v.operator two.0 z.1.purses) (λ r. Ok (withdrawn_with v who z r)) y two.2 in
-    subst (λ x. IsWithdrawn v who shares s u x) (same_end (withdrawn_with v who z three.0) y three.2) (withdrawn_of v who shares s u z two.0 three.0 one.1 two.1 three.1)
+    let one : (q : Money × Shared × View × Log) × (reward_due v who shares s u ≡ Ok q)
+    × ((paid_out v.operator q.0 q.1.purses >>= λ r. Ok (withdrawn_with v who (0, q.1, q.2, q.3) r)) ≡ Ok y) =
+    step_parts (reward_due v who shares s u) (λ q. paid_out v.operator q.0 q.1.purses >>= λ r. Ok (withdrawn_with v who (0, q.1, q.2, q.3) r)) y e in
+    let q : Money × Shared × View × Log = one.0 in
+    let due : (z : ℕ × Shared × View × Log) × (ended v s u ≡ Ok z)
+    × (reward_at (start_of z.1.rewards who v.operator) (periods_of z.1.rewards v.operator) z.0 z.2.ctx.height (value_even_of v.tokens v.shares shares) ≡ Ok q.0)
+    × ((q.0, z.1, z.2, z.3) ≡ q) = due_parts v who shares s u q one.1 in
+    let z : ℕ × Shared × View × Log = due.0 in
+    let two : (r : Money × Purses) × (paid_out v.operator q.0 q.1.purses ≡ Ok r) × (Path (Result (Money × Shared × View × Log) Over) (Ok (withdrawn_with v who (0, q.1, q.2, q.3) r)) (Ok y)) =
+    step_parts (paid_out v.operator q.0 q.1.purses) (λ r. Ok (withdrawn_with v who (0, q.1, q.2, q.3) r)) y one.2 in
+    let pays : paid_out v.operator q.0 z.1.purses ≡ Ok two.0 = ap (λ p. paid_out v.operator q.0 p.1.purses) due.3 ∙ two.1 in
+    let is : withdrawn_with v who z two.0 ≡ y =
+    ap (λ p. withdrawn_with v who (0, p.1, p.2, p.3) two.0) due.3 ∙ same_end (withdrawn_with v who (0, q.1, q.2, q.3) two.0) y two.2 in
+    subst (λ x. IsWithdrawn v who shares s u x) is (withdrawn_of v who shares s u z q.0 two.0 due.1 due.2 pays)
   where
     same_end : (x y : Money × Shared × View × Log) → Path (Result (Money × Shared × View × Log) Over) (Ok x) (Ok y) → x ≡ y
     same_end x y h = cc
@@ -154,18 +155,18 @@ other_kept w v u who r apart =
 
 -- the validator of the delegation: its account loses the start, and what is paid
 pub paid_account : (d : List ℕ) (w : State) (v : Validator) (who : List ℕ) (shares : ℕ) (info : StartingInfo) (y : Money × Shared × View × Log) (k : IsWithdrawn v who shares w.hooks.0 w.view y)
-    → IsSound w → validator_of w.mine.staked v.operator ≡ Some v → shares_of w.mine.staked who v.operator ≡ Some shares → start_of w.hooks.0.rewards who v.operator ≡ Some info
+    → IsReady w v.operator → validator_of w.mine.staked v.operator ≡ Some v → shares_of w.mine.staked who v.operator ≡ Some shares → start_of w.hooks.0.rewards who v.operator ≡ Some info
     → (i : IsEnded d v w.hooks.0 w.view k.first)
     → (g : IsGoneFrom (starts_in w.mine.staked k.first.1.rewards v.operator) (starts_in w.mine.staked (without_start who v.operator k.first.1.rewards) v.operator) (start_with w v who info))
     → account_in d (state_behind w y) v ≡ account_after d (account_in d (state_then w k.first) v) (deed.payment g.place)
-paid_account d w v who shares info y k sound found held is i g =
+paid_account d w v who shares info y k ready found held is i g =
     let op : List ℕ = v.operator in
     let z : ℕ × Shared × View × Log = k.first in
     let a : Account = account_in d (state_behind w y) v in
     let b : Account = account_in d (state_then w z) v in
     let c : Account = closed_account d w v i.increment i.ratio in
     let before : b ≡ c = closed_is d w v z i in
-    let full : IsMoney k.full × (amount_of k.full d ≡ reward_now d c (record { who = who; shares = shares; info = info })) = closed_full d w v who shares info k.full z i sound is k.is_full in
+    let full : IsMoney k.full × (amount_of k.full d ≡ reward_now d c (record { who = who; shares = shares; info = info })) = closed_full d w v who shares info k.full z i ready is k.is_full in
     let then_purse : purse_of z.1.purses op ≡ i.purse.purse =
     ap (λ es. unwrap_or (at addr_cmp es op) no_purse) i.purse.is ∙ ap (λ o. unwrap_or o no_purse) (put_there op i.purse.purse w.hooks.0.purses.purses) in
     let money : IsMoney (purse_of z.1.purses op).outstanding = subst (λ q. IsMoney q.outstanding) (sym then_purse) i.purse.money in
@@ -206,37 +207,41 @@ other_account d w v u who shares y k full money apart apart' =
     (ap (λ r. starts_in w.mine.staked r op) k.rewards ∙ other_kept w v u who z.1.rewards apart')
     (ap (λ m. history_of op (w.log ++ m) []) k.logged)
 
-reached_behind : (d : List ℕ) (w : State) (v u : Validator) (who : List ℕ) (shares : ℕ) (y : Money × Shared × View × Log) → IsSound w → validator_of w.mine.staked v.operator ≡ Some v
+reached_behind : (d : List ℕ) (w : State) (v u : Validator) (who : List ℕ) (shares : ℕ) (y : Money × Shared × View × Log) → IsReady w v.operator → validator_of w.mine.staked v.operator ≡ Some v
     → shares_of w.mine.staked who v.operator ≡ Some shares → IsWithdrawn v who shares w.hooks.0 w.view y → AreReached w
     → validator_of w.mine.staked u.operator ≡ Some u → (b : Bool) → same_addr u.operator v.operator ≡ b → IsReached d (account_in d (state_behind w y) u)
-reached_behind d w v u who shares y sound found held k reached there true is =
+reached_behind d w v u who shares y ready found held k reached there true is =
     let z : ℕ × Shared × View × Log = k.first in
-    let i : IsEnded d v w.hooks.0 w.view z = end_is d w v z sound k.ends in
+    let i : IsEnded d v w.hooks.0 w.view z = end_is d w v z ready k.ends in
     let one : u ≡ v = same_some u v (validator_of w.mine.staked u.operator) (validator_of w.mine.staked v.operator) there found (ap (λ o. validator_of w.mine.staked o) (addr_is u.operator v.operator is)) in
     let some : (info : StartingInfo) × (start_of w.hooks.0.rewards who v.operator ≡ Some info) =
-    some_of (start_of w.hooks.0.rewards who v.operator) (sound.stands.starts who v.operator ∙ ap is_some held) in
+    some_of (start_of w.hooks.0.rewards who v.operator) (ready.starts who ∙ ap is_some held) in
     let still : start_of z.1.rewards who v.operator ≡ Some some.0 = ap (λ r. start_of r who v.operator) i.rewards ∙ some.1 in
     let g : IsGoneFrom (starts_in w.mine.staked z.1.rewards v.operator) (starts_in w.mine.staked (without_start who v.operator z.1.rewards) v.operator) (start_with w v who some.0) = own_gone w v who some.0 z.1.rewards still in
-    let before : IsReached d (account_in d (state_then w z) v) = end_keeps_reached w v z.0 z.1 z.2 z.3 sound found k.ends reached d v found in
+    let before : IsReached d (account_in d (state_then w z) v) = ended_reached w v z ready found k.ends reached d v found in
     subst (λ x. IsReached d (account_in d (state_behind w y) x)) (sym one)
-    (subst (λ a. IsReached d a) (sym (paid_account d w v who shares some.0 y k sound found held some.1 i g))
+    (subst (λ a. IsReached d a) (sym (paid_account d w v who shares some.0 y k ready found held some.1 i g))
     (deeds_lead_on d (account_in d (state_then w z) v) (deed.payment g.place ∷ []) before (g.within, tt)))
-reached_behind d w v u who shares y sound found held k reached there false is =
+reached_behind d w v u who shares y ready found held k reached there false is =
     let z : ℕ × Shared × View × Log = k.first in
-    let i : IsEnded d v w.hooks.0 w.view z = end_is d w v z sound k.ends in
+    let i : IsEnded d v w.hooks.0 w.view z = end_is d w v z ready k.ends in
     let ne : u.operator ≢ v.operator = λ h. true_not_false (sym (ap (λ o. same_addr o v.operator) h ∙ own_addr v.operator) ∙ is) in
     let some : (info : StartingInfo) × (start_of w.hooks.0.rewards who v.operator ≡ Some info) =
-    some_of (start_of w.hooks.0.rewards who v.operator) (sound.stands.starts who v.operator ∙ ap is_some held) in
+    some_of (start_of w.hooks.0.rewards who v.operator) (ready.starts who ∙ ap is_some held) in
     let then_purse : purse_of z.1.purses v.operator ≡ i.purse.purse =
     ap (λ es. unwrap_or (at addr_cmp es v.operator) no_purse) i.purse.is ∙ ap (λ o. unwrap_or o no_purse) (put_there v.operator i.purse.purse w.hooks.0.purses.purses) in
     let money : IsMoney (purse_of z.1.purses v.operator).outstanding = subst (λ q. IsMoney q.outstanding) (sym then_purse) i.purse.money in
     subst (λ a. IsReached d a)
-    (sym (other_account d w v u who shares y k (closed_full d w v who shares some.0 k.full z i sound some.1 k.is_full).0 money is (other_addr v.operator u.operator (λ h. ne (sym h)))))
-    (end_keeps_reached w v z.0 z.1 z.2 z.3 sound found k.ends reached d u there)
+    (sym (other_account d w v u who shares y k (closed_full d w v who shares some.0 k.full z i ready some.1 k.is_full).0 money is (other_addr v.operator u.operator (λ h. ne (sym h)))))
+    (ended_reached w v z ready found k.ends reached d u there)
   where
     true_not_false : true ≡ false → ⊥
     true_not_false h = cc
 
+pub withdrawn_reached : (w : State) (v : Validator) (who : List ℕ) (shares : ℕ) (y : Money × Shared × View × Log) → IsReady w v.operator → validator_of w.mine.staked v.operator ≡ Some v → shares_of w.mine.staked who v.operator ≡ Some shares
+    → reward_withdrawn v who shares w.hooks.0 w.view ≡ Ok y → AreReached w → AreReached (state_behind w y)
+withdrawn_reached w v who shares y ready found held e reached d u there =
+    reached_behind d w v u who shares y ready found held (withdrawn_is v who shares w.hooks.0 w.view y e) reached there (same_addr u.operator v.operator) refl
+
 pub withdrawal_keeps_reached : WithdrawalKeepsReached
-withdrawal_keeps_reached = λ w v who shares coins s view more sound found held e reached d u there.
-    reached_behind d w v u who shares (coins, s, view, more) sound found held (withdrawn_is v who shares w.hooks.0 w.view (coins, s, view, more) e) reached there (same_addr u.operator v.operator) refl
+withdrawal_keeps_reached = λ w v who shares coins s view more sound found held e reached. withdrawn_reached w v who shares (coins, s, view, more) (ready_in w v.operator sound) found held e reached

@@ -69,7 +69,7 @@ quiet_reached w s u rewards purses height reached d v found =
     (ap (λ r. starts_in w.mine.staked r op) rewards)
     (ap (λ l. history_of op l []) (append-nil w.log)))) (reached d v found)
 
-viewed_reached : (w : State) (u : View) → u.ctx.height ≡ w.view.ctx.height → ReachedStays w (over_view (λ x. u) w)
+pub viewed_reached : (w : State) (u : View) → u.ctx.height ≡ w.view.ctx.height → ReachedStays w (over_view (λ x. u) w)
 viewed_reached w u height reached d v found =
     let a : Account = account_in d w v in
     subst (λ n. IsReached d (record a { height = n })) (sym height) (reached d v found)

@@ -142,12 +142,12 @@ joined_is d share rate old x m few sound e =
 
 -- ---- a state with other purses, and more of a log
 
-abbrev state_shared : State → Purses → Log → State
+abbrev pub state_shared : State → Purses → Log → State
 state_shared w p l = with_shared (record w.hooks.0 { purses = p }) w.view l w
 
-record Shares (w : State) (p : Purses) (l : Log) : Type 0 where
-  reached : AreReached (state_shared w p l)
-  sound : (operator : List ℕ) → PurseIsSound (purse_of p operator)
+pub record Shares (w : State) (p : Purses) (l : Log) : Type 0 where
+  pub reached : AreReached (state_shared w p l)
+  pub sound : (operator : List ℕ) → PurseIsSound (purse_of p operator)
 
 pool_reached : (w : State) (p q : Purses) (l : Log) → q.purses ≡ p.purses → AreReached (state_shared w p l) → AreReached (state_shared w q l)
 pool_reached w p q l same reached d v there =
@@ -259,7 +259,7 @@ vote_given w share cons (Some v) p facts l x sound none m is k e = one_given w s
 
 -- ---- all votes
 
-all_given : (w : State) (base : Money) (total : ℕ) (ts : List Vote) (left : Money) (p : Purses) (facts : List Fact) (l : Log) (x : Purses × List Fact × Log) → IsSound w → NoneStartedHere w → IsMoney base
+pub all_given : (w : State) (base : Money) (total : ℕ) (ts : List Vote) (left : Money) (p : Purses) (facts : List Fact) (l : Log) (x : Purses × List Fact × Log) → IsSound w → NoneStartedHere w → IsMoney base
     → Shares w p l → shares_allocated w.mine.staked base total ts left p facts l ≡ Ok x → AreReached (state_shared w x.0 x.2)
 all_given w base total [] left p facts l x sound none m k e =
     let a : (q : Purses) × (pool_joined left p ≡ Ok q) × (Path (Result (Purses × List Fact × Log) Over) (Ok (q, pooled_told left facts, l)) (Ok x)) = step_parts (pool_joined left p) (λ q. Ok (q, pooled_told left facts, l)) x e in
@@ -277,7 +277,7 @@ all_given w base total (t ∷ ts) left p facts l x sound none m k e =
     step_parts (share_given (validator_by_cons s t.cons) share p facts) (λ y. shares_allocated s base total ts (coins_taken left share) y.0 y.1 (l ++ y.2)) x b.2 in
     all_given w base total ts (coins_taken left share) c.0.0 c.0.1 (l ++ c.0.2) x sound none m (vote_given w share t.cons (validator_by_cons s t.cons) p facts l c.0 sound none sm refl k c.1) c.2
 
-purses_sound : (w : State) → IsSound w → (operator : List ℕ) → PurseIsSound (purse_of w.hooks.0.purses operator)
+pub purses_sound : (w : State) → IsSound w → (operator : List ℕ) → PurseIsSound (purse_of w.hooks.0.purses operator)
 purses_sound w sound operator =
     if_some PurseIsSound (at addr_cmp w.hooks.0.purses.purses operator) no_purse (All-lookup PurseIsSound (is_at (addr_cmp operator)) w.hooks.0.purses.purses sound.purses.purses)
     (record { outstanding = money-nil; commission = money-nil; current = money-nil })

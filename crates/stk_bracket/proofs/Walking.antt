@@ -1,15 +1,14 @@
 -- The reward and the claim of a start, as the records change.
-use Rattle.std.proofs.Common.{◌≡◌, ℕ, ◌+◌, ◌-◌, ◌*◌, ◌<◌, ◌≤◌, Bool, true, false, cond, List, [], ◌∷◌, ◌++◌, map, filter, refl, arith, ap, ap₂, ◌∙◌, min, mul-le-mul_left, le_of_mul-le-mul_right}
+use Rattle.std.proofs.Common.{◌≡◌, ℕ, ◌+◌, ◌-◌, ◌*◌, ◌<◌, ◌≤◌, Bool, true, false, cond, List, [], ◌∷◌, ◌++◌, map, filter, refl, arith, ap, ap₂, ◌∙◌, min}
 use Rattle.std.specs.Prelude.{sum}
 use Rattle.std.specs.List.{AllByRecursion}
 use Rattle.std.proofs.lemmas.List.Sums.{sum_by-cons}
 use Rattle.std.proofs.lemmas.List.Elements.{filter-append}
 use Rattle.stk_keep.specs.declared.entities.StartingInfo.{StartingInfo}
 use Rattle.stk_keep.specs.declared.entities.SlashEvent.{SlashEvent}
-use Rattle.stk_rules.specs.Periods.{Periods, Stretch, ratio_at, falls_after, slashed_stake, stretches, stretches_of}
+use Rattle.stk_rules.specs.Periods.{Periods, Stretch, ratio_at, falls_after, slashed_stake, stretches, stretches_of, unlimited_stretches, unlimited_stretches_of}
 use Rattle.stk_rules.specs.Laws.{exact_claim}
 use Rattle.stk_bracket.specs.Account.{product_cut, earned_in, ratio_in}
-use Rattle.stk_bracket.proofs.Rounding.{one, one_pos, floor_low}
 
 -- what a walk over the events of a start has reached: what the stretches before give, cut and exactly, the running stake,
 -- and where the open stretch begins
@@ -55,38 +54,24 @@ walk_earns ratio w last value (e ∷ es) =
     walk_earns ratio (crossed ratio w e) last value es in
     omega arith
 
-walk_claims : (ratio : ℕ → ℕ) (w : Walk) (last value : ℕ) (es : List SlashEvent)
-    → w.exact + claim_of_stretches ratio (stretches w.from w.stake last value es) ≡ (walk ratio w es).exact + (ratio last - ratio (walk ratio w es).from) * min (walk ratio w es).stake value
-walk_claims ratio w last value [] =
-    omega (arith, sum_by-cons (λ n. n) ((ratio last - ratio w.from) * min w.stake value) [])
-walk_claims ratio w last value (e ∷ es) =
+walk_claims : (ratio : ℕ → ℕ) (w : Walk) (last : ℕ) (es : List SlashEvent)
+    → w.exact + claim_of_stretches ratio (unlimited_stretches w.from w.stake last es) ≡ (walk ratio w es).exact + (ratio last - ratio (walk ratio w es).from) * (walk ratio w es).stake
+walk_claims ratio w last [] =
+    omega (arith, sum_by-cons (λ n. n) ((ratio last - ratio w.from) * w.stake) [])
+walk_claims ratio w last (e ∷ es) =
     let part : ℕ = (ratio e.period - ratio w.from) * w.stake in
-    let rest : List Stretch = stretches e.period (slashed_stake w.stake e.fraction) last value es in
-    let more : claim_of_stretches ratio (stretches w.from w.stake last value (e ∷ es)) ≡ part + claim_of_stretches ratio rest = sum_by-cons (λ n. n) part (map (λ t. (ratio t.last - ratio t.after) * t.stake) rest) in
-    let next : (w.exact + part) + claim_of_stretches ratio rest ≡ (walk ratio (crossed ratio w e) es).exact + (ratio last - ratio (walk ratio (crossed ratio w e) es).from) * min (walk ratio (crossed ratio w e) es).stake value =
-    walk_claims ratio (crossed ratio w e) last value es in
+    let rest : List Stretch = unlimited_stretches e.period (slashed_stake w.stake e.fraction) last es in
+    let more : claim_of_stretches ratio (unlimited_stretches w.from w.stake last (e ∷ es)) ≡ part + claim_of_stretches ratio rest = sum_by-cons (λ n. n) part (map (λ t. (ratio t.last - ratio t.after) * t.stake) rest) in
+    let next : (w.exact + part) + claim_of_stretches ratio rest ≡ (walk ratio (crossed ratio w e) es).exact + (ratio last - ratio (walk ratio (crossed ratio w e) es).from) * (walk ratio (crossed ratio w e) es).stake =
+    walk_claims ratio (crossed ratio w e) last es in
     omega arith
 
--- a slash lowers a stake
-slashed_less : (stake fraction : ℕ) → slashed_stake stake fraction ≤ stake
-slashed_less stake fraction =
-    let low : slashed_stake stake fraction * one ≤ stake * (one - fraction) = floor_low (stake * (one - fraction)) one in
-    let less : stake * (one - fraction) ≤ stake * one = mul-le-mul_left stake (omega arith) in
-    let scaled : slashed_stake stake fraction * one ≤ stake * one = omega arith in
-    le_of_mul-le-mul_right scaled one_pos
-
-walk_stake : (ratio : ℕ → ℕ) (w : Walk) (es : List SlashEvent) → (walk ratio w es).stake ≤ w.stake
-walk_stake ratio w [] = omega arith
-walk_stake ratio w (e ∷ es) = omega (arith, walk_stake ratio (crossed ratio w e) es, slashed_less w.stake e.fraction)
-
--- the claim up to a period, without a limit of the last stretch
+-- the claim up to a period
 pub claim_is : (d : List ℕ) (p : Periods) (s : StartingInfo) (last : ℕ) → let w = walk_of (ratio_in d p) s p.events in
-    exact_claim d (ratio_at p.ratios) (stretches_of s p.events last s.stake) ≡ w.exact + (ratio_in d p last - ratio_in d p w.from) * w.stake
+    exact_claim d (ratio_at p.ratios) (unlimited_stretches_of s p.events last) ≡ w.exact + (ratio_in d p last - ratio_in d p w.from) * w.stake
 claim_is d p s last =
-    let w : Walk = walk_of (ratio_in d p) s p.events in
-    let own : min w.stake s.stake ≡ w.stake = omega (arith, walk_stake (ratio_in d p) (first_walk s) (filter (falls_after s) p.events)) in
-    let all : exact_claim d (ratio_at p.ratios) (stretches_of s p.events last s.stake) ≡ 0 + claim_of_stretches (ratio_in d p) (stretches_of s p.events last s.stake) = omega arith in
-    all ∙ walk_claims (ratio_in d p) (first_walk s) last s.stake (filter (falls_after s) p.events) ∙ ap (λ n. w.exact + (ratio_in d p last - ratio_in d p w.from) * n) own
+    let all : exact_claim d (ratio_at p.ratios) (unlimited_stretches_of s p.events last) ≡ 0 + claim_of_stretches (ratio_in d p) (unlimited_stretches_of s p.events last) = omega arith in
+    all ∙ walk_claims (ratio_in d p) (first_walk s) last (filter (falls_after s) p.events)
 
 pub earned_is : (d : List ℕ) (p : Periods) (s : StartingInfo) (last value : ℕ) → let w = walk_of (ratio_in d p) s p.events in
     earned_in (ratio_in d p) (stretches_of s p.events last value) ≡ w.paid + product_cut (ratio_in d p last - ratio_in d p w.from) (min w.stake value)

@@ -2,3 +2,4 @@ pub mod Account
 pub mod Laws
 pub mod Rows
 pub mod States
+pub mod Changes

@@ -11,7 +11,7 @@ use Rattle.stk_keep.specs.Orders.{same_addr}
 use Rattle.stk_keep.specs.Staked.{Staked, validator_of, shares_of}
 use Rattle.stk_keep.specs.World.{View}
 use Rattle.stk_rules.specs.Allocation.{shares_allocated}
-use Rattle.stk_rules.specs.Chain.{State, with_shared}
+use Rattle.stk_rules.specs.Chain.{State, with_shared, shared_in}
 use Rattle.stk_rules.specs.Distribution.{Shared, ended, reward_withdrawn}
 use Rattle.stk_rules.specs.Effects.{send, edit_validator, unjail, withdraw_reward, withdraw_commission, set_withdraw_address, fund_community_pool, community_pool_spend, fee_paid}
 use Rattle.stk_rules.specs.Ideal.{history_of, claimed, overclaim_of}
@@ -29,15 +29,15 @@ starts_in s r operator =
 
 -- the account of a validator in a state, in a denomination
 abbrev pub account_in : List ℕ → State → Validator → Account
-account_in d w v = let purse = purse_of w.hooks.0.purses v.operator in record {
+account_in d w v = let purse = purse_of (shared_in w).purses v.operator in record {
   height = w.view.ctx.height;
   tokens = v.tokens;
   shares = v.shares;
   current = amount_of purse.current d;
   commission = amount_of purse.commission d;
   outstanding = amount_of purse.outstanding d;
-  periods = periods_of w.hooks.0.rewards v.operator;
-  starts = starts_in w.mine.staked w.hooks.0.rewards v.operator;
+  periods = periods_of (shared_in w).rewards v.operator;
+  starts = starts_in w.mine.staked (shared_in w).rewards v.operator;
   history = history_of v.operator w.log [];
 }
 
@@ -59,7 +59,7 @@ ReachedHasShortfallWithin =
 abbrev pub IsClaimCutWithin : List ℕ → State → List ℕ → Validator → ℕ → Type 0
 IsClaimCutWithin d w who v shares =
     (full : Money) (l more : Log) (period : ℕ) (s : Shared) (view : View)
-    → claimed v who shares w.hooks.0 w.view w.log ≡ Ok (full, l) → ended v w.hooks.0 w.view ≡ Ok (period, s, view, more)
+    → claimed v who shares (shared_in w) w.view w.log ≡ Ok (full, l) → ended v (shared_in w) w.view ≡ Ok (period, s, view, more)
     → 10 ^ 18 * (amount_of full d - amount_of (purse_of s.purses v.operator).outstanding d)
     ≤ overclaim_of d (history_of v.operator l []) (ratio_at (periods_of s.rewards v.operator).ratios period)
 
@@ -79,14 +79,14 @@ NextBlockKeepsReached = (w : State) (height time : ℕ) → w.view.ctx.height < 
 abbrev pub EndKeepsReached : Type 0
 EndKeepsReached =
     (w : State) (v : Validator) (period : ℕ) (s : Shared) (view : View) (more : Log) → IsSound w → validator_of w.mine.staked v.operator ≡ Some v
-    → ended v w.hooks.0 w.view ≡ Ok (period, s, view, more) → AreReached w → AreReached (with_shared s view more w)
+    → ended v (shared_in w) w.view ≡ Ok (period, s, view, more) → AreReached w → AreReached (with_shared s view more w)
 
 -- and so does withdrawing a delegation's reward
 abbrev pub WithdrawalKeepsReached : Type 0
 WithdrawalKeepsReached =
     (w : State) (v : Validator) (who : List ℕ) (shares : ℕ) (coins : Money) (s : Shared) (view : View) (more : Log) → IsSound w
     → validator_of w.mine.staked v.operator ≡ Some v → shares_of w.mine.staked who v.operator ≡ Some shares
-    → reward_withdrawn v who shares w.hooks.0 w.view ≡ Ok (coins, s, view, more) → AreReached w → AreReached (with_shared s view more w)
+    → reward_withdrawn v who shares (shared_in w) w.view ≡ Ok (coins, s, view, more) → AreReached w → AreReached (with_shared s view more w)
 
 -- accounts that are reached stay so
 abbrev pub ReachedStays : State → State → Type 0
@@ -112,11 +112,11 @@ pub record StandingMessagesKeepReached : Type 0 where
 
 -- no start is of this height, as where a block begins
 abbrev pub NoneStartedHere : State → Type 0
-NoneStartedHere w = All (λ e. e.1.height < w.view.ctx.height) w.hooks.0.rewards.starts
+NoneStartedHere w = All (λ e. e.1.height < w.view.ctx.height) (shared_in w).rewards.starts
 
 -- where no start is of this height, sharing fees among votes keeps accounts reached
 abbrev pub SharingKeepsReached : Type 0
 SharingKeepsReached =
     (w : State) (base left : Money) (total : ℕ) (votes : List Vote) (p : Purses) (facts : List Fact) (more : Log) → IsSound w → NoneStartedHere w → IsMoney base
-    → shares_allocated w.mine.staked base total votes left w.hooks.0.purses w.view.facts [] ≡ Ok (p, facts, more)
-    → AreReached w → AreReached (with_shared (record w.hooks.0 { purses = p }) w.view more w)
+    → shares_allocated w.mine.staked base total votes left (shared_in w).purses w.view.facts [] ≡ Ok (p, facts, more)
+    → AreReached w → AreReached (with_shared (record (shared_in w) { purses = p }) w.view more w)

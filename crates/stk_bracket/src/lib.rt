@@ -7,6 +7,7 @@
 //! SDK v0.47 has them in `x/distribution`. Amounts, shares and stakes are numbers of units of 10^-18.
 #![tactic(auto)]
 
+pub mod changes;
 pub mod laws;
 pub mod rows;
 pub mod states;

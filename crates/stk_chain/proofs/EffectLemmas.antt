@@ -26,6 +26,7 @@ use Rattle.stk_rules.specs.Answers.{AnswersHeld}
 use Rattle.stk_rules.specs.Delegating.{is_wrong, wallet, delegated}
 use Rattle.stk_rules.specs.Effects.{edit_validator}
 use Rattle.stk_rules.specs.Validators.{created, edited}
+use Rattle.stk_rules.specs.Chain.{State}
 use Rattle.stk_machine.specs.Built.{stake_over, create_unhooked, delegate_unhooked}
 use Rattle.stk_machine.proofs.UnhookedLemmas.{as_state, create_is, delegate_steps}
 use Rattle.stk_chain.specs.Answers.{MessageEnds}
@@ -41,17 +42,17 @@ sent_to from (account.Module m) (c ∷ cs) h h2 facts facts2 t = absurd cc
 -- ---- over validators, delegations and the ground
 
 module _ {A : Type 0} where
-  ends_ok : (due : Result (A × World Staked (Unit {0})) Refusal) (s : Staked) (v : View) (a : A) → AnswersAs due s tt v (Ok a) → MessageEnds (as_state due) (stake_over s v) (Ok tt)
+  ends_ok : (due : Result (A × World Staked (Unit {0})) Refusal) (s : Staked) (v : View) (a : A) → AnswersAs due s (λ x. Unit {0}) v (Ok a) → MessageEnds (as_state due) (stake_over s v) (Ok tt)
   ends_ok (Ok p) s v a h = λ i. stake_over (h.1 i) (h.3 i)
   ends_ok (Err due) s v a h = absurd h
 
-  ends_err : (due : Result (A × World Staked (Unit {0})) Refusal) (s : Staked) (v : View) (why : Stop) → AnswersAs due s tt v (Err why) → MessageEnds (as_state due) (stake_over s v) (Err why)
+  ends_err : (due : Result (A × World Staked (Unit {0})) Refusal) (s : Staked) (v : View) (why : Stop) → AnswersAs due s (λ x. Unit {0}) v (Err why) → MessageEnds (as_state due) (stake_over s v) (Err why)
   ends_err (Ok p) s v (stop.Refused why) h = absurd h
   ends_err (Ok p) s v stop.NoMemory h = tt
   ends_err (Err due) s v (stop.Refused why) h = h
   ends_err (Err due) s v stop.NoMemory h = tt
 
-pub created_ends : (m : CreateValidator) (s s2 : Staked) (v v2 : View) (r : Result ⊤ Stop) → AnswersAs (created nothing_told.told m (over s tt v)) s2 tt v2 r → MessageEnds (create_unhooked m (stake_over s v)) (stake_over s2 v2) r
+pub created_ends : (m : CreateValidator) (s s2 : Staked) (v v2 : View) (r : Result ⊤ Stop) → AnswersAs (created nothing_told.told m (over s tt v)) s2 (λ x. Unit {0}) v2 r → MessageEnds (create_unhooked m (stake_over s v)) (stake_over s2 v2) r
 created_ends m s s2 v v2 (Ok x) h = subst (λ d. MessageEnds d (stake_over s2 v2) (Ok x)) (sym (create_is m s v)) (ends_ok (created nothing_told.told m (over s tt v)) s2 v2 x h)
 created_ends m s s2 v v2 (Err why) h = subst (λ d. MessageEnds d (stake_over s2 v2) (Err why)) (sym (create_is m s v)) (ends_err (created nothing_told.told m (over s tt v)) s2 v2 why h)
 
@@ -81,12 +82,21 @@ module _ (who operator : List ℕ) (coin : Coin) (s : Staked) (v : View) where
   is_something : coin.amount ≢ 0 → (coin.amount == 0) ≡ false
   is_something e = grind (arith, nat_tests)
 
-  -- a delegation that passed the tests, and then stopped
-  pub delegated_err : (s2 : Staked) (v2 : View) (why : Stop) → coin.amount ≢ 0 → IsSome (validator_of s operator) → is_wrong coin v ≡ false
-      → ((x : Validator) → validator_of s operator ≡ Some x → AnswersAs (delegated nothing_told.told x who coin.amount wallet (over s tt v)) s2 tt v2 (Err why)) → MessageEnds (delegate_unhooked who operator coin (stake_over s v)) (stake_over s2 v2) (Err why)
-  delegated_err s2 v2 why n known w h = by (validator_of s operator) refl known
+  -- a delegation that passed the tests
+  passed : (P : Result State Refusal → Type 0) → coin.amount ≢ 0 → IsSome (validator_of s operator) → is_wrong coin v ≡ false
+      → ((x : Validator) → validator_of s operator ≡ Some x → P (as_state (delegated nothing_told.told x who coin.amount wallet (over s tt v)))) → P (delegate_unhooked who operator coin (stake_over s v))
+  passed P n known w h = by (validator_of s operator) refl known
     where
-      by : (o : Option Validator) → validator_of s operator ≡ o → IsSome o → MessageEnds (delegate_unhooked who operator coin (stake_over s v)) (stake_over s2 v2) (Err why)
+      by : (o : Option Validator) → validator_of s operator ≡ o → IsSome o → P (delegate_unhooked who operator coin (stake_over s v))
       by None f k = absurd cc
-      by (Some x) f k = subst (λ d. MessageEnds d (stake_over s2 v2) (Err why)) (sym (by_tests false false (Some x) (is_something n) f w))
-          (ends_err (delegated nothing_told.told x who coin.amount wallet (over s tt v)) s2 v2 why (h x f))
+      by (Some x) f k = subst P (sym (by_tests false false (Some x) (is_something n) f w)) (h x f)
+
+  -- and was carried out
+  pub delegated_ok : (s2 : Staked) (v2 : View) (issued : ℕ) → coin.amount ≢ 0 → IsSome (validator_of s operator) → is_wrong coin v ≡ false
+      → ((x : Validator) → validator_of s operator ≡ Some x → AnswersAs (delegated nothing_told.told x who coin.amount wallet (over s tt v)) s2 (λ x. Unit {0}) v2 (Ok issued)) → MessageEnds (delegate_unhooked who operator coin (stake_over s v)) (stake_over s2 v2) (Ok tt)
+  delegated_ok s2 v2 issued n known w h = passed (λ d. MessageEnds d (stake_over s2 v2) (Ok tt)) n known w (λ x f. ends_ok (delegated nothing_told.told x who coin.amount wallet (over s tt v)) s2 v2 issued (h x f))
+
+  -- or then stopped
+  pub delegated_err : (s2 : Staked) (v2 : View) (why : Stop) → coin.amount ≢ 0 → IsSome (validator_of s operator) → is_wrong coin v ≡ false
+      → ((x : Validator) → validator_of s operator ≡ Some x → AnswersAs (delegated nothing_told.told x who coin.amount wallet (over s tt v)) s2 (λ x. Unit {0}) v2 (Err why)) → MessageEnds (delegate_unhooked who operator coin (stake_over s v)) (stake_over s2 v2) (Err why)
+  delegated_err s2 v2 why n known w h = passed (λ d. MessageEnds d (stake_over s2 v2) (Err why)) n known w (λ x f. ends_err (delegated nothing_told.told x who coin.amount wallet (over s tt v)) s2 v2 why (h x f))

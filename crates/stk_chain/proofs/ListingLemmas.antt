@@ -16,9 +16,13 @@ use Rattle.stk_coins.specs.Coins.{Money, IsMoney, sorted_coins, stands_twice}
 use Rattle.stk_coins.proofs.Amounts.{same_list}
 use Rattle.stk_coins.proofs.Order.{rises_from_money}
 use Rattle.stk_coins.proofs.Sorting.{rises_sorted, amount-sorted, kept_once}
-use Rattle.stk_bank.specs.Rows.{balance_item, supply_item, rows_of, items_of}
+use Rattle.stk_rows.specs.Rows.{rows_of}
+use Rattle.stk_bank.specs.Rows.{balance_item, supply_item, items_of}
+use Rattle.stk_book.specs.Rows.{items_of as stake_items}
 use Rattle.stk_keep.specs.Holdings.{Balances, Holdings, IsBacked}
+use Rattle.stk_keep.specs.Staked.{Staked}
 use Rattle.stk_machine.specs.Genesis.{has_too_much}
+use Rattle.stk_machine.specs.Items.{holding_items, staked_items}
 use Rattle.stk_chain.specs.Chained.{coin_in}
 use Rattle.stk_chain.proofs.SupplyLemmas.{not_too_much}
 
@@ -39,6 +43,10 @@ of_supplies (s ∷ supplies) = ap (λ l. s ∷ l) (of_supplies supplies)
 -- the coins among the items of a bank are its supplies
 pub coins_of_items : (h : Holdings) → map pair (filter_map coin_in (items_of h)) ≡ h.supplies
 coins_of_items h = ap (map pair) (after_balances h.balances h.supplies) ∙ of_supplies h.supplies
+
+-- the items of both modules are those of the machine
+pub listed_items : (h : Holdings) (s : Staked) → items_of h ++ stake_items s ≡ holding_items h ++ staked_items s
+listed_items h s = refl
 
 -- ---- supplies as a list of coins
 

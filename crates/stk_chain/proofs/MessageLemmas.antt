@@ -31,5 +31,6 @@ pub record SoFar (messages : List Msg) (place : ℕ) (old new : Modules) : Type 
   pub steady : AreSteady new
   pub same_ctx : new.ground.ctx ≡ old.ground.ctx
   pub same_marks : marks_of new ≡ marks_of old
+  pub same_power : new.staking.power_reduction ≡ old.staking.power_reduction
   pub follow : Follow old.ground.facts new.ground.facts
   pub rest : effects_of place (map built_effect (drop place messages)) (stands new) ≡ effects_of 0 (map built_effect messages) (stands old)

@@ -11,8 +11,7 @@ use Rattle.std.specs.Cmp.{IsTotalOrder, eq_by_cmp_equiv}
 use Rattle.std.proofs.lemmas.Bool.{true≢false}
 use Rattle.stk_types.specs.declared.account.Account.{Account}
 use Rattle.stk_types.specs.Orders.{account_cmp}
-use Rattle.stk_bank.proofs.OrderLemmas.{account_order, place_order_is}
-use Rattle.stk_machine.specs.Genesis.{stands_twice}
+use Rattle.stk_coins.specs.Coins.{has_repeats}
 use Rattle.stk_chain.proofs.PlaceLemmas.{next, drop_end}
 
 -- ---- a key that is new in a set
@@ -76,7 +75,7 @@ none_before (k ∷ keys) = none_before keys
 pub record SeenSoFar {K : Type 0} (cmp : K → K → Ordering) (all : List K) (i : ℕ) (seen : List K) : Type 0 where
   pub before : List K
   pub same : (q : K) → list_any (is_at (cmp q)) seen ≡ list_any (is_at (cmp q)) before
-  pub rest : stands_again cmp before (drop i all) ≡ stands_twice cmp all
+  pub rest : stands_again cmp before (drop i all) ≡ has_repeats cmp all
 
 -- the set holds the keys before this place
 pub record HeldSoFar {K : Type 0} (cmp : K → K → Ordering) (all : List K) (i : ℕ) (seen : List K) : Type 0 where
@@ -90,18 +89,18 @@ module _ {K : Type 0} (cmp : K → K → Ordering) (o : IsTotalOrder cmp) where
   again_by false false true t = refl
   again_by false false false t = refl
 
-  again_is : (before keys : List K) → stands_again cmp before keys ≡ (list_any (λ k. list_any (is_at (cmp k)) before) keys || stands_twice cmp keys)
+  again_is : (before keys : List K) → stands_again cmp before keys ≡ (list_any (λ k. list_any (is_at (cmp k)) before) keys || has_repeats cmp keys)
   again_is before [] = refl
   again_is before (k ∷ keys) =
       ap (λ b. list_any (is_at (cmp k)) before || b) (again_is (k ∷ before) keys)
-      ∙ ap (λ b. list_any (is_at (cmp k)) before || (b || stands_twice cmp keys)) (any_or (λ x. is_at (cmp x) k) (λ x. list_any (is_at (cmp x)) before) keys)
-      ∙ ap (λ (test : K → Bool). list_any (is_at (cmp k)) before || ((list_any test keys || list_any (λ x. list_any (is_at (cmp x)) before) keys) || stands_twice cmp keys)) (λ i x. (eq_by_cmp_equiv o).symm x k i)
-      ∙ again_by (list_any (is_at (cmp k)) before) (list_any (is_at (cmp k)) keys) (list_any (λ x. list_any (is_at (cmp x)) before) keys) (stands_twice cmp keys)
+      ∙ ap (λ b. list_any (is_at (cmp k)) before || (b || has_repeats cmp keys)) (any_or (λ x. is_at (cmp x) k) (λ x. list_any (is_at (cmp x)) before) keys)
+      ∙ ap (λ (test : K → Bool). list_any (is_at (cmp k)) before || ((list_any test keys || list_any (λ x. list_any (is_at (cmp x)) before) keys) || has_repeats cmp keys)) (λ i x. (eq_by_cmp_equiv o).symm x k i)
+      ∙ again_by (list_any (is_at (cmp k)) before) (list_any (is_at (cmp k)) keys) (list_any (λ x. list_any (is_at (cmp x)) before) keys) (has_repeats cmp keys)
 
   pub seen_first : (all : List K) → SeenSoFar cmp all 0 []
-  seen_first all = record { before = []; same = λ q. refl; rest = again_is [] all ∙ ap (λ b. b || stands_twice cmp all) (none_before all) }
+  seen_first all = record { before = []; same = λ q. refl; rest = again_is [] all ∙ ap (λ b. b || has_repeats cmp all) (none_before all) }
 
-  pub seen_again : (all : List K) (i : ℕ) (k : K) (seen : List K) → i < length all → k ≡ get_or all i k → SeenSoFar cmp all i seen → false ≡ not (list_any (is_at (cmp k)) seen) → true ≡ stands_twice cmp all
+  pub seen_again : (all : List K) (i : ℕ) (k : K) (seen : List K) → i < length all → k ≡ get_or all i k → SeenSoFar cmp all i seen → false ≡ not (list_any (is_at (cmp k)) seen) → true ≡ has_repeats cmp all
   seen_again all i k seen lt is so found =
       let before : list_any (is_at (cmp k)) so.before ≡ true = sym (so.same k) ∙ not_false _ found in
       let here : stands_again cmp so.before (drop i all) ≡ true = rw (next all i k lt is) (rw before refl) in
@@ -118,7 +117,7 @@ module _ {K : Type 0} (cmp : K → K → Ordering) (o : IsTotalOrder cmp) where
         rest = sym here ∙ so.rest;
       }
 
-  pub seen_all : (all : List K) (i : ℕ) (seen : List K) → i ≤ length all → length all ≤ i → SeenSoFar cmp all i seen → false ≡ stands_twice cmp all
+  pub seen_all : (all : List K) (i : ℕ) (seen : List K) → i ≤ length all → length all ≤ i → SeenSoFar cmp all i seen → false ≡ has_repeats cmp all
   seen_all all i seen most least so =
       let here : stands_again cmp so.before (drop i all) ≡ false = rw (drop_end all i most least) refl in
       sym here ∙ so.rest
@@ -148,15 +147,3 @@ module _ {K : Type 0} (cmp : K → K → Ordering) (o : IsTotalOrder cmp) where
       ap (λ b. b && list_all (λ x. list_any (is_at (cmp x)) seen) keys) here
       ∙ ap (λ b. list_any (λ other. is_at (cmp other) k) others && b) (all_held keys seen others h)
       ∙ both_not (list_any (λ other. is_at (cmp other) k) others) (list_any (λ x. not (list_any (λ other. is_at (cmp other) x) others)) keys)
-
--- ---- the order of accounts
-
-then_equal : (r : Ordering) → ordering_then r Equal ≡ r
-then_equal Less = refl
-then_equal Equal = refl
-then_equal Greater = refl
-
--- the derived order of accounts is that of their definition, as it is with places
-pub account_order_is : account_order ≡ account_cmp
-account_order_is = λ i a b.
-    (sym (then_equal (account_order a b)) ∙ ap (λ (f : Account × List ℕ → Account × List ℕ → Ordering). f (a, []) (b, [])) place_order_is ∙ then_equal (account_cmp a b)) i

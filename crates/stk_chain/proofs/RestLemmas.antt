@@ -11,7 +11,7 @@ use Rattle.stk_keep.specs.declared.faults.Stop.TheVariants as stop
 use Rattle.stk_keep.specs.declared.refusal.Refusal.{Refusal}
 use Rattle.stk_keep.specs.Answers.{AnswersAs}
 use Rattle.stk_keep.specs.Ground.{IsInOrder}
-use Rattle.stk_keep.specs.Hooks.{Stand}
+use Rattle.stk_keep.specs.Hooks.{Stands}
 use Rattle.stk_keep.specs.NoHooks.{nothing_told}
 use Rattle.stk_keep.specs.Staked.{Staked, validator_of, with_validator, lists_of, bonded_tokens, other_tokens, HoldsStake}
 use Rattle.stk_keep.specs.Steps.{◌>>=◌, each}
@@ -22,7 +22,7 @@ use Rattle.stk_rules.specs.Delegating.{pool, delegated}
 use Rattle.stk_types.specs.declared.status.BondStatus.TheVariants.{Unbonded}
 use Rattle.stk_rules.specs.Validators.{new_validator, stored}
 use Rattle.stk_bank.specs.Booked.{behind as behind_book}
-use Rattle.stk_book.specs.Registered.{behind as behind_stake}
+use Rattle.stk_book.specs.Registered.{Behind, behind as behind_stake}
 use Rattle.stk_book.specs.Calls.{IsSoundStake}
 use Rattle.stk_rules.proofs.SoundLemmas.{from_points}
 use Rattle.stk_msgs.specs.declared.genesis.Genesis.{Genesis}
@@ -43,8 +43,8 @@ use Rattle.stk_chain.proofs.JoinLemmas.{idle, same_ok}
 abbrev nothing : Unit {0}
 nothing = tt
 
-pub idle_stand : (v : View) (s : Staked) → IsInOrder v → Stand nothing_told tt v (lists_of s)
-idle_stand v s i = record { lists = tt; owed = tt; late = omega arith; in_order = i }
+pub idle_stand : (v : View) (s : Staked) → IsInOrder v → Stands (λ x. Unit {0}) nothing_told v (lists_of s)
+idle_stand v s i = (nothing, (tt, record { lists = tt; owed = tt; late = omega arith; in_order = i }))
 
 -- ---- modules that a genesis starts from
 
@@ -67,8 +67,8 @@ sound_nothing = (
     none_found : {A : Type 0} (a : A) → None ≡ Some a → ⊥
     none_found a f = absurd cc
 
-pub rests_first : (g : Genesis) (m : Modules) → start_condition g ≡ None → stands m ≡ empty_over (ground_at_start g) → marks_of m ≡ no_marks → AreAtRest m
-rests_first g m e is unmarked =
+pub rests_first : (g : Genesis) (m : Modules) → start_condition g ≡ None → stands m ≡ empty_over (ground_at_start g) → marks_of m ≡ no_marks → m.staking.power_reduction ≡ m.ground.ctx.params.power_reduction → AreAtRest m
+rests_first g m e is unmarked power =
     let ground : ground_of m ≡ ground_at_start g = ap (λ (w : State). w.view) is in
     let none : m.staking.staked ≡ no_stake = ap (λ (w : State). w.mine.staked) is in
     record {
@@ -76,6 +76,7 @@ rests_first g m e is unmarked =
         in_order = subst IsInOrder (sym ground) (start_in_order g e);
         sound = subst IsSoundStake (sym none) sound_nothing;
         accounts = subst (λ s. HoldsStake (ground_of m) (bonded_tokens s) (other_tokens s)) (sym none) (record { in_bonded = omega arith; in_not_bonded = omega arith });
+        power = power;
       };
       unmarked = unmarked;
       no_facts = ap (λ (u : View). u.facts) ground;
@@ -89,7 +90,12 @@ pub rests_next : (m m2 : Modules) → AreAtRest m → ground_of m2 ≡ ground_of
 rests_next m m2 r same book stake sound accounts =
     let marks : marks_of m2 ≡ marks_of m = λ i. record { bank = (book i).marks; staking = (stake i).marks } in
     record {
-      steady = record { in_order = subst IsInOrder (sym same) r.steady.in_order; sound = sound; accounts = accounts };
+      steady = record {
+        in_order = subst IsInOrder (sym same) r.steady.in_order;
+        sound = sound;
+        accounts = accounts;
+        power = ap (λ (b : Behind). b.power_reduction) stake ∙ r.steady.power ∙ sym (ap (λ (u : View). u.ctx.params.power_reduction) same);
+      };
       unmarked = marks ∙ r.unmarked;
       no_facts = ap (λ (u : View). u.facts) same ∙ r.no_facts;
     }
@@ -99,10 +105,10 @@ rests_next m m2 r same book stake sound accounts =
 module _ (v : GenesisValidator) (bond : List ℕ) (time : ℕ) (s : Staked) (u : View) where
   -- what admitting it leaves
   abbrev pub AdmittedAs : Staked → View → Result ⊤ HookFault → Type 0
-  AdmittedAs s2 u2 r = Leaves (stored nothing_told.told (new_validator (creation_of bond v) time) (over tt s u)) s2 tt u2 r
+  AdmittedAs s2 u2 r = Leaves (stored nothing_told.told (new_validator (creation_of bond v) time) (over tt s u)) s2 (λ x. Unit {0}) u2 r
 
-  admitted_is : (s2 : Staked) (u2 : View) (r : Result ⊤ HookFault) → AdmittedAs s2 u2 r → Leaves (Ok (over nothing (with_validator (new_validator (creation_of bond v) time) s) u)) s2 nothing u2 r
-  admitted_is s2 u2 r a = subst (λ (w : Result (World Staked (Unit {0})) Over). Leaves w s2 tt u2 r) (stored_is (new_validator (creation_of bond v) time) s u) a
+  admitted_is : (s2 : Staked) (u2 : View) (r : Result ⊤ HookFault) → AdmittedAs s2 u2 r → Leaves (Ok (over nothing (with_validator (new_validator (creation_of bond v) time) s) u)) s2 (λ x. Unit {0}) u2 r
+  admitted_is s2 u2 r a = subst (λ (w : Result (World Staked (Unit {0})) Over). Leaves w s2 (λ x. Unit {0}) u2 r) (stored_is (new_validator (creation_of bond v) time) s u) a
 
   pub admitted_view : (s2 : Staked) (u2 : View) → AdmittedAs s2 u2 (Ok tt) → u2 ≡ u
   admitted_view s2 u2 a = (admitted_is s2 u2 (Ok tt) a).2
@@ -129,10 +135,10 @@ module _ (d : GenesisDelegation) (later : List GenesisDelegation) (m : Modules) 
 
   -- what delegating answers and leaves
   abbrev pub DelegatedAs : Staked → View → Result ℕ Stop → Type 0
-  DelegatedAs s2 u2 r = (v : Validator) → validator_of m.staking.staked d.validator ≡ Some v → AnswersAs (delegated nothing_told.told v d.delegator d.amount (pool Unbonded) (over tt m.staking.staked (ground_of m))) s2 tt u2 r
+  DelegatedAs s2 u2 r = (v : Validator) → validator_of m.staking.staked d.validator ≡ Some v → AnswersAs (delegated nothing_told.told v d.delegator d.amount (pool Unbonded) (over tt m.staking.staked (ground_of m))) s2 (λ x. Unit {0}) u2 r
 
-  delegated_is : (s2 : Staked) (u2 : View) (r : Result ℕ Stop) → DelegatedAs s2 u2 r → AnswersAs (Ok (10 ^ 18 * d.amount, over nothing one.left (ground_of m))) s2 nothing u2 r
-  delegated_is s2 u2 r a = subst (λ (w : Result (ℕ × World Staked (Unit {0})) Refusal). AnswersAs w s2 tt u2 r) one.delegated_to (a one.validator one.found)
+  delegated_is : (s2 : Staked) (u2 : View) (r : Result ℕ Stop) → DelegatedAs s2 u2 r → AnswersAs (Ok (10 ^ 18 * d.amount, over nothing one.left (ground_of m))) s2 (λ x. Unit {0}) u2 r
+  delegated_is s2 u2 r a = subst (λ (w : Result (ℕ × World Staked (Unit {0})) Refusal). AnswersAs w s2 (λ x. Unit {0}) u2 r) one.delegated_to (a one.validator one.found)
 
   pub delegated_view : (s2 : Staked) (u2 : View) (n : ℕ) → DelegatedAs s2 u2 (Ok n) → u2 ≡ ground_of m
   delegated_view s2 u2 n a = (delegated_is s2 u2 (Ok n) a).3

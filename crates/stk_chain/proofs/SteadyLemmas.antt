@@ -9,6 +9,7 @@ use Rattle.stk_types.specs.declared.account.Module.TheVariants as holder
 use Rattle.stk_types.specs.Orders.{account_cmp}
 use Rattle.stk_coins.specs.Coins.{Money}
 use Rattle.stk_keep.specs.declared.params.Ctx.{Ctx}
+use Rattle.stk_keep.specs.declared.params.Params.{Params}
 use Rattle.stk_keep.specs.declared.bank.Ground.{Ground}
 use Rattle.stk_keep.specs.declared.faults.Stop.{Stop}
 use Rattle.stk_keep.specs.declared.messages.EditValidator.{EditValidator}
@@ -44,9 +45,9 @@ collector_elsewhere = record { not_bonded_pool = refl; not_other_pool = refl }
 abbrev held_bond : Modules → Module → ℕ
 held_bond m a = balance_of m.ground.bank.holdings (account.Module a) m.ground.ctx.params.bond_denom
 
--- Steady modules under the same parameters, with the same validators and delegations, where the accounts of staking hold what
--- they held.
-module _ (old new : Modules) (params : new.ground.ctx.params ≡ old.ground.ctx.params) (staked : new.staking.staked ≡ old.staking.staked) where
+-- Steady modules under the same parameters, with the same validators, delegations and power reduction, where the accounts of
+-- staking hold what they held.
+module _ (old new : Modules) (params : new.ground.ctx.params ≡ old.ground.ctx.params) (staked : new.staking.staked ≡ old.staking.staked) (power : new.staking.power_reduction ≡ old.staking.power_reduction) where
   pub steady_over : new.ground.ctx.time < end_of_blocks → new.ground.ctx.height < 2 ^ 63 → IsBacked new.ground.bank.holdings
       → held_bond new holder.Bonded ≡ held_bond old holder.Bonded → held_bond new holder.NotBonded ≡ held_bond old holder.NotBonded → AreSteady old → AreSteady new
   steady_over t h b bonded other p = record {
@@ -56,13 +57,14 @@ module _ (old new : Modules) (params : new.ground.ctx.params ≡ old.ground.ctx.
       in_bonded = subst (λ n. n ≤ held_bond new holder.Bonded) (sym (ap bonded_tokens staked)) (subst (λ n. bonded_tokens old.staking.staked ≤ n) (sym bonded) p.accounts.in_bonded);
       in_not_bonded = subst (λ n. n ≤ held_bond new holder.NotBonded) (sym (ap other_tokens staked)) (subst (λ n. other_tokens old.staking.staked ≤ n) (sym other) p.accounts.in_not_bonded);
     };
+    power = power ∙ p.power ∙ sym (ap (λ (x : Params). x.power_reduction) params);
   }
 
 -- steady modules between which coins moved from and to accounts elsewhere
 pub steady_sent : (from to : Account) (coins : Money) (old new : Modules) → IsElsewhere from → IsElsewhere to → new.ground.bank.holdings ≡ moved from to coins old.ground.bank.holdings → IsBacked new.ground.bank.holdings
-    → new.ground.ctx ≡ old.ground.ctx → new.staking.staked ≡ old.staking.staked → AreSteady old → AreSteady new
-steady_sent from to coins old new f t e b c s p =
-    steady_over old new (ap (λ x. x.params) c) s (subst (λ (x : Ctx). x.time < end_of_blocks) (sym c) p.in_order.time) (subst (λ (x : Ctx). x.height < 2 ^ 63) (sym c) p.in_order.height) b
+    → new.ground.ctx ≡ old.ground.ctx → new.staking.staked ≡ old.staking.staked → new.staking.power_reduction ≡ old.staking.power_reduction → AreSteady old → AreSteady new
+steady_sent from to coins old new f t e b c s w p =
+    steady_over old new (ap (λ x. x.params) c) s w (subst (λ (x : Ctx). x.time < end_of_blocks) (sym c) p.in_order.time) (subst (λ (x : Ctx). x.height < 2 ^ 63) (sym c) p.in_order.height) b
     (kept holder.Bonded f.not_bonded_pool t.not_bonded_pool) (kept holder.NotBonded f.not_other_pool t.not_other_pool) p
   where
     kept : (m : Module) → is_at (account_cmp (account.Module m)) from ≡ false → is_at (account_cmp (account.Module m)) to ≡ false → held_bond new m ≡ held_bond old m
@@ -74,11 +76,11 @@ steady_sent from to coins old new f t e b c s p =
 
 -- what a bank's message left, where it was carried out
 pub steady_transferred : (from : List ℕ) (to : Account) (coins : Money) (old new : Modules) (r : Result ⊤ Stop) → Transfers from to coins old.ground.bank.holdings old.ground.facts new.ground.bank.holdings new.ground.facts r
-    → IsBacked new.ground.bank.holdings → new.ground.ctx ≡ old.ground.ctx → new.staking.staked ≡ old.staking.staked → AreSteady old → OnOk r (AreSteady new)
-steady_transferred from to coins old new (Ok x) t b c s p =
+    → IsBacked new.ground.bank.holdings → new.ground.ctx ≡ old.ground.ctx → new.staking.staked ≡ old.staking.staked → new.staking.power_reduction ≡ old.staking.power_reduction → AreSteady old → OnOk r (AreSteady new)
+steady_transferred from to coins old new (Ok x) t b c s w p =
     let u = sent_to from to coins old.ground.bank.holdings new.ground.bank.holdings old.ground.facts new.ground.facts t in
-    steady_sent (account.User from) to coins old new (user_elsewhere from) (subst IsElsewhere (sym u.1) (user_elsewhere u.0)) t.1 b c s p
-steady_transferred from to coins old new (Err why) t b c s p = tt
+    steady_sent (account.User from) to coins old new (user_elsewhere from) (subst IsElsewhere (sym u.1) (user_elsewhere u.0)) t.1 b c s w p
+steady_transferred from to coins old new (Err why) t b c s w p = tt
 
 same_owed : (v : View) (b b2 o o2 : ℕ) → b2 ≡ b → o2 ≡ o → HoldsStake v b o → HoldsStake v b2 o2
 same_owed v b b2 o o2 e f h = record {
@@ -88,9 +90,9 @@ same_owed v b b2 o o2 e f h = record {
 
 -- what an edit left, where it was carried out
 pub steady_edited : (m : EditValidator) (old new : Modules) (r : Result ⊤ Stop) → AnswersHeld (edited_over m old.staking.staked (ground_of old)) new.staking.staked (ground_of new) r
-    → new.ground ≡ old.ground → OnOk r (IsSoundStake new.staking.staked) → AreSteady old → OnOk r (AreSteady new)
-steady_edited m old new (Err why) h g s p = tt
-steady_edited m old new (Ok x) h g s p =
+    → new.ground ≡ old.ground → OnOk r (IsSoundStake new.staking.staked) → new.staking.power_reduction ≡ old.staking.power_reduction → AreSteady old → OnOk r (AreSteady new)
+steady_edited m old new (Err why) h g s w p = tt
+steady_edited m old new (Ok x) h g s w p =
     by (edited m old.ground.ctx.time old.ground.ctx.params.min_commission_rate old.staking.staked)
     (edited_owes_same m old.ground.ctx.time old.ground.ctx.params.min_commission_rate old.staking.staked p.sound) h
   where
@@ -101,5 +103,6 @@ steady_edited m old new (Ok x) h g s p =
       accounts = same_owed (ground_of new) (bonded_tokens old.staking.staked) (bonded_tokens new.staking.staked) (other_tokens old.staking.staked) (other_tokens new.staking.staked)
           (ap bonded_tokens e.1 ∙ k.0) (ap other_tokens e.1 ∙ k.1)
           (subst (λ (y : Ground Booked). HoldsStake (seen (λ (b : Booked). b.holdings) y) (bonded_tokens old.staking.staked) (other_tokens old.staking.staked)) (sym g) p.accounts);
+      power = w ∙ p.power ∙ sym (ap (λ (y : Ground Booked). y.ctx.params.power_reduction) g);
     }
     by (Err due) k e = absurd e

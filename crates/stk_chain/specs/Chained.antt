@@ -48,12 +48,13 @@ opened m = record {
 abbrev pub no_marks : Marks
 no_marks = record { bank = []; staking = [] }
 
--- What holds of modules between two messages: the ground is in order, validators and delegations are sound, and the
--- staking accounts hold what is owed from them.
+-- What holds of modules between two messages: the ground is in order, validators and delegations are sound, the staking
+-- accounts hold what is owed from them, and staking has the power reduction of the parameters.
 pub record AreSteady (m : Modules) : Type 0 where
   pub in_order : IsInOrder (ground_of m)
   pub sound : IsSoundStake m.staking.staked
   pub accounts : HoldsStake (ground_of m) (bonded_tokens m.staking.staked) (other_tokens m.staking.staked)
+  pub power : m.staking.power_reduction ≡ m.ground.ctx.params.power_reduction
 
 -- The same between two blocks, where besides no mark is open and no fact is left.
 pub record AreAtRest (m : Modules) : Type 0 where

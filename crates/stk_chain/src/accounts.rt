@@ -3,7 +3,8 @@
 ghost use Rattle.std.specs.Prelude.{◌≡◌, map, All, IfOk, IfErr, OnOk};
 ghost use Rattle.std.specs.List.{list_any};
 ghost use Rattle.stk_coins.specs.Coins.{IsMoney};
-ghost use Rattle.stk_machine.specs.Genesis.{is_module, has_wrong_account};
+ghost use Rattle.stk_rules.specs.Withdrawals.{is_module};
+ghost use Rattle.stk_machine.specs.Genesis.{has_wrong_account};
 
 use crate::fault::ChainFault;
 use crate::repeats::has_repeat;

@@ -1,7 +1,7 @@
 ghost use Rattle.std.specs.Prelude.{◌≡◌};
 
 use std::alloc::{AllocError, AllocFailed};
-use stk_keep::{BankFault, RecordFault};
+use stk_keep::RecordFault;
 use stk_types::TableFault;
 
 /// Why there is no chain, or no list of what it keeps.
@@ -51,17 +51,6 @@ impl From<RecordFault> for ChainFault {
     ghost from_gives = { λ _ given. given ≡ NoMemory };
 
     fn from(_: RecordFault) -> ChainFault {
-        ChainFault::NoMemory
-    }
-}
-
-/// Of a bank that starts: it is never short.
-impl From<BankFault> for ChainFault {
-    ghost use Rattle.stk_chain.specs.declared.fault.ChainFault.TheVariants.{NoMemory};
-
-    ghost from_gives = { λ _ given. given ≡ NoMemory };
-
-    fn from(_: BankFault) -> ChainFault {
         ChainFault::NoMemory
     }
 }

@@ -33,6 +33,7 @@ impl Modules {
         ensures ctx { self.new.ground.ctx ≡ self.old.ground.ctx }
         ensures follow { Follow self.old.ground.facts self.new.ground.facts }
         ensures marks { marks_of self.new ≡ marks_of self.old }
+        ensures power { self.new.staking.power_reduction ≡ self.old.staking.power_reduction }
     {
         match message {
             Msg::Send(m) => self.send(alloc, m, steps),
@@ -55,6 +56,7 @@ impl Modules {
         ensures ctx { self.new.ground.ctx ≡ self.old.ground.ctx }
         ensures follow { Follow self.old.ground.facts self.new.ground.facts }
         ensures marks { marks_of self.new ≡ marks_of self.old }
+        ensures power { self.new.staking.power_reduction ≡ self.old.staking.power_reduction }
     {
         let facts = &mut self.ground.facts;
         self.ground
@@ -75,6 +77,7 @@ impl Modules {
         ensures ctx { self.new.ground.ctx ≡ self.old.ground.ctx }
         ensures follow { Follow self.old.ground.facts self.new.ground.facts }
         ensures marks { marks_of self.new ≡ marks_of self.old }
+        ensures power { self.new.staking.power_reduction ≡ self.old.staking.power_reduction }
     {
         if m.amount.amount == 0 {
             return Err(Stop::Refused(Refusal::NonPositive));

@@ -29,6 +29,7 @@ impl Modules {
         ensures opened { OnOk result (marks_of self.new ≡ opened self.old) }
         ensures err { OnErr result (marks_of self.new ≡ marks_of self.old) }
         ensures same { stands self.new ≡ stands self.old }
+        ensures power { self.new.staking.power_reduction ≡ self.old.staking.power_reduction }
     {
         self.ground.bank.mark(alloc, steps)?;
         match self.staking.mark(alloc, steps) {
@@ -47,6 +48,7 @@ impl Modules {
         ensures back { opened self.new ≡ marks_of self.old }
         ensures ctx { self.new.ground.ctx ≡ self.old.ground.ctx }
         ensures facts { self.new.ground.facts ≡ self.old.ground.facts }
+        ensures power { self.new.staking.power_reduction ≡ self.old.staking.power_reduction }
     {
         self.ground.bank.back(steps);
         self.staking.back(steps);
@@ -59,6 +61,7 @@ impl Modules {
         ensures bank { (last : Holdings) × ((marks_of self.new).bank ++ last ∷ [] ≡ (marks_of self.old).bank) }
         ensures staking { (last : Staked) × ((marks_of self.new).staking ++ last ∷ [] ≡ (marks_of self.old).staking) }
         ensures same { stands self.new ≡ stands self.old }
+        ensures power { self.new.staking.power_reduction ≡ self.old.staking.power_reduction }
     {
         self.ground.bank.forget(steps);
         self.staking.forget(steps);

@@ -3,7 +3,7 @@
 ghost use Rattle.std.specs.Prelude.{◌≡◌, ◌||◌, Bool, true, false, not, IfOk};
 ghost use Rattle.std.specs.BTreeMap.{is_at};
 ghost use Rattle.std.specs.List.{list_all, list_any};
-ghost use Rattle.stk_machine.specs.Genesis.{stands_twice};
+ghost use Rattle.stk_coins.specs.Coins.{has_repeats};
 
 use std::alloc::{AllocError, Global};
 use std::collections::BTreeSet;
@@ -22,7 +22,7 @@ fn add_key<K: Ord + Copy>(seen: &mut BTreeSet<K>, key: K) -> Result<bool, AllocE
 
 /// Whether a key stands twice.
 pub(crate) fn has_repeat<K: Ord + Copy>(alloc: Global, keys: &[K]) -> Result<bool, AllocError>
-    ensures { IfOk result (λ again. again ≡ stands_twice K.cmp keys.now) }
+    ensures { IfOk result (λ again. again ≡ has_repeats K.cmp keys.now) }
 {
     let mut seen = BTreeSet::new(alloc);
     for key in keys {

@@ -25,7 +25,7 @@ use std::sync::ledger::{Blank, Ledger};
 use stk_bank::Book;
 use stk_book::{Origin, Staking};
 use stk_coins::Coin;
-use stk_keep::{CreateValidator, Ctx, Facts, Ground, HookFault, NoHooks, Stop};
+use stk_keep::{BankFault, CreateValidator, Ctx, Facts, Ground, HookFault, NoHooks, Stop};
 use stk_msgs::{Genesis, GenesisDelegation, GenesisValidator};
 use stk_types::{Account, BondStatus, Denom, Module, Steps};
 
@@ -78,7 +78,11 @@ fn start_book<L: Ledger>(
     let mut holders = holders(alloc, genesis.accounts.as_slice())?;
     let pool = Account::Module(Module::NotBonded);
     holders.push((pool, delegated_coins(alloc, genesis)?))?;
-    Ok(Book::start(alloc, &holders, steps)?)
+    match Book::start(alloc, &holders, steps) {
+        Ok(book) => Ok(book),
+        Err(BankFault::NoMemory) => Err(ChainFault::NoMemory),
+        Err(BankFault::Short) => unreachable!(),
+    }
 }
 
 /// The message that would create a validator of a genesis, with an amount of nothing.

@@ -63,6 +63,7 @@ impl Modules {
         ensures ctx { self.new.ground.ctx ≡ self.old.ground.ctx }
         ensures follow { Follow self.old.ground.facts self.new.ground.facts }
         ensures marks { marks_of self.new ≡ marks_of self.old }
+        ensures power { self.new.staking.power_reduction ≡ self.old.staking.power_reduction }
     {
         for (place, message) in messages.iter().enumerate() {
             match self.apply_message(alloc, message, steps) {

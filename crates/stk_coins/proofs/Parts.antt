@@ -1,6 +1,6 @@
 -- How the loops over one list end.
-use Rattle.std.proofs.Common.{◌≡◌, ℕ, ◌/◌, ◌%◌, ◌^◌, ◌<◌, ◌≤◌, Bool, true, false, List, ◌++◌, map, length, drop, get_or, refl, sym, ap, ◌∙◌, subst, arith, append-nil}
-use Rattle.std.specs.Prelude.{Result, Ok, if◌then◌else◌, nat_lt}
+use Rattle.std.proofs.Common.{◌≡◌, ℕ, ◌+◌, ◌/◌, ◌%◌, ◌^◌, ◌<◌, ◌≤◌, Bool, true, false, List, [], ◌∷◌, ◌++◌, map, length, drop, get_or, refl, sym, ap, ◌∙◌, subst, arith, append-nil, add-one, drop-cons}
+use Rattle.std.specs.Prelude.{Result, Ok, Err, if◌then◌else◌, nat_lt}
 use Rattle.std.proofs.lemmas.Bool.{ltb-true}
 use Rattle.std.proofs.lemmas.List.{get_or-map, drop_all, length-map}
 use Rattle.stk_dec.specs.declared.over.Over.{Over}
@@ -10,10 +10,10 @@ use Rattle.stk_dec.specs.Rounding.{even}
 use Rattle.stk_coins.specs.declared.scaling.Scaling.{Scaling}
 use Rattle.stk_coins.specs.declared.scaling.Scaling.TheVariants.{ProductCut, ProductEven, QuotientCut}
 use Rattle.stk_coins.specs.Scaling.{scaled_by}
-use Rattle.stk_coins.specs.Coins.{Money, IsMoney, by_coin, all_coins, whole_coins, fractions}
+use Rattle.stk_coins.specs.Coins.{Money, IsMoney, by_coin, all_coins, coin_then, whole_coins, fractions}
 use Rattle.stk_coins.proofs.Order.{rises_from_money, money_from_rises}
 use Rattle.stk_coins.proofs.Amounts.{ok, over, same_ok, err_not_ok, rises_by, rises_all}
-use Rattle.stk_coins.proofs.Loops.{joined, joined_end}
+use Rattle.stk_coins.proofs.Loops.{joined, joined_end, joined_more, joined_over, put_more}
 
 below_test : (t : Bool) (e : Over) (n m : ℕ) → (t ≡ true → n < 10 ^ 38) → (if t then ok n else over e) ≡ ok m → m < 10 ^ 38
 below_test true e n m l h = subst (λ k. k < 10 ^ 38) (same_ok h) (l refl)
@@ -56,6 +56,31 @@ module _ {X : Type 0} (seen : X → List ℕ × ℕ) where
   pub item_below : (xs : List X) (i : ℕ) (x : X) → IsMoney (map seen xs) → i < length xs → x ≡ get_or xs i x → (seen x).1 < 10 ^ 38
   item_below xs i x m h e =
       subst (λ (c : List ℕ × ℕ). c.1 < 10 ^ 38) (get_or-map seen xs i x (seen x) h ∙ ap seen (sym e)) (m.below i (seen x) (omega (arith, length-seen xs)))
+
+  -- what is left of a list, of which one coin is looked at
+  rest_is : (xs : List X) (i : ℕ) (x : X) → i < length xs → x ≡ get_or xs i x → drop i xs ≡ x ∷ drop (i + 1) xs
+  rest_is xs i x lt is = rw (add-one) (drop-cons xs i x lt) ∙ ap (λ y. y ∷ drop (i + 1) xs) (sym is)
+
+  -- a loop that passes one coin, or stops at it
+  pub passes_one : (f : ℕ → Result ℕ Over) (due : Result Money Over) (out grown : Money) (xs : List X) (i n : ℕ) (x : X) → i < length xs → x ≡ get_or xs i x
+      → f (seen x).1 ≡ Ok n → grown ≡ out ++ coin_then (seen x).0 n [] → due ≡ joined out (by_coin f (map seen (drop i xs)))
+      → due ≡ joined grown (by_coin f (map seen (drop (i + 1) xs)))
+  passes_one f due out grown xs i n x lt is here g e =
+      joined_more due out grown (seen x).0 n (f (seen x).1) (by_coin f (map seen (drop (i + 1) xs))) here g
+      (e ∙ ap (λ l. joined out (by_coin f (map seen l))) (rest_is xs i x lt is))
+
+  pub stops_at : (f : ℕ → Result ℕ Over) (due : Result Money Over) (out : Money) (xs : List X) (i : ℕ) (x : X) (o : Over) → i < length xs → x ≡ get_or xs i x
+      → f (seen x).1 ≡ Err o → due ≡ joined out (by_coin f (map seen (drop i xs))) → due ≡ Err o
+  stops_at f due out xs i x o lt is here e =
+      joined_over due out (seen x).0 o (f (seen x).1) (by_coin f (map seen (drop (i + 1) xs))) here
+      (e ∙ ap (λ l. joined out (by_coin f (map seen l))) (rest_is xs i x lt is))
+
+  pub puts_one : (f : List ℕ → ℕ → ℕ) (due out grown : Money) (xs : List X) (i : ℕ) (x : X) → i < length xs → x ≡ get_or xs i x
+      → grown ≡ out ++ coin_then (seen x).0 (f (seen x).0 (seen x).1) [] → due ≡ out ++ all_coins f (map seen (drop i xs))
+      → due ≡ grown ++ all_coins f (map seen (drop (i + 1) xs))
+  puts_one f due out grown xs i x lt is g e =
+      put_more due out grown (seen x).0 (f (seen x).0 (seen x).1) (all_coins f (map seen (drop (i + 1) xs))) g
+      (e ∙ ap (λ l. out ++ all_coins f (map seen l)) (rest_is xs i x lt is))
 
   -- a loop that has passed each coin
   pub passed_each : (f : ℕ → Result ℕ Over) (due : Result Money Over) (out : Money) (xs : List X) (i : ℕ) → length xs ≤ i

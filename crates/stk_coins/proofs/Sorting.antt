@@ -46,26 +46,26 @@ amount-sorted (c ∷ cs) q b =
 abbrev Once : Money → Type 0
 Once x = IsDistinct (eq_by_cmp denom_cmp) (keys_of x)
 
-none_any : (d : List ℕ) (x : Money) → AllByRecursion (λ k. eq_by_cmp denom_cmp d k ≡ false) (keys_of x) → list_any (λ c. is_at (denom_cmp d) c.0) x ≡ false
+none_any : (d : List ℕ) (ds : List (List ℕ)) → AllByRecursion (λ k. eq_by_cmp denom_cmp d k ≡ false) ds → list_any (is_at (denom_cmp d)) ds ≡ false
 none_any d [] a = refl
-none_any d (c ∷ cs) a = or_from (is_at (denom_cmp d) c.0) (list_any (λ c. is_at (denom_cmp d) c.0) cs) a.0 (none_any d cs a.1)
+none_any d (k ∷ ds) a = or_from (is_at (denom_cmp d) k) (list_any (is_at (denom_cmp d)) ds) a.0 (none_any d ds a.1)
 
-any_none : (d : List ℕ) (x : Money) → list_any (λ c. is_at (denom_cmp d) c.0) x ≡ false → AllByRecursion (λ k. eq_by_cmp denom_cmp d k ≡ false) (keys_of x)
+any_none : (d : List ℕ) (ds : List (List ℕ)) → list_any (is_at (denom_cmp d)) ds ≡ false → AllByRecursion (λ k. eq_by_cmp denom_cmp d k ≡ false) ds
 any_none d [] h = tt
-any_none d (c ∷ cs) h = let (here, there) = or_parts (is_at (denom_cmp d) c.0) (list_any (λ c. is_at (denom_cmp d) c.0) cs) h in (here, any_none d cs there)
+any_none d (k ∷ ds) h = let (here, there) = or_parts (is_at (denom_cmp d) k) (list_any (is_at (denom_cmp d)) ds) h in (here, any_none d ds there)
 
 pub not_twice : (x : Money) → Once x → stands_twice x ≡ false
 not_twice [] o = refl
 not_twice (c ∷ cs) o =
-    or_from (list_any (λ d. is_at (denom_cmp c.0) d.0) cs) (stands_twice cs) (none_any c.0 cs (IsDistinct-head (eq_by_cmp denom_cmp) c.0 (keys_of cs) o))
+    or_from (list_any (is_at (denom_cmp c.0)) (keys_of cs)) (stands_twice cs) (none_any c.0 (keys_of cs) (IsDistinct-head (eq_by_cmp denom_cmp) c.0 (keys_of cs) o))
     (not_twice cs (IsDistinct-tail (eq_by_cmp denom_cmp) c.0 (keys_of cs) o))
 
 pub once_from : (x : Money) → stands_twice x ≡ false → Once x
 unfolding IsDistinct
 once_from [] h = tt
 once_from (c ∷ cs) h =
-    let (here, there) = or_parts (list_any (λ d. is_at (denom_cmp c.0) d.0) cs) (stands_twice cs) h in
-    (any_none c.0 cs here, once_from cs there)
+    let (here, there) = or_parts (list_any (is_at (denom_cmp c.0)) (keys_of cs)) (stands_twice cs) h in
+    (any_none c.0 (keys_of cs) here, once_from cs there)
 
 flips : (a b : List ℕ) → eq_by_cmp denom_cmp a b ≡ eq_by_cmp denom_cmp b a
 flips a b = (eq_by_cmp_equiv total).symm a b

@@ -1,6 +1,7 @@
 -- Lists of coins: the denominations in ascending order, each once, with amounts above 0. An amount is a whole
 -- number: of coins, or of units of 10^-18 where the amounts are decimals.
 use Rattle.std.specs.Prelude.{ℕ, ◌-◌, ◌%◌, ◌^◌, ◌<◌, ◌==◌, min, Bool, false, ◌||◌, nat_lt, if◌then◌else◌, List, [], ◌∷◌, All, Option, unwrap_or, Result, Ok}
+use Rattle.std.specs.declared.cmp.Ordering.{Ordering}
 use Rattle.std.specs.List.{list_any, position_from}
 use Rattle.std.specs.List.Sorted.{IsStrictlySortedBy}
 use Rattle.std.specs.Map.{lookup, remove_entry, keys_of}
@@ -93,7 +94,11 @@ abbrev pub sorted_coins : Money → Money
 sorted_coins [] = []
 sorted_coins (c ∷ cs) = with_amount (sorted_coins cs) c.0 c.1
 
+-- some key stands twice
+abbrev pub has_repeats : {K : Type 0} → (K → K → Ordering) → List K → Bool
+has_repeats cmp [] = false
+has_repeats cmp (k ∷ keys) = list_any (is_at (cmp k)) keys || has_repeats cmp keys
+
 -- some denomination stands twice
 abbrev pub stands_twice : Money → Bool
-stands_twice [] = false
-stands_twice (c ∷ cs) = list_any (λ d. is_at (denom_cmp c.0) d.0) cs || stands_twice cs
+stands_twice c = has_repeats denom_cmp (keys_of c)

@@ -54,8 +54,8 @@ impl Coins {
         Coins { list }
     }
 
-    // The coins.
-    pub(crate) fn as_slice(&self) -> &[Coin]
+    /// The coins in their order: `for coin in coins.as_slice()` walks them.
+    pub fn as_slice(&self) -> &[Coin]
         ensures value { map (λ c. (c.denom, c.amount)) result.now ≡ self.now }
         ensures money { IsMoney (map (λ c. (c.denom, c.amount)) result.now) }
     {

@@ -69,6 +69,14 @@ impl DecCoins {
         })
     }
 
+    /// The coins in their order: `for coin in coins.as_slice()` walks them.
+    pub fn as_slice(&self) -> &[DecCoin]
+        ensures value { map (λ c. (c.denom, c.amount)) result.now ≡ self.now }
+        ensures money { IsMoney (map (λ c. (c.denom, c.amount)) result.now) }
+    {
+        &self.list
+    }
+
     /// How many denominations there are.
     pub fn len(&self) -> usize
         ensures len { result ≡ length self.now }

@@ -1,44 +1,21 @@
 ghost use Rattle.std.specs.Prelude.{◌≡◌, ◌<◌};
 
-mod factors;
-mod products;
-mod quotients;
-mod sums;
-mod wholes;
+mod cases;
 
-use super::{Dec, Over, mul_div};
-use factors::FACTORS;
-use products::PRODUCTS;
-use quotients::QUOTIENTS;
+use super::{Dec, Over, OverKind, mul_div};
+use cases::CASES;
 use std::process::Abort;
+use std::str::SplitWhitespace;
 use std::test::Fail;
-use sums::SUMS;
-use wholes::WHOLES;
 
-/// A call of the crate.
-#[derive(Clone, Copy, Debug, PartialEq, Eq)]
-pub enum Call {
-    Add,
-    OfWhole,
-    MulEven,
-    MulCut,
-    QuoEven,
-    QuoCut,
-    QuoUp,
-    MulIntQuoEven,
-    MulIntQuoCut,
-    MulIntQuoInt,
-    Trunc,
-    RoundInt,
-}
-
-/// A call with raw operands and its answer, which exact arithmetic outside the program gave.
-pub struct Case {
-    pub call: Call,
-    pub a: u128,
-    pub b: u128,
-    pub c: u128,
-    pub want: Result<u128, Over>,
+/// A case: a call with raw operands and its answer, which exact arithmetic outside the program gave.
+#[derive(Drop)]
+struct Case<'a> {
+    call: &'a str,
+    a: u128,
+    b: u128,
+    c: u128,
+    want: Result<u128, Over>,
 }
 
 fn dec(rt: &impl Abort, raw: u128) -> Dec
@@ -55,55 +32,87 @@ fn positive(rt: &impl Abort, raw: u128) -> Dec
     dec(rt, raw)
 }
 
-fn answer(rt: &impl Abort, case: &Case) -> Result<u128, Over> {
+fn number(rt: &impl Abort, words: &mut SplitWhitespace<'_>) -> u128 {
+    let word = words.next().expect(rt, "a word more");
+    word.parse::<u128>().expect(rt, "a number")
+}
+
+/// Reads a line of the table: the call, three operands, and a number, or the kind of what is over and its operands.
+fn read<'a>(rt: &impl Abort, line: &'a str) -> Case<'a> {
+    let mut words = line.split_whitespace();
+    let call = words.next().expect(rt, "a call");
+    let (a, b, c) = (
+        number(rt, &mut words),
+        number(rt, &mut words),
+        number(rt, &mut words),
+    );
+    let word = words.next().expect(rt, "an answer");
+    let kind = match word {
+        "sum" => OverKind::Sum,
+        "quotient" => OverKind::Quotient,
+        _ => {
+            let want = Ok(word.parse::<u128>().expect(rt, "a number"));
+            return Case {
+                call,
+                a,
+                b,
+                c,
+                want,
+            };
+        }
+    };
+    let over = Over {
+        kind,
+        a: number(rt, &mut words),
+        b: number(rt, &mut words),
+        c: number(rt, &mut words),
+    };
+    Case {
+        call,
+        a,
+        b,
+        c,
+        want: Err(over),
+    }
+}
+
+fn answer(rt: &impl Abort, case: &Case<'_>) -> Result<u128, Over> {
     let (a, b, c) = (case.a, case.b, case.c);
     let answer = match case.call {
-        Call::Add => dec(rt, a).add(dec(rt, b))?,
-        Call::OfWhole => Dec::of_whole(a)?,
-        Call::MulEven => dec(rt, a).mul_even(dec(rt, b))?,
-        Call::MulCut => dec(rt, a).mul_cut(dec(rt, b))?,
-        Call::QuoEven => dec(rt, a).quo_even(positive(rt, b))?,
-        Call::QuoCut => dec(rt, a).quo_cut(positive(rt, b))?,
-        Call::QuoUp => dec(rt, a).quo_up(positive(rt, b))?,
-        Call::MulIntQuoEven => {
+        "Add" => dec(rt, a).add(dec(rt, b))?,
+        "OfWhole" => Dec::of_whole(a)?,
+        "MulEven" => dec(rt, a).mul_even(dec(rt, b))?,
+        "MulCut" => dec(rt, a).mul_cut(dec(rt, b))?,
+        "QuoEven" => dec(rt, a).quo_even(positive(rt, b))?,
+        "QuoCut" => dec(rt, a).quo_cut(positive(rt, b))?,
+        "QuoUp" => dec(rt, a).quo_up(positive(rt, b))?,
+        "MulIntQuoEven" => {
             assert!(rt; b <= 100_000_000_000_000_000_000);
             dec(rt, a).mul_int_quo_even(b, positive(rt, c))?
         }
-        Call::MulIntQuoCut => {
+        "MulIntQuoCut" => {
             assert!(rt; b <= 100_000_000_000_000_000_000);
             dec(rt, a).mul_int_quo_cut(b, positive(rt, c))?
         }
-        Call::MulIntQuoInt => {
+        "MulIntQuoInt" => {
             let m = positive(rt, c).raw();
             dec(rt, a).mul_int_quo_int(b, m)?
         }
-        Call::Trunc => return Ok(dec(rt, a).trunc()),
-        Call::RoundInt => return Ok(dec(rt, a).round_int()),
+        "Trunc" => return Ok(dec(rt, a).trunc()),
+        call => {
+            assert_eq!(rt; call, "RoundInt");
+            return Ok(dec(rt, a).round_int());
+        }
     };
     Ok(answer.raw())
 }
 
-fn answers(rt: &impl Abort, cases: &[Case]) {
-    for case in cases {
-        assert_eq!(rt;
-            answer(rt, case),
-            case.want,
-            "{:?} of {}, {}, {}",
-            case.call,
-            case.a,
-            case.b,
-            case.c
-        );
-    }
-}
-
 #[test]
 fn calls_answer_as_exact_arithmetic(rt: HostRuntime) {
-    answers(&rt, &SUMS);
-    answers(&rt, &PRODUCTS);
-    answers(&rt, &QUOTIENTS);
-    answers(&rt, &FACTORS);
-    answers(&rt, &WHOLES);
+    for line in CASES.lines() {
+        let case = read(&rt, line);
+        assert_eq!(&rt; answer(&rt, &case), case.want, "{line}");
+    }
 }
 
 #[test]

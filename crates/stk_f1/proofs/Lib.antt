@@ -19,9 +19,7 @@ pub mod EarnLemmas
 pub mod RewardLemmas
 pub mod GivesLemmas
 pub mod SameLemmas
-pub mod MemberLemmas
-pub mod RowLemmas
-pub mod RowWalks
+pub mod KindLemmas
 pub mod ItemLemmas
 pub mod StepLemmas
 pub mod TrialLemmas

@@ -8,6 +8,7 @@ use Rattle.std.proofs.lemmas.Map.Lookups.{exact_bytes}
 use Rattle.stk_coins.specs.Coins.{Money}
 use Rattle.stk_keep.specs.declared.entities.Historical.{Historical}
 use Rattle.stk_keep.specs.declared.entities.StartingInfo.{StartingInfo}
+use Rattle.stk_rows.proofs.SameLemmas.{both, number, number_itself, bytes, bytes_itself}
 use Rattle.stk_f1.specs.Rows.{same_coin, same_money, same_history, same_start, same_period}
 use Rattle.stk_f1.proofs.EarnLemmas.{none-left}
 use Rattle.stk_f1.proofs.OrderLemmas.{equal, same_itself}
@@ -47,23 +48,6 @@ pub none-over : (x y : Money) (n : ℕ) → length x ≤ n → length y ≤ n �
 none-over x y n p q = λ i. same_money (none-left x n p i) (none-left y n q i)
 
 -- ---- the tests tell whether values are one
-
-both : (a b : Bool) → (a && b) ≡ true → (a ≡ true) × (b ≡ true)
-both true true h = (refl, refl)
-both true false h = cc
-both false b h = cc
-
-number : (a b : ℕ) → (a == b) ≡ true → a ≡ b
-number a b h = grind (arith, nat_tests)
-
-number_itself : (a : ℕ) → (a == a) ≡ true
-number_itself a = grind (arith, nat_tests)
-
-bytes : (a b : List ℕ) → bytes_eq a b ≡ true → a ≡ b
-bytes a b h = exact_bytes a b (equal _ (is_eq-slice_cmp a b ∙ h))
-
-bytes_itself : (a : List ℕ) → bytes_eq a a ≡ true
-bytes_itself a = sym (is_eq-slice_cmp a a) ∙ same_itself a
 
 money : (x y : Money) → same_money x y ≡ true → x ≡ y
 money [] [] h = refl

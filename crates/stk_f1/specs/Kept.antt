@@ -1,6 +1,8 @@
 -- What F1 keeps in its tables, how it is seen with its open marks, and what one change makes of it.
 use Rattle.std.specs.Prelude.{◌≡◌, ℕ, ◌+◌, ◌-◌, ◌==◌, Bool, true, false, if◌then◌else◌, List, [], ◌∷◌, ◌++◌, filter, map, length, Option, Some, None, option_map}
 use Rattle.std.specs.declared.cmp.Ordering.{Ordering}
+use Rattle.std.specs.List.Sorted.{IsStrictlySortedBy}
+use Rattle.std.specs.Map.{keys_of}
 use Rattle.std.specs.Ordering.{nat_cmp, ordering_then}
 use Rattle.stk_types.specs.Orders.{addr_cmp}
 use Rattle.stk_coins.specs.Coins.{Money}
@@ -26,6 +28,13 @@ pub record Kept : Type 0 where
   pub historical : List ((List ℕ × ℕ) × Historical)
   pub starts : List ((List ℕ × List ℕ) × StartingInfo)
   pub events : List ((List ℕ × ℕ × ℕ) × ℕ)
+
+-- the keys ascend in each list
+pub record AreInOrder (k : Kept) : Type 0 where
+  pub current : IsStrictlySortedBy addr_cmp (keys_of k.current)
+  pub historical : IsStrictlySortedBy period_cmp (keys_of k.historical)
+  pub starts : IsStrictlySortedBy pair_cmp (keys_of k.starts)
+  pub events : IsStrictlySortedBy event_cmp (keys_of k.events)
 
 -- nothing stands
 abbrev pub no_records : Kept

@@ -1,14 +1,12 @@
--- Records as items of the state, and how tables differ from what was settled.
-use Rattle.std.specs.Prelude.{ℕ, ◌==◌, ◌&&◌, if◌then◌else◌, Bool, true, false, List, [], ◌∷◌, ◌++◌, map, Option, Some, None}
-use Rattle.std.specs.declared.cmp.Ordering.{Ordering}
-use Rattle.std.specs.List.{filter_map}
+-- Records as items of the state.
+use Rattle.std.specs.Prelude.{ℕ, ◌==◌, ◌&&◌, Bool, true, false, List, [], ◌∷◌, ◌++◌, Option, Some, None}
 use Rattle.std.specs.Str.{bytes_eq}
 use Rattle.stk_coins.specs.Coins.{Money}
-use Rattle.stk_table.specs.Tabled.{value_at}
 use Rattle.stk_keep.specs.declared.entities.Historical.{Historical}
 use Rattle.stk_keep.specs.declared.entities.StartingInfo.{StartingInfo}
 use Rattle.stk_keep.specs.declared.items.Item.{Item}
 use Rattle.stk_keep.specs.declared.items.Item.TheVariants as item
+use Rattle.stk_rows.specs.Rows.{rows_of}
 use Rattle.stk_f1.specs.Kept.{Kept}
 
 -- the item of a period that runs
@@ -59,9 +57,25 @@ same_history a b = (a.count == b.count) && same_money a.ratio b.ratio
 abbrev pub same_start : StartingInfo → StartingInfo → Bool
 same_start a b = ((a.period == b.period) && (a.stake == b.stake)) && (a.height == b.height)
 
--- an item for each entry
-abbrev pub rows_of : {K V : Type 0} → (K → V → Item) → List (K × V) → List Item
-rows_of of entries = map (λ e. of e.0 e.1) entries
+-- the key and the value of an item, where it is a period that runs
+abbrev pub current_entry : Item → Option (List ℕ × ℕ)
+current_entry (item.CurrentPeriod operator period) = Some (operator, period)
+current_entry _ = None
+
+-- the record of an ended period
+abbrev pub historical_entry : Item → Option ((List ℕ × ℕ) × Historical)
+historical_entry (item.Historical operator period history) = Some ((operator, period), history)
+historical_entry _ = None
+
+-- a start
+abbrev pub start_entry : Item → Option ((List ℕ × List ℕ) × StartingInfo)
+start_entry (item.Start operator delegator info) = Some ((operator, delegator), info)
+start_entry _ = None
+
+-- a slash event
+abbrev pub event_entry : Item → Option ((List ℕ × ℕ × ℕ) × ℕ)
+event_entry (item.Event operator event) = Some ((operator, event.height, event.period), event.fraction)
+event_entry _ = None
 
 -- the items of records: the periods that run, the records of ended ones, the starts, the slash events
 abbrev pub items_of : Kept → List Item
@@ -74,15 +88,3 @@ is_record (item.Historical operator period history) = true
 is_record (item.Start operator delegator info) = true
 is_record (item.Event operator event) = true
 is_record _ = false
-
-module _ {K V : Type 0} (of : K → V → Item) (gone : K → Item) (same : V → V → Bool) where
-  -- the change of a key, from the value that was settled to the present one
-  abbrev pub change_of : K → Option V → Option V → Option (Item × Bool)
-  change_of k None None = None
-  change_of k None (Some v) = Some (of k v, true)
-  change_of k (Some was) None = Some (gone k, false)
-  change_of k (Some was) (Some v) = if same was v then None else Some (of k v, true)
-
--- the changes of the touched keys
-abbrev pub changes_of : {K V : Type 0} → (K → K → Ordering) → (K → V → Item) → (K → Item) → (V → V → Bool) → List (K × Option V) → List (K × V) → List (Item × Bool)
-changes_of cmp of gone same touched entries = filter_map (λ t. change_of of gone same t.0 t.1 (value_at cmp entries t.0)) touched

@@ -1,6 +1,6 @@
 //! A walk that takes out all records of an operator.
 
-ghost use Rattle.std.specs.Prelude.{◌≡◌, ◌≢◌, [], true, length, filter, is_some, OnOk, OnErr, IfOk, IfSome, IfNone};
+ghost use Rattle.std.specs.Prelude.{◌≡◌, ◌≢◌, [], true, length, filter, is_some, OnOk, OnErr, IfOk, IsErr, IfSome, IfNone};
 ghost use Rattle.stk_keep.specs.Orders.{same_addr};
 ghost use Rattle.stk_table.specs.Tabled.{value_at};
 ghost use Rattle.stk_f1.specs.Kept.{behind, keeping, others, without_operator};
@@ -21,6 +21,7 @@ impl Tables {
         ensures ok { OnOk result (self.new ≡ keeping (without_operator operator.now self.old.kept) self.old) }
         ensures behind { behind self.new ≡ behind self.old }
         ensures spent { self.old.spent ≡ true → self.new.spent ≡ true }
+        ensures spent_answer { self.old.spent ≡ true → IsErr result }
     {
         if self.spent {
             return Err(TableFault::Spent);

@@ -1,6 +1,6 @@
 //! References to records of periods: one more, one fewer, and the end of a period.
 
-ghost use Rattle.std.specs.Prelude.{◌≡◌, ◌+◌, ◌-◌, ◌≤◌, ◌<◌, ◌≢◌, ◌^◌, true, OnOk, OnErr, IfOk, IfErr, Ok, Some, is_some};
+ghost use Rattle.std.specs.Prelude.{◌≡◌, ◌+◌, ◌-◌, ◌≤◌, ◌<◌, ◌≢◌, ◌^◌, true, OnOk, OnErr, IfOk, IfErr, IsErr, Ok, Some, is_some};
 ghost use Rattle.stk_coins.specs.Coins.{coins_added};
 ghost use Rattle.stk_keep.specs.declared.entities.Historical.{Historical};
 ghost use Rattle.stk_f1.specs.Answers.{fault_of, IsExcessOf};
@@ -73,6 +73,7 @@ impl Tables {
         ensures ok { OnOk result (self.new ≡ keeping (made_kept operator.now self.old.kept) self.old) }
         ensures behind { behind self.new ≡ behind self.old }
         ensures spent { self.old.spent ≡ true → self.new.spent ≡ true }
+        ensures spent_answer { self.old.spent ≡ true → IsErr result }
         ensures cost { steps.new ≤ steps.old + 2 }
     {
         let first = Historical {
@@ -129,6 +130,7 @@ impl Tables {
         ensures ok { OnOk result (self.new ≡ keeping (ended_kept ratio operator.now self.old.kept) self.old) }
         ensures behind { behind self.new ≡ behind self.old }
         ensures spent { self.old.spent ≡ true → self.new.spent ≡ true }
+        ensures spent_answer { self.old.spent ≡ true → IsErr result }
         ensures cost { steps.new ≤ steps.old + 4 }
     {
         self.put_record(operator, period, Historical { ratio, count: 1 }, steps)?;

@@ -1,4 +1,4 @@
-ghost use Rattle.std.specs.Prelude.{◌≡◌, ℕ, List, ◌+◌, ◌*◌, ◌≤◌, ◌≢◌, ◌^◌, true, [], ◌∷◌, ◌++◌, length, is_some, Some, None, All, OnOk, OnErr, IfErr};
+ghost use Rattle.std.specs.Prelude.{◌≡◌, ℕ, List, ◌+◌, ◌*◌, ◌≤◌, ◌≢◌, ◌^◌, true, [], ◌∷◌, ◌++◌, length, is_some, Some, None, All, OnOk, OnErr, IfErr, IsErr};
 ghost use Rattle.stk_keep.specs.declared.faults.HookFault.TheVariants.{NoMemory};
 ghost use Rattle.stk_keep.specs.declared.facts.Fact.TheVariants as fact;
 ghost use Rattle.stk_keep.specs.declared.entities.StartingInfo.{StartingInfo};
@@ -68,6 +68,8 @@ impl F1 {
         ensures fault { IfErr result (λ fault. fault ≡ NoMemory) }
         ensures behind { behind self.new ≡ behind self.old }
         ensures spent { self.old.spent ≡ true → self.new.spent ≡ true }
+        ensures spent_answer { self.old.spent ≡ true → IsErr result }
+        ensures unspent { OnOk result (self.new.spent ≡ self.old.spent) }
         ensures cost { steps.new ≤ steps.old + 2 }
     {
         self.tables.known();
@@ -95,6 +97,8 @@ impl F1 {
         ensures untold { OnErr result (facts.new ≡ facts.old) }
         ensures behind { behind self.new ≡ behind self.old }
         ensures spent { self.old.spent ≡ true → self.new.spent ≡ true }
+        ensures spent_answer { self.old.spent ≡ true → IsErr result }
+        ensures unspent { OnOk result (self.new.spent ≡ self.old.spent) }
         ensures cost { steps.new ≤ steps.old + 6 }
     {
         self.tables.known();
@@ -136,6 +140,8 @@ impl F1 {
         ensures untold { OnErr result (facts.new ≡ facts.old) }
         ensures behind { behind self.new ≡ behind self.old }
         ensures spent { self.old.spent ≡ true → self.new.spent ≡ true }
+        ensures spent_answer { self.old.spent ≡ true → IsErr result }
+        ensures unspent { OnOk result (self.new.spent ≡ self.old.spent) }
         ensures cost { steps.new ≤ steps.old + 4 }
     {
         self.tables.known();
@@ -178,6 +184,8 @@ impl F1 {
         ensures fault { IfErr result (λ fault. fault ≡ NoMemory) }
         ensures behind { behind self.new ≡ behind self.old }
         ensures spent { self.old.spent ≡ true → self.new.spent ≡ true }
+        ensures spent_answer { self.old.spent ≡ true → IsErr result }
+        ensures unspent { OnOk result (self.new.spent ≡ self.old.spent) }
         ensures cost { steps.new ≤ steps.old + 3 }
     {
         self.tables.known();
@@ -205,6 +213,8 @@ impl F1 {
         ensures fault { IfErr result (λ fault. fault ≡ NoMemory) }
         ensures behind { behind self.new ≡ behind self.old }
         ensures spent { self.old.spent ≡ true → self.new.spent ≡ true }
+        ensures spent_answer { self.old.spent ≡ true → IsErr result }
+        ensures unspent { OnOk result (self.new.spent ≡ self.old.spent) }
         ensures cost { steps.new ≤ steps.old + 3 }
     {
         self.tables.known();
@@ -228,6 +238,8 @@ impl F1 {
         ensures fault { IfErr result (λ fault. fault ≡ NoMemory) }
         ensures behind { behind self.new ≡ behind self.old }
         ensures spent { self.old.spent ≡ true → self.new.spent ≡ true }
+        ensures spent_answer { self.old.spent ≡ true → IsErr result }
+        ensures unspent { OnOk result (self.new.spent ≡ self.old.spent) }
     {
         self.tables.known();
         self.tables.clear(operator, steps)?;

@@ -1,19 +1,27 @@
 //! The four kinds of records as items of the state.
 
 ghost use Rattle.std.specs.Prelude.{◌≡◌};
-ghost use Rattle.stk_f1.specs.Rows.{current_item, historical_item, start_item, event_item, current_gone, historical_gone, start_gone, event_gone, same_period, same_history, same_start, same_coin, same_money};
+ghost use Rattle.stk_rows.specs.Rows.{AnyValue};
+ghost use Rattle.stk_f1.specs.Rows.{current_item, historical_item, start_item, event_item, current_gone, historical_gone, start_gone, event_gone, current_entry, historical_entry, start_entry, event_entry, same_period, same_history, same_start, same_coin, same_money};
 
-use crate::rows::Row;
 use crate::slash::Slash;
 use std::alloc::Global;
 use stk_coins::{DecCoin, DecCoins};
 use stk_dec::Dec;
 use stk_keep::{Historical, Item, SlashEvent, StartingInfo};
+use stk_rows::Row;
 use stk_table::TableFault;
 use stk_types::{Addr, Copied};
 
-impl Row for Addr {
+/// The periods that run, by operator.
+pub(crate) struct CurrentKind;
+
+impl Row for CurrentKind {
+    type Key = Addr;
+
     type Value = u64;
+
+    ghost Fits = { AnyValue };
 
     ghost item_of = { current_item };
 
@@ -21,16 +29,18 @@ impl Row for Addr {
 
     ghost same = { same_period };
 
-    fn item(&self, value: &u64) -> Result<Item, TableFault> {
+    ghost entry_of = { current_entry };
+
+    fn item(key: &Addr, value: &u64) -> Result<Item, TableFault> {
         Ok(Item::CurrentPeriod {
-            operator: *self,
+            operator: *key,
             period: *value,
         })
     }
 
-    fn gone(&self, _alloc: Global) -> Item {
+    fn gone(_alloc: Global, key: &Addr) -> Item {
         Item::CurrentPeriod {
-            operator: *self,
+            operator: *key,
             period: 0,
         }
     }
@@ -38,10 +48,26 @@ impl Row for Addr {
     fn is_same(value: &u64, other: &u64) -> bool {
         *value == *other
     }
+
+    fn entry(item: &Item) -> Result<Option<(Addr, u64)>, TableFault> {
+        match item {
+            Item::CurrentPeriod { operator, period } => Ok(Some((*operator, *period))),
+            _ => Ok(None),
+        }
+    }
+
+    fn told() {}
 }
 
-impl Row for (Addr, u64) {
+/// The records of ended periods, by operator and period.
+pub(crate) struct HistoricalKind;
+
+impl Row for HistoricalKind {
+    type Key = (Addr, u64);
+
     type Value = Historical;
+
+    ghost Fits = { AnyValue };
 
     ghost item_of = { historical_item };
 
@@ -49,18 +75,20 @@ impl Row for (Addr, u64) {
 
     ghost same = { same_history };
 
-    fn item(&self, value: &Historical) -> Result<Item, TableFault> {
+    ghost entry_of = { historical_entry };
+
+    fn item(key: &(Addr, u64), value: &Historical) -> Result<Item, TableFault> {
         Ok(Item::Historical {
-            operator: self.0,
-            period: self.1,
+            operator: key.0,
+            period: key.1,
             history: value.copied()?,
         })
     }
 
-    fn gone(&self, alloc: Global) -> Item {
+    fn gone(alloc: Global, key: &(Addr, u64)) -> Item {
         Item::Historical {
-            operator: self.0,
-            period: self.1,
+            operator: key.0,
+            period: key.1,
             history: Historical {
                 ratio: DecCoins::new(alloc),
                 count: 0,
@@ -71,10 +99,30 @@ impl Row for (Addr, u64) {
     fn is_same(value: &Historical, other: &Historical) -> bool {
         value.count == other.count && same_coins(&value.ratio, &other.ratio)
     }
+
+    fn entry(item: &Item) -> Result<Option<((Addr, u64), Historical)>, TableFault> {
+        match item {
+            Item::Historical {
+                operator,
+                period,
+                history,
+            } => Ok(Some(((*operator, *period), history.copied()?))),
+            _ => Ok(None),
+        }
+    }
+
+    fn told() {}
 }
 
-impl Row for (Addr, Addr) {
+/// Where rewards begin, by operator and delegator.
+pub(crate) struct StartKind;
+
+impl Row for StartKind {
+    type Key = (Addr, Addr);
+
     type Value = StartingInfo;
+
+    ghost Fits = { AnyValue };
 
     ghost item_of = { start_item };
 
@@ -82,18 +130,20 @@ impl Row for (Addr, Addr) {
 
     ghost same = { same_start };
 
-    fn item(&self, value: &StartingInfo) -> Result<Item, TableFault> {
+    ghost entry_of = { start_entry };
+
+    fn item(key: &(Addr, Addr), value: &StartingInfo) -> Result<Item, TableFault> {
         Ok(Item::Start {
-            operator: self.0,
-            delegator: self.1,
+            operator: key.0,
+            delegator: key.1,
             info: *value,
         })
     }
 
-    fn gone(&self, _alloc: Global) -> Item {
+    fn gone(_alloc: Global, key: &(Addr, Addr)) -> Item {
         Item::Start {
-            operator: self.0,
-            delegator: self.1,
+            operator: key.0,
+            delegator: key.1,
             info: StartingInfo {
                 period: 0,
                 stake: nothing(),
@@ -107,10 +157,30 @@ impl Row for (Addr, Addr) {
             && value.stake.raw() == other.stake.raw()
             && value.height == other.height
     }
+
+    fn entry(item: &Item) -> Result<Option<((Addr, Addr), StartingInfo)>, TableFault> {
+        match item {
+            Item::Start {
+                operator,
+                delegator,
+                info,
+            } => Ok(Some(((*operator, *delegator), *info))),
+            _ => Ok(None),
+        }
+    }
+
+    fn told() {}
 }
 
-impl Row for (Addr, u64, u64) {
+/// The slash events, by operator, height and period.
+pub(crate) struct EventKind;
+
+impl Row for EventKind {
+    type Key = (Addr, u64, u64);
+
     type Value = Slash;
+
+    ghost Fits = { AnyValue };
 
     ghost item_of = { event_item };
 
@@ -118,23 +188,25 @@ impl Row for (Addr, u64, u64) {
 
     ghost same = { same_period };
 
-    fn item(&self, value: &Slash) -> Result<Item, TableFault> {
+    ghost entry_of = { event_entry };
+
+    fn item(key: &(Addr, u64, u64), value: &Slash) -> Result<Item, TableFault> {
         Ok(Item::Event {
-            operator: self.0,
+            operator: key.0,
             event: SlashEvent {
-                height: self.1,
-                period: self.2,
+                height: key.1,
+                period: key.2,
                 fraction: value.fraction(),
             },
         })
     }
 
-    fn gone(&self, _alloc: Global) -> Item {
+    fn gone(_alloc: Global, key: &(Addr, u64, u64)) -> Item {
         Item::Event {
-            operator: self.0,
+            operator: key.0,
             event: SlashEvent {
-                height: self.1,
-                period: self.2,
+                height: key.1,
+                period: key.2,
                 fraction: nothing(),
             },
         }
@@ -143,6 +215,18 @@ impl Row for (Addr, u64, u64) {
     fn is_same(value: &Slash, other: &Slash) -> bool {
         value.fraction().raw() == other.fraction().raw()
     }
+
+    fn entry(item: &Item) -> Result<Option<((Addr, u64, u64), Slash)>, TableFault> {
+        match item {
+            Item::Event { operator, event } => Ok(Some((
+                (*operator, event.height, event.period),
+                Slash::of(event.fraction),
+            ))),
+            _ => Ok(None),
+        }
+    }
+
+    fn told() {}
 }
 
 /// The decimal 0.

@@ -14,7 +14,6 @@ mod keyed;
 mod mark;
 mod records;
 mod reward;
-mod rows;
 mod slash;
 mod tables;
 mod walk;

@@ -3,11 +3,11 @@
 ghost use Rattle.stk_f1.specs.Rows.{items_of, is_record};
 
 use crate::f1::F1;
-use crate::rows::{changes_into, rows_into};
 use std::alloc::Global;
 use std::sync::ledger::Ledger;
 use stk_keep::{Item, RecordFault, Records};
-use stk_types::{Copied, Steps};
+use stk_rows::Kinds;
+use stk_types::Steps;
 
 impl Records for F1 {
     ghost use Rattle.stk_f1.specs.Kept as tables;
@@ -22,9 +22,15 @@ impl Records for F1 {
 
     ghost spent = { λ f. f.spent };
 
+    ghost AreInOrder = { tables.AreInOrder };
+
     ghost items = { items_of };
 
     ghost is_kind = { is_record };
+
+    fn ordered(&self) {
+        self.tables.known();
+    }
 
     fn mark<L: Ledger>(
         &mut self,
@@ -56,10 +62,7 @@ impl Records for F1 {
         out: &mut Vec<Item>,
         steps: &mut Steps<L>,
     ) -> Result<(), RecordFault> {
-        rows_into(self.tables.current_table(), out, steps)?;
-        rows_into(self.tables.historical_table(), out, steps)?;
-        rows_into(self.tables.starts_table(), out, steps)?;
-        rows_into(self.tables.events_table(), out, steps)
+        self.tables.kinds().items_into(out, steps)
     }
 
     fn changes_into<L: Ledger>(
@@ -68,10 +71,7 @@ impl Records for F1 {
         steps: &mut Steps<L>,
     ) -> Result<(), RecordFault> {
         let alloc = *self.marks.allocator();
-        changes_into(alloc, self.tables.current_table(), out, steps)?;
-        changes_into(alloc, self.tables.historical_table(), out, steps)?;
-        changes_into(alloc, self.tables.starts_table(), out, steps)?;
-        changes_into(alloc, self.tables.events_table(), out, steps)
+        self.tables.kinds().changes_into(alloc, out, steps)
     }
 
     fn load<L: Ledger>(
@@ -92,9 +92,7 @@ impl Records for F1 {
                 operator,
                 period,
                 history,
-            } => self
-                .tables
-                .add_record(operator, *period, history.copied()?, steps)?,
+            } => self.tables.add_record(operator, *period, history, steps)?,
             Item::Start {
                 operator,
                 delegator,

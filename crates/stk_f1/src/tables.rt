@@ -7,8 +7,9 @@ ghost use Rattle.std.specs.Option.{option_copied};
 ghost use Rattle.stk_types.specs.Orders.{addr_cmp};
 ghost use Rattle.stk_keep.specs.Orders.{pair_cmp};
 ghost use Rattle.stk_f1.specs.Kept.{new_records, current_of, record_of, info_of, with_current, with_record, with_info, without_info, with_event, with_history, with_mark, IsGoneBack, IsForgotten, keeping, spent_now, period_cmp, event_cmp, record_set};
-ghost use Rattle.stk_table.specs.Tabled.{spent_now as table_spent, with_mark as table_marked};
+ghost use Rattle.stk_table.specs.Tabled.{spent_now as table_spent, with_mark as table_marked, with_value};
 
+use crate::items::{CurrentKind, EventKind, HistoricalKind, StartKind};
 use crate::mark::TablesMark;
 use crate::slash::Slash;
 use std::alloc::Global;
@@ -17,8 +18,15 @@ use std::marker::Model;
 use std::sync::ledger::Ledger;
 use stk_coins::DecCoins;
 use stk_keep::{Historical, SlashEvent, StartingInfo};
+use stk_rows::{Both, One};
 use stk_table::{Mark, Table, TableFault};
 use stk_types::{Addr, Copied, Steps};
+
+/// The tables as kinds of records.
+pub(crate) type F1Kinds<'a> = Both<
+    One<'a, CurrentKind>,
+    Both<One<'a, HistoricalKind>, Both<One<'a, StartKind>, One<'a, EventKind>>>,
+>;
 
 /// The records of F1. Once memory was wanting in a change they are spent, and each later change answers
 /// `Spent`.
@@ -87,36 +95,31 @@ impl Tables {
         let _events = self.events.len();
     }
 
-    /// The table of the periods that run.
-    pub(crate) fn current_table(&self) -> &Table<Addr, u64>
-        ensures entries { result.now.entries ≡ self.now.kept.current }
-        ensures settled { result.now.settled ≡ self.now.settled.current }
+    /// The four tables, to be listed.
+    pub(crate) fn kinds(&self) -> F1Kinds<'_>
+        ensures held { record { current = result.first.table.now.entries; historical = result.second.first.table.now.entries; starts = result.second.second.first.table.now.entries; events = result.second.second.second.table.now.entries } ≡ self.now.kept }
+        ensures settled { record { current = result.first.table.now.settled; historical = result.second.first.table.now.settled; starts = result.second.second.first.table.now.settled; events = result.second.second.second.table.now.settled } ≡ self.now.settled }
     {
-        &self.current
-    }
-
-    /// The table of the records of ended periods.
-    pub(crate) fn historical_table(&self) -> &Table<(Addr, u64), Historical>
-        ensures entries { result.now.entries ≡ self.now.kept.historical }
-        ensures settled { result.now.settled ≡ self.now.settled.historical }
-    {
-        &self.historical
-    }
-
-    /// The table of the starts.
-    pub(crate) fn starts_table(&self) -> &Table<(Addr, Addr), StartingInfo>
-        ensures entries { result.now.entries ≡ self.now.kept.starts }
-        ensures settled { result.now.settled ≡ self.now.settled.starts }
-    {
-        &self.starts
-    }
-
-    /// The table of the slash events.
-    pub(crate) fn events_table(&self) -> &Table<(Addr, u64, u64), Slash>
-        ensures entries { result.now.entries ≡ self.now.kept.events }
-        ensures settled { result.now.settled ≡ self.now.settled.events }
-    {
-        &self.events
+        let later = Both {
+            first: One {
+                table: &self.starts,
+            },
+            second: One {
+                table: &self.events,
+            },
+        };
+        let rest = Both {
+            first: One {
+                table: &self.historical,
+            },
+            second: later,
+        };
+        Both {
+            first: One {
+                table: &self.current,
+            },
+            second: rest,
+        }
     }
 
     /// The period of an operator that runs.
@@ -207,14 +210,14 @@ impl Tables {
         &mut self,
         operator: &Addr,
         period: u64,
-        history: Historical,
+        history: &Historical,
         steps: &mut Steps<L>,
     ) -> Result<(), TableFault>
-        ensures ok { OnOk result (self.new ≡ keeping (with_history operator.now period history self.old.kept) self.old) }
+        ensures ok { OnOk result (self.new ≡ keeping (with_history operator.now period history.now self.old.kept) self.old) }
         ensures err { OnErr result (self.new ≡ spent_now self.old) }
         ensures cost { steps.new ≤ steps.old + 1 }
     {
-        match self.historical.put(&(*operator, period), history, steps) {
+        match put_copy(&mut self.historical, &(*operator, period), history, steps) {
             Ok(()) => Ok(()),
             Err(fault) => {
                 self.spent = true;
@@ -393,4 +396,19 @@ fn set_record<L: Ledger>(
         return Ok(());
     }
     historical.put(key, history, steps)
+}
+
+/// Puts a copy of a record.
+fn put_copy<L: Ledger>(
+    historical: &mut Table<(Addr, u64), Historical>,
+    key: &(Addr, u64),
+    history: &Historical,
+    steps: &mut Steps<L>,
+) -> Result<(), TableFault>
+    ensures ok { OnOk result (historical.new ≡ with_value period_cmp historical.old key.now history.now) }
+    ensures err { OnErr result (historical.new ≡ record historical.old { spent = historical.new.spent }) }
+    ensures cost { steps.new ≤ steps.old + 1 }
+{
+    let copy = history.copied()?;
+    historical.put(key, copy, steps)
 }

@@ -1,3 +1,6 @@
+pub mod TapeLemmas
+pub mod TreeLemmas
+pub mod PlaceLemmas
 pub mod ReadingLemmas
 pub mod CoinLemmas
 pub mod ReadingOnLiterals

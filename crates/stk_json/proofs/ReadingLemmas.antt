@@ -17,6 +17,11 @@ use Rattle.stk_msgs.specs.declared.faults.LineFault.TheVariants.{NotJson, BadSha
 use Rattle.stk_msgs.specs.declared.faults.LineFault.{LineFault}
 use Rattle.stk_json.specs.Reading.{tree_of, or_fault, Fails, Gives}
 use Rattle.stk_json.specs.Members.{is_among, are_among}
+use Rattle.std.proofs.Common.{sym, ap, ◌∙◌, subst}
+use Rattle.json.specs.Token.{Token}
+use Rattle.stk_coins.specs.Steps.{◌>>=◌}
+use Rattle.stk_json.specs.Tape.{Spells, tree_at}
+use Rattle.stk_json.proofs.TapeLemmas.{tree_at-Spells}
 
 pub tree_found : (line : List ℕ) (d : Data) → IsUtf8 line → read line ≡ Some d → tree_of line ≡ Ok d
 unfolding tree_of
@@ -59,3 +64,10 @@ own_fault Y (BadShape number) = refl
 -- a call that hands a reading's fault on
 pub fault_given : {X Y : Type 0} (seen : X → Y) (fault : LineFault) (result : Result X LineFault) → result ≡ Err fault → Gives seen result (Err fault)
 fault_given seen fault result e = rw e (own_fault _ fault)
+
+-- A walk over a plain tape gives what the walk over the tree of the line gives.
+pub walked : {X Y : Type 0} (seen : X → Y) (r : Result X LineFault) (form : Data → Result Y LineFault) (text : List ℕ) (ts : List Token) (d : Data) → IsUtf8 text → Spells ts d → read text ≡ Some d
+    → Gives seen r (form (tree_at ts)) → Gives seen r (tree_of text >>= form)
+walked seen r form text ts d utf8 spells is h =
+    let same : tree_of text >>= form ≡ form (tree_at ts) = ap (λ t. t >>= form) (tree_found text d utf8 is) ∙ sym (ap form (tree_at-Spells ts d spells)) in
+    subst (Gives seen r) (sym same) h

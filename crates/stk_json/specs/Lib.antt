@@ -1,6 +1,7 @@
 pub mod Reading
 pub mod Members
 pub mod Nested
+pub mod Tape
 pub mod Coin
 pub mod Params
 pub mod Genesis

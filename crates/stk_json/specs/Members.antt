@@ -1,5 +1,5 @@
 -- The members of an object, each with its number and its form.
-use Rattle.std.specs.Prelude.{ℕ, ◌^◌, List, map, bytes_eq, Bool, true, ◌&&◌, nat_lt, if◌then◌else◌, Option, Some, None, option_and_then, Result, Ok, ⊤}
+use Rattle.std.specs.Prelude.{ℕ, ◌^◌, List, map, bytes_eq, Bool, true, ◌&&◌, nat_lt, if◌then◌else◌, Option, Some, None, option_and_then, option_map, Result, Ok, ⊤}
 use Rattle.std.specs.List.{list_any}
 use Rattle.std.specs.Borrow.{Bor}
 use Rattle.serde_json.specs.Data.{Data, Members, no_members, member}
@@ -17,9 +17,13 @@ use Rattle.stk_json.specs.Reading.{or_fault}
 
 -- ---- forms
 
+-- the number of 64 bits that a tree is
+abbrev pub as_count : Data → Option ℕ
+as_count d = option_and_then as_u64 (as_number d)
+
 -- a whole number below 2^63, written with digits alone
 abbrev pub number_of : Data → Option ℕ
-number_of d = option_and_then (λ n. if nat_lt n (2 ^ 63) then Some n else None) (option_and_then as_u64 (as_number d))
+number_of d = option_and_then (λ n. if nat_lt n (2 ^ 63) then Some n else None) (as_count d)
 
 -- the whole amount that 1 to 38 digits spell
 abbrev pub amount_of : List ℕ → Option ℕ
@@ -102,6 +106,10 @@ is_among names name = list_any (λ known. bytes_eq known name) names
 abbrev pub are_among : List (List ℕ) → Members → Bool
 are_among names no_members = true
 are_among names (member name d ms) = is_among names name && are_among names ms
+
+-- whether each member has one of these names, where there are members
+abbrev pub named_among : List (List ℕ) → Data → Option Bool
+named_among names d = option_map (are_among names) (as_object d)
 
 -- an object that has no member of another name; the fault of another has the number 0
 abbrev pub only_named : List (List ℕ) → Data → Result ⊤ LineFault

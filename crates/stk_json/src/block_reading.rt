@@ -5,8 +5,9 @@ ghost use Rattle.stk_json.specs.Block.{block_of};
 use crate::coin_reading::coins_at;
 use crate::members::{member_at, only_named, word_at};
 use crate::nested::{FromTree, list_at};
-use crate::reading::tree_of;
-use serde_json::Value;
+use crate::reading::read_line;
+use crate::tree::Tree;
+use json::Scratch;
 use std::alloc::Global;
 use stk_keep::{Evidence, Vote};
 use stk_msgs::{Block, LineFault, Tx};
@@ -17,11 +18,11 @@ impl FromTree for Vote {
     ghost form = { vote_of };
 
     #[tactic(auto, unfolding(crate::specs::Block::vote_of))]
-    fn from_tree(_alloc: Global, value: &Value) -> Result<Vote, LineFault> {
-        let cons = member_at(70, "cons", value)?;
-        let power = member_at(71, "power", value)?;
-        let signed = member_at(72, "signed", value)?;
-        only_named(&["cons", "power", "signed"], value)?;
+    fn from_tree<N: Tree>(_alloc: Global, tree: &N) -> Result<Vote, LineFault> {
+        let cons = member_at(70, "cons", tree)?;
+        let power = member_at(71, "power", tree)?;
+        let signed = member_at(72, "signed", tree)?;
+        only_named(&["cons", "power", "signed"], tree)?;
         Ok(Vote {
             cons,
             power,
@@ -36,12 +37,12 @@ impl FromTree for Evidence {
     ghost form = { evidence_of };
 
     #[tactic(auto, unfolding(crate::specs::Block::evidence_of))]
-    fn from_tree(_alloc: Global, value: &Value) -> Result<Evidence, LineFault> {
-        let cons = member_at(73, "cons", value)?;
-        let height = member_at(74, "height", value)?;
-        let time = member_at(75, "time", value)?;
-        let power = member_at(76, "power", value)?;
-        only_named(&["cons", "height", "time", "power"], value)?;
+    fn from_tree<N: Tree>(_alloc: Global, tree: &N) -> Result<Evidence, LineFault> {
+        let cons = member_at(73, "cons", tree)?;
+        let height = member_at(74, "height", tree)?;
+        let time = member_at(75, "time", tree)?;
+        let power = member_at(76, "power", tree)?;
+        only_named(&["cons", "height", "time", "power"], tree)?;
         Ok(Evidence {
             cons,
             height,
@@ -57,11 +58,11 @@ impl FromTree for Tx {
     ghost form = { tx_of };
 
     #[tactic(auto, unfolding(crate::specs::Block::tx_of))]
-    fn from_tree(alloc: Global, value: &Value) -> Result<Tx, LineFault> {
-        let payer = member_at(80, "payer", value)?;
-        let fee = coins_at(alloc, 81, "fee", value)?;
-        let msgs = list_at(alloc, 82, "msgs", value)?;
-        only_named(&["payer", "fee", "msgs"], value)?;
+    fn from_tree<N: Tree>(alloc: Global, tree: &N) -> Result<Tx, LineFault> {
+        let payer = member_at(80, "payer", tree)?;
+        let fee = coins_at(alloc, 81, "fee", tree)?;
+        let msgs = list_at(alloc, 82, "msgs", tree)?;
+        only_named(&["payer", "fee", "msgs"], tree)?;
         Ok(Tx { payer, fee, msgs })
     }
 }
@@ -72,16 +73,16 @@ impl FromTree for Block {
     ghost form = { block_of_tree };
 
     #[tactic(auto, unfolding(crate::specs::Block::block_of_tree))]
-    fn from_tree(alloc: Global, value: &Value) -> Result<Block, LineFault> {
-        word_at(60, "kind", "block", value)?;
-        let height = member_at(61, "height", value)?;
-        let time = member_at(62, "time", value)?;
-        let votes = list_at(alloc, 63, "votes", value)?;
-        let evidence = list_at(alloc, 64, "evidence", value)?;
-        let txs = list_at(alloc, 65, "txs", value)?;
+    fn from_tree<N: Tree>(alloc: Global, tree: &N) -> Result<Block, LineFault> {
+        word_at(60, "kind", "block", tree)?;
+        let height = member_at(61, "height", tree)?;
+        let time = member_at(62, "time", tree)?;
+        let votes = list_at(alloc, 63, "votes", tree)?;
+        let evidence = list_at(alloc, 64, "evidence", tree)?;
+        let txs = list_at(alloc, 65, "txs", tree)?;
         only_named(
             &["kind", "height", "time", "votes", "evidence", "txs"],
-            value,
+            tree,
         )?;
         Ok(Block {
             height,
@@ -101,12 +102,11 @@ impl FromTree for Block {
 /// comes exactly at every other value that spells no block, with the number of the first member, in the
 /// order of the table and each element of a list in full, that is missing or not of its form; or with 0
 /// for a member that has no number, once all others of its object are of their form. Whether the block is
-/// due and its messages can be carried out is for the caller to judge.
+/// due and its messages can be carried out is for the caller to judge. The scratch keeps its memory from line to line,
+/// and nothing else.
 #[tactic(auto, unfolding(crate::specs::Block::block_of))]
-pub fn read_block(alloc: Global, line: &[u8]) -> Result<Block, LineFault>
+pub fn read_block(alloc: Global, scratch: &mut Scratch, line: &[u8]) -> Result<Block, LineFault>
     ensures { Gives (λ block. block) result (block_of line.now) }
 {
-    let value = tree_of(alloc, line)?;
-    let block = Block::from_tree(alloc, &value)?;
-    Ok(block)
+    read_line(alloc, scratch, line)
 }

@@ -5,8 +5,9 @@ ghost use Rattle.stk_json.specs.Genesis.{genesis_of};
 use crate::coin_reading::coins_at;
 use crate::members::{member_at, only_named, word_at};
 use crate::nested::{FromTree, list_at, object_at};
-use crate::reading::tree_of;
-use serde_json::Value;
+use crate::reading::read_line;
+use crate::tree::Tree;
+use json::Scratch;
 use std::alloc::Global;
 use stk_msgs::{Genesis, GenesisAccount, GenesisDelegation, GenesisValidator, LineFault};
 
@@ -16,10 +17,10 @@ impl FromTree for GenesisAccount {
     ghost form = { account_of_tree };
 
     #[tactic(auto, unfolding(crate::specs::Genesis::account_of_tree))]
-    fn from_tree(alloc: Global, value: &Value) -> Result<GenesisAccount, LineFault> {
-        let address = member_at(30, "address", value)?;
-        let coins = coins_at(alloc, 31, "coins", value)?;
-        only_named(&["address", "coins"], value)?;
+    fn from_tree<N: Tree>(alloc: Global, tree: &N) -> Result<GenesisAccount, LineFault> {
+        let address = member_at(30, "address", tree)?;
+        let coins = coins_at(alloc, 31, "coins", tree)?;
+        only_named(&["address", "coins"], tree)?;
         Ok(GenesisAccount { address, coins })
     }
 }
@@ -30,13 +31,13 @@ impl FromTree for GenesisValidator {
     ghost form = { validator_of };
 
     #[tactic(auto, unfolding(crate::specs::Genesis::validator_of))]
-    fn from_tree(_alloc: Global, value: &Value) -> Result<GenesisValidator, LineFault> {
-        let operator = member_at(40, "operator", value)?;
-        let cons = member_at(41, "cons", value)?;
-        let rate = member_at(42, "rate", value)?;
-        let max_rate = member_at(43, "max_rate", value)?;
-        let max_change_rate = member_at(44, "max_change_rate", value)?;
-        let min_self_delegation = member_at(45, "min_self_delegation", value)?;
+    fn from_tree<N: Tree>(_alloc: Global, tree: &N) -> Result<GenesisValidator, LineFault> {
+        let operator = member_at(40, "operator", tree)?;
+        let cons = member_at(41, "cons", tree)?;
+        let rate = member_at(42, "rate", tree)?;
+        let max_rate = member_at(43, "max_rate", tree)?;
+        let max_change_rate = member_at(44, "max_change_rate", tree)?;
+        let min_self_delegation = member_at(45, "min_self_delegation", tree)?;
         only_named(
             &[
                 "operator",
@@ -46,7 +47,7 @@ impl FromTree for GenesisValidator {
                 "max_change_rate",
                 "min_self_delegation",
             ],
-            value,
+            tree,
         )?;
         Ok(GenesisValidator {
             operator,
@@ -65,11 +66,11 @@ impl FromTree for GenesisDelegation {
     ghost form = { delegation_of };
 
     #[tactic(auto, unfolding(crate::specs::Genesis::delegation_of))]
-    fn from_tree(_alloc: Global, value: &Value) -> Result<GenesisDelegation, LineFault> {
-        let delegator = member_at(50, "delegator", value)?;
-        let validator = member_at(51, "validator", value)?;
-        let amount = member_at(52, "amount", value)?;
-        only_named(&["delegator", "validator", "amount"], value)?;
+    fn from_tree<N: Tree>(_alloc: Global, tree: &N) -> Result<GenesisDelegation, LineFault> {
+        let delegator = member_at(50, "delegator", tree)?;
+        let validator = member_at(51, "validator", tree)?;
+        let amount = member_at(52, "amount", tree)?;
+        only_named(&["delegator", "validator", "amount"], tree)?;
         Ok(GenesisDelegation {
             delegator,
             validator,
@@ -84,13 +85,13 @@ impl FromTree for Genesis {
     ghost form = { genesis_of_tree };
 
     #[tactic(auto, unfolding(crate::specs::Genesis::genesis_of_tree))]
-    fn from_tree(alloc: Global, value: &Value) -> Result<Genesis, LineFault> {
-        word_at(1, "kind", "genesis", value)?;
-        let time = member_at(2, "time", value)?;
-        let params = object_at(alloc, 3, "params", value)?;
-        let accounts = list_at(alloc, 4, "accounts", value)?;
-        let validators = list_at(alloc, 5, "validators", value)?;
-        let delegations = list_at(alloc, 6, "delegations", value)?;
+    fn from_tree<N: Tree>(alloc: Global, tree: &N) -> Result<Genesis, LineFault> {
+        word_at(1, "kind", "genesis", tree)?;
+        let time = member_at(2, "time", tree)?;
+        let params = object_at(alloc, 3, "params", tree)?;
+        let accounts = list_at(alloc, 4, "accounts", tree)?;
+        let validators = list_at(alloc, 5, "validators", tree)?;
+        let delegations = list_at(alloc, 6, "delegations", tree)?;
         only_named(
             &[
                 "kind",
@@ -100,7 +101,7 @@ impl FromTree for Genesis {
                 "validators",
                 "delegations",
             ],
-            value,
+            tree,
         )?;
         Ok(Genesis {
             time,
@@ -120,12 +121,11 @@ impl FromTree for Genesis {
 /// comes exactly at every other value that spells no genesis, with the number of the first member, in the
 /// order of the table and each element of a list in full, that is missing or not of its form; or with 0
 /// for a member that has no number, once all others of its object are of their form. Whether the values
-/// are in their ranges and belong together is for the caller to judge.
+/// are in their ranges and belong together is for the caller to judge. The scratch keeps its memory from line to line,
+/// and nothing else.
 #[tactic(auto, unfolding(crate::specs::Genesis::genesis_of))]
-pub fn read_genesis(alloc: Global, line: &[u8]) -> Result<Genesis, LineFault>
+pub fn read_genesis(alloc: Global, scratch: &mut Scratch, line: &[u8]) -> Result<Genesis, LineFault>
     ensures { Gives (λ genesis. genesis) result (genesis_of line.now) }
 {
-    let value = tree_of(alloc, line)?;
-    let genesis = Genesis::from_tree(alloc, &value)?;
-    Ok(genesis)
+    read_line(alloc, scratch, line)
 }

@@ -3,7 +3,7 @@ ghost use Rattle.std.specs.Prelude.{◌≡◌};
 ghost use Rattle.stk_json.specs.Messages.{kind_of};
 
 use crate::members::Scalar;
-use serde_json::Value;
+use crate::tree::Tree;
 
 /// The kind of a message.
 #[derive(Clone, Copy, Debug, PartialEq, Eq)]
@@ -53,7 +53,7 @@ impl Scalar for Kind {
 
     ghost form = { spelled_by kind_of };
 
-    fn from_value(value: &Value) -> Option<Kind> {
-        value.as_str().and_then(kind_of)
+    fn from_tree<N: Tree>(tree: &N) -> Option<Kind> {
+        tree.as_str().and_then(kind_of)
     }
 }

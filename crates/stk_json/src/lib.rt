@@ -1,30 +1,37 @@
 //! The lines of an input, read into values, and the lines of an output, written from them.
 //!
-//! A line is read by `serde_json` into a tree, of which each member has its number and its form; a line is
-//! written member by member, without a tree, in ascending order of their names.
+//! What a line means is the tree that `serde_json` reads from it, of which each member has its number and its form.
+//! It is walked on a tape of the line's tokens; a tape that holds a number which is no count, or too many brackets, is
+//! left for the tree itself. A line is written member by member, without a tree, in ascending order of their names.
 #![tactic(auto)]
 
 mod block_reading;
 mod coin_reading;
+mod count;
 mod facts;
 mod genesis_reading;
 mod kind;
 mod lines;
 mod members;
 mod message_reading;
+mod names;
 mod nested;
 mod outcomes;
 mod params_reading;
+mod place;
+mod plain;
 mod reading;
 mod reading_example;
 mod told;
+mod tree;
+mod value_tree;
 mod words;
 mod writing;
 mod written;
 
 pub use block_reading::read_block;
 pub use genesis_reading::read_genesis;
-pub use lines::{line_of_genesis, lines_of_block};
+pub use lines::{push_line_of_genesis, push_lines_of_block};
 pub use reading_example::lines_read_by_example;
 pub use told::Told;
 pub use writing::push_line;

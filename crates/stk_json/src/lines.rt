@@ -1,5 +1,5 @@
 //! The lines of a genesis and of a block.
-ghost use Rattle.std.specs.Prelude.{◌≡◌, ◌++◌, IfOk, IfErr, OnOk};
+ghost use Rattle.std.specs.Prelude.{◌≡◌, ◌++◌, IfErr, OnOk};
 ghost use Rattle.stk_json.specs.Line.{line_of};
 ghost use Rattle.stk_json.specs.Written.{block_data, genesis_data, text_of_block, text_of_facts, text_of_genesis, text_of_tx, text_of_txs};
 
@@ -12,19 +12,6 @@ use stk_coins::Coins;
 use stk_keep::Facts;
 use stk_msgs::{BlockReport, LineFault, TxReport};
 use stk_types::Moment;
-
-/// Appends the line of a genesis.
-fn push_genesis<'a>(alloc: Global, out: &mut Vec<u8>, supply: &'a Coins) -> Result<(), LineFault>
-    ensures ok { OnOk result (out.new.items ≡ out.old.items ++ line_of (genesis_data supply.now)) }
-    ensures fault { IfErr result (λ fault. fault ≡ LineFault.NoMemory) }
-{
-    let members = [
-        ("height", Told::Count(0)),
-        ("kind", Told::Word("genesis")),
-        ("supply", Told::Coins(supply)),
-    ];
-    push_line(alloc, out, &members)
-}
 
 /// Appends the line of a block itself.
 fn push_block(alloc: Global, out: &mut Vec<u8>, height: u64, time: Moment) -> Result<(), LineFault>
@@ -39,16 +26,23 @@ fn push_block(alloc: Global, out: &mut Vec<u8>, height: u64, time: Moment) -> Re
     push_line(alloc, out, &members)
 }
 
-/// The line of a genesis, which tells the supply: `height` (0), `kind` (`"genesis"`) and `supply`, the coins.
+/// Appends the line of a genesis, which tells the supply: `height` (0), `kind` (`"genesis"`) and `supply`, the coins.
 ///
 /// The only error is `NoMemory`.
-pub fn line_of_genesis(alloc: Global, supply: &Coins) -> Result<Vec<u8>, LineFault>
-    ensures text { IfOk result (λ text. text.items ≡ text_of_genesis supply.now) }
+pub fn push_line_of_genesis<'a>(
+    alloc: Global,
+    out: &mut Vec<u8>,
+    supply: &'a Coins,
+) -> Result<(), LineFault>
+    ensures text { OnOk result (out.new.items ≡ out.old.items ++ text_of_genesis supply.now) }
     ensures fault { IfErr result (λ fault. fault ≡ LineFault.NoMemory) }
 {
-    let mut out = Vec::new(alloc);
-    push_genesis(alloc, &mut out, supply)?;
-    Ok(out)
+    let members = [
+        ("height", Told::Count(0)),
+        ("kind", Told::Word("genesis")),
+        ("supply", Told::Coins(supply)),
+    ];
+    push_line(alloc, out, &members)
 }
 
 /// Appends a line for each fact.
@@ -94,19 +88,21 @@ fn push_txs(
     Ok(())
 }
 
-/// The lines of a block: one with `height`, `kind` (`"block"`) and `time`; a line for each fact of its beginning;
+/// Appends the lines of a block: one with `height`, `kind` (`"block"`) and `time`; a line for each fact of its beginning;
 /// for each transaction, numbered `tx` from 0, a line for each of its facts and one that tells how it ended; and
 /// a line for each fact of its end.
 ///
 /// The only error is `NoMemory`.
-pub fn lines_of_block(alloc: Global, report: &BlockReport) -> Result<Vec<u8>, LineFault>
-    ensures text { IfOk result (λ text. text.items ≡ text_of_block report.now) }
+pub fn push_lines_of_block(
+    alloc: Global,
+    out: &mut Vec<u8>,
+    report: &BlockReport,
+) -> Result<(), LineFault>
+    ensures text { OnOk result (out.new.items ≡ out.old.items ++ text_of_block report.now) }
     ensures fault { IfErr result (λ fault. fault ≡ LineFault.NoMemory) }
 {
-    let mut out = Vec::new(alloc);
-    push_block(alloc, &mut out, report.height, report.time)?;
-    push_facts(alloc, &mut out, report.height, &report.begun)?;
-    push_txs(alloc, &mut out, report.height, report.txs.as_slice())?;
-    push_facts(alloc, &mut out, report.height, &report.ended)?;
-    Ok(out)
+    push_block(alloc, out, report.height, report.time)?;
+    push_facts(alloc, out, report.height, &report.begun)?;
+    push_txs(alloc, out, report.height, report.txs.as_slice())?;
+    push_facts(alloc, out, report.height, &report.ended)
 }

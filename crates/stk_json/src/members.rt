@@ -1,14 +1,12 @@
 //! The members of an object, each with its number and its form.
-ghost use Rattle.std.specs.Prelude.{◌≡◌, Option, string_bytes};
+ghost use Rattle.std.specs.Prelude.{◌≡◌, Option};
 ghost use Rattle.std.specs.List.{list_all};
 ghost use Rattle.std.specs.Char.{is_ascii_digit};
-ghost use Rattle.std.specs.BTreeMap.{keys};
 ghost use Rattle.serde_json.specs.Data.{Data};
-ghost use Rattle.serde_json.specs.View.{view};
 ghost use Rattle.stk_dec.specs.Texts.{is_number};
-ghost use Rattle.stk_json.specs.Members.{amount_of, member_at, optional_at, word_at, is_among, texts_of, only_named};
+ghost use Rattle.stk_json.specs.Members.{amount_of, member_at, optional_at, word_at, texts_of, only_named};
 
-use serde_json::{Map, Value};
+use crate::tree::Tree;
 use stk_dec::Dec;
 use stk_msgs::LineFault;
 use stk_types::{
@@ -20,8 +18,8 @@ use stk_types::{
 pub trait Scalar: Copy {
     ghost form: { Data → Option Self };
 
-    fn from_value(value: &Value) -> Option<Self>
-        ensures { result ≡ form (view value.now) };
+    fn from_tree<N: Tree>(tree: &N) -> Option<Self>
+        ensures { result ≡ form (N.seen tree.now) };
 }
 
 /// A whole number below 2^63, written with digits alone.
@@ -30,8 +28,8 @@ impl Scalar for u64 {
 
     ghost form = { number_of };
 
-    fn from_value(value: &Value) -> Option<u64> {
-        match value.as_u64() {
+    fn from_tree<N: Tree>(tree: &N) -> Option<u64> {
+        match tree.as_count() {
             Some(number) if number < 1 << 63 => Some(number),
             _ => None,
         }
@@ -44,8 +42,8 @@ impl Scalar for bool {
 
     ghost form = { as_bool };
 
-    fn from_value(value: &Value) -> Option<bool> {
-        value.as_bool()
+    fn from_tree<N: Tree>(tree: &N) -> Option<bool> {
+        tree.as_bool()
     }
 }
 
@@ -80,8 +78,8 @@ impl Scalar for u128 {
 
     ghost form = { spelled_by amount_of };
 
-    fn from_value(value: &Value) -> Option<u128> {
-        value.as_str().and_then(amount_of)
+    fn from_tree<N: Tree>(tree: &N) -> Option<u128> {
+        tree.as_str().and_then(amount_of)
     }
 }
 
@@ -92,8 +90,8 @@ impl Scalar for Dec {
 
     ghost form = { spelled_by dec_of };
 
-    fn from_value(value: &Value) -> Option<Dec> {
-        match value.as_str() {
+    fn from_tree<N: Tree>(tree: &N) -> Option<Dec> {
+        match tree.as_str() {
             Some(text) => Dec::parse(text.as_bytes()),
             None => None,
         }
@@ -107,8 +105,8 @@ impl Scalar for Moment {
 
     ghost form = { spelled_by moment_of };
 
-    fn from_value(value: &Value) -> Option<Moment> {
-        match value.as_str() {
+    fn from_tree<N: Tree>(tree: &N) -> Option<Moment> {
+        match tree.as_str() {
             Some(text) => read_moment(text).ok(),
             None => None,
         }
@@ -122,8 +120,8 @@ impl Scalar for Denom {
 
     ghost form = { spelled_by denom_of };
 
-    fn from_value(value: &Value) -> Option<Denom> {
-        match value.as_str() {
+    fn from_tree<N: Tree>(tree: &N) -> Option<Denom> {
+        match tree.as_str() {
             Some(text) => read_denom(text).ok(),
             None => None,
         }
@@ -137,8 +135,8 @@ impl Scalar for Addr {
 
     ghost form = { spelled_by user_of };
 
-    fn from_value(value: &Value) -> Option<Addr> {
-        match value.as_str() {
+    fn from_tree<N: Tree>(tree: &N) -> Option<Addr> {
+        match tree.as_str() {
             Some(text) => read_addr(text).ok(),
             None => None,
         }
@@ -152,8 +150,8 @@ impl Scalar for Account {
 
     ghost form = { spelled_by account_of };
 
-    fn from_value(value: &Value) -> Option<Account> {
-        match value.as_str() {
+    fn from_tree<N: Tree>(tree: &N) -> Option<Account> {
+        match tree.as_str() {
             Some(text) => read_account(text).ok(),
             None => None,
         }
@@ -167,8 +165,8 @@ impl Scalar for ConsAddr {
 
     ghost form = { spelled_by address_of };
 
-    fn from_value(value: &Value) -> Option<ConsAddr> {
-        match value.as_str() {
+    fn from_tree<N: Tree>(tree: &N) -> Option<ConsAddr> {
+        match tree.as_str() {
             Some(text) => read_cons(text).ok(),
             None => None,
         }
@@ -176,25 +174,25 @@ impl Scalar for ConsAddr {
 }
 
 /// The member of this name.
-pub fn member_at<T: Scalar>(number: u16, name: &str, value: &Value) -> Result<T, LineFault>
-    ensures { result ≡ member_at T.form number name.now (view value.now) }
+pub fn member_at<T: Scalar, N: Tree>(number: u16, name: &str, tree: &N) -> Result<T, LineFault>
+    ensures { result ≡ member_at T.form number name.now (N.seen tree.now) }
 {
-    match value.get(name) {
-        Some(found) => T::from_value(found).ok_or(LineFault::BadShape(number)),
+    match tree.get(name) {
+        Some(found) => T::from_tree(&found).ok_or(LineFault::BadShape(number)),
         None => Err(LineFault::BadShape(number)),
     }
 }
 
 /// The member of this name, which may be missing.
-pub fn optional_at<T: Scalar>(
+pub fn optional_at<T: Scalar, N: Tree>(
     number: u16,
     name: &str,
-    value: &Value,
+    tree: &N,
 ) -> Result<Option<T>, LineFault>
-    ensures { result ≡ optional_at T.form number name.now (view value.now) }
+    ensures { result ≡ optional_at T.form number name.now (N.seen tree.now) }
 {
-    match value.get(name) {
-        Some(found) => match T::from_value(found) {
+    match tree.get(name) {
+        Some(found) => match T::from_tree(&found) {
             Some(member) => Ok(Some(member)),
             None => Err(LineFault::BadShape(number)),
         },
@@ -203,41 +201,24 @@ pub fn optional_at<T: Scalar>(
 }
 
 /// Nothing, where the member of this name is the string of this word.
-pub fn word_at(number: u16, name: &str, word: &str, value: &Value) -> Result<(), LineFault>
-    ensures { result ≡ word_at number name.now word.now (view value.now) }
+pub fn word_at<N: Tree>(number: u16, name: &str, word: &str, tree: &N) -> Result<(), LineFault>
+    ensures { result ≡ word_at number name.now word.now (N.seen tree.now) }
 {
-    match value.get(name).and_then(Value::as_str) {
-        Some(text) if text == word => Ok(()),
-        _ => Err(LineFault::BadShape(number)),
+    match tree.get(name) {
+        Some(found) => match found.as_str() {
+            Some(text) if text == word => Ok(()),
+            _ => Err(LineFault::BadShape(number)),
+        },
+        None => Err(LineFault::BadShape(number)),
     }
-}
-
-/// Whether the name is one of these.
-fn is_among(names: &[&str], name: &str) -> bool
-    ensures { result ≡ is_among (texts_of names.now) name.now }
-{
-    for known in names {
-        if *known == name {
-            return true;
-        }
-    }
-    false
-}
-
-/// Whether each key is among the names.
-fn are_among(names: &[&str], map: &Map<String, Value>) -> bool
-    ensures { result
-        ≡ list_all (λ key. is_among (texts_of names.now) (string_bytes key)) (keys map.now) }
-{
-    map.keys().all(|key| is_among(names, key.as_str()))
 }
 
 /// Nothing, where the tree is an object with no member of another name.
-pub fn only_named(names: &[&str], value: &Value) -> Result<(), LineFault>
-    ensures { result ≡ only_named (texts_of names.now) (view value.now) }
+pub fn only_named<N: Tree>(names: &[&str], tree: &N) -> Result<(), LineFault>
+    ensures { result ≡ only_named (texts_of names.now) (N.seen tree.now) }
 {
-    match value.as_object() {
-        Some(map) if are_among(names, map) => Ok(()),
+    match tree.named_among(names) {
+        Some(true) => Ok(()),
         _ => Err(LineFault::BadShape(0)),
     }
 }

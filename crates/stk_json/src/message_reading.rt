@@ -1,5 +1,4 @@
 //! The messages of a transaction.
-ghost use Rattle.serde_json.specs.View.{view};
 ghost use Rattle.stk_json.specs.Reading.{Gives};
 ghost use Rattle.stk_json.specs.Messages.{message_of_kind};
 
@@ -7,7 +6,7 @@ use crate::coin_reading::coins_at;
 use crate::kind::Kind;
 use crate::members::{member_at, only_named, optional_at};
 use crate::nested::{FromTree, object_at};
-use serde_json::Value;
+use crate::tree::Tree;
 use std::alloc::Global;
 use stk_keep::{CreateValidator, EditValidator};
 use stk_msgs::{
@@ -21,11 +20,11 @@ impl FromTree for Send {
     ghost form = { send_of };
 
     #[tactic(auto, unfolding(crate::specs::Messages::send_of))]
-    fn from_tree(alloc: Global, value: &Value) -> Result<Send, LineFault> {
-        let from = member_at(91, "from", value)?;
-        let to = member_at(92, "to", value)?;
-        let coins = coins_at(alloc, 93, "coins", value)?;
-        only_named(&["kind", "from", "to", "coins"], value)?;
+    fn from_tree<N: Tree>(alloc: Global, tree: &N) -> Result<Send, LineFault> {
+        let from = member_at(91, "from", tree)?;
+        let to = member_at(92, "to", tree)?;
+        let coins = coins_at(alloc, 93, "coins", tree)?;
+        only_named(&["kind", "from", "to", "coins"], tree)?;
         Ok(Send { from, to, coins })
     }
 }
@@ -36,14 +35,14 @@ impl FromTree for CreateValidator {
     ghost form = { create_validator_of };
 
     #[tactic(auto, unfolding(crate::specs::Messages::create_validator_of))]
-    fn from_tree(alloc: Global, value: &Value) -> Result<CreateValidator, LineFault> {
-        let validator = member_at(94, "validator", value)?;
-        let cons = member_at(100, "cons", value)?;
-        let rate = member_at(101, "rate", value)?;
-        let max_rate = member_at(102, "max_rate", value)?;
-        let max_change_rate = member_at(103, "max_change_rate", value)?;
-        let min_self_delegation = member_at(104, "min_self_delegation", value)?;
-        let amount = object_at(alloc, 96, "amount", value)?;
+    fn from_tree<N: Tree>(alloc: Global, tree: &N) -> Result<CreateValidator, LineFault> {
+        let validator = member_at(94, "validator", tree)?;
+        let cons = member_at(100, "cons", tree)?;
+        let rate = member_at(101, "rate", tree)?;
+        let max_rate = member_at(102, "max_rate", tree)?;
+        let max_change_rate = member_at(103, "max_change_rate", tree)?;
+        let min_self_delegation = member_at(104, "min_self_delegation", tree)?;
+        let amount = object_at(alloc, 96, "amount", tree)?;
         only_named(
             &[
                 "kind",
@@ -55,7 +54,7 @@ impl FromTree for CreateValidator {
                 "min_self_delegation",
                 "amount",
             ],
-            value,
+            tree,
         )?;
         Ok(CreateValidator {
             validator,
@@ -75,11 +74,11 @@ impl FromTree for EditValidator {
     ghost form = { edit_validator_of };
 
     #[tactic(auto, unfolding(crate::specs::Messages::edit_validator_of))]
-    fn from_tree(_alloc: Global, value: &Value) -> Result<EditValidator, LineFault> {
-        let validator = member_at(94, "validator", value)?;
-        let rate = optional_at(101, "rate", value)?;
-        let min_self_delegation = optional_at(104, "min_self_delegation", value)?;
-        only_named(&["kind", "validator", "rate", "min_self_delegation"], value)?;
+    fn from_tree<N: Tree>(_alloc: Global, tree: &N) -> Result<EditValidator, LineFault> {
+        let validator = member_at(94, "validator", tree)?;
+        let rate = optional_at(101, "rate", tree)?;
+        let min_self_delegation = optional_at(104, "min_self_delegation", tree)?;
+        only_named(&["kind", "validator", "rate", "min_self_delegation"], tree)?;
         Ok(EditValidator {
             validator,
             rate,
@@ -94,11 +93,11 @@ impl FromTree for Delegate {
     ghost form = { delegate_of };
 
     #[tactic(auto, unfolding(crate::specs::Messages::delegate_of))]
-    fn from_tree(alloc: Global, value: &Value) -> Result<Delegate, LineFault> {
-        let delegator = member_at(95, "delegator", value)?;
-        let validator = member_at(94, "validator", value)?;
-        let amount = object_at(alloc, 96, "amount", value)?;
-        only_named(&["kind", "delegator", "validator", "amount"], value)?;
+    fn from_tree<N: Tree>(alloc: Global, tree: &N) -> Result<Delegate, LineFault> {
+        let delegator = member_at(95, "delegator", tree)?;
+        let validator = member_at(94, "validator", tree)?;
+        let amount = object_at(alloc, 96, "amount", tree)?;
+        only_named(&["kind", "delegator", "validator", "amount"], tree)?;
         Ok(Delegate {
             delegator,
             validator,
@@ -113,11 +112,11 @@ impl FromTree for Undelegate {
     ghost form = { undelegate_of };
 
     #[tactic(auto, unfolding(crate::specs::Messages::undelegate_of))]
-    fn from_tree(alloc: Global, value: &Value) -> Result<Undelegate, LineFault> {
-        let delegator = member_at(95, "delegator", value)?;
-        let validator = member_at(94, "validator", value)?;
-        let amount = object_at(alloc, 96, "amount", value)?;
-        only_named(&["kind", "delegator", "validator", "amount"], value)?;
+    fn from_tree<N: Tree>(alloc: Global, tree: &N) -> Result<Undelegate, LineFault> {
+        let delegator = member_at(95, "delegator", tree)?;
+        let validator = member_at(94, "validator", tree)?;
+        let amount = object_at(alloc, 96, "amount", tree)?;
+        only_named(&["kind", "delegator", "validator", "amount"], tree)?;
         Ok(Undelegate {
             delegator,
             validator,
@@ -132,12 +131,12 @@ impl FromTree for BeginRedelegate {
     ghost form = { begin_redelegate_of };
 
     #[tactic(auto, unfolding(crate::specs::Messages::begin_redelegate_of))]
-    fn from_tree(alloc: Global, value: &Value) -> Result<BeginRedelegate, LineFault> {
-        let delegator = member_at(95, "delegator", value)?;
-        let source = member_at(97, "source", value)?;
-        let target = member_at(98, "target", value)?;
-        let amount = object_at(alloc, 96, "amount", value)?;
-        only_named(&["kind", "delegator", "source", "target", "amount"], value)?;
+    fn from_tree<N: Tree>(alloc: Global, tree: &N) -> Result<BeginRedelegate, LineFault> {
+        let delegator = member_at(95, "delegator", tree)?;
+        let source = member_at(97, "source", tree)?;
+        let target = member_at(98, "target", tree)?;
+        let amount = object_at(alloc, 96, "amount", tree)?;
+        only_named(&["kind", "delegator", "source", "target", "amount"], tree)?;
         Ok(BeginRedelegate {
             delegator,
             source,
@@ -153,11 +152,11 @@ impl FromTree for CancelUnbonding {
     ghost form = { cancel_unbonding_of };
 
     #[tactic(auto, unfolding(crate::specs::Messages::cancel_unbonding_of))]
-    fn from_tree(alloc: Global, value: &Value) -> Result<CancelUnbonding, LineFault> {
-        let delegator = member_at(95, "delegator", value)?;
-        let validator = member_at(94, "validator", value)?;
-        let amount = object_at(alloc, 96, "amount", value)?;
-        let creation_height = member_at(99, "creation_height", value)?;
+    fn from_tree<N: Tree>(alloc: Global, tree: &N) -> Result<CancelUnbonding, LineFault> {
+        let delegator = member_at(95, "delegator", tree)?;
+        let validator = member_at(94, "validator", tree)?;
+        let amount = object_at(alloc, 96, "amount", tree)?;
+        let creation_height = member_at(99, "creation_height", tree)?;
         only_named(
             &[
                 "kind",
@@ -166,7 +165,7 @@ impl FromTree for CancelUnbonding {
                 "amount",
                 "creation_height",
             ],
-            value,
+            tree,
         )?;
         Ok(CancelUnbonding {
             delegator,
@@ -183,9 +182,9 @@ impl FromTree for Unjail {
     ghost form = { unjail_of };
 
     #[tactic(auto, unfolding(crate::specs::Messages::unjail_of))]
-    fn from_tree(_alloc: Global, value: &Value) -> Result<Unjail, LineFault> {
-        let validator = member_at(94, "validator", value)?;
-        only_named(&["kind", "validator"], value)?;
+    fn from_tree<N: Tree>(_alloc: Global, tree: &N) -> Result<Unjail, LineFault> {
+        let validator = member_at(94, "validator", tree)?;
+        only_named(&["kind", "validator"], tree)?;
         Ok(Unjail { validator })
     }
 }
@@ -196,10 +195,10 @@ impl FromTree for WithdrawReward {
     ghost form = { withdraw_reward_of };
 
     #[tactic(auto, unfolding(crate::specs::Messages::withdraw_reward_of))]
-    fn from_tree(_alloc: Global, value: &Value) -> Result<WithdrawReward, LineFault> {
-        let delegator = member_at(95, "delegator", value)?;
-        let validator = member_at(94, "validator", value)?;
-        only_named(&["kind", "delegator", "validator"], value)?;
+    fn from_tree<N: Tree>(_alloc: Global, tree: &N) -> Result<WithdrawReward, LineFault> {
+        let delegator = member_at(95, "delegator", tree)?;
+        let validator = member_at(94, "validator", tree)?;
+        only_named(&["kind", "delegator", "validator"], tree)?;
         Ok(WithdrawReward {
             delegator,
             validator,
@@ -213,9 +212,9 @@ impl FromTree for WithdrawCommission {
     ghost form = { withdraw_commission_of };
 
     #[tactic(auto, unfolding(crate::specs::Messages::withdraw_commission_of))]
-    fn from_tree(_alloc: Global, value: &Value) -> Result<WithdrawCommission, LineFault> {
-        let validator = member_at(94, "validator", value)?;
-        only_named(&["kind", "validator"], value)?;
+    fn from_tree<N: Tree>(_alloc: Global, tree: &N) -> Result<WithdrawCommission, LineFault> {
+        let validator = member_at(94, "validator", tree)?;
+        only_named(&["kind", "validator"], tree)?;
         Ok(WithdrawCommission { validator })
     }
 }
@@ -226,10 +225,10 @@ impl FromTree for SetWithdrawAddress {
     ghost form = { set_withdraw_address_of };
 
     #[tactic(auto, unfolding(crate::specs::Messages::set_withdraw_address_of))]
-    fn from_tree(_alloc: Global, value: &Value) -> Result<SetWithdrawAddress, LineFault> {
-        let delegator = member_at(95, "delegator", value)?;
-        let withdraw = member_at(105, "withdraw", value)?;
-        only_named(&["kind", "delegator", "withdraw"], value)?;
+    fn from_tree<N: Tree>(_alloc: Global, tree: &N) -> Result<SetWithdrawAddress, LineFault> {
+        let delegator = member_at(95, "delegator", tree)?;
+        let withdraw = member_at(105, "withdraw", tree)?;
+        only_named(&["kind", "delegator", "withdraw"], tree)?;
         Ok(SetWithdrawAddress {
             delegator,
             withdraw,
@@ -243,10 +242,10 @@ impl FromTree for FundCommunityPool {
     ghost form = { fund_community_pool_of };
 
     #[tactic(auto, unfolding(crate::specs::Messages::fund_community_pool_of))]
-    fn from_tree(alloc: Global, value: &Value) -> Result<FundCommunityPool, LineFault> {
-        let depositor = member_at(106, "depositor", value)?;
-        let coins = coins_at(alloc, 93, "coins", value)?;
-        only_named(&["kind", "depositor", "coins"], value)?;
+    fn from_tree<N: Tree>(alloc: Global, tree: &N) -> Result<FundCommunityPool, LineFault> {
+        let depositor = member_at(106, "depositor", tree)?;
+        let coins = coins_at(alloc, 93, "coins", tree)?;
+        only_named(&["kind", "depositor", "coins"], tree)?;
         Ok(FundCommunityPool { depositor, coins })
     }
 }
@@ -257,11 +256,11 @@ impl FromTree for CommunityPoolSpend {
     ghost form = { community_pool_spend_of };
 
     #[tactic(auto, unfolding(crate::specs::Messages::community_pool_spend_of))]
-    fn from_tree(alloc: Global, value: &Value) -> Result<CommunityPoolSpend, LineFault> {
-        let authority = member_at(107, "authority", value)?;
-        let recipient = member_at(108, "recipient", value)?;
-        let coins = coins_at(alloc, 93, "coins", value)?;
-        only_named(&["kind", "authority", "recipient", "coins"], value)?;
+    fn from_tree<N: Tree>(alloc: Global, tree: &N) -> Result<CommunityPoolSpend, LineFault> {
+        let authority = member_at(107, "authority", tree)?;
+        let recipient = member_at(108, "recipient", tree)?;
+        let coins = coins_at(alloc, 93, "coins", tree)?;
+        only_named(&["kind", "authority", "recipient", "coins"], tree)?;
         Ok(CommunityPoolSpend {
             authority,
             recipient,
@@ -271,36 +270,30 @@ impl FromTree for CommunityPoolSpend {
 }
 
 /// A message of this kind.
-fn message_of_kind(alloc: Global, kind: Kind, value: &Value) -> Result<Msg, LineFault>
-    ensures { Gives (λ message. message) result (message_of_kind kind (view value.now)) }
+fn message_of_kind<N: Tree>(alloc: Global, kind: Kind, tree: &N) -> Result<Msg, LineFault>
+    ensures { Gives (λ message. message) result (message_of_kind kind (N.seen tree.now)) }
 {
     match kind {
-        Kind::Send => Ok(Msg::Send(Send::from_tree(alloc, value)?)),
-        Kind::CreateValidator => Ok(Msg::CreateValidator(CreateValidator::from_tree(
-            alloc, value,
-        )?)),
-        Kind::EditValidator => Ok(Msg::EditValidator(EditValidator::from_tree(alloc, value)?)),
-        Kind::Delegate => Ok(Msg::Delegate(Delegate::from_tree(alloc, value)?)),
-        Kind::Undelegate => Ok(Msg::Undelegate(Undelegate::from_tree(alloc, value)?)),
-        Kind::BeginRedelegate => Ok(Msg::BeginRedelegate(BeginRedelegate::from_tree(
-            alloc, value,
-        )?)),
-        Kind::CancelUnbonding => Ok(Msg::CancelUnbonding(CancelUnbonding::from_tree(
-            alloc, value,
-        )?)),
-        Kind::Unjail => Ok(Msg::Unjail(Unjail::from_tree(alloc, value)?)),
-        Kind::WithdrawReward => Ok(Msg::WithdrawReward(WithdrawReward::from_tree(alloc, value)?)),
+        Kind::Send => Ok(Msg::Send(Send::from_tree(alloc, tree)?)),
+        Kind::CreateValidator => Ok(Msg::CreateValidator(CreateValidator::from_tree(alloc, tree)?)),
+        Kind::EditValidator => Ok(Msg::EditValidator(EditValidator::from_tree(alloc, tree)?)),
+        Kind::Delegate => Ok(Msg::Delegate(Delegate::from_tree(alloc, tree)?)),
+        Kind::Undelegate => Ok(Msg::Undelegate(Undelegate::from_tree(alloc, tree)?)),
+        Kind::BeginRedelegate => Ok(Msg::BeginRedelegate(BeginRedelegate::from_tree(alloc, tree)?)),
+        Kind::CancelUnbonding => Ok(Msg::CancelUnbonding(CancelUnbonding::from_tree(alloc, tree)?)),
+        Kind::Unjail => Ok(Msg::Unjail(Unjail::from_tree(alloc, tree)?)),
+        Kind::WithdrawReward => Ok(Msg::WithdrawReward(WithdrawReward::from_tree(alloc, tree)?)),
         Kind::WithdrawCommission => Ok(Msg::WithdrawCommission(WithdrawCommission::from_tree(
-            alloc, value,
+            alloc, tree,
         )?)),
         Kind::SetWithdrawAddress => Ok(Msg::SetWithdrawAddress(SetWithdrawAddress::from_tree(
-            alloc, value,
+            alloc, tree,
         )?)),
         Kind::FundCommunityPool => Ok(Msg::FundCommunityPool(FundCommunityPool::from_tree(
-            alloc, value,
+            alloc, tree,
         )?)),
         Kind::CommunityPoolSpend => Ok(Msg::CommunityPoolSpend(CommunityPoolSpend::from_tree(
-            alloc, value,
+            alloc, tree,
         )?)),
     }
 }
@@ -311,8 +304,8 @@ impl FromTree for Msg {
     ghost form = { message_of };
 
     #[tactic(auto, unfolding(crate::specs::Messages::message_of))]
-    fn from_tree(alloc: Global, value: &Value) -> Result<Msg, LineFault> {
-        let kind = member_at(90, "kind", value)?;
-        message_of_kind(alloc, kind, value)
+    fn from_tree<N: Tree>(alloc: Global, tree: &N) -> Result<Msg, LineFault> {
+        let kind = member_at(90, "kind", tree)?;
+        message_of_kind(alloc, kind, tree)
     }
 }

@@ -1,4 +1,5 @@
 use crate::{read_block, read_genesis};
+use json::Scratch;
 use std::alloc::{AllocError, Global};
 use std::test::Fail;
 use stk_msgs::{Block, LineFault, Msg};
@@ -18,7 +19,7 @@ fn replaced(alloc: Global, line: &str, old: &str, new: &str) -> Result<String, A
 }
 
 fn fault_of_block(alloc: Global, line: &[u8]) -> Option<LineFault> {
-    match read_block(alloc, line) {
+    match read_block(alloc, &mut Scratch::new(alloc), line) {
         Ok(_) => None,
         Err(fault) => Some(fault),
     }
@@ -34,7 +35,7 @@ fn block_has(alloc: Global, old: &str, new: &str, fault: Option<LineFault>) -> b
 
 fn read_genesis_with(alloc: Global, old: &str, new: &str) -> Result<(), LineFault> {
     let line = replaced(alloc, GENESIS, old, new)?;
-    read_genesis(alloc, line.as_bytes())?;
+    read_genesis(alloc, &mut Scratch::new(alloc), line.as_bytes())?;
     Ok(())
 }
 
@@ -316,7 +317,7 @@ fn block_of(alloc: Global, kind: &str, members: &str) -> Result<Block, LineFault
         }
     }
     line.push_str("}]}]}")?;
-    read_block(alloc, line.as_bytes())
+    read_block(alloc, &mut Scratch::new(alloc), line.as_bytes())
 }
 
 fn reads_as_its_kind(alloc: Global, kind: &str, members: &str) -> bool {
@@ -467,7 +468,7 @@ fn amount_sent(block: &Block, place: usize) -> Option<u128> {
 
 #[test]
 fn the_values_of_a_block_are_read(rt: HostRuntime) -> Result<(), Fail> {
-    let block = read_block(rt.alloc(), BLOCK.as_bytes())?;
+    let block = read_block(rt.alloc(), &mut Scratch::new(rt.alloc()), BLOCK.as_bytes())?;
     assert_eq!(rt; block.height, 1);
     assert_eq!(rt; block.time.nanos(), 1_704_067_205_000_000_000);
     let vote = block.votes.at(0).ok_or("no vote")?;
@@ -484,7 +485,11 @@ fn the_values_of_a_block_are_read(rt: HostRuntime) -> Result<(), Fail> {
 
 #[test]
 fn the_values_of_a_genesis_are_read(rt: HostRuntime) -> Result<(), Fail> {
-    let genesis = read_genesis(rt.alloc(), GENESIS.as_bytes())?;
+    let genesis = read_genesis(
+        rt.alloc(),
+        &mut Scratch::new(rt.alloc()),
+        GENESIS.as_bytes(),
+    )?;
     assert_eq!(rt; genesis.time.nanos(), 1_704_067_200_000_000_000);
     assert_eq!(rt; genesis.params.max_age_num_blocks, 100_000);
     assert_eq!(rt; genesis.params.community_tax.raw(), 20_000_000_000_000_000);

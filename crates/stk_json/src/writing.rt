@@ -3,7 +3,7 @@ ghost use Rattle.std.specs.Prelude.{◌≡◌, ◌++◌, IfErr, OnOk};
 ghost use Rattle.serde_json.specs.Data.{object, string as string_data};
 ghost use Rattle.stk_json.specs.Line.{line_of};
 ghost use Rattle.stk_json.specs.Told.{coins_seen, data_tokens, listed, told_data};
-ghost use Rattle.stk_json.specs.Values.{account_data, coin_data, coins_data, cons_data, dec_coins_data, decimal_data, moment_data, whole_data};
+ghost use Rattle.stk_json.specs.Values.{account_data, address_data, coin_data, coins_data, dec_coins_data, decimal_data, moment_data, whole_data};
 
 use crate::told::Told;
 use crate::words::{over_name, status_name};
@@ -13,7 +13,7 @@ use std::{mem, str};
 use stk_coins::{Coins, DecCoins};
 use stk_dec::Dec;
 use stk_msgs::LineFault;
-use stk_types::{Account, ConsAddr, Denom, Moment, print_account, print_cons, print_moment};
+use stk_types::{Account, Denom, Moment, print_moment};
 
 fn push_amount(writer: &mut Writer, amount: u128) -> Result<(), LineFault>
     ensures ok { OnOk result (writer.new.tokens
@@ -51,28 +51,29 @@ fn push_denom(writer: &mut Writer, denom: &Denom) -> Result<(), LineFault>
     Ok(())
 }
 
-fn push_account(alloc: Global, writer: &mut Writer, account: &Account) -> Result<(), LineFault>
+/// The address of these bytes, in hexadecimal digits.
+fn push_address(writer: &mut Writer, bytes: &[u8; 20]) -> Result<(), LineFault>
+    ensures ok { OnOk result (writer.new.tokens
+        ≡ writer.old.tokens ++ data_tokens (address_data bytes.now)) }
+    ensures before { OnOk result (writer.new.before ≡ writer.old.before) }
+    ensures fault { IfErr result (λ fault. fault ≡ LineFault.NoMemory) }
+{
+    let mut places = [0u8; 40];
+    hex::encode_to_slice(bytes, &mut places).unwrap();
+    let digits = str::from_utf8(&places).unwrap();
+    writer.string(digits)?;
+    Ok(())
+}
+
+fn push_account(writer: &mut Writer, account: &Account) -> Result<(), LineFault>
     ensures ok { OnOk result (writer.new.tokens
         ≡ writer.old.tokens ++ data_tokens (account_data account.now)) }
     ensures before { OnOk result (writer.new.before ≡ writer.old.before) }
     ensures fault { IfErr result (λ fault. fault ≡ LineFault.NoMemory) }
 {
-    match print_account(alloc, account) {
-        Ok(text) => writer.string(&text)?,
-        Err(_) => return Err(LineFault::NoMemory),
-    }
-    Ok(())
-}
-
-fn push_cons(alloc: Global, writer: &mut Writer, cons: &ConsAddr) -> Result<(), LineFault>
-    ensures ok { OnOk result (writer.new.tokens
-        ≡ writer.old.tokens ++ data_tokens (cons_data cons.now)) }
-    ensures before { OnOk result (writer.new.before ≡ writer.old.before) }
-    ensures fault { IfErr result (λ fault. fault ≡ LineFault.NoMemory) }
-{
-    match print_cons(alloc, cons) {
-        Ok(text) => writer.string(&text)?,
-        Err(_) => return Err(LineFault::NoMemory),
+    match account {
+        Account::User(address) => push_address(writer, &address.bytes())?,
+        Account::Module(module) => writer.string(module.name())?,
     }
     Ok(())
 }
@@ -186,10 +187,10 @@ fn push_told(alloc: Global, writer: &mut Writer, told: &Told<'_>) -> Result<(), 
         Told::Over(kind) => writer.string(over_name(*kind))?,
         Told::Status(status) => writer.string(status_name(*status))?,
         Told::Moment(moment) => push_moment(alloc, writer, *moment)?,
-        Told::Address(address) => push_account(alloc, writer, &Account::User(**address))?,
-        Told::Account(account) => push_account(alloc, writer, account)?,
+        Told::Address(address) => push_address(writer, &address.bytes())?,
+        Told::Account(account) => push_account(writer, account)?,
         Told::Module(module) => writer.string(module.name())?,
-        Told::Cons(cons) => push_cons(alloc, writer, cons)?,
+        Told::Cons(cons) => push_address(writer, &cons.bytes())?,
         Told::Denom(denom) => push_denom(writer, denom)?,
         Told::Coins(coins) => push_coins(writer, coins)?,
         Told::Lent(lent) => push_lent(writer, lent)?,

@@ -1,4 +1,4 @@
-use crate::{line_of_genesis, lines_of_block};
+use crate::{push_line_of_genesis, push_lines_of_block};
 use std::alloc::Global;
 use std::process::Abort;
 use std::test::Fail;
@@ -50,7 +50,8 @@ fn tells(rt: &(impl Abort + AllocGlobal), fact: Fact, line: &str) -> Result<bool
         txs: Listed::new(rt.alloc()),
         ended: Facts::of(vec![in rt.alloc(); fact]?),
     };
-    let text = lines_of_block(rt.alloc(), &report)?;
+    let mut text = Vec::new(rt.alloc());
+    push_lines_of_block(rt.alloc(), &mut text, &report)?;
     let wanted = format!(in rt.alloc();
         "{{\"height\":7,\"kind\":\"block\",\"time\":\"2024-01-01T00:00:05Z\"}}\n{line}\n"
     )?;
@@ -230,7 +231,8 @@ fn ends(rt: &(impl Abort + AllocGlobal), outcome: Outcome, line: &str) -> Result
         txs: Listed::of(vec![in rt.alloc(); first, second]?),
         ended: Facts::new(rt.alloc()),
     };
-    let text = lines_of_block(rt.alloc(), &report)?;
+    let mut text = Vec::new(rt.alloc());
+    push_lines_of_block(rt.alloc(), &mut text, &report)?;
     let wanted = format!(in rt.alloc();
         "{{\"height\":7,\"kind\":\"block\",\"time\":\"2024-01-01T00:00:05Z\"}}\n{{\"height\":7,\"kind\":\"accepted\",\"tx\":0}}\n{line}\n"
     )?;
@@ -305,7 +307,8 @@ fn each_outcome_has_its_line(rt: HostRuntime) -> Result<(), Fail> {
 #[test]
 fn a_supply_is_written(rt: HostRuntime) -> Result<(), Fail> {
     let supply = uatom(&rt, 1000)?;
-    let line = line_of_genesis(rt.alloc(), &supply)?;
+    let mut line = Vec::new(rt.alloc());
+    push_line_of_genesis(rt.alloc(), &mut line, &supply)?;
     let wanted =
         "{\"height\":0,\"kind\":\"genesis\",\"supply\":[{\"amount\":\"1000\",\"denom\":\"uatom\"}]}\n";
     assert!(rt; line.as_slice() == wanted.as_bytes());

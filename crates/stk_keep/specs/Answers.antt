@@ -1,4 +1,4 @@
--- What calls answer and leave.
+-- What calls answer and leave. Of what hooks keep it is said for which plain values it stands, by a test `holds`.
 use Rattle.std.specs.Prelude.{◌≡◌, ℕ, ◌<◌, ◌≤◌, true, false, List, Result, Ok, Err, ⊤}
 use Rattle.stk_dec.specs.declared.over.Over.{Over}
 use Rattle.stk_types.specs.declared.account.Account.{Account}
@@ -30,30 +30,30 @@ Burns from c h facts h2 facts2 (Ok _) = (c.amount ≤ balance_of h (account.Modu
 Burns from c h facts h2 facts2 (Err bank.Short) = (balance_of h (account.Module from) c.denom < c.amount) × (h2 ≡ h) × (facts2 ≡ facts)
 Burns from c h facts h2 facts2 (Err bank.NoMemory) = (h2 ≡ h) × (facts2 ≡ facts)
 
--- What a hook of which this is told answers, and leaves of the hooks and of the ground: what is given, or the excess;
--- or memory is wanting.
-abbrev pub Answers : {H : Type 0} → Told H → H → View → Result ⊤ HookFault → Type 0
-Answers (gives h2 v2 log) h v (Ok _) = (h ≡ h2) × (v ≡ v2)
-Answers (gives h2 v2 log) h v (Err (hook.Over over)) = ⊥
-Answers (gives h2 v2 log) h v (Err hook.NoMemory) = ⊤
-Answers (exceeds due) h v (Ok _) = ⊥
-Answers (exceeds due) h v (Err (hook.Over over)) = over ≡ due
-Answers (exceeds due) h v (Err hook.NoMemory) = ⊤
+-- What a hook of which this is told answers, and leaves of the hooks and of the ground: what is given is held, or the
+-- excess; or memory is wanting.
+abbrev pub Answers : {H : Type 0} → Told H → (H → Type 0) → View → Result ⊤ HookFault → Type 0
+Answers (gives h v2 log) holds v (Ok _) = holds h × (v ≡ v2)
+Answers (gives h v2 log) holds v (Err (hook.Over over)) = ⊥
+Answers (gives h v2 log) holds v (Err hook.NoMemory) = ⊤
+Answers (exceeds due) holds v (Ok _) = ⊥
+Answers (exceeds due) holds v (Err (hook.Over over)) = over ≡ due
+Answers (exceeds due) holds v (Err hook.NoMemory) = ⊤
 
 -- The same of a call that follows a rule with a number: what the rule gives, or its excess; or memory is wanting.
-abbrev pub Follows : {S H : Type 0} → Result (ℕ × World S H) Over → S → H → View → Result ℕ HookFault → Type 0
-Follows (Ok p) s h v (Ok n) = (n ≡ p.0) × (s ≡ p.1.mine) × (h ≡ p.1.hooks) × (v ≡ p.1.view)
-Follows (Ok p) s h v (Err (hook.Over over)) = ⊥
-Follows (Ok p) s h v (Err hook.NoMemory) = ⊤
-Follows (Err due) s h v (Ok n) = ⊥
-Follows (Err due) s h v (Err (hook.Over over)) = over ≡ due
-Follows (Err due) s h v (Err hook.NoMemory) = ⊤
+abbrev pub Follows : {S H : Type 0} → Result (ℕ × World S H) Over → S → (H → Type 0) → View → Result ℕ HookFault → Type 0
+Follows (Ok p) s holds v (Ok n) = (n ≡ p.0) × (s ≡ p.1.mine) × holds p.1.hooks × (v ≡ p.1.view)
+Follows (Ok p) s holds v (Err (hook.Over over)) = ⊥
+Follows (Ok p) s holds v (Err hook.NoMemory) = ⊤
+Follows (Err due) s holds v (Ok n) = ⊥
+Follows (Err due) s holds v (Err (hook.Over over)) = over ≡ due
+Follows (Err due) s holds v (Err hook.NoMemory) = ⊤
 
 -- The same of a message, which may be refused.
-abbrev pub AnswersAs : {A S H : Type 0} → Result (A × World S H) Refusal → S → H → View → Result A Stop → Type 0
-AnswersAs (Ok p) s h v (Ok a) = (a ≡ p.0) × (s ≡ p.1.mine) × (h ≡ p.1.hooks) × (v ≡ p.1.view)
-AnswersAs (Ok p) s h v (Err (stop.Refused why)) = ⊥
-AnswersAs (Ok p) s h v (Err stop.NoMemory) = ⊤
-AnswersAs (Err due) s h v (Ok a) = ⊥
-AnswersAs (Err due) s h v (Err (stop.Refused why)) = why ≡ due
-AnswersAs (Err due) s h v (Err stop.NoMemory) = ⊤
+abbrev pub AnswersAs : {A S H : Type 0} → Result (A × World S H) Refusal → S → (H → Type 0) → View → Result A Stop → Type 0
+AnswersAs (Ok p) s holds v (Ok a) = (a ≡ p.0) × (s ≡ p.1.mine) × holds p.1.hooks × (v ≡ p.1.view)
+AnswersAs (Ok p) s holds v (Err (stop.Refused why)) = ⊥
+AnswersAs (Ok p) s holds v (Err stop.NoMemory) = ⊤
+AnswersAs (Err due) s holds v (Ok a) = ⊥
+AnswersAs (Err due) s holds v (Err (stop.Refused why)) = why ≡ due
+AnswersAs (Err due) s holds v (Err stop.NoMemory) = ⊤

@@ -1,4 +1,4 @@
--- The conditions and the laws of hooks.
+-- The conditions and the laws of hooks. They speak of plain values alone.
 use Rattle.std.specs.Prelude.{◌≡◌, ℕ, ◌*◌, ◌^◌, ◌<◌, ◌≤◌, Bool, true, false, ◌&&◌, List, ◌++◌, if◌then◌else◌, Option, Some, None}
 use Rattle.stk_types.specs.declared.account.Account.TheVariants as account
 use Rattle.stk_types.specs.declared.account.Module.TheVariants.{FeeCollector, Bonded, NotBonded, Distribution}
@@ -124,3 +124,13 @@ pub record Lawful {S : Type 0} (t : Tells S) : Type 0 where
   pub quiet_stays : (s s2 : S) (h : Hook) (v v2 : View) (log : Log) → t.told s h v ≡ gives s2 v2 log → t.quiet s2 ≡ t.quiet s
   pub sure_stays : (s s2 : S) (h : Hook) (v v2 : View) (log : Log) → t.told s h v ≡ gives s2 v2 log → t.sure s2 ≡ t.sure s
   pub touches_stay : (s s2 : S) (h : Hook) (v v2 : View) (log : Log) → t.told s h v ≡ gives s2 v2 log → t.touches s2 ≡ t.touches s
+
+-- What hooks keep may stand for several plain values, as a test `holds` of plain values tells.
+
+-- some plain value that is held stands for the lists over this ground
+abbrev pub Stands : {S : Type 0} → (S → Type 0) → Tells S → View → Lists → Type 0
+Stands {S} holds t v l = (s : S) × (holds s × Stand t s v l)
+
+-- the hook may be called on some plain value that is held, for some lists
+abbrev pub MayCall : {S : Type 0} → (S → Type 0) → Tells S → Hook → View → Type 0
+MayCall {S} holds t h v = (s : S) × (holds s × ((l : Lists) × Ready t s v h l))

@@ -24,13 +24,13 @@ pub record Unbonds (D H : Type 0) : Type 0 where
 
 -- What a call answers and leaves that follows a rule over lent delegations: what the rule gives, or its excess; or memory
 -- is wanting.
-abbrev pub FollowsLent : {S D H : Type 0} → Result (ℕ × S × World D H) Over → S → D → H → View → Result ℕ HookFault → Type 0
-FollowsLent (Ok p) s d h v (Ok n) = (n ≡ p.0) × (s ≡ p.1) × (d ≡ p.2.mine) × (h ≡ p.2.hooks) × (v ≡ p.2.view)
-FollowsLent (Ok p) s d h v (Err (hook.Over over)) = ⊥
-FollowsLent (Ok p) s d h v (Err hook.NoMemory) = ⊤
-FollowsLent (Err due) s d h v (Ok n) = ⊥
-FollowsLent (Err due) s d h v (Err (hook.Over over)) = over ≡ due
-FollowsLent (Err due) s d h v (Err hook.NoMemory) = ⊤
+abbrev pub FollowsLent : {S D H : Type 0} → Result (ℕ × S × World D H) Over → S → D → (H → Type 0) → View → Result ℕ HookFault → Type 0
+FollowsLent (Ok p) s d holds v (Ok n) = (n ≡ p.0) × (s ≡ p.1) × (d ≡ p.2.mine) × holds p.2.hooks × (v ≡ p.2.view)
+FollowsLent (Ok p) s d holds v (Err (hook.Over over)) = ⊥
+FollowsLent (Ok p) s d holds v (Err hook.NoMemory) = ⊤
+FollowsLent (Err due) s d holds v (Ok n) = ⊥
+FollowsLent (Err due) s d holds v (Err (hook.Over over)) = over ≡ due
+FollowsLent (Err due) s d holds v (Err hook.NoMemory) = ⊤
 
 -- what a call counted, and leaves, that follows a rule without hooks
 abbrev pub IsAsTold : {S : Type 0} → ℕ × S × View → S → View → ℕ → Type 0

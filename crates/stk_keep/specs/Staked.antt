@@ -1,5 +1,5 @@
 -- Validators and delegations, and what calls leave of them.
-use Rattle.std.specs.Prelude.{◌≡◌, ℕ, ◌+◌, ◌-◌, ◌≤◌, ◌==◌, Bool, true, false, ◌&&◌, ◌||◌, if◌then◌else◌, List, [], ◌∷◌, Option, Some, None, is_some, find}
+use Rattle.std.specs.Prelude.{◌≡◌, ℕ, ◌+◌, ◌-◌, ◌≤◌, ◌==◌, Bool, true, false, ◌&&◌, ◌||◌, if◌then◌else◌, List, [], ◌∷◌, Option, Some, None, option_map, is_some, find}
 use Rattle.std.specs.Ordering.{is_eq}
 use Rattle.std.specs.Map.{values_of}
 use Rattle.std.specs.BTreeMap.{is_at}
@@ -87,6 +87,18 @@ StillStand old new = (operator : List ℕ) (v : Validator) → validator_of old 
 abbrev pub StillStandByCons : Staked → Staked → Type 0
 StillStandByCons old new = (cons : List ℕ) (v : Validator) → validator_by_cons old cons ≡ Some v → is_unbonded v.status ≡ false
     → (v2 : Validator) × ((validator_by_cons new cons ≡ Some v2) × (v2.operator ≡ v.operator) × (v2.status ≡ v.status))
+
+-- a validator in all but whether it is jailed
+abbrev pub but_jailed : Validator → Validator
+but_jailed v = record v { jailed = false }
+
+-- Under each operator stands who stood there, in all but whether it is jailed.
+abbrev pub SameButJailed : Staked → Staked → Type 0
+SameButJailed old new = (operator : List ℕ) → option_map but_jailed (validator_of new operator) ≡ option_map but_jailed (validator_of old operator)
+
+-- The same of those that are looked up by consensus address.
+abbrev pub SameButJailedByCons : Staked → Staked → Type 0
+SameButJailedByCons old new = (cons : List ℕ) → option_map but_jailed (validator_by_cons new cons) ≡ option_map but_jailed (validator_by_cons old cons)
 
 -- the delegation exists and has the shares
 abbrev pub HasShares : Staked → List ℕ → List ℕ → ℕ → Type 0

@@ -1,7 +1,7 @@
-ghost use Rattle.std.specs.Prelude.{◌≡◌, ℕ, ◌+◌, ◌≤◌, Bool, true, length, IfOk, IfErr, Err};
+ghost use Rattle.std.specs.Prelude.{◌≡◌, ℕ, ◌+◌, ◌≤◌, Bool, true, length, OnOk, IfOk, IfErr, Err};
 ghost use Rattle.stk_keep.specs.Answers.{Sends, Burns};
 ghost use Rattle.stk_keep.specs.Holdings.{Holdings, IsBacked, balance_of, supply_of, coins_of};
-ghost use Rattle.stk_keep.specs.declared.faults.BankFault.TheVariants.{NoMemory};
+ghost use Rattle.stk_keep.specs.declared.faults.BankFault.TheVariants.{Short, NoMemory};
 
 use crate::facts::Facts;
 use crate::faults::BankFault;
@@ -19,7 +19,7 @@ pub trait Bank {
     /// What it holds.
     ghost holdings: { Self → Holdings };
 
-    /// Whether memory was wanting in a change of its tables.
+    /// Whether memory was wanting in a change: from then on it moves and burns no coins, and answers `NoMemory`.
     ghost spent: { Self → Bool };
 
     /// The most touches of one `send` of one coin.
@@ -51,7 +51,7 @@ pub trait Bank {
 
     /// Moves coins from one account to another, and tells it by a fact. No coins are no transfer, and are
     /// not told. `Short` comes exactly where a coin is above the sender's balance. After a fault all is as it
-    /// was.
+    /// was, but that the bank is spent where memory was wanting.
     fn send<L: Ledger>(
         &mut self,
         alloc: Global,
@@ -68,13 +68,17 @@ pub trait Bank {
 
         ensures spent { spent self.old ≡ true → result ≡ Err NoMemory }
         ensures spent_stays { spent self.old ≡ true → spent self.new ≡ true }
+        ensures spent_ok { OnOk result (spent self.new ≡ spent self.old) }
+        ensures spent_short { result ≡ Err Short → spent self.new ≡ spent self.old }
+        ensures spent_err { result ≡ Err NoMemory → spent self.new ≡ true }
         ensures marks { marks self.new ≡ marks self.old }
 
         ensures cost { length coins.now ≡ 1 → steps.new ≤ steps.old + touches self.old }
         ensures touches { touches self.new ≡ touches self.old };
 
     /// Burns a coin of a module's account, and tells it by a fact. An amount of 0 is no burn, and is not
-    /// told. `Short` comes exactly where the amount is above the balance. After a fault all is as it was.
+    /// told. `Short` comes exactly where the amount is above the balance. After a fault all is as it was, but
+    /// that the bank is spent where memory was wanting.
     fn burn<L: Ledger>(
         &mut self,
         alloc: Global,
@@ -90,6 +94,9 @@ pub trait Bank {
 
         ensures spent { spent self.old ≡ true → result ≡ Err NoMemory }
         ensures spent_stays { spent self.old ≡ true → spent self.new ≡ true }
+        ensures spent_ok { OnOk result (spent self.new ≡ spent self.old) }
+        ensures spent_short { result ≡ Err Short → spent self.new ≡ spent self.old }
+        ensures spent_err { result ≡ Err NoMemory → spent self.new ≡ true }
         ensures marks { marks self.new ≡ marks self.old }
         ensures touches { touches self.new ≡ touches self.old };
 }

@@ -1,7 +1,7 @@
 ghost use Rattle.std.specs.Prelude.{◌≡◌, ℕ, ◌+◌, ◌≤◌};
 ghost use Rattle.stk_keep.specs.Answers.{Answers};
 ghost use Rattle.stk_keep.specs.Ground.{seen, CanBeUndone};
-ghost use Rattle.stk_keep.specs.Hooks.{Lists, Tells, Ready, Lawful};
+ghost use Rattle.stk_keep.specs.Hooks.{Tells, MayCall, Lawful};
 ghost use Rattle.stk_keep.specs.World.{created, removed, bonded, starting, modifying, modified, slashing};
 
 use crate::bank::{Bank, Ground};
@@ -15,14 +15,16 @@ use stk_types::{Addr, Steps};
 /// What other modules do when staking changes something (Cosmos SDK v0.47: `x/staking/types`,
 /// `StakingHooks`).
 ///
-/// Hooks tell what each call gives, from what they hold, the ground and the arguments. A call answers and
-/// leaves exactly that, or memory is wanting. Its needs are those of `Ready`, for some lists of operators and
-/// of started delegations; its laws are `Lawful`.
+/// Hooks tell what each call gives, from a plain value, the ground and the arguments. What they keep may stand
+/// for several plain values: a call answers what is told of each of them, and leaves what stands for what is
+/// told; or memory is wanting. Its needs are those of `MayCall`, for some plain value and some lists of
+/// operators and of started delegations; its laws are `Lawful`, and speak of plain values alone.
 pub trait StakingHooks {
-    /// What they hold, apart from how they keep it.
+    /// A plain value: all that they were told.
     ghost Held: { Type 0 };
 
-    ghost held: { Self → Held };
+    /// Whether what they keep stands for a plain value.
+    ghost holds: { Self → Held → Type 0 };
 
     /// What they tell.
     ghost tells: { Tells Held };
@@ -40,8 +42,8 @@ pub trait StakingHooks {
         v: &Validator,
         steps: &mut Steps<L>,
     ) -> Result<(), HookFault>
-        requires { (l : Lists) × Ready tells (held self.old) (seen B.holdings g.old) (created v.now) l }
-        ensures told { Answers (tells.told (held self.old) (created v.now) (seen B.holdings g.old)) (held self.new) (seen B.holdings g.new) result }
+        requires { MayCall (holds self.old) tells (created v.now) (seen B.holdings g.old) }
+        ensures told { (h : Held) → holds self.old h → Answers (tells.told h (created v.now) (seen B.holdings g.old)) (holds self.new) (seen B.holdings g.new) result }
         ensures undone { CanBeUndone B.marks g.old g.new }
         ensures bank { B.touches g.new.bank ≡ B.touches g.old.bank }
         ensures marks { marks self.new ≡ marks self.old };
@@ -54,8 +56,8 @@ pub trait StakingHooks {
         v: &Validator,
         steps: &mut Steps<L>,
     ) -> Result<(), HookFault>
-        requires { (l : Lists) × Ready tells (held self.old) (seen B.holdings g.old) (removed v.now) l }
-        ensures told { Answers (tells.told (held self.old) (removed v.now) (seen B.holdings g.old)) (held self.new) (seen B.holdings g.new) result }
+        requires { MayCall (holds self.old) tells (removed v.now) (seen B.holdings g.old) }
+        ensures told { (h : Held) → holds self.old h → Answers (tells.told h (removed v.now) (seen B.holdings g.old)) (holds self.new) (seen B.holdings g.new) result }
         ensures undone { CanBeUndone B.marks g.old g.new }
         ensures bank { B.touches g.new.bank ≡ B.touches g.old.bank }
         ensures marks { marks self.new ≡ marks self.old };
@@ -68,12 +70,12 @@ pub trait StakingHooks {
         v: &Validator,
         steps: &mut Steps<L>,
     ) -> Result<(), HookFault>
-        requires { (l : Lists) × Ready tells (held self.old) (seen B.holdings g.old) (bonded v.now) l }
-        ensures told { Answers (tells.told (held self.old) (bonded v.now) (seen B.holdings g.old)) (held self.new) (seen B.holdings g.new) result }
+        requires { MayCall (holds self.old) tells (bonded v.now) (seen B.holdings g.old) }
+        ensures told { (h : Held) → holds self.old h → Answers (tells.told h (bonded v.now) (seen B.holdings g.old)) (holds self.new) (seen B.holdings g.new) result }
         ensures undone { CanBeUndone B.marks g.old g.new }
         ensures bank { B.touches g.new.bank ≡ B.touches g.old.bank }
         ensures marks { marks self.new ≡ marks self.old }
-        ensures cost { steps.new ≤ steps.old + tells.touches (held self.old) };
+        ensures cost { (h : Held) → holds self.old h → steps.new ≤ steps.old + tells.touches h };
 
     /// Before a delegation is created (`BeforeDelegationCreated`).
     fn before_delegation_created<B: Bank, L: Ledger>(
@@ -84,8 +86,8 @@ pub trait StakingHooks {
         who: &Addr,
         steps: &mut Steps<L>,
     ) -> Result<(), HookFault>
-        requires { (l : Lists) × Ready tells (held self.old) (seen B.holdings g.old) (starting v.now who.now) l }
-        ensures told { Answers (tells.told (held self.old) (starting v.now who.now) (seen B.holdings g.old)) (held self.new) (seen B.holdings g.new) result }
+        requires { MayCall (holds self.old) tells (starting v.now who.now) (seen B.holdings g.old) }
+        ensures told { (h : Held) → holds self.old h → Answers (tells.told h (starting v.now who.now) (seen B.holdings g.old)) (holds self.new) (seen B.holdings g.new) result }
         ensures undone { CanBeUndone B.marks g.old g.new }
         ensures bank { B.touches g.new.bank ≡ B.touches g.old.bank }
         ensures marks { marks self.new ≡ marks self.old };
@@ -100,8 +102,8 @@ pub trait StakingHooks {
         shares: Dec,
         steps: &mut Steps<L>,
     ) -> Result<(), HookFault>
-        requires { (l : Lists) × Ready tells (held self.old) (seen B.holdings g.old) (modifying v.now who.now shares) l }
-        ensures told { Answers (tells.told (held self.old) (modifying v.now who.now shares) (seen B.holdings g.old)) (held self.new) (seen B.holdings g.new) result }
+        requires { MayCall (holds self.old) tells (modifying v.now who.now shares) (seen B.holdings g.old) }
+        ensures told { (h : Held) → holds self.old h → Answers (tells.told h (modifying v.now who.now shares) (seen B.holdings g.old)) (holds self.new) (seen B.holdings g.new) result }
         ensures undone { CanBeUndone B.marks g.old g.new }
         ensures bank { B.touches g.new.bank ≡ B.touches g.old.bank }
         ensures marks { marks self.new ≡ marks self.old };
@@ -116,8 +118,8 @@ pub trait StakingHooks {
         shares: Dec,
         steps: &mut Steps<L>,
     ) -> Result<(), HookFault>
-        requires { (l : Lists) × Ready tells (held self.old) (seen B.holdings g.old) (modified v.now who.now shares) l }
-        ensures told { Answers (tells.told (held self.old) (modified v.now who.now shares) (seen B.holdings g.old)) (held self.new) (seen B.holdings g.new) result }
+        requires { MayCall (holds self.old) tells (modified v.now who.now shares) (seen B.holdings g.old) }
+        ensures told { (h : Held) → holds self.old h → Answers (tells.told h (modified v.now who.now shares) (seen B.holdings g.old)) (holds self.new) (seen B.holdings g.new) result }
         ensures undone { CanBeUndone B.marks g.old g.new }
         ensures bank { B.touches g.new.bank ≡ B.touches g.old.bank }
         ensures marks { marks self.new ≡ marks self.old };
@@ -131,8 +133,8 @@ pub trait StakingHooks {
         fraction: Dec,
         steps: &mut Steps<L>,
     ) -> Result<(), HookFault>
-        requires { (l : Lists) × Ready tells (held self.old) (seen B.holdings g.old) (slashing v.now fraction) l }
-        ensures told { Answers (tells.told (held self.old) (slashing v.now fraction) (seen B.holdings g.old)) (held self.new) (seen B.holdings g.new) result }
+        requires { MayCall (holds self.old) tells (slashing v.now fraction) (seen B.holdings g.old) }
+        ensures told { (h : Held) → holds self.old h → Answers (tells.told h (slashing v.now fraction) (seen B.holdings g.old)) (holds self.new) (seen B.holdings g.new) result }
         ensures undone { CanBeUndone B.marks g.old g.new }
         ensures bank { B.touches g.new.bank ≡ B.touches g.old.bank }
         ensures marks { marks self.new ≡ marks self.old };

@@ -16,7 +16,7 @@ pub struct NoHooks;
 impl StakingHooks for NoHooks {
     ghost Held = { Unit {0} };
 
-    ghost held = { λ _. tt };
+    ghost holds = { λ _ _. Unit {0} };
 
     ghost tells = { nothing_told };
 

@@ -19,7 +19,7 @@ pub struct HookPair<A, B> {
 impl<X: StakingHooks, Y: StakingHooks> StakingHooks for HookPair<X, Y> {
     ghost Held = { X.Held × Y.Held };
 
-    ghost held = { λ s. (X.held s.first, Y.held s.second) };
+    ghost holds = { λ s h. X.holds s.first h.0 × Y.holds s.second h.1 };
 
     ghost tells = { pair_tells X.tells Y.tells };
 

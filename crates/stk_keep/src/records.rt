@@ -28,11 +28,18 @@ pub trait Records {
     /// Whether memory was wanting in a change.
     ghost spent: { Self → Bool };
 
+    /// The keys of records ascend, in each list of them.
+    ghost AreInOrder: { Kept → Type 0 };
+
     /// The items of records, each once.
     ghost items: { Kept → List Item };
 
     /// Whether an item is of a kind of this module.
     ghost is_kind: { Item → Bool };
+
+    /// It tells that the keys of the records ascend, and does nothing.
+    fn ordered(&self)
+        ensures { AreInOrder (kept self.now) };
 
     /// Opens a mark.
     fn mark<L: Ledger>(&mut self, alloc: Global, steps: &mut Steps<L>) -> Result<(), RecordFault>
@@ -40,20 +47,23 @@ pub trait Records {
         ensures err { OnErr result (marks self.new ≡ marks self.old) }
         ensures kept { kept self.new ≡ kept self.old }
         ensures settled { settled self.new ≡ settled self.old }
-        ensures spent { spent self.old ≡ true → IsErr result };
+        ensures spent { spent self.old ≡ true → IsErr result }
+        ensures spent_stays { spent self.new ≡ spent self.old };
 
     /// Restores the records of the latest mark and closes it. Takes no memory.
     fn back<L: Ledger>(&mut self, steps: &mut Steps<L>)
         requires { marks self.old ≢ [] }
         ensures back { marks self.new ++ kept self.new ∷ [] ≡ marks self.old }
-        ensures settled { settled self.new ≡ settled self.old };
+        ensures settled { settled self.new ≡ settled self.old }
+        ensures spent { spent self.new ≡ spent self.old };
 
     /// Closes the latest mark, and changes nothing else. Takes no memory.
     fn forget<L: Ledger>(&mut self, steps: &mut Steps<L>)
         requires { marks self.old ≢ [] }
         ensures closed { (last : Kept) × (marks self.new ++ last ∷ [] ≡ marks self.old) }
         ensures kept { kept self.new ≡ kept self.old }
-        ensures settled { settled self.new ≡ settled self.old };
+        ensures settled { settled self.new ≡ settled self.old }
+        ensures spent { spent self.new ≡ spent self.old };
 
     /// Appends the items of the records, each once. After `NoMemory` some of them may stand there.
     fn items_into<L: Ledger>(
@@ -77,7 +87,7 @@ pub trait Records {
         ensures err { (some : List (Item × Bool)) × (out.new.items ≡ out.old.items ++ some) };
 
     /// Adds an item, of whose key none stands; answers false exactly where it is of no kind of this module, and
-    /// then changes nothing. The open marks stay, also after `NoMemory`, of which no more is said.
+    /// then changes nothing. The open marks stay. After `NoMemory` the module is spent, and no more is said.
     fn load<L: Ledger>(
         &mut self,
         alloc: Global,
@@ -90,12 +100,15 @@ pub trait Records {
         ensures other { is_kind item.now ≡ false → kept self.new ≡ kept self.old }
         ensures marks { marks self.new ≡ marks self.old }
         ensures settled { settled self.new ≡ settled self.old }
-        ensures spent { spent self.old ≡ true → IsErr result };
+        ensures spent { spent self.old ≡ true → IsErr result }
+        ensures spent_ok { OnOk result (spent self.new ≡ spent self.old) }
+        ensures spent_err { OnErr result (spent self.new ≡ true) };
 
     /// From now on changes are told from here. No mark is open. Takes no memory.
     fn settle<L: Ledger>(&mut self, steps: &mut Steps<L>)
         requires { marks self.old ≡ [] }
         ensures settled { settled self.new ≡ kept self.old }
         ensures kept { kept self.new ≡ kept self.old }
-        ensures marks { marks self.new ≡ [] };
+        ensures marks { marks self.new ≡ [] }
+        ensures spent { spent self.new ≡ spent self.old };
 }

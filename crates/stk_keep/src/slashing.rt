@@ -8,9 +8,9 @@ ghost use Rattle.stk_keep.specs.declared.faults.HookFault.TheVariants.{NoMemory}
 ghost use Rattle.stk_keep.specs.Answers.{Follows};
 ghost use Rattle.stk_keep.specs.Entries.{at};
 ghost use Rattle.stk_keep.specs.Ground.{seen, IsInOrder, CanBeUndone};
-ghost use Rattle.stk_keep.specs.Hooks.{Stand};
+ghost use Rattle.stk_keep.specs.Hooks.{Stands};
 ghost use Rattle.stk_keep.specs.Lent.{Unbonds, FollowsLent, IsAsTold, IsBurned, jail_told, IsBanned};
-ghost use Rattle.stk_keep.specs.Staked.{Staked, validator_by_cons, lists_of, bonded_tokens, other_tokens, HoldsStake, StakeFalls, StillStand, StillStandByCons, IsJailed};
+ghost use Rattle.stk_keep.specs.Staked.{Staked, validator_by_cons, lists_of, bonded_tokens, other_tokens, HoldsStake, StakeFalls, StillStand, StillStandByCons, SameButJailed, SameButJailedByCons, IsJailed};
 ghost use Rattle.stk_keep.specs.World.{View, Hook, Told, World};
 
 use crate::bank::{Bank, Ground};
@@ -113,16 +113,16 @@ pub trait RedelegationSlash {
         requires factor { factor ≤ 10 ^ 18 }
         requires sound { sound (held self.old) }
         requires delegations { D.sound (D.held delegations.old) }
-        requires stand { Stand H.tells (H.held hooks.old) (seen B.holdings g.old) (lists_of (D.stake (D.held delegations.old))) }
+        requires stand { Stands (H.holds hooks.old) H.tells (seen B.holdings g.old) (lists_of (D.stake (D.held delegations.old))) }
         requires accounts { HoldsStake (seen B.holdings g.old) (bonded_tokens (D.stake (D.held delegations.old))) (other_tokens (D.stake (D.held delegations.old))) }
 
-        ensures told { FollowsLent (slashes D.Held H.Held (record { stake = D.stake; unbond = D.unbonds H.Held H.tells.told }) operator.now infraction factor (held self.old) (record { mine = D.held delegations.old; hooks = H.held hooks.old; view = seen B.holdings g.old; log = [] })) (held self.new) (D.held delegations.new) (H.held hooks.new) (seen B.holdings g.new) result }
+        ensures told { (h : H.Held) → H.holds hooks.old h → FollowsLent (slashes D.Held H.Held (record { stake = D.stake; unbond = D.unbonds H.Held H.tells.told }) operator.now infraction factor (held self.old) (record { mine = D.held delegations.old; hooks = h; view = seen B.holdings g.old; log = [] })) (held self.new) (D.held delegations.new) (H.holds hooks.new) (seen B.holdings g.new) result }
         ensures most { IfOk result (λ counted. counted ≤ 10 ^ 18) }
         ensures falls { OnOk result (StakeFalls (seen B.holdings g.old) (seen B.holdings g.new) (bonded_tokens (D.stake (D.held delegations.old))) (other_tokens (D.stake (D.held delegations.old))) (bonded_tokens (D.stake (D.held delegations.new))) (other_tokens (D.stake (D.held delegations.new)))) }
         ensures still { OnOk result (StillStand (D.stake (D.held delegations.old)) (D.stake (D.held delegations.new))) }
         ensures sound { OnOk result (sound (held self.new)) }
         ensures delegations { OnOk result (D.sound (D.held delegations.new)) }
-        ensures stand { OnOk result (Stand H.tells (H.held hooks.new) (seen B.holdings g.new) (lists_of (D.stake (D.held delegations.new)))) }
+        ensures stand { OnOk result (Stands (H.holds hooks.new) H.tells (seen B.holdings g.new) (lists_of (D.stake (D.held delegations.new)))) }
 
         // Whatever the answer.
         ensures undone { CanBeUndone B.marks g.old g.new }
@@ -178,15 +178,15 @@ pub trait Slasher: ValidatorView {
         requires factor { factor ≤ 10 ^ 18 }
         requires power { power * g.old.ctx.params.power_reduction ≤ 10 ^ 18 }
         requires sound { sound (held self.old) }
-        requires stand { Stand H.tells (H.held hooks.old) (seen B.holdings g.old) (lists_of (stake (held self.old))) }
+        requires stand { Stands (H.holds hooks.old) H.tells (seen B.holdings g.old) (lists_of (stake (held self.old))) }
         requires accounts { HoldsStake (seen B.holdings g.old) (bonded_tokens (stake (held self.old))) (other_tokens (stake (held self.old)) + owed (held self.old)) }
 
-        ensures told { Follows (slashes H.Held H.tells.told cons.now infraction power factor (record { mine = held self.old; hooks = H.held hooks.old; view = seen B.holdings g.old; log = [] })) (held self.new) (H.held hooks.new) (seen B.holdings g.new) result }
+        ensures told { (h : H.Held) → H.holds hooks.old h → Follows (slashes H.Held H.tells.told cons.now infraction power factor (record { mine = held self.old; hooks = h; view = seen B.holdings g.old; log = [] })) (held self.new) (H.holds hooks.new) (seen B.holdings g.new) result }
         ensures falls { OnOk result (StakeFalls (seen B.holdings g.old) (seen B.holdings g.new) (bonded_tokens (stake (held self.old))) (other_tokens (stake (held self.old)) + owed (held self.old)) (bonded_tokens (stake (held self.new))) (other_tokens (stake (held self.new)) + owed (held self.new))) }
         ensures still { OnOk result (StillStand (stake (held self.old)) (stake (held self.new))) }
         ensures still_by_cons { OnOk result (StillStandByCons (stake (held self.old)) (stake (held self.new))) }
         ensures sound { OnOk result (sound (held self.new)) }
-        ensures stand { OnOk result (Stand H.tells (H.held hooks.new) (seen B.holdings g.new) (lists_of (stake (held self.new)))) }
+        ensures stand { OnOk result (Stands (H.holds hooks.new) H.tells (seen B.holdings g.new) (lists_of (stake (held self.new)))) }
 
         // Whatever the answer.
         ensures undone { CanBeUndone B.marks g.old g.new }
@@ -194,7 +194,8 @@ pub trait Slasher: ValidatorView {
         ensures marks { marks self.new ≡ marks self.old }
         ensures hook_marks { H.marks hooks.new ≡ H.marks hooks.old };
 
-    /// Jails the validator of a consensus address, which is known, and tells it by a fact. The only error is
+    /// Jails the validator of a consensus address, which is known, and tells it by a fact. But for that the
+    /// same validators and delegations stand, under the same keys, and as much is owed. The only error is
     /// `NoMemory`.
     fn jail<L: Ledger>(
         &mut self,
@@ -208,6 +209,11 @@ pub trait Slasher: ValidatorView {
 
         ensures told { OnOk result (held self.new ≡ jails cons.now (held self.old)) }
         ensures jailed { OnOk result (IsJailed cons.now (stake (held self.old)) (stake (held self.new))) }
+        ensures lists { OnOk result (lists_of (stake (held self.new)) ≡ lists_of (stake (held self.old))) }
+        ensures bonded { OnOk result (bonded_tokens (stake (held self.new)) ≡ bonded_tokens (stake (held self.old))) }
+        ensures other { OnOk result (other_tokens (stake (held self.new)) ≡ other_tokens (stake (held self.old))) }
+        ensures still { OnOk result (SameButJailed (stake (held self.old)) (stake (held self.new))) }
+        ensures still_by_cons { OnOk result (SameButJailedByCons (stake (held self.old)) (stake (held self.new))) }
         ensures owed { OnOk result (owed (held self.new) ≡ owed (held self.old)) }
         ensures facts { OnOk result (facts.new ≡ jail_told (validator_by_cons (stake (held self.old)) cons.now) facts.old) }
         ensures sound { OnOk result (sound (held self.new)) }

@@ -3,7 +3,7 @@ ghost use Rattle.std.specs.Option.{option_copied};
 ghost use Rattle.stk_dec.specs.declared.over.Over.{Over};
 ghost use Rattle.stk_keep.specs.Answers.{Follows};
 ghost use Rattle.stk_keep.specs.Ground.{seen, CanBeUndone};
-ghost use Rattle.stk_keep.specs.Hooks.{Stand, Keeps};
+ghost use Rattle.stk_keep.specs.Hooks.{Stand, Stands, Keeps};
 ghost use Rattle.stk_keep.specs.Staked.{Staked, validator_of, validator_by_cons, shares_of, lists_of, HasShares, IsUnbonded};
 ghost use Rattle.stk_keep.specs.World.{View, Hook, Told, World};
 
@@ -74,13 +74,13 @@ pub trait Unbonder: ValidatorView {
     ) -> Result<u128, HookFault>
         requires shares { HasShares (stake (held self.old)) who.now operator.now shares }
         requires sound { sound (held self.old) }
-        requires stand { Stand H.tells (H.held hooks.old) (seen B.holdings g.old) (lists_of (stake (held self.old))) }
+        requires stand { Stands (H.holds hooks.old) H.tells (seen B.holdings g.old) (lists_of (stake (held self.old))) }
 
-        ensures told { Follows (unbonds H.Held H.tells.told who.now operator.now shares (record { mine = held self.old; hooks = H.held hooks.old; view = seen B.holdings g.old; log = [] })) (held self.new) (H.held hooks.new) (seen B.holdings g.new) result }
+        ensures told { (h : H.Held) → H.holds hooks.old h → Follows (unbonds H.Held H.tells.told who.now operator.now shares (record { mine = held self.old; hooks = h; view = seen B.holdings g.old; log = [] })) (held self.new) (H.holds hooks.new) (seen B.holdings g.new) result }
         ensures unbonded { IfOk result (λ out. IsUnbonded who.now operator.now shares out (stake (held self.old)) (stake (held self.new))) }
         ensures sound { OnOk result (sound (held self.new)) }
-        ensures stand { OnOk result (Stand H.tells (H.held hooks.new) (seen B.holdings g.new) (lists_of (stake (held self.new)))) }
-        ensures keeps { OnOk result (Keeps (H.tells.owes (H.held hooks.old) ≡ None) (seen B.holdings g.old) (seen B.holdings g.new)) }
+        ensures stand { OnOk result (Stands (H.holds hooks.new) H.tells (seen B.holdings g.new) (lists_of (stake (held self.new)))) }
+        ensures keeps { (h : H.Held) → H.holds hooks.old h → Stand H.tells h (seen B.holdings g.old) (lists_of (stake (held self.old))) → OnOk result (Keeps (H.tells.owes h ≡ None) (seen B.holdings g.old) (seen B.holdings g.new)) }
 
         // Whatever the answer.
         ensures undone { CanBeUndone B.marks g.old g.new }

@@ -3,7 +3,7 @@ ghost use Rattle.stk_keep.specs.Answers.{AnswersAs};
 ghost use Rattle.stk_keep.specs.Caller.{sent_between_hooks};
 ghost use Rattle.stk_keep.specs.Ground.{seen, AreInRange, IsInOrder};
 ghost use Rattle.stk_keep.specs.Holdings.{no_holdings};
-ghost use Rattle.stk_keep.specs.Hooks.{Lists, Ready};
+ghost use Rattle.stk_keep.specs.Hooks.{MayCall};
 ghost use Rattle.stk_keep.specs.World.{starting};
 
 use crate::laws::{banks_stay_in_order, coins_burn_by_amounts, coins_move_by_amounts};
@@ -27,7 +27,7 @@ use stk_types::{
 };
 
 /// Sends coins between two hooks, over any bank and any hooks.
-fn send_between_hooks<B: Bank, H: StakingHooks, L: Ledger>(
+pub fn send_between_hooks<B: Bank, H: StakingHooks, L: Ledger>(
     alloc: Global,
     g: &mut Ground<B>,
     hooks: &mut H,
@@ -37,10 +37,10 @@ fn send_between_hooks<B: Bank, H: StakingHooks, L: Ledger>(
     shares: Dec,
     steps: &mut Steps<L>,
 ) -> Result<(), Stop>
-    requires ready { (l : Lists) × Ready H.tells (H.held hooks.old) (seen B.holdings g.old) (starting v.now who.now) l }
+    requires ready { MayCall (H.holds hooks.old) H.tells (starting v.now who.now) (seen B.holdings g.old) }
     requires some { 0 < shares }
     requires most { shares ≤ v.now.shares }
-    ensures { AnswersAs (sent_between_hooks H.tells.told v.now who.now coins.now shares (record { mine = tt; hooks = H.held hooks.old; view = seen B.holdings g.old; log = [] })) tt (H.held hooks.new) (seen B.holdings g.new) result }
+    ensures { (h : H.Held) → H.holds hooks.old h → AnswersAs (sent_between_hooks H.tells.told v.now who.now coins.now shares (record { mine = tt; hooks = h; view = seen B.holdings g.old; log = [] })) tt (H.holds hooks.new) (seen B.holdings g.new) result }
 {
     hooks.before_delegation_created(alloc, g, v, who, steps)?;
     let to = Account::Module(Module::NotBonded);
@@ -117,7 +117,7 @@ pub fn validator(rt: &impl Abort, tokens: u128) -> Validator
     }
 }
 
-fn coins(rt: &(impl Abort + AllocGlobal), amount: u128) -> Result<Coins, Fail>
+pub fn coins(rt: &(impl Abort + AllocGlobal), amount: u128) -> Result<Coins, Fail>
     requires { amount < 10 ^ 38 }
 {
     let mut list = Vec::new(rt.alloc());

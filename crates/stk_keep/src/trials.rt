@@ -325,9 +325,13 @@ impl Records for NoRecords {
 
     ghost spent = { λ _. false };
 
+    ghost AreInOrder = { λ _. Unit {0} };
+
     ghost items = { λ k. [] };
 
     ghost is_kind = { λ i. false };
+
+    fn ordered(&self) {}
 
     fn mark<L: Ledger>(
         &mut self,

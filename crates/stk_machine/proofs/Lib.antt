@@ -1,7 +1,6 @@
 pub mod Kept
 pub mod Ranges
 pub mod EndLemmas
-pub mod SoundLemmas
 pub mod StakeLemmas
 pub mod UnhookedLemmas
 pub mod StartLemmas

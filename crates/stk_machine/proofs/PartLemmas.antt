@@ -1,4 +1,4 @@
--- The built machine is the whole one with parts left out.
+-- What the built machine and the whole one have alike.
 use Rattle.std.proofs.Common.{◌≡◌, ◌∙◌, false, [], Result, Ok, Err, refl, ap}
 use Rattle.std.specs.Prelude.{⊤}
 use Rattle.stk_keep.specs.Steps.{◌>>◌}

@@ -48,7 +48,7 @@ use Rattle.stk_machine.proofs.UnhookedLemmas.{over, grown_stake}
 -- ---- consensus addresses
 
 -- nobody has a consensus address where nobody is found by it
-nobody_has : (cons : List ℕ) (es : Validators) (p : List ℕ) (x : Validator) → find (λ v. is_eq (cons_cmp v.cons cons)) (values_of es) ≡ None → at addr_cmp es p ≡ Some x → x.cons ≡ cons → ⊥
+pub nobody_has : (cons : List ℕ) (es : Validators) (p : List ℕ) (x : Validator) → find (λ v. is_eq (cons_cmp v.cons cons)) (values_of es) ≡ None → at addr_cmp es p ≡ Some x → x.cons ≡ cons → ⊥
 nobody_has cons [] p x n f c = absurd cc
 nobody_has cons (e ∷ es) p x n f c = by (is_eq (cons_cmp e.1.cons cons)) refl n (same_addr p e.0) f (λ m g. nobody_has cons es p x m g c)
   where
@@ -88,7 +88,7 @@ at_most : (a b : ℕ) → nat_lt a b ≡ false → b ≤ a
 at_most a b e = grind (arith, nat_tests)
 
 -- a new validator, of rates that are rates
-new_is_sound : (height : ℕ) (m : CreateValidator) (time : ℕ) → are_out_of_range m ≡ false → ValidatorIsSound height (new_validator m time)
+pub new_is_sound : (height : ℕ) (m : CreateValidator) (time : ℕ) → are_out_of_range m ≡ false → ValidatorIsSound height (new_validator m time)
 new_is_sound height m time e =
     let first = first_false (nat_lt (10 ^ 18) m.max_rate || nat_lt m.max_rate m.rate) (nat_lt m.max_rate m.max_change_rate) e in
     let two = first_false (nat_lt (10 ^ 18) m.max_rate) (nat_lt m.max_rate m.rate) first.0 in

@@ -46,8 +46,9 @@ use Rattle.stk_rules.specs.Distribution.{nothing_shared}
 use Rattle.stk_rules.specs.Delegating.{pool, shares_given, paid_in, delegated}
 use Rattle.stk_rules.specs.Stakes.{refusal_of_shares}
 use Rattle.stk_rules.specs.Validators.{new_validator}
+use Rattle.stk_rules.specs.Withdrawals.{is_module}
 use Rattle.stk_machine.specs.Built.{no_hook, IsStarting, built_start, stake_over}
-use Rattle.stk_machine.specs.Genesis.{are_in_range, has_wrong_account, is_module, has_too_much, denominations_with, supplies_with, balances_with, with_coins, first_that_holds}
+use Rattle.stk_machine.specs.Genesis.{are_in_range, has_wrong_account, has_too_much, denominations_with, supplies_with, balances_with, with_coins, first_that_holds}
 use Rattle.stk_machine.specs.GenesisConditions.{creation_of, has_operator_twice, has_cons_twice, has_wrong_rate, has_no_minimum, validates, has_unknown_operator, has_pair_twice, has_empty_delegation, has_lonely_validator, delegated_coins, accounts_at_start, start_condition}
 use Rattle.stk_machine.specs.GenesisState.{ground_at_start, empty_over, validator_added, delegation_added, stake_added, without_facts}
 use Rattle.stk_machine.proofs.Kept.{held_backed}

@@ -1,6 +1,6 @@
--- The machine as far as the program is built: the whole machine with parts left out. Blocks have neither votes nor evidence,
--- and messages of four kinds; no hook does anything, and a block has no beginning and no end of its own. So fees stay
--- with the fee collector, and all validators stay unbonded.
+-- The machine as far as the program is built. Blocks have neither votes nor evidence, and messages of four kinds; no hook does
+-- anything, and a block has no beginning and no end of its own. So fees stay with the fee collector, and all validators stay
+-- unbonded.
 use Rattle.std.specs.Prelude.{◌≡◌, ℕ, ◌+◌, ◌*◌, ◌^◌, ◌<◌, ◌≤◌, Bool, true, false, List, [], map, sum, All, IsSome, Result, Ok}
 use Rattle.std.specs.List.{list_all}
 use Rattle.std.specs.List.Sorted.{IsStrictlySortedBy}

@@ -100,9 +100,9 @@ has_hooks (msg.CreateValidator m) = true
 has_hooks (msg.Delegate m) = true
 has_hooks _ = false
 
--- This machine is the whole one with parts left out: a genesis is refused by the same condition, since both name
--- `start_condition`; a message that calls no hooks has the same effect; and a block without votes and evidence has the
--- faults of its height and its time alone.
+-- What this machine and the whole one have alike: a message that calls no hooks has the same effect; and a block that this
+-- machine is for has the faults of its height and its time alone. A genesis is refused by the same condition, since both name
+-- `start_condition`. Of messages that call hooks, and of what a block does at its beginning and end, nothing is said.
 pub record BuiltIsAPart : Type 0 where
   pub messages : (m : Msg) (w : State) → has_hooks m ≡ false → built_effect m w ≡ effect_of m w
   pub faults : (b : Block) (w : State) → IsBuilt b → block_checked b w ≡ stop_at (block_fault w.view.ctx.height w.view.ctx.time b)

@@ -1,17 +1,15 @@
 -- What the accounts of a genesis hold, and conditions on its parameters, its accounts and the amounts.
-use Rattle.std.specs.Prelude.{ℕ, ◌+◌, ◌^◌, ◌==◌, nat_lt, nat_le, ◌&&◌, ◌||◌, Bool, true, false, if◌then◌else◌, List, [], ◌∷◌, map, length, Option, Some, None}
+use Rattle.std.specs.Prelude.{ℕ, ◌+◌, ◌^◌, ◌==◌, nat_lt, nat_le, ◌&&◌, ◌||◌, Bool, if◌then◌else◌, List, [], ◌∷◌, map, length, Option, Some, None}
 use Rattle.std.specs.List.{list_any}
-use Rattle.std.specs.declared.cmp.Ordering.{Ordering}
-use Rattle.std.specs.BTreeMap.{is_at}
 use Rattle.stk_types.specs.declared.account.Account.{Account}
-use Rattle.stk_types.specs.declared.account.Account.TheVariants as account
 use Rattle.stk_types.specs.Orders.{account_cmp}
-use Rattle.stk_coins.specs.Coins.{Money, amount_of, with_amount}
+use Rattle.stk_coins.specs.Coins.{Money, amount_of, with_amount, has_repeats}
 use Rattle.stk_keep.specs.declared.params.Params.{Params}
 use Rattle.stk_keep.specs.Entries.{number_at, with_number}
 use Rattle.stk_keep.specs.Holdings.{Balances, Holdings}
 use Rattle.stk_keep.specs.Orders.{place_cmp}
 use Rattle.stk_msgs.specs.declared.genesis.GenesisAccount.{GenesisAccount}
+use Rattle.stk_rules.specs.Withdrawals.{is_module}
 
 -- ---- what the accounts hold
 
@@ -62,19 +60,9 @@ are_in_range p =
     && nat_le p.max_age_duration (10 ^ 9)
     && nat_lt p.max_age_num_blocks (2 ^ 63)
 
--- the account is a module's
-abbrev pub is_module : Account → Bool
-is_module (account.User bytes) = false
-is_module (account.Module m) = true
-
--- some key stands twice
-abbrev pub stands_twice : {K : Type 0} → (K → K → Ordering) → List K → Bool
-stands_twice cmp [] = false
-stands_twice cmp (k ∷ keys) = list_any (is_at (cmp k)) keys || stands_twice cmp keys
-
 -- an account is a module's, or stands twice
 abbrev pub has_wrong_account : List GenesisAccount → Bool
-has_wrong_account accounts = list_any (λ a. is_module a.address) accounts || stands_twice account_cmp (map (λ a. a.address) accounts)
+has_wrong_account accounts = list_any (λ a. is_module a.address) accounts || has_repeats account_cmp (map (λ a. a.address) accounts)
 
 -- there is more than 10^18 of some denomination
 abbrev pub has_too_much : Money → Bool

@@ -4,7 +4,7 @@ use Rattle.std.specs.List.{list_any}
 use Rattle.stk_types.specs.declared.account.Account.TheVariants as account
 use Rattle.stk_types.specs.declared.account.Module.TheVariants as holder
 use Rattle.stk_types.specs.Orders.{addr_cmp, cons_cmp}
-use Rattle.stk_coins.specs.Coins.{Money, coin_then}
+use Rattle.stk_coins.specs.Coins.{Money, coin_then, has_repeats}
 use Rattle.stk_keep.specs.declared.messages.CreateValidator.{CreateValidator}
 use Rattle.stk_keep.specs.declared.params.Params.{Params}
 use Rattle.stk_keep.specs.Ground.{end_of_blocks}
@@ -14,7 +14,7 @@ use Rattle.stk_msgs.specs.declared.genesis.GenesisAccount.{GenesisAccount}
 use Rattle.stk_msgs.specs.declared.genesis.GenesisDelegation.{GenesisDelegation}
 use Rattle.stk_msgs.specs.declared.genesis.GenesisValidator.{GenesisValidator}
 use Rattle.stk_rules.specs.Validators.{are_out_of_range}
-use Rattle.stk_machine.specs.Genesis.{supplies_with, are_in_range, stands_twice, has_wrong_account, has_too_much, denominations_with, first_that_holds}
+use Rattle.stk_machine.specs.Genesis.{supplies_with, are_in_range, has_wrong_account, has_too_much, denominations_with, first_that_holds}
 
 -- ---- validators
 
@@ -32,11 +32,11 @@ creation_of bond v = record {
 
 -- two validators have one operator
 abbrev pub has_operator_twice : List GenesisValidator → Bool
-has_operator_twice vs = stands_twice addr_cmp (map (λ v. v.operator) vs)
+has_operator_twice vs = has_repeats addr_cmp (map (λ v. v.operator) vs)
 
 -- two validators have one consensus address
 abbrev pub has_cons_twice : List GenesisValidator → Bool
-has_cons_twice vs = stands_twice cons_cmp (map (λ v. v.cons) vs)
+has_cons_twice vs = has_repeats cons_cmp (map (λ v. v.cons) vs)
 
 -- some rates are no rates, or a rate is below the chain's minimum (`CommissionRates.Validate`)
 abbrev pub has_wrong_rate : Params → List GenesisValidator → Bool
@@ -62,7 +62,7 @@ has_unknown_operator vs ds = list_any (λ d. not (validates vs d.validator)) ds
 
 -- two delegations are of one delegator to one operator
 abbrev pub has_pair_twice : List GenesisDelegation → Bool
-has_pair_twice ds = stands_twice pair_cmp (map (λ d. (d.validator, d.delegator)) ds)
+has_pair_twice ds = has_repeats pair_cmp (map (λ d. (d.validator, d.delegator)) ds)
 
 -- a delegation is of nothing
 abbrev pub has_empty_delegation : List GenesisDelegation → Bool

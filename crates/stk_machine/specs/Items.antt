@@ -11,7 +11,7 @@ use Rattle.stk_keep.specs.Holdings.{Holdings}
 use Rattle.stk_keep.specs.Orders.{pair_cmp, place_cmp, triple_cmp}
 use Rattle.stk_keep.specs.Staked.{Staked}
 use Rattle.stk_keep.specs.World.{View}
-use Rattle.stk_rules.specs.Chain.{State}
+use Rattle.stk_rules.specs.Chain.{State, window_in, shared_in}
 use Rattle.stk_rules.specs.Distribution.{Shared}
 use Rattle.stk_rules.specs.Periods.{Periods, Rewards, history_kept, starts_of}
 use Rattle.stk_rules.specs.Purses.{Purses}
@@ -72,7 +72,7 @@ abbrev pub items_of : State → List Item
 items_of w =
     (ground_items w.view ++ staked_items w.mine.staked)
     ++ (entry_items w.mine.unbondings w.mine.redelegations
-    ++ (signing_items w.view.ctx.params.signed_blocks_window w.hooks.1 ++ shared_items w.hooks.0))
+    ++ (signing_items w.view.ctx.params.signed_blocks_window (window_in w) ++ shared_items (shared_in w)))
 
 -- ---- their order
 
@@ -85,5 +85,5 @@ pub record IsInKeyOrder (w : State) : Type 0 where
   pub delegations : IsStrictlySortedBy pair_cmp (keys_of w.mine.staked.delegations)
   pub unbondings : IsStrictlySortedBy pair_cmp (keys_of w.mine.unbondings)
   pub redelegations : IsStrictlySortedBy triple_cmp (keys_of w.mine.redelegations)
-  pub signing : IsStrictlySortedBy cons_cmp (keys_of w.hooks.1)
-  pub purses : IsStrictlySortedBy addr_cmp (keys_of w.hooks.0.purses.purses)
+  pub signing : IsStrictlySortedBy cons_cmp (keys_of (window_in w))
+  pub purses : IsStrictlySortedBy addr_cmp (keys_of (shared_in w).purses.purses)

@@ -1,5 +1,5 @@
 -- What the report at the end tells of a state.
-use Rattle.std.specs.Prelude.{ℕ, Bool, false, if◌then◌else◌, List, [], ◌∷◌, map, Option, Some, None, Result, Ok, Err}
+use Rattle.std.specs.Prelude.{ℕ, Bool, if◌then◌else◌, List, [], ◌∷◌, ◌++◌, map, Option, Some, None, Result, Ok, Err}
 use Rattle.std.specs.BTreeMap.{is_at}
 use Rattle.std.specs.Map.{values_of}
 use Rattle.stk_dec.specs.declared.over.Over.{Over}
@@ -9,17 +9,17 @@ use Rattle.stk_coins.specs.Coins.{Money}
 use Rattle.stk_keep.specs.declared.entities.Purse.{Purse}
 use Rattle.stk_keep.specs.declared.entities.SigningInfo.{SigningInfo}
 use Rattle.stk_keep.specs.declared.entities.Validator.{Validator}
-use Rattle.stk_keep.specs.Entries.{with}
-use Rattle.stk_keep.specs.Holdings.{Balances, Holdings, coins_of}
+use Rattle.stk_keep.specs.Holdings.{Balances}
 use Rattle.stk_keep.specs.Orders.{pair_cmp}
 use Rattle.stk_keep.specs.Staked.{validator_of}
 use Rattle.stk_msgs.specs.declared.report.Pending.{Pending}
-use Rattle.stk_rules.specs.Chain.{State}
+use Rattle.stk_rules.specs.Chain.{State, shared_in, window_in}
 use Rattle.stk_rules.specs.Distribution.{pending}
 use Rattle.stk_rules.specs.Purses.{purse_of}
 use Rattle.stk_rules.specs.Redelegations.{RedelegationLists}
 use Rattle.stk_rules.specs.Unbondings.{UnbondingLists}
 use Rattle.stk_rules.specs.Window.{info_of}
+use Rattle.stk_machine.specs.Orders.{in_order}
 
 -- ---- delegations
 
@@ -29,8 +29,7 @@ Delegations = List ((List ℕ × List ℕ) × ℕ)
 
 -- delegations by operator and delegator, put in the order of delegator and operator
 abbrev pub by_delegator : Delegations → Delegations
-by_delegator [] = []
-by_delegator (d ∷ ds) = with pair_cmp (by_delegator ds) (d.0.1, d.0.0) d.1
+by_delegator ds = in_order pair_cmp (map (λ d. ((d.0.1, d.0.0), d.1)) ds)
 
 -- coins, unless the computation met the limit
 abbrev pub unless_over : Result Money Over → Option Money
@@ -40,7 +39,7 @@ unless_over (Err over) = None
 -- what a withdrawal at the last height would be paid from; an operator without a validator gives nothing
 abbrev pub pending_at : Option Validator → List ℕ → ℕ → State → Option Money
 pending_at None who shares w = Some []
-pending_at (Some v) who shares w = unless_over (pending v who shares w.view.ctx.height w.hooks.0)
+pending_at (Some v) who shares w = unless_over (pending v who shares (shared_in w) w.view)
 
 -- Each delegation's pending reward, in the order of the delegations (`Querier.DelegationRewards`).
 abbrev pub pending_of : State → List Pending
@@ -50,21 +49,21 @@ pending_of w =
 
 -- ---- accounts
 
--- the account is the last of these
-abbrev pub follows : Account → Option Account → Bool
-follows who None = false
-follows who (Some last) = is_at (account_cmp last) who
+-- whether two accounts are one
+abbrev pub is_same_account : Account → Account → Bool
+is_same_account a b = is_at (account_cmp a) b
 
--- the accounts of balances, each once, behind the last one
-abbrev pub accounts_after : Option Account → Balances → List Account
-accounts_after last [] = []
-accounts_after last (b ∷ balances) =
-    if follows b.0.0 last then accounts_after last balances
-    else b.0.0 ∷ accounts_after (Some b.0.0) balances
+-- an account with coins, together with the first account where that is the same
+abbrev pub joined : Account → Money → List (Account × Money) → List (Account × Money)
+joined who coins [] = (who, coins) ∷ []
+joined who coins (a ∷ more) =
+    if is_same_account who a.0 then (who, coins ++ a.1) ∷ more
+    else (who, coins) ∷ a ∷ more
 
--- every account that has coins, users first, with its coins
-abbrev pub accounts_of : Holdings → List (Account × Money)
-accounts_of h = map (λ who. (who, coins_of h who)) (accounts_after None h.balances)
+-- every account of balances in order, users first, with its coins
+abbrev pub accounts_in : Balances → List (Account × Money)
+accounts_in [] = []
+accounts_in (b ∷ balances) = joined b.0.0 ((b.0.1, b.1) ∷ []) (accounts_in balances)
 
 -- ---- the report
 
@@ -85,12 +84,12 @@ pub record Report : Type 0 where
 abbrev pub report_of : State → Report
 report_of w = record {
   supply = w.view.bank.supplies;
-  accounts = accounts_of w.view.bank;
-  validators = map (λ v. (v, purse_of w.hooks.0.purses v.operator)) (values_of w.mine.staked.validators);
+  accounts = accounts_in w.view.bank.balances;
+  validators = map (λ v. (v, purse_of (shared_in w).purses v.operator)) (values_of w.mine.staked.validators);
   delegations = by_delegator w.mine.staked.delegations;
   pending = pending_of w;
   unbondings = w.mine.unbondings;
   redelegations = w.mine.redelegations;
-  signing = map (λ e. (e.0, info_of w.view.ctx.params.signed_blocks_window e.1)) w.hooks.1;
-  pool = w.hooks.0.purses.pool;
+  signing = map (λ e. (e.0, info_of w.view.ctx.params.signed_blocks_window e.1)) (window_in w);
+  pool = (shared_in w).purses.pool;
 }

@@ -60,8 +60,8 @@ pub fn stakes_are_sound()
     ensures { StakesAreSound }
 {}
 
-/// The built machine is the whole machine with parts left out: messages that call no hooks have the same effect, and a block
-/// without votes and evidence has the same faults.
+/// What the built machine and the whole one have alike: messages that call no hooks have the same effect, and the faults of a
+/// block without votes, evidence and other messages are those of its height and time.
 pub fn built_is_a_part()
     ensures { BuiltIsAPart }
 {}

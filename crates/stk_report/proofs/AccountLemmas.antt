@@ -4,7 +4,8 @@ use Rattle.stk_types.specs.declared.account.Account.{Account}
 use Rattle.stk_types.specs.Orders.{account_cmp}
 use Rattle.stk_coins.specs.Coins.{Money}
 use Rattle.stk_json.specs.Line.{line_of}
-use Rattle.stk_report.specs.Groups.{is_same_account, joined, opened}
+use Rattle.stk_machine.specs.Report.{is_same_account, joined}
+use Rattle.stk_report.specs.Groups.{opened}
 use Rattle.stk_report.specs.Lines.{account_line, text_of}
 use Rattle.stk_report.proofs.EntryLemmas.{equal}
 use Rattle.stk_report.proofs.KeyLemmas.{account_equal, same_test}

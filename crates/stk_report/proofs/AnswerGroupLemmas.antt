@@ -1,5 +1,5 @@
 -- The groups that are asked for are those of the report, as far as they belong to an address.
-use Rattle.std.proofs.Common.{◌≡◌, ◌∙◌, ◌⊎◌, inl, inr, sym, ℕ, List, [], ◌∷◌, ◌++◌, filter, Bool, true, false, true≢false, cond, Some, None, refl, ap, subst}
+use Rattle.std.proofs.Common.{◌≡◌, ◌∙◌, sym, ℕ, List, [], ◌∷◌, ◌++◌, filter, Bool, true, false, true≢false, cond, Some, None, refl, ap, subst}
 use Rattle.std.specs.Prelude.{unwrap_or}
 use Rattle.std.specs.declared.cmp.Ordering.TheVariants.{Less}
 use Rattle.std.specs.BTreeMap.{is_at}
@@ -23,11 +23,11 @@ use Rattle.stk_keep.specs.Items.{no_purse}
 use Rattle.stk_keep.specs.Orders.{pair_cmp, place_cmp}
 use Rattle.stk_keep.proofs.HoldingLemmas.{place_total}
 use Rattle.stk_msgs.specs.declared.report.Pending.{Pending}
-use Rattle.stk_machine.specs.Report.{accounts_after}
-use Rattle.stk_report.specs.Groups.{accounts_in, accounts_of, delegations_of, is_same_account, joined, pending_of, purse_at, purses_of, redelegations_of, signing_of, unbondings_of, validators_of, with_purses}
-use Rattle.stk_report.specs.Orders.{in_order}
+use Rattle.stk_machine.specs.Report.{accounts_in, is_same_account, joined}
+use Rattle.stk_report.specs.Groups.{accounts_of, delegations_of, pending_of, purse_at, purses_of, redelegations_of, signing_of, unbondings_of, validators_of, with_purses}
+use Rattle.stk_machine.specs.Orders.{in_order}
 use Rattle.stk_report.specs.Telling.{Asked, balance_in, delegation_in, is_asked, pending_in, purse_in, redelegation_in, signing_in, unbonding_in, validator_in}
-use Rattle.stk_report.proofs.AccountOrderLemmas.{Behind, behind_after, further, gathered, not_before, with_coins}
+use Rattle.stk_report.proofs.AccountOrderLemmas.{BehindFirst, behind_itself, behind_head, not_before}
 use Rattle.stk_report.proofs.AskedLemmas.{asked, asked_in_order, holds_in_order, holds_of_told}
 use Rattle.stk_report.proofs.EntryLemmas.{ascend_in_order, equal}
 use Rattle.stk_report.proofs.TotalLemmas.{account_exact, addr_total, pair_exact, pair_total, place_exact, triple_exact, triple_total}
@@ -43,24 +43,20 @@ abbrev ApartBehind : Account → List (Account × Money) → Type 0
 ApartBehind who [] = Unit {0}
 ApartBehind who (a ∷ accounts) = Apart who accounts
 
-apart_from_behind : (who : Account) (bs : Balances) (whos : List Account) → Behind who whos → Apart who (with_coins bs whos)
-apart_from_behind who bs [] h = tt
-apart_from_behind who bs (other ∷ whos) h = (ap is_eq h.0, apart_from_behind who bs whos h.1)
-
-behind_or_same : (who next : Account) (whos : List Account) → (account_cmp who next ≡ Less) ⊎ (who ≡ next) → Behind next whos → Behind who whos
-behind_or_same who next whos (inl less) h = further who next whos less h
-behind_or_same who next whos (inr same) h = subst (λ a. Behind a whos) (sym same) h
+apart_from_behind : (who : Account) (accounts : List (Account × Money)) → BehindFirst who accounts → ApartBehind who accounts
+apart_from_behind who [] h = tt
+apart_from_behind who (a ∷ accounts) h = by accounts h
+  where
+    by : (more : List (Account × Money)) → AllByRecursion (λ o. account_cmp who o.0 ≡ Less) more → Apart who more
+    by [] h = tt
+    by (other ∷ more) h = (ap is_eq h.0, by more h.1)
 
 gathered_apart : (b : (Account × List ℕ) × ℕ) (bs : Balances) → IsStrictlySortedBy place_cmp (keys_of (b ∷ bs)) → ApartBehind b.0.0 (accounts_in bs)
-gathered_apart b bs s = subst (ApartBehind b.0.0) (sym (gathered bs (sorted_tail place_cmp b.0 (keys_of bs) s))) (by bs s)
-  where
-    by : (cs : Balances) → IsStrictlySortedBy place_cmp (keys_of (b ∷ cs)) → ApartBehind b.0.0 (with_coins cs (accounts_after None cs))
-    by [] s = tt
-    by (c ∷ cs) s =
-        let later = sorted_tail place_cmp b.0 (keys_of (c ∷ cs)) s in
-        let first = not_before b.0 (c ∷ cs) (sorted_head place_cmp b.0 (keys_of (c ∷ cs)) s) in
-        let behind = behind_after c.0.0 cs (sorted_tail place_cmp c.0 (keys_of cs) later) (not_before c.0 cs (sorted_head place_cmp c.0 (keys_of cs) later)) in
-        apart_from_behind b.0.0 (c ∷ cs) (accounts_after (Some c.0.0) cs) (behind_or_same b.0.0 c.0.0 (accounts_after (Some c.0.0) cs) first.0 behind)
+gathered_apart b [] s = tt
+gathered_apart b (c ∷ cs) s =
+    let later = sorted_tail place_cmp b.0 (keys_of (c ∷ cs)) s in
+    let first = not_before b.0 (c ∷ cs) (sorted_head place_cmp b.0 (keys_of (c ∷ cs)) s) in
+    apart_from_behind b.0.0 (accounts_in (c ∷ cs)) (behind_head b.0.0 c.0.0 (accounts_in (c ∷ cs)) first.0 (behind_itself c cs later))
 
 module _ (P : Account → Bool) where
   abbrev kept : List (Account × Money) → List (Account × Money)

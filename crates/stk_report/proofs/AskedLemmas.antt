@@ -11,7 +11,7 @@ use Rattle.std.specs.Ordering.{match_ordering}
 use Rattle.std.proofs.lemmas.List.Kept.{IsStrictlySortedBy-filter}
 use Rattle.std.proofs.lemmas.Map.Entries.{lookup-filter-keys}
 use Rattle.std.proofs.lemmas.Map.Lookups.{CmpEqualImpliesEq}
-use Rattle.stk_report.specs.Orders.{entries_with, in_order}
+use Rattle.stk_machine.specs.Orders.{entries_with, in_order}
 use Rattle.stk_report.specs.Telling.{told_if}
 use Rattle.stk_report.proofs.EntryLemmas.{ascend_in_order, equal, lookup-put, same_entries}
 

@@ -15,7 +15,7 @@ use Rattle.std.proofs.lemmas.Map.{lookup-none}
 use Rattle.std.proofs.lemmas.Map.Entries.{lookup_head, lookup_tail, none_below_head, none_past_head}
 use Rattle.std.proofs.lemmas.Map.Keys.{IsDistinct-from_sorted, IsDistinct-head, IsDistinct-tail, sorted_tail}
 use Rattle.std.proofs.lemmas.Map.Lookups.{CmpEqualImpliesEq}
-use Rattle.stk_report.specs.Orders.{entries_with, in_order}
+use Rattle.stk_machine.specs.Orders.{entries_with, in_order}
 
 pub equal : (r : Ordering) → is_eq r ≡ true → r ≡ Equal
 equal Less h = cc

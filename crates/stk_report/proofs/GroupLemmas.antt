@@ -1,5 +1,5 @@
 -- The groups of a state's report are those of its items.
-use Rattle.std.proofs.Common.{◌≡◌, ◌∙◌, sym, ℕ, List, [], ◌∷◌, ◌++◌, map, false, cond, Option, Some, None, refl, ap, subst}
+use Rattle.std.proofs.Common.{◌≡◌, ◌∙◌, sym, ℕ, List, [], ◌∷◌, ◌++◌, map, false, Option, Some, None, refl, ap, subst}
 use Rattle.std.specs.Prelude.{All, unwrap_or, option_map}
 use Rattle.std.specs.declared.cmp.Ordering.{Ordering}
 use Rattle.std.specs.declared.cmp.Ordering.TheVariants.{Less, Equal, Greater}
@@ -28,9 +28,9 @@ use Rattle.stk_machine.specs.Report.{Delegations, by_delegator}
 use Rattle.stk_machine.specs.Report as machine
 use Rattle.stk_report.specs.Groups.{or_else, pending_of, pool_of, with_purses}
 use Rattle.stk_report.specs.Laws.{AreItemsOf, IsUnread}
-use Rattle.stk_report.specs.Orders.{in_order}
+use Rattle.stk_machine.specs.Orders.{in_order}
 use Rattle.stk_report.specs.Telling.{balance_in, delegation_in, pending_in, pool_in, purse_in, redelegation_in, signing_in, supply_in, unbonding_in, validator_in}
-use Rattle.stk_report.proofs.EntryLemmas.{ascend_put, lookup-put, none_ascend}
+use Rattle.stk_report.proofs.EntryLemmas.{ascend_in_order, lookup_in_order}
 use Rattle.stk_report.proofs.ItemLemmas.{IsBlind, balance_blind, balances_told, delegation_blind, delegations_told, pool_entry, pool_told, purse_blind, purses_told, redelegation_blind, redelegations_told, signing_blind, signing_told, supplies_told, supply_blind, told_without, unbonding_blind, unbondings_told, validator_blind, validators_told}
 use Rattle.stk_report.proofs.ToldLemmas.{alike_anyway, order_anyway, table_anyway}
 use Rattle.stk_report.proofs.TotalLemmas.{addr_total, pair_exact, pair_total, place_exact, triple_exact, triple_total}
@@ -95,16 +95,6 @@ with_purses_is w (e ∷ es) h =
 abbrev swapped : Delegations → Delegations
 swapped ds = map (λ d. ((d.0.1, d.0.0), d.1)) ds
 
-pub by_delegator_ascend : (ds : Delegations) → IsStrictlySortedBy pair_cmp (keys_of (by_delegator ds))
-by_delegator_ascend [] = none_ascend pair_cmp
-by_delegator_ascend (d ∷ ds) = ascend_put pair_total (d.0.1, d.0.0) d.1 (by_delegator ds) (by_delegator_ascend ds)
-
-by_delegator_at : (q : List ℕ × List ℕ) (ds : Delegations) → lookup (is_at (pair_cmp q)) (swapped ds) ≡ lookup (is_at (pair_cmp q)) (by_delegator ds)
-by_delegator_at q [] = refl
-by_delegator_at q (d ∷ ds) =
-    ap (cond (is_at (pair_cmp q) (d.0.1, d.0.0)) (Some d.1)) (by_delegator_at q ds)
-    ∙ sym (lookup-put pair_total (by_delegator ds) (d.0.1, d.0.0) q d.1)
-
 both_ways : (a b : Ordering) → is_eq (ordering_then a b) ≡ is_eq (ordering_then b a)
 both_ways Less Less = refl
 both_ways Less Equal = refl
@@ -129,11 +119,11 @@ pub delegation_group : (w : State) (items : List Item) → AreItemsOf w items �
 delegation_group w items are ok =
     let ds = w.mine.staked.delegations in
     let told = delegations_told w in
-    let differ : IsDistinct (eq_by_cmp pair_cmp) (keys_of (filter_map (delegation_in None) (items_of w)))
-    = subst (λ es. IsDistinct (eq_by_cmp pair_cmp) (keys_of es)) (sym told) (swapped_differ ds (IsDistinct-from_sorted pair_cmp (keys_of ds) ok.delegations)) in
+    let apart : IsDistinct (eq_by_cmp pair_cmp) (keys_of (swapped ds)) = swapped_differ ds (IsDistinct-from_sorted pair_cmp (keys_of ds) ok.delegations) in
+    let differ : IsDistinct (eq_by_cmp pair_cmp) (keys_of (filter_map (delegation_in None) (items_of w))) = subst (λ es. IsDistinct (eq_by_cmp pair_cmp) (keys_of es)) (sym told) apart in
     sym (ap (in_order pair_cmp) (told_without (delegation_in None) delegation_blind refl items are.missing are.unread))
     ∙ order_anyway pair_total (delegation_in None) pair_exact (items_of w) (items ++ are.missing) (by_delegator ds) are.rest differ
-    (λ q. ap (lookup (is_at (pair_cmp q))) told ∙ by_delegator_at q ds) (by_delegator_ascend ds)
+    (λ q. ap (lookup (is_at (pair_cmp q))) told ∙ sym (lookup_in_order pair_total q (swapped ds) apart)) (ascend_in_order pair_total (swapped ds))
 
 -- ---- pending rewards
 
@@ -156,7 +146,7 @@ pub pending_group : (w : State) (pending : List Pending) → IsPermutation (mach
 pending_group w pending p =
     let ds = by_delegator w.mine.staked.delegations in
     let rewards = machine.pending_of w in
-    let ascend : IsStrictlySortedBy pair_cmp (keys_of (keyed rewards)) = subst (IsStrictlySortedBy pair_cmp) (sym (keyed_keys _ ds)) (by_delegator_ascend w.mine.staked.delegations) in
+    let ascend : IsStrictlySortedBy pair_cmp (keys_of (keyed rewards)) = subst (IsStrictlySortedBy pair_cmp) (sym (keyed_keys _ ds)) (ascend_in_order pair_total (swapped w.mine.staked.delegations)) in
     ap values_of (table_anyway pair_total (pending_in None) pair_exact rewards pending (keyed rewards) p (pending_told rewards) ascend)
     ∙ keyed_values rewards
 

@@ -16,7 +16,7 @@ use Rattle.stk_keep.specs.declared.entities.Purse.{Purse}
 use Rattle.stk_keep.specs.declared.items.Item.{Item}
 use Rattle.stk_keep.specs.Items.{no_purse}
 use Rattle.stk_report.specs.Groups.{or_else, pool_of, purse_at}
-use Rattle.stk_report.specs.Orders.{entries_with}
+use Rattle.stk_machine.specs.Orders.{entries_with}
 use Rattle.stk_report.specs.Telling.{pool_in}
 use Rattle.stk_report.specs.Seen.{seen}
 

@@ -13,10 +13,9 @@ use Rattle.stk_rules.specs.Purses.{purse_of}
 use Rattle.stk_rules.specs.Sound.{IsSound}
 use Rattle.stk_machine.specs.Built.{stake_over}
 use Rattle.stk_machine.specs.Items.{IsInKeyOrder, ground_items, items_of, staked_items}
-use Rattle.stk_machine.specs.Report.{report_of}
-use Rattle.stk_report.specs.Groups.{accounts_in, pending_of, report_from, validators_of, with_purses}
+use Rattle.stk_machine.specs.Report.{accounts_in, report_of}
+use Rattle.stk_report.specs.Groups.{pending_of, report_from, validators_of, with_purses}
 use Rattle.stk_report.specs.Laws.{AreItemsOf, IsUnread, StatesAreReported}
-use Rattle.stk_report.proofs.AccountOrderLemmas.{accounts_are}
 use Rattle.stk_report.proofs.GroupLemmas.{balance_group, delegation_group, pending_group, pool_group, purse_group, redelegation_group, signing_group, supply_group, unbonding_group, validator_group, with_purses_is}
 
 module _ (w : State) (items : List Item) (ok : IsInKeyOrder w) (are : AreItemsOf w items) where
@@ -27,7 +26,7 @@ module _ (w : State) (items : List Item) (ok : IsInKeyOrder w) (are : AreItemsOf
   reported : (pending : List Pending) → report_from items pending ≡ record (report_of w) { pending = pending_of None pending }
   reported pending = λ i. record {
     supply = supply_group w items are ok i;
-    accounts = (ap accounts_in (balance_group w items are ok) ∙ accounts_are w.view.bank ok.balances) i;
+    accounts = ap accounts_in (balance_group w items are ok) i;
     validators = validators_are i;
     delegations = delegation_group w items are ok i;
     pending = pending_of None pending;

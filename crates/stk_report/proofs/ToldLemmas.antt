@@ -12,7 +12,7 @@ use Rattle.std.proofs.lemmas.List.Elements.{All-from_recursion, recursion_from_A
 use Rattle.std.proofs.lemmas.List.Sorted.{All-permutation, IsPermutation-sym}
 use Rattle.std.proofs.lemmas.Map.Keys.{IsDistinct-IsPermutation, IsDistinct-from_sorted}
 use Rattle.std.proofs.lemmas.Map.Lookups.{CmpEqualImpliesEq}
-use Rattle.stk_report.specs.Orders.{in_order}
+use Rattle.stk_machine.specs.Orders.{in_order}
 use Rattle.stk_report.proofs.EntryLemmas.{AreFound, all_found, found_alike, in_order_is}
 
 module _ {T K X : Type 0} {R : K → K → Ordering} (o : IsTotalOrder R) (tell : T → Option (K × X)) where

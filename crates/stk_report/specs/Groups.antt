@@ -1,24 +1,22 @@
 -- The groups of the report, from the items of a state and the pending rewards.
-use Rattle.std.specs.Prelude.{ℕ, List, [], ◌∷◌, ◌++◌, map, Bool, if◌then◌else◌, Option, Some, None, unwrap_or}
+use Rattle.std.specs.Prelude.{ℕ, List, [], ◌∷◌, map, Option, Some, None, unwrap_or}
 use Rattle.std.specs.List.{filter_map}
 use Rattle.std.specs.Map.{values_of}
-use Rattle.std.specs.BTreeMap.{is_at}
 use Rattle.stk_types.specs.declared.account.Account.{Account}
-use Rattle.stk_types.specs.Orders.{account_cmp, addr_cmp, cons_cmp, denom_cmp}
+use Rattle.stk_types.specs.Orders.{addr_cmp, cons_cmp, denom_cmp}
 use Rattle.stk_coins.specs.Coins.{Money}
 use Rattle.stk_keep.specs.declared.entities.Purse.{Purse}
 use Rattle.stk_keep.specs.declared.entities.SigningInfo.{SigningInfo}
 use Rattle.stk_keep.specs.declared.entities.Validator.{Validator}
 use Rattle.stk_keep.specs.declared.items.Item.{Item}
 use Rattle.stk_keep.specs.Entries.{at}
-use Rattle.stk_keep.specs.Holdings.{Balances}
 use Rattle.stk_keep.specs.Items.{no_purse}
 use Rattle.stk_keep.specs.Orders.{pair_cmp, place_cmp, triple_cmp}
 use Rattle.stk_msgs.specs.declared.report.Pending.{Pending}
 use Rattle.stk_rules.specs.Redelegations.{RedelegationLists}
 use Rattle.stk_rules.specs.Unbondings.{UnbondingLists}
-use Rattle.stk_machine.specs.Report.{Delegations, Report}
-use Rattle.stk_report.specs.Orders.{in_order}
+use Rattle.stk_machine.specs.Report.{Delegations, Report, accounts_in, joined}
+use Rattle.stk_machine.specs.Orders.{in_order}
 use Rattle.stk_report.specs.Telling.{Asked, balance_in, delegation_in, pending_in, pool_in, purse_in, redelegation_in, signing_in, supply_in, unbonding_in, validator_in}
 
 -- the supply of each denomination
@@ -26,22 +24,6 @@ abbrev pub supply_of : List Item → Money
 supply_of items = in_order denom_cmp (filter_map supply_in items)
 
 -- ---- accounts
-
--- whether two accounts are one
-abbrev pub is_same_account : Account → Account → Bool
-is_same_account a b = is_at (account_cmp a) b
-
--- an account with coins, together with the first account where that is the same
-abbrev pub joined : Account → Money → List (Account × Money) → List (Account × Money)
-joined who coins [] = (who, coins) ∷ []
-joined who coins (a ∷ more) =
-    if is_same_account who a.0 then (who, coins ++ a.1) ∷ more
-    else (who, coins) ∷ a ∷ more
-
--- the accounts of balances in order, each with its coins
-abbrev pub accounts_in : Balances → List (Account × Money)
-accounts_in [] = []
-accounts_in (b ∷ balances) = joined b.0.0 ((b.0.1, b.1) ∷ []) (accounts_in balances)
 
 -- what accounts hold: users first, by address, then the modules; each in ascending order of denominations
 abbrev pub accounts_of : Asked → List Item → List (Account × Money)

@@ -1,5 +1,4 @@
 pub mod Lines
-pub mod Orders
 pub mod Telling
 pub mod Groups
 pub mod Queries

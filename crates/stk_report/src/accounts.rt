@@ -2,7 +2,8 @@
 ghost use Rattle.std.specs.Prelude.{◌≡◌, ◌++◌, ◌∷◌, [], ℕ, List, map, option_map, IfOk, IfErr, OnOk};
 ghost use Rattle.stk_types.specs.declared.account.Account.{Account};
 ghost use Rattle.stk_coins.specs.Coins.{Money};
-ghost use Rattle.stk_report.specs.Groups.{accounts_in, joined, opened};
+ghost use Rattle.stk_machine.specs.Report.{accounts_in, joined};
+ghost use Rattle.stk_report.specs.Groups.{opened};
 ghost use Rattle.stk_report.specs.Lines.{account_line, text_of};
 ghost use Rattle.stk_json.specs.Told.{coins_seen};
 

@@ -5,7 +5,7 @@ ghost use Rattle.std.specs.List.{filter_map};
 ghost use Rattle.stk_types.specs.Orders.{addr_cmp, cons_cmp};
 ghost use Rattle.stk_keep.specs.Orders.{pair_cmp, place_cmp};
 ghost use Rattle.stk_report.specs.Groups.{delegations_of, pool_of, purses_of, redelegations_of, signing_of, supply_of, unbondings_of};
-ghost use Rattle.stk_report.specs.Orders.{in_order};
+ghost use Rattle.stk_machine.specs.Orders.{in_order};
 ghost use Rattle.stk_report.specs.Seen.{seen};
 ghost use Rattle.stk_report.specs.Telling.{balance_in, pending_in, validator_in};
 

@@ -1,5 +1,6 @@
 -- What calls answer and leave that follow a rule of this crate: what the rule gives, or its excess or refusal; or memory is
--- wanting. The log is an output of rules alone, and no call has one.
+-- wanting. Of what hooks keep it is said for which plain values it stands, by a test `holds`. The log is an output of rules
+-- alone, and no call has one.
 use Rattle.std.specs.Prelude.{◌≡◌, Result, Ok, Err, ⊤}
 use Rattle.stk_dec.specs.declared.over.Over.{Over}
 use Rattle.stk_keep.specs.declared.faults.HookFault.{HookFault}
@@ -7,7 +8,6 @@ use Rattle.stk_keep.specs.declared.faults.HookFault.TheVariants as hook
 use Rattle.stk_keep.specs.declared.faults.Stop.{Stop}
 use Rattle.stk_keep.specs.declared.faults.Stop.TheVariants as stop
 use Rattle.stk_keep.specs.declared.refusal.Refusal.{Refusal}
-use Rattle.stk_keep.specs.Log.{Log}
 use Rattle.stk_keep.specs.World.{View, World}
 
 -- an error of a rule that may exceed, against that of a call
@@ -31,25 +31,11 @@ StopsForMemory (stop.Refused why) = ⊥
 StopsForMemory stop.NoMemory = ⊤
 
 -- a call with no answer, over records, hooks and ground: of the bonded set, and of mature validators
-abbrev pub Leaves : {S H : Type 0} → Result (World S H) Over → S → H → View → Result ⊤ HookFault → Type 0
-Leaves (Ok w) s h v (Ok _) = (s ≡ w.mine) × (h ≡ w.hooks) × (v ≡ w.view)
-Leaves (Ok w) s h v (Err fault) = WantsMemory fault
-Leaves (Err due) s h v (Ok _) = ⊥
-Leaves (Err due) s h v (Err fault) = ExceedsAs due fault
-
--- a call with records of its own, over lent records, hooks and ground: of votes, and of evidence
-abbrev pub LeavesLent : {A S D H : Type 0} → Result (A × S × World D H) Over → S → D → H → View → Result A HookFault → Type 0
-LeavesLent (Ok p) s d h v (Ok a) = (a ≡ p.0) × (s ≡ p.1) × (d ≡ p.2.mine) × (h ≡ p.2.hooks) × (v ≡ p.2.view)
-LeavesLent (Ok p) s d h v (Err fault) = WantsMemory fault
-LeavesLent (Err due) s d h v (Ok a) = ⊥
-LeavesLent (Err due) s d h v (Err fault) = ExceedsAs due fault
-
--- the same of messages: of undelegating, cancelling and redelegating
-abbrev pub AnswersLent : {A S D H : Type 0} → Result (A × S × World D H) Refusal → S → D → H → View → Result A Stop → Type 0
-AnswersLent (Ok p) s d h v (Ok a) = (a ≡ p.0) × (s ≡ p.1) × (d ≡ p.2.mine) × (h ≡ p.2.hooks) × (v ≡ p.2.view)
-AnswersLent (Ok p) s d h v (Err why) = StopsForMemory why
-AnswersLent (Err due) s d h v (Ok a) = ⊥
-AnswersLent (Err due) s d h v (Err why) = RefusesAs due why
+abbrev pub Leaves : {S H : Type 0} → Result (World S H) Over → S → (H → Type 0) → View → Result ⊤ HookFault → Type 0
+Leaves (Ok w) s holds v (Ok _) = (s ≡ w.mine) × holds w.hooks × (v ≡ w.view)
+Leaves (Ok w) s holds v (Err fault) = WantsMemory fault
+Leaves (Err due) s holds v (Ok _) = ⊥
+Leaves (Err due) s holds v (Err fault) = ExceedsAs due fault
 
 -- a message without hooks: of commission, the pool, and leaving jail
 abbrev pub AnswersHeld : {A S : Type 0} → Result (A × S × View) Refusal → S → View → Result A Stop → Type 0
@@ -57,17 +43,3 @@ AnswersHeld (Ok p) s v (Ok a) = (a ≡ p.0) × (s ≡ p.1) × (v ≡ p.2)
 AnswersHeld (Ok p) s v (Err why) = StopsForMemory why
 AnswersHeld (Err due) s v (Ok a) = ⊥
 AnswersHeld (Err due) s v (Err why) = RefusesAs due why
-
--- the same of a rule that logs: of withdrawing a reward
-abbrev pub AnswersLogged : {A S : Type 0} → Result (A × S × View × Log) Refusal → S → View → Result A Stop → Type 0
-AnswersLogged (Ok p) s v (Ok a) = (a ≡ p.0) × (s ≡ p.1) × (v ≡ p.2)
-AnswersLogged (Ok p) s v (Err why) = StopsForMemory why
-AnswersLogged (Err due) s v (Ok a) = ⊥
-AnswersLogged (Err due) s v (Err why) = RefusesAs due why
-
--- a call without hooks that may exceed, and logs: of allocation
-abbrev pub LeavesLogged : {S : Type 0} → Result (S × View × Log) Over → S → View → Result ⊤ HookFault → Type 0
-LeavesLogged (Ok p) s v (Ok _) = (s ≡ p.0) × (v ≡ p.1)
-LeavesLogged (Ok p) s v (Err fault) = WantsMemory fault
-LeavesLogged (Err due) s v (Ok _) = ⊥
-LeavesLogged (Err due) s v (Err fault) = ExceedsAs due fault

@@ -8,7 +8,7 @@ use Rattle.stk_keep.specs.Log.{Log}
 use Rattle.stk_keep.specs.Pair.{and_then, given_with}
 use Rattle.stk_keep.specs.Staked.{Staked}
 use Rattle.stk_keep.specs.Steps.{◌>>=◌, each}
-use Rattle.stk_keep.specs.World.{View, Hook, Told, World}
+use Rattle.stk_keep.specs.World.{View, Hook, Told, World, over_mine, over_view}
 use Rattle.stk_rules.specs.Allocation.{fees_allocated}
 use Rattle.stk_rules.specs.BondedSet.{set_updated, validators_matured}
 use Rattle.stk_rules.specs.Distribution.{Shared, distribution_told}
@@ -30,6 +30,14 @@ Stakes = Core UnbondingLists RedelegationLists
 abbrev pub State : Type 0
 State = World Stakes Hooks
 
+-- what distribution holds, of what the hooks hold
+abbrev pub shared_in : State → Shared
+shared_in w = w.hooks.0
+
+-- and the window
+abbrev pub window_in : State → Window
+window_in w = w.hooks.1
+
 -- the chain's hooks: distribution's, then the window's on what that leaves
 abbrev pub chain_told : Hooks → Hook → View → Told Hooks
 chain_told s h v = and_then (distribution_told s.0 h v) (λ d w log. given_with d log (window_told s.1 h w))
@@ -44,46 +52,68 @@ with_staked c w = record { mine = record c { staked = w.mine }; hooks = w.hooks;
 
 -- another state of distribution and of the ground, with what was logged
 abbrev pub with_shared : Shared → View → Log → State → State
-with_shared d v more w = record { mine = w.mine; hooks = (d, w.hooks.1); view = v; log = w.log ++ more }
+with_shared d v more w = record { mine = w.mine; hooks = (d, window_in w); view = v; log = w.log ++ more }
 
 -- the state without the window, which a vote and evidence change beside it: there no validator becomes bonded
 abbrev pub beside_window : State → World Stakes Shared
-beside_window w = record { mine = w.mine; hooks = w.hooks.0; view = w.view; log = w.log }
+beside_window w = record { mine = w.mine; hooks = shared_in w; view = w.view; log = w.log }
 
 -- the state again, with this window
 abbrev pub with_window : Window → World Stakes Shared → State
 with_window i w = record { mine = w.mine; hooks = (w.hooks, i); view = w.view; log = w.log }
 
+-- the fees of a block
+abbrev pub allocation_step : List Vote → State → Result State Over
+allocation_step votes w = do
+  (d, v, l) ← fees_allocated w.mine.staked votes (shared_in w) w.view
+  Ok (with_shared d v l w)
+
 -- one vote of a block
 abbrev pub vote_step : Vote → State → Result State Over
 vote_step t w = do
-  (counted, i, u) ← voted (core_slashes distribution_told plain_slash) t w.hooks.1 (beside_window w)
+  (counted, i, u) ← voted (core_slashes distribution_told plain_slash) t (window_in w) (beside_window w)
   Ok (with_window i u)
 
 -- one piece of evidence of a block
 abbrev pub evidence_step : Evidence → State → Result State Over
 evidence_step e w = do
-  (punished, i, u) ← equivocation_handled (core_slashes distribution_told plain_slash) window_bans e w.hooks.1 (beside_window w)
+  (punished, i, u) ← equivocation_handled (core_slashes distribution_told plain_slash) window_bans e (window_in w) (beside_window w)
   Ok (with_window i u)
 
 -- Beginning a block: the fees are allocated, then the votes count, then the evidence is handled, each in order.
 abbrev pub begin_block : List Vote → List Evidence → State → Result State Over
 begin_block votes evidence w = do
-  (d, v, l) ← fees_allocated w.mine.staked votes w.hooks.0 w.view
-  w1 ← each vote_step votes (with_shared d v l w)
-  each evidence_step evidence w1
+  w1 ← allocation_step votes w
+  w2 ← each vote_step votes w1
+  each evidence_step evidence w2
+
+-- the bonded set
+abbrev pub set_step : State → Result State Over
+set_step w = do
+  s ← set_updated chain_told (staked_in w)
+  Ok (with_staked w.mine s)
+
+-- validators that are mature
+abbrev pub maturing_step : State → Result State Over
+maturing_step w = do
+  s ← validators_matured chain_told (staked_in w)
+  Ok (with_staked w.mine s)
+
+-- unbondings that are mature are paid
+abbrev pub unbondings_step : State → Result State Over
+unbondings_step w = do
+  let (u, v) = completed w.mine.unbondings w.view
+  Ok (over_view (λ old. v) (over_mine (λ c. record c { unbondings = u }) w))
+
+-- redelegations that are mature go
+abbrev pub redelegations_step : State → Result State Over
+redelegations_step w = Ok (over_mine (λ c. record c { redelegations = redelegations_completed w.view.ctx.time w.mine.redelegations }) w)
 
 -- Ending a block: the bonded set; validators, unbondings and redelegations that are mature (`x/staking`:
 -- `BlockValidatorUpdates`).
 abbrev pub end_block : State → Result State Over
 end_block w = do
-  s1 ← set_updated chain_told (staked_in w)
-  s2 ← validators_matured chain_told s1
-  let (unbondings, view) = completed w.mine.unbondings s2.view
-  let redelegations = redelegations_completed view.ctx.time w.mine.redelegations
-  Ok (record {
-    mine = record { staked = s2.mine; unbondings = unbondings; redelegations = redelegations };
-    hooks = s2.hooks;
-    view = view;
-    log = s2.log;
-  })
+  w1 ← set_step w
+  w2 ← maturing_step w1
+  w3 ← unbondings_step w2
+  redelegations_step w3

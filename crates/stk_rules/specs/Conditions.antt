@@ -17,7 +17,7 @@ use Rattle.stk_keep.specs.Holdings.{is_short}
 use Rattle.stk_keep.specs.Staked.{validator_of, shares_of}
 use Rattle.stk_keep.specs.World.{call}
 use Rattle.stk_rules.specs.Amounts.{bond_coins, is_empty}
-use Rattle.stk_rules.specs.Chain.{State, chain_told}
+use Rattle.stk_rules.specs.Chain.{State, chain_told, shared_in, window_in}
 use Rattle.stk_rules.specs.Delegating.{hook_before}
 use Rattle.stk_rules.specs.Redelegations.{redelegations_of}
 use Rattle.stk_rules.specs.Unbondings.{entries_of, can_be_cancelled}
@@ -144,8 +144,8 @@ has_too_little operator w =
 
 -- the signing record of an operator's validator
 abbrev pub record_of : List ℕ → State → Option Signing
-record_of operator w = said_of None (λ v. signing_of w.hooks.1 v.cons) operator w
+record_of operator w = said_of None (λ v. signing_of (window_in w) v.cons) operator w
 
 -- the commission of an operator is empty, or there is no purse
 abbrev pub has_no_commission : List ℕ → State → Bool
-has_no_commission operator w = unwrap_or (option_map (λ p. is_empty p.commission) (at addr_cmp w.hooks.0.purses.purses operator)) true
+has_no_commission operator w = unwrap_or (option_map (λ p. is_empty p.commission) (at addr_cmp (shared_in w).purses.purses operator)) true

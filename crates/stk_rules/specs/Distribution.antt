@@ -18,7 +18,7 @@ use Rattle.stk_keep.specs.Steps.{◌>>=◌}
 use Rattle.stk_keep.specs.World.{View, Hook, Told, gives, exceeds, noted, sent}
 use Rattle.stk_keep.specs.World as hook
 use Rattle.stk_rules.specs.Amounts.{is_empty, over_facts}
-use Rattle.stk_rules.specs.Periods.{Rewards, initial_records, periods_of, start_of, with_periods, without_periods, with_start, without_start, period_ended, last_ended, event_recorded, reward_at, reward_after}
+use Rattle.stk_rules.specs.Periods.{Rewards, initial_records, periods_of, start_of, with_periods, without_periods, with_start, without_start, period_ended, last_ended, event_recorded, reward_at}
 use Rattle.stk_rules.specs.Purses.{Purses, purse_of, with_purse, pooled_told, current_emptied, current_pooled, paid_out, closed}
 
 -- what distribution holds: periods and starts, purses and pool, and to whom payments go
@@ -79,14 +79,20 @@ slash_recorded val fraction d v = do
   let p = event_recorded v1.ctx.height fraction (periods_of d1.rewards val.operator)
   Ok (record d1 { rewards = with_periods val.operator p d1.rewards }, v1, l)
 
+-- How each withdrawal begins: the period ends. Answers the reward up to it, of which what is outstanding may not cover all.
+abbrev pub reward_due : Validator → List ℕ → ℕ → Shared → View → Result (Money × Shared × View × Log) Over
+reward_due val who shares d v = do
+  (ending, d1, v1, l) ← ended val d v
+  let value = value_even_of val.tokens val.shares shares
+  full ← reward_at (start_of d1.rewards who val.operator) (periods_of d1.rewards val.operator) ending v1.ctx.height value
+  Ok (full, d1, v1, l)
+
 -- Withdrawing a delegation's reward (`withdrawDelegationRewards`): the period ends; the reward, as far as what is
 -- outstanding goes, leaves; its whole coins are paid, its fractions join the pool; the start is gone. Answers the
 -- coins that were paid.
 abbrev pub reward_withdrawn : Validator → List ℕ → ℕ → Shared → View → Result (Money × Shared × View × Log) Over
 reward_withdrawn val who shares d v = do
-  (ending, d1, v1, l) ← ended val d v
-  let value = value_even_of val.tokens val.shares shares
-  full ← reward_at (start_of d1.rewards who val.operator) (periods_of d1.rewards val.operator) ending v1.ctx.height value
+  (full, d1, v1, l) ← reward_due val who shares d v
   (reward, p) ← paid_out val.operator full d1.purses
   let coins = whole_coins reward
   let to = payee_of d1 who
@@ -101,13 +107,11 @@ reward_renewed val who shares d v = do
   let (d2, v2, more) = started val who shares d1 v1
   Ok (coins, d2, v2, l ++ more)
 
--- What a withdrawal at a height would take from what is outstanding; it changes nothing.
-abbrev pub pending : Validator → List ℕ → ℕ → ℕ → Shared → Result Money Over
-pending val who shares height d = do
-  (increment, lost, p) ← current_taken val d.purses
-  let value = value_even_of val.tokens val.shares shares
-  full ← reward_after (start_of d.rewards who val.operator) (periods_of d.rewards val.operator) increment height value
-  Ok (smaller_of full (purse_of p val.operator).outstanding)
+-- What a withdrawal now would take from what is outstanding; it changes nothing.
+abbrev pub pending : Validator → List ℕ → ℕ → Shared → View → Result Money Over
+pending val who shares d v = do
+  (full, d1, v1, l) ← reward_due val who shares d v
+  Ok (smaller_of full (purse_of d1.purses val.operator).outstanding)
 
 -- Removing a validator: its purse is closed, and its records go (`AfterValidatorRemoved`).
 abbrev pub records_removed : Validator → Shared → View → Result (Shared × View) Over

@@ -13,7 +13,7 @@ use Rattle.stk_keep.specs.Holdings.{is_short}
 use Rattle.stk_keep.specs.Steps.{◌>>=◌, ◌>>◌, stop_if, stopping}
 use Rattle.stk_keep.specs.World.{View, sent, over_view, over_mine}
 use Rattle.stk_rules.specs.Amounts.{is_empty}
-use Rattle.stk_rules.specs.Chain.{State, chain_told, staked_in, with_staked, with_shared}
+use Rattle.stk_rules.specs.Chain.{State, chain_told, staked_in, with_staked, with_shared, shared_in, window_in}
 use Rattle.stk_rules.specs.Delegating.{delegated_by}
 use Rattle.stk_rules.specs.Redelegations.{redelegated}
 use Rattle.stk_rules.specs.Unbondings.{undelegated, cancelled}
@@ -78,37 +78,37 @@ cancel_unbonding who operator coin height w = do
 -- a validator leaves jail
 abbrev pub unjail : List ℕ → Effect
 unjail operator w = do
-  (done, s, v) ← unjailed operator w.hooks.1 w.mine.staked w.view
+  (done, s, v) ← unjailed operator (window_in w) w.mine.staked w.view
   Ok (over_view (λ u. v) (over_mine (λ c. record c { staked = s }) w))
 
 -- a reward is withdrawn
 abbrev pub withdraw_reward : List ℕ → List ℕ → Effect
 withdraw_reward who operator w = do
-  (coins, d, v, l) ← reward_taken w.mine.staked who operator w.hooks.0 w.view
+  (coins, d, v, l) ← reward_taken w.mine.staked who operator (shared_in w) w.view
   Ok (with_shared d v l w)
 
 -- a commission is withdrawn
 abbrev pub withdraw_commission : List ℕ → Effect
 withdraw_commission operator w = do
-  (coins, d, v) ← commission_withdrawn operator w.hooks.0 w.view
+  (coins, d, v) ← commission_withdrawn operator (shared_in w) w.view
   Ok (with_shared d v [] w)
 
 -- payments go to another address
 abbrev pub set_withdraw_address : List ℕ → Account → Effect
 set_withdraw_address who to w = do
-  d ← payee_set who to w.view.ctx.params w.hooks.0
+  d ← payee_set who to w.view.ctx.params (shared_in w)
   Ok (with_shared d w.view [] w)
 
 -- coins join the community pool
 abbrev pub fund_community_pool : List ℕ → Money → Effect
 fund_community_pool who coins w = do
-  (done, d, v) ← pool_funded who coins w.hooks.0 w.view
+  (done, d, v) ← pool_funded who coins (shared_in w) w.view
   Ok (with_shared d v [] w)
 
 -- coins leave the community pool
 abbrev pub community_pool_spend : List ℕ → Account → Money → Effect
 community_pool_spend authority to coins w = do
-  (done, d, v) ← pool_spent authority to coins w.hooks.0 w.view
+  (done, d, v) ← pool_spent authority to coins (shared_in w) w.view
   Ok (with_shared d v [] w)
 
 -- ---- transactions

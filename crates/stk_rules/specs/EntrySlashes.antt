@@ -29,17 +29,24 @@ part_of factor initial = cut (initial * factor) (10 ^ 18)
 abbrev pub counted : ℕ → ℕ
 counted n = min (10 ^ 18) n
 
+-- what is told of an entry of either kind when it was made
+pub record Made : Type 0 where
+  pub created : ℕ
+  pub completes : ℕ
+  pub initial : ℕ
+
+-- what is counted of entries: of each that is slashed the part of its initial amount
+abbrev pub counted_of : ℕ → ℕ → ℕ → List Made → ℕ
+counted_of infraction factor now es =
+    sum (map (λ e. part_of factor e.initial) (filter (λ e. is_hit infraction now e.created e.completes) es))
+
 -- ---- unbonding entries
 
 -- the entries that are slashed
 abbrev pub hit_of : ℕ → ℕ → List UnbondingEntry → List UnbondingEntry
 hit_of infraction now es = filter (λ e. is_hit infraction now e.created e.completes) es
 
--- what is counted of the entries: the part of each initial amount
-abbrev pub counted_of : ℕ → ℕ → ℕ → List UnbondingEntry → ℕ
-counted_of infraction factor now es = sum (map (λ e. part_of factor e.initial) (hit_of infraction now es))
-
--- what is burned of them: the same parts, each at most the balance
+-- what is burned of them: the part of each initial amount, at most the balance
 abbrev pub burned_of : ℕ → ℕ → ℕ → List UnbondingEntry → ℕ
 burned_of infraction factor now es = sum (map (λ e. min (part_of factor e.initial) e.balance) (hit_of infraction now es))
 
@@ -59,10 +66,14 @@ entries_slashed operator infraction factor (p ∷ ps) v =
     ((p.0, map (entry_slashed infraction factor v.ctx.time) p.1) ∷ rest.0, rest.1))
     else (let rest = entries_slashed operator infraction factor ps v in (p ∷ rest.0, rest.1))
 
+-- what an entry's slash counts
+abbrev pub unbonding_made : UnbondingEntry → Made
+unbonding_made e = record { created = e.created; completes = e.completes; initial = e.initial }
+
 -- what is counted of all entries of an operator
 abbrev pub all_counted : List ℕ → ℕ → ℕ → ℕ → UnbondingLists → ℕ
 all_counted operator infraction factor now u =
-    sum (map (λ p. counted_of infraction factor now p.1) (filter (λ p. same_addr p.0.1 operator) u))
+    sum (map (λ p. counted_of infraction factor now (map unbonding_made p.1)) (filter (λ p. same_addr p.0.1 operator) u))
 
 -- The slash of an operator's unbonding entries: what is counted, the entries and the ground (`SlashUnbondingDelegation`).
 abbrev pub unbondings_slashed : List ℕ → ℕ → ℕ → UnbondingLists → View → ℕ × UnbondingLists × View
@@ -71,6 +82,10 @@ unbondings_slashed operator infraction factor u v =
     (counted (all_counted operator infraction factor v.ctx.time u), rest.0, rest.1)
 
 -- ---- redelegation entries
+
+-- what an entry's slash counts
+abbrev pub redelegation_made : RedelegationEntry → Made
+redelegation_made e = record { created = e.created; completes = e.completes; initial = e.initial }
 
 module _ {D H : Type 0} (lent : Unbonds D H) where
   -- Shares are unbonded at the target, and what goes out is burned from the account of the target's status as it was
@@ -103,15 +118,10 @@ module _ {D H : Type 0} (lent : Unbonds D H) where
         sources_slashed operator infraction factor ps w1)
       else sources_slashed operator infraction factor ps w
 
-  -- what is counted of the entries of one key
-  abbrev pub counted_from : ℕ → ℕ → ℕ → List RedelegationEntry → ℕ
-  counted_from infraction factor now es =
-      sum (map (λ e. part_of factor e.initial) (filter (λ e. is_hit infraction now e.created e.completes) es))
-
   -- The slash of the redelegation entries from an operator: what is counted, the entries, which stay as they are, and the
   -- world (`SlashRedelegation`).
   abbrev pub redelegations_slashed : List ℕ → ℕ → ℕ → RedelegationLists → World D H → Result (ℕ × RedelegationLists × World D H) Over
   redelegations_slashed operator infraction factor r w = do
     w1 ← sources_slashed operator infraction factor r w
-    let all = sum (map (λ p. counted_from infraction factor w.view.ctx.time p.1) (filter (λ p. same_addr p.0.1 operator) r))
+    let all = sum (map (λ p. counted_of infraction factor w.view.ctx.time (map redelegation_made p.1)) (filter (λ p. same_addr p.0.1 operator) r))
     Ok (counted all, r, w1)

@@ -5,7 +5,6 @@ use Rattle.stk_dec.specs.declared.over.Over.{Over}
 use Rattle.stk_dec.specs.Fractions.{Fraction, fraction_of, IsAtMost}
 use Rattle.stk_coins.specs.Coins.{Money, amount_of}
 use Rattle.stk_shares.specs.Burns.{ratio_of, unit, plus}
-use Rattle.stk_shares.specs.Shares.{value_even_of}
 use Rattle.stk_keep.specs.declared.entities.Validator.{Validator}
 use Rattle.stk_keep.specs.Log.{Log, LogEntry}
 use Rattle.stk_keep.specs.Log as log
@@ -13,8 +12,7 @@ use Rattle.stk_keep.specs.Orders.{same_addr}
 use Rattle.stk_keep.specs.Steps.{◌>>=◌}
 use Rattle.stk_keep.specs.World.{View}
 use Rattle.stk_rules.specs.Amounts.{count_where}
-use Rattle.stk_rules.specs.Distribution.{Shared, ended}
-use Rattle.stk_rules.specs.Periods.{periods_of, start_of, reward_at}
+use Rattle.stk_rules.specs.Distribution.{Shared, reward_due}
 
 -- a whole number as a fraction
 abbrev pub whole : ℕ → Fraction
@@ -24,16 +22,21 @@ whole n = ratio_of n 1
 abbrev pub times : Fraction → Fraction → Fraction
 times p q = record { numerator = p.numerator * q.numerator; denominator = p.denominator * q.denominator }
 
+-- the sum and the product, between what they are of
+infixl 6 ◌⊕◌
+abbrev pub ◌⊕◌ : Fraction → Fraction → Fraction
+p ⊕ q = plus p q
+
+infixl 7 ◌⊗◌
+abbrev pub ◌⊗◌ : Fraction → Fraction → Fraction
+p ⊗ q = times p q
+
 -- ---- the entries of a span
 
 -- an entry behind those of its validator; its making begins anew
 abbrev pub behind : List LogEntry → LogEntry → List LogEntry
 behind es log.made = []
-behind es (log.allocated f t) = es ++ log.allocated f t ∷ []
-behind es (log.ended p i) = es ++ log.ended p i ∷ []
-behind es (log.started d s t x k) = es ++ log.started d s t x k ∷ []
-behind es (log.slashed b t f) = es ++ log.slashed b t f ∷ []
-behind es log.left = es ++ log.left ∷ []
+behind es e = es ++ e ∷ []
 
 -- what happened to a validator since it was made
 abbrev pub history_of : List ℕ → Log → List LogEntry → List LogEntry
@@ -52,13 +55,10 @@ longer e (Some s) = Some (record s { entries = s.entries ++ e ∷ [] })
 
 -- a delegator's start begins a span anew, with the exact value of its shares; all else makes it longer
 abbrev pub span_with : List ℕ → LogEntry → Option Span → Option Span
-span_with who (log.started d shares tokens all stake) s =
-    if same_addr d who then Some (record { first = ratio_of (shares * tokens) all; entries = [] }) else s
+span_with who (log.started delegator shares tokens all stake) s =
+    if same_addr delegator who then Some (record { first = ratio_of (shares * tokens) all; entries = [] }) else s
 span_with who log.made s = None
-span_with who (log.allocated f t) s = longer (log.allocated f t) s
-span_with who (log.ended p i) s = longer (log.ended p i) s
-span_with who (log.slashed b t f) s = longer (log.slashed b t f) s
-span_with who log.left s = longer log.left s
+span_with who e s = longer e s
 
 -- the span from a delegator's last start on
 abbrev pub span_of : List ℕ → List LogEntry → Option Span → Option Span
@@ -86,21 +86,21 @@ ideal_start first = record { stake = first; reward = whole 0; rate = whole 0; sl
 -- the slack of the open stretch, in units: one, the first stake for each ended period, and its number times one more than
 -- the first stake for the rate
 abbrev pub stretch_slack : Fraction → Ideal → Fraction
-stretch_slack first i = plus (plus (whole 1) (times first (whole i.ended))) (times (times (whole i.stretch) (plus (whole 1) first)) i.rate)
+stretch_slack first i = whole 1 ⊕ first ⊗ whole i.ended ⊕ whole i.stretch ⊗ (whole 1 ⊕ first) ⊗ i.rate
 
 -- an allocation is shared by stake; without tokens nobody has a share
 abbrev pub shared_out : ℕ → ℕ → Ideal → Ideal
 shared_out raw tokens i = if tokens == 0 then i else record i {
-  reward = plus i.reward (times (times (fraction_of raw) i.stake) (ratio_of 1 tokens));
-  rate = plus i.rate (times (fraction_of raw) (ratio_of 1 tokens));
+  reward = i.reward ⊕ fraction_of raw ⊗ i.stake ⊗ ratio_of 1 tokens;
+  rate = i.rate ⊕ fraction_of raw ⊗ ratio_of 1 tokens;
 }
 
 -- a slash takes the burn's part of the stake, exactly, and opens another stretch
 abbrev pub stretch_closed : Fraction → ℕ → ℕ → Ideal → Ideal
 stretch_closed first burn tokens i = record i {
-  stake = times i.stake (ratio_of (tokens - burn) tokens);
+  stake = i.stake ⊗ ratio_of (tokens - burn) tokens;
   rate = whole 0;
-  slack = plus i.slack (stretch_slack first i);
+  slack = i.slack ⊕ stretch_slack first i;
   stretch = i.stretch + 1;
   ended = 0;
 }
@@ -108,9 +108,9 @@ stretch_closed first burn tokens i = record i {
 -- what one more entry makes of it
 abbrev pub ideal_after : List ℕ → Fraction → Ideal → LogEntry → Ideal
 ideal_after d first i log.made = i
-ideal_after d first i (log.allocated f tokens) = shared_out (amount_of f d) tokens i
-ideal_after d first i (log.ended p increment) = record i { ended = i.ended + 1 }
-ideal_after d first i (log.started who s t x k) = i
+ideal_after d first i (log.allocated fees tokens) = shared_out (amount_of fees d) tokens i
+ideal_after d first i (log.ended period increment) = record i { ended = i.ended + 1 }
+ideal_after d first i (log.started delegator shares tokens all stake) = i
 ideal_after d first i (log.slashed burn tokens fraction) = stretch_closed first burn tokens i
 ideal_after d first i log.left = record i { left = i.left + 1 }
 
@@ -136,34 +136,28 @@ ideal_reward d s = (ideal_of d s).reward
 abbrev pub slack_of : List ℕ → Span → Fraction
 slack_of d s =
     let i = ideal_of d s in
-    times unit (plus (plus i.slack (stretch_slack s.first i)) (times (whole (i.left + 1)) i.rate))
+    unit ⊗ (i.slack ⊕ stretch_slack s.first i ⊕ whole (i.left + 1) ⊗ i.rate)
 
 -- a reward, in units, is at most the ideal one, and at least that less the slack; both are fractions
 pub record Brackets (d : List ℕ) (s : Span) (raw : ℕ) : Type 0 where
   pub reward_is : 0 < (ideal_reward d s).denominator
   pub slack_is : 0 < (slack_of d s).denominator
   pub at_most : IsAtMost (fraction_of raw) (ideal_reward d s)
-  pub at_least : IsAtMost (ideal_reward d s) (plus (fraction_of raw) (slack_of d s))
+  pub at_least : IsAtMost (ideal_reward d s) (fraction_of raw ⊕ slack_of d s)
 
 -- The reward that a withdrawal now would come to, before the smaller of it and what is outstanding is taken, with the
 -- log up to there.
 abbrev pub claimed : Validator → List ℕ → ℕ → Shared → View → Log → Result (Money × Log) Over
 claimed val who shares d v l = do
-  (ending, d1, v1, more) ← ended val d v
-  let value = value_even_of val.tokens val.shares shares
-  full ← reward_at (start_of d1.rewards who val.operator) (periods_of d1.rewards val.operator) ending v1.ctx.height value
+  (full, d1, v1, more) ← reward_due val who shares d v
   Ok (full, l ++ more)
 
 -- ---- the overclaim
 
 -- shares left the validator
 abbrev pub is_left : LogEntry → Bool
-is_left log.made = false
-is_left (log.allocated f t) = false
-is_left (log.ended p i) = false
-is_left (log.started d s t x k) = false
-is_left (log.slashed b t f) = false
 is_left log.left = true
+is_left _ = false
 
 -- By how much all rewards of a validator may exceed what is outstanding, in units of 10^-36: as often as shares left it,
 -- the last ratio.

@@ -1,7 +1,6 @@
 -- The laws of the rules, as statements. None of them is proved here: stated, not proved. A law of states is said of each
 -- atomic step: a message, an allocation, a vote, a piece of evidence, an action of a block's end, and the next block.
-use Rattle.std.specs.Prelude.{◌≡◌, ℕ, ◌+◌, ◌-◌, ◌*◌, ◌^◌, ◌<◌, ◌≤◌, List, [], ◌∷◌, length, map, sum, All, IfOk, Result, Ok, Err, Some, None}
-use Rattle.stk_dec.specs.declared.over.Over.{Over}
+use Rattle.std.specs.Prelude.{◌≡◌, ℕ, ◌+◌, ◌-◌, ◌*◌, ◌^◌, ◌<◌, ◌≤◌, List, [], ◌∷◌, length, map, sum, All, IfOk, Result, Ok, Some, None}
 use Rattle.stk_types.specs.declared.account.Account.{Account}
 use Rattle.stk_coins.specs.declared.coin.Coin.{Coin}
 use Rattle.stk_coins.specs.Coins.{Money, IsMoney, amount_of}
@@ -17,19 +16,14 @@ use Rattle.stk_keep.specs.Ground.{end_of_blocks}
 use Rattle.stk_keep.specs.Holdings.{supply_of}
 use Rattle.stk_keep.specs.Items.{IsOnce}
 use Rattle.stk_keep.specs.Log.{Log}
-use Rattle.stk_keep.specs.Staked.{Staked, validator_of, validator_by_cons, shares_of}
-use Rattle.stk_keep.specs.World.{View, World, over_view}
-use Rattle.stk_rules.specs.Allocation.{fees_allocated}
-use Rattle.stk_rules.specs.BondedSet.{set_updated, validators_matured}
-use Rattle.stk_rules.specs.Chain.{Hooks, State, chain_told, staked_in, with_staked, with_shared, vote_step, evidence_step}
-use Rattle.stk_rules.specs.Distribution.{Shared}
+use Rattle.stk_keep.specs.Staked.{validator_of, validator_by_cons, shares_of}
+use Rattle.stk_keep.specs.World.{over_view}
+use Rattle.stk_rules.specs.Chain.{State, vote_step, evidence_step, allocation_step, set_step, shared_in, window_in, maturing_step, unbondings_step, redelegations_step}
 use Rattle.stk_rules.specs.Effects.{send, create_validator, edit_validator, delegate, undelegate, begin_redelegate, cancel_unbonding, unjail, withdraw_reward, withdraw_commission, set_withdraw_address, fund_community_pool, community_pool_spend, fee_paid}
 use Rattle.stk_rules.specs.Ideal.{Span, Brackets, span_of, history_of, claimed, overclaim_of}
-use Rattle.stk_rules.specs.Periods.{Periods, Stretch, stretches_of, ratio_at, periods_of, starts_of, last_ended}
+use Rattle.stk_rules.specs.Periods.{Periods, Stretch, unlimited_stretches_of, ratio_at, periods_of, starts_of, last_ended}
 use Rattle.stk_rules.specs.Purses.{purse_of}
-use Rattle.stk_rules.specs.Redelegations.{redelegations_completed}
 use Rattle.stk_rules.specs.Sound.{IsSound}
-use Rattle.stk_rules.specs.Unbondings.{completed}
 use Rattle.stk_rules.specs.Window.{Signing, signing_of}
 
 -- ---- atomic steps
@@ -44,7 +38,7 @@ AreWhole w = All (λ p. All (λ e. e.created ≡ w.view.ctx.height → e.balance
 
 -- fewer votes of a consensus address were counted than the height is
 abbrev pub CountsBelow : List ℕ → State → Type 0
-CountsBelow cons w = (s : Signing) → signing_of w.hooks.1 cons ≡ Some s → length s.votes < w.view.ctx.height
+CountsBelow cons w = (s : Signing) → signing_of (window_in w) cons ≡ Some s → length s.votes < w.view.ctx.height
 
 -- a relation between the states before and after each message, from sound states
 pub record KeptByMessages (P : State → State → Type 0) : Type 0 where
@@ -67,41 +61,6 @@ pub record KeptByMessages (P : State → State → Type 0) : Type 0 where
 abbrev pub next_block : ℕ → ℕ → State → State
 next_block height time w = over_view (λ v. record v { ctx = record { height = height; time = time; params = v.ctx.params } }) w
 
--- the fees of a block, as one step
-abbrev pub allocation_step : List Vote → State → Result State Over
-allocation_step votes w = done (fees_allocated w.mine.staked votes w.hooks.0 w.view)
-  where
-    done : Result (Shared × View × Log) Over → Result State Over
-    done (Ok p) = Ok (with_shared p.0 p.1 p.2 w)
-    done (Err over) = Err over
-
--- the bonded set, and mature validators, as steps
-abbrev pub set_step : State → Result State Over
-set_step w = put (set_updated chain_told (staked_in w))
-  where
-    put : Result (World Staked Hooks) Over → Result State Over
-    put (Ok s) = Ok (with_staked w.mine s)
-    put (Err over) = Err over
-
--- mature validators, as one step
-abbrev pub mature_step : State → Result State Over
-mature_step w = put (validators_matured chain_told (staked_in w))
-  where
-    put : Result (World Staked Hooks) Over → Result State Over
-    put (Ok s) = Ok (with_staked w.mine s)
-    put (Err over) = Err over
-
--- mature unbondings are paid, and mature redelegations go
-abbrev pub entries_step : State → Result State Over
-entries_step w =
-    let done = completed w.mine.unbondings w.view in
-    Ok (record {
-      mine = record { staked = w.mine.staked; unbondings = done.0; redelegations = redelegations_completed w.view.ctx.time w.mine.redelegations };
-      hooks = w.hooks;
-      view = done.1;
-      log = w.log;
-    })
-
 -- a power that a block may name, in tokens
 abbrev pub IsPower : ℕ → State → Type 0
 IsPower power w = power * w.view.ctx.params.power_reduction ≤ 10 ^ 18
@@ -119,8 +78,9 @@ pub record KeptByBlocks (P : State → State → Type 0) : Type 0 where
   pub votes : (t : Vote) (w : State) → IsSound w → IsPower t.power w → CountsBelow t.cons w → IfOk (vote_step t w) (P w)
   pub evidence : (e : Evidence) (w : State) → IsSound w → IsPower e.power w → 1 ≤ e.height → e.height < w.view.ctx.height → e.time ≤ w.view.ctx.time → IfOk (evidence_step e w) (P w)
   pub sets : Keeps P set_step
-  pub matures : Keeps P mature_step
-  pub completes : Keeps P entries_step
+  pub matures : Keeps P maturing_step
+  pub pays : Keeps P unbondings_step
+  pub ends : Keeps P redelegations_step
 
 -- ---- the statements
 
@@ -147,13 +107,13 @@ OnlyBurnsLowerSupplies = KeptByMessages SupplyFallsByBurns × KeptByBlocks Suppl
 
 -- Stated, not proved: the end of a block never exceeds.
 abbrev pub BlocksEnd : Type 0
-BlocksEnd = (w : State) → IsSound w → ((s : State) × (set_step w ≡ Ok s)) × ((s : State) × (mature_step w ≡ Ok s))
+BlocksEnd = (w : State) → IsSound w → ((s : State) × (set_step w ≡ Ok s)) × ((s : State) × (maturing_step w ≡ Ok s))
 
--- The reward that a withdrawal of a delegation would come to lies in its bracket.
+-- The reward that a withdrawal of a delegation would come to has a span, and lies in the bracket of it.
 abbrev pub ClaimIsBracketed : List ℕ → State → List ℕ → Validator → ℕ → Type 0
 ClaimIsBracketed d w who v shares =
-    (full : Money) (l : Log) (s : Span) → claimed v who shares w.hooks.0 w.view w.log ≡ Ok (full, l)
-    → span_of who (history_of v.operator l []) None ≡ Some s → Brackets d s (amount_of full d)
+    (full : Money) (l : Log) → claimed v who shares (shared_in w) w.view w.log ≡ Ok (full, l)
+    → (s : Span) × (span_of who (history_of v.operator l []) None ≡ Some s) × Brackets d s (amount_of full d)
 
 -- Every delegation's claim does. Of every state that a genesis leads to this is stated, not proved.
 abbrev pub IsBracketed : State → Type 0
@@ -165,16 +125,15 @@ IsBracketed w =
 abbrev pub exact_claim : List ℕ → (ℕ → Money) → List Stretch → ℕ
 exact_claim d ratio ts = sum (map (λ t. (amount_of (ratio t.last) d - amount_of (ratio t.after) d) * t.stake) ts)
 
--- the claims of all starts of an operator up to the last ended period; a value above every stake takes the limit of the last
--- stretch away
+-- the claims of all starts of an operator up to the last ended period, which no value of shares limits
 abbrev pub claims_of : List ℕ → Periods → List StartingInfo → ℕ
-claims_of d p starts = sum (map (λ s. exact_claim d (ratio_at p.ratios) (stretches_of s p.events (last_ended p) s.stake)) starts)
+claims_of d p starts = sum (map (λ s. exact_claim d (ratio_at p.ratios) (unlimited_stretches_of s p.events (last_ended p))) starts)
 
 -- What is outstanding for a validator, with the overclaim, is at least commission, current rewards and all claims. Of every
 -- state that a genesis leads to this is stated, not proved.
 abbrev pub HasShortfallWithin : List ℕ → State → Validator → Type 0
 HasShortfallWithin d w v =
-    let purse = purse_of w.hooks.0.purses v.operator in
-    let p = periods_of w.hooks.0.rewards v.operator in
-    10 ^ 18 * (amount_of purse.commission d + amount_of purse.current d) + claims_of d p (starts_of w.hooks.0.rewards v.operator)
+    let purse = purse_of (shared_in w).purses v.operator in
+    let p = periods_of (shared_in w).rewards v.operator in
+    10 ^ 18 * (amount_of purse.commission d + amount_of purse.current d) + claims_of d p (starts_of (shared_in w).rewards v.operator)
     ≤ 10 ^ 18 * amount_of purse.outstanding d + overclaim_of d (history_of v.operator w.log []) (ratio_at p.ratios (last_ended p))

@@ -19,10 +19,6 @@ pub mod Answers
 pub mod Chain
 pub mod Effects
 pub mod Fixtures
-pub mod FeeRows
-pub mod ShareRows
-pub mod SlashRows
-pub mod StakeRows
 pub mod Owed
 pub mod Ideal
 pub mod Sound

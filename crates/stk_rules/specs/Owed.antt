@@ -9,7 +9,7 @@ use Rattle.stk_keep.specs.Holdings.{coins_of}
 use Rattle.stk_keep.specs.Hooks.{HoldsOwed}
 use Rattle.stk_keep.specs.Staked.{Staked, bonded_tokens, other_tokens}
 use Rattle.stk_rules.specs.Amounts.{bond_coins}
-use Rattle.stk_rules.specs.Chain.{State}
+use Rattle.stk_rules.specs.Chain.{State, shared_in}
 use Rattle.stk_rules.specs.Distribution.{Shared}
 use Rattle.stk_rules.specs.Unbondings.{UnbondingLists}
 
@@ -38,4 +38,4 @@ owed_from_distribution d denom = sum (map (λ p. amount_of p.outstanding denom) 
 pub record HoldsWhatIsOwed (w : State) : Type 0 where
   pub bonded : coins_of w.view.bank (account.Module holder.Bonded) ≡ bond_coins w.view (owed_from_bonded w.mine.staked)
   pub not_bonded : coins_of w.view.bank (account.Module holder.NotBonded) ≡ bond_coins w.view (owed_from_not_bonded w.mine.staked w.mine.unbondings)
-  pub distribution : HoldsOwed (Some (owed_from_distribution w.hooks.0)) w.view
+  pub distribution : HoldsOwed (Some (owed_from_distribution (shared_in w))) w.view

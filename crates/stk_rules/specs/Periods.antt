@@ -94,6 +94,12 @@ stretches period stake ending value [] = record { after = period; last = ending;
 stretches period stake ending value (e ∷ es) =
     record { after = period; last = e.period; stake = stake } ∷ stretches e.period (slashed_stake stake e.fraction) ending value es
 
+-- the same, where nothing limits the stake of the last one
+abbrev pub unlimited_stretches : ℕ → ℕ → ℕ → List SlashEvent → List Stretch
+unlimited_stretches period stake ending [] = record { after = period; last = ending; stake = stake } ∷ []
+unlimited_stretches period stake ending (e ∷ es) =
+    record { after = period; last = e.period; stake = stake } ∷ unlimited_stretches e.period (slashed_stake stake e.fraction) ending es
+
 -- an event belongs to the time of a start: its height is not below, and its period is later
 abbrev pub falls_after : StartingInfo → SlashEvent → Bool
 falls_after s e = nat_le s.height e.height && nat_lt s.period e.period
@@ -101,6 +107,10 @@ falls_after s e = nat_le s.height e.height && nat_lt s.period e.period
 -- the stretches of a start up to a period that ended
 abbrev pub stretches_of : StartingInfo → List SlashEvent → ℕ → ℕ → List Stretch
 stretches_of s events ending value = stretches s.period s.stake ending value (filter (falls_after s) events)
+
+-- the same without a limit
+abbrev pub unlimited_stretches_of : StartingInfo → List SlashEvent → ℕ → List Stretch
+unlimited_stretches_of s events ending = unlimited_stretches s.period s.stake ending (filter (falls_after s) events)
 
 -- What stretches give behind a total: the growth of the ratio over each times its stake, cut
 -- (`calculateDelegationRewardsBetween`).

@@ -17,7 +17,7 @@ use Rattle.stk_keep.specs.World.{View, Hook, Told, World}
 use Rattle.stk_rules.specs.Delegating.{is_wrong, pool, shares_given, delegated}
 use Rattle.stk_rules.specs.Stakes.{is_unbonding}
 use Rattle.stk_rules.specs.Unbonding.{shares_to_unbond, unbonded_shares}
-use Rattle.stk_rules.specs.Unbondings.{completion}
+use Rattle.stk_rules.specs.Unbondings.{completion, key_then}
 
 -- the entries of each delegator, source and target, in the order of making; no key has none
 abbrev pub RedelegationLists : Type 0
@@ -70,11 +70,6 @@ module _ {H : Type 0} (told : H → Hook → View → Told H) where
     (issued, w2) ← delegated told t who out (pool v.status) w1
     let gone = is_none (validator_of w1.mine source)
     Ok (tt, appended who source target (begin_info v gone w.view.ctx) out issued r, w2)
-
--- The entries of one key in front, where there are any.
-abbrev pub key_then : List ℕ × List ℕ × List ℕ → List RedelegationEntry → RedelegationLists → RedelegationLists
-key_then key [] r = r
-key_then key (e ∷ es) r = (key, e ∷ es) ∷ r
 
 -- All mature entries go (`CompleteRedelegation`).
 abbrev pub redelegations_completed : ℕ → RedelegationLists → RedelegationLists

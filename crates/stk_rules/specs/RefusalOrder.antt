@@ -13,7 +13,7 @@ use Rattle.stk_keep.specs.Holdings.{is_short}
 use Rattle.stk_keep.specs.Orders.{same_addr}
 use Rattle.stk_keep.specs.Staked.{validator_by_cons}
 use Rattle.stk_rules.specs.Amounts.{bond_coins, is_empty, seconds}
-use Rattle.stk_rules.specs.Chain.{State}
+use Rattle.stk_rules.specs.Chain.{State, shared_in}
 use Rattle.stk_rules.specs.Conditions.{when, first_of, over_in, said_of, lacks_validator, lacks_delegation, has_no_rate, has_no_tokens, is_jailed, asks_too_much, out_for, shares_over, is_tiny, reward_over, cannot_pay, has_most_unbondings, has_most_redelegations, cancelled_entry, cancels_too_much, has_too_little, record_of, has_no_commission}
 use Rattle.stk_rules.specs.Delegating.{is_wrong}
 use Rattle.stk_rules.specs.Effects.{Effect, send, create_validator, edit_validator, delegate, undelegate, begin_redelegate, cancel_unbonding, unjail, withdraw_reward, withdraw_commission, set_withdraw_address, fund_community_pool, community_pool_spend}
@@ -191,7 +191,7 @@ against_spend authority to coins w =
     when (not (same_addr authority w.view.ctx.params.authority)) NotAuthority
     ∷ when (is_empty coins) NonPositive
     ∷ when (is_module to) ModuleRecipient
-    ∷ when (is_above_pool coins w.hooks.0.purses) PoolTooSmall
+    ∷ when (is_above_pool coins (shared_in w).purses) PoolTooSmall
     ∷ []
 
 -- ---- what a message is refused by

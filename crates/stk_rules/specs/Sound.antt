@@ -16,7 +16,7 @@ use Rattle.stk_keep.specs.Ground.{IsInOrder}
 use Rattle.stk_keep.specs.Hooks.{Lists}
 use Rattle.stk_keep.specs.Orders.{pair_cmp, triple_cmp, same_addr}
 use Rattle.stk_keep.specs.Staked.{Staked, validator_of, lists_of, is_unbonded}
-use Rattle.stk_rules.specs.Chain.{State}
+use Rattle.stk_rules.specs.Chain.{State, shared_in, window_in}
 use Rattle.stk_rules.specs.Distribution.{Shared}
 use Rattle.stk_rules.specs.Owed.{HoldsWhatIsOwed}
 use Rattle.stk_rules.specs.Periods.{Periods, Rewards, ratio_at, start_of, starts_of, references_of}
@@ -183,9 +183,9 @@ names_of_periods (p ∷ ps) = names_of_ratios p.ratios ++ names_of_periods ps
 abbrev pub denominations_of : State → List (List ℕ)
 denominations_of w =
     map (λ e. e.0.1) w.view.bank.balances
-    ++ names_in w.hooks.0.purses.pool
-    ++ names_of_purses (values_of w.hooks.0.purses.purses)
-    ++ names_of_periods (values_of w.hooks.0.rewards.periods)
+    ++ names_in (shared_in w).purses.pool
+    ++ names_of_purses (values_of (shared_in w).purses.purses)
+    ++ names_of_periods (values_of (shared_in w).rewards.periods)
 
 -- at most so many different names (own)
 pub record AreAtMost (most : ℕ) (names : List (List ℕ)) : Type 0 where
@@ -200,11 +200,11 @@ pub record IsSound (w : State) : Type 0 where
   pub few : AreAtMost 1_000_000 (denominations_of w)
   pub staked : StakedIsSound w.view.ctx.height w.mine.staked
   pub accounts : HoldsWhatIsOwed w
-  pub stands : StandsFor w.hooks.0 (lists_of w.mine.staked)
-  pub purses : PursesAreSound w.hooks.0.purses
-  pub rewards : RewardsAreSound w.view.ctx.height w.hooks.0.rewards
-  pub payees : IsStrictlySortedBy addr_cmp (keys_of w.hooks.0.withdraw)
-  pub window : WindowIsSound w.view.ctx.height w.hooks.1
-  pub recorded : AreRecorded w.mine.staked w.hooks.1
+  pub stands : StandsFor (shared_in w) (lists_of w.mine.staked)
+  pub purses : PursesAreSound (shared_in w).purses
+  pub rewards : RewardsAreSound w.view.ctx.height (shared_in w).rewards
+  pub payees : IsStrictlySortedBy addr_cmp (keys_of (shared_in w).withdraw)
+  pub window : WindowIsSound w.view.ctx.height (window_in w)
+  pub recorded : AreRecorded w.mine.staked (window_in w)
   pub unbondings : UnbondingsAreSound w.view.ctx.height w.mine.unbondings
   pub redelegations : RedelegationsAreSound w.view.ctx.height w.mine.redelegations

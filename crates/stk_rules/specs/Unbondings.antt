@@ -105,9 +105,9 @@ paid_back who (e ∷ es) v =
     else paid_back who es v
 
 -- The entries of one key in front, where there are any.
-abbrev pub key_then : List ℕ × List ℕ → List UnbondingEntry → UnbondingLists → UnbondingLists
-key_then key [] u = u
-key_then key (e ∷ es) u = (key, e ∷ es) ∷ u
+abbrev pub key_then : {K E : Type 0} → K → List E → List (K × List E) → List (K × List E)
+key_then key [] rest = rest
+key_then key (e ∷ es) rest = (key, e ∷ es) ∷ rest
 
 -- All mature entries are paid and go, by delegator, then validator (`BlockValidatorUpdates`: `CompleteUnbonding`; the order: own).
 abbrev pub completed : UnbondingLists → View → UnbondingLists × View

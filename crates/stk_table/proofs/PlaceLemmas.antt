@@ -252,6 +252,17 @@ module _ {K : Type 0} {R : K → K → Ordering} (o : IsTotalOrder R) where
           new_named : AreNamed R (remove_entry (is_at (R k)) ps)
           new_named = AreNamed-remove (is_at (R k)) ps named
 
+    -- a place that is there is written to in place
+    pub set-insert : (k : K) (s t : Slot K V) (ps : List (K × Slot K V)) → IsStrictlySortedBy R (keys_of ps) → lookup (is_at (R k)) ps ≡ Some t → set_value (is_at (R k)) ps s ≡ insert_entry R ps k s
+    set-insert k s t [] sorted found = cc
+    set-insert k s t (p ∷ ps) sorted found =
+        elim (R k p.0) as (λ r. R k p.0 ≡ r → cond (is_eq r) (Some p.1) (lookup (is_at (R k)) ps) ≡ Some t → cond (is_eq r) ((p.0, s) ∷ ps) (p ∷ set_value (is_at (R k)) ps s) ≡ match_ordering r ((k, s) ∷ p ∷ ps) ((p.0, s) ∷ ps) (p ∷ insert_entry R ps k s)) [
+          | Less ↦ λ is found.
+              let none : lookup (is_at (R k)) ps ≡ None = lookup_is _ ps ∙ ap (option_map (λ x. x.1)) (entry_below o k k ps (tied k) (below_less o k p.0 ps is (sorted_head R p.0 (keys_of ps) sorted))) in cc
+          | Equal ↦ λ is found. refl
+          | Greater ↦ λ is found. ap (λ l. p ∷ l) (set-insert k s t ps (sorted_tail R p.0 (keys_of ps) sorted) found)
+        ] refl found
+
     -- a change is undone by what stood there
     pub put_back-insert : (k : K) (s : Slot K V) (ps : List (K × Slot K V)) → IsStrictlySortedBy R (keys_of ps) → put_back_slot R k (lookup (is_at (R k)) ps) (insert_entry R ps k s) ≡ ps
     put_back-insert k s [] sorted = ap (λ b. cond b [] ((k, s) ∷ [])) (tied k)
@@ -267,6 +278,32 @@ module _ {K : Type 0} {R : K → K → Ordering} (o : IsTotalOrder R) where
         further : (n : Option (Slot K V)) → R k p.0 ≡ Greater → put_back_slot R k n (p ∷ insert_entry R ps k s) ≡ p ∷ put_back_slot R k n (insert_entry R ps k s)
         further None is = ap (λ r. cond (is_eq r) (insert_entry R ps k s) (p ∷ remove_entry (is_at (R k)) (insert_entry R ps k s))) is
         further (Some t) is = ap (λ r. cond (is_eq r) ((p.0, t) ∷ insert_entry R ps k s) (p ∷ set_value (is_at (R k)) (insert_entry R ps k s) t)) is
+
+-- what is seen once another value stands where one stood under the key of its place
+pub record Refilled {K V : Type 0} (R : K → K → Ordering) (k : K) (v : V) (ps qs : List (K × Slot K V)) : Type 0 where
+  pub entries : filled qs ≡ insert_entry R (filled ps) k v
+  pub count : length (filled qs) ≡ length (filled ps)
+  pub named : AreNamed R qs
+  pub undone : put_back_slot R k (lookup (is_at (R k)) ps) qs ≡ ps
+
+pub refilled : {K V : Type 0} {R : K → K → Ordering} (o : IsTotalOrder R) (k : K) (v b : V) (ps qs : List (K × Slot K V)) → IsStrictlySortedBy R (keys_of ps) → AreNamed R ps
+    → lookup (is_at (R k)) ps ≡ Some (Filled b) → qs ≡ set_value (is_at (R k)) ps (Filled v) → Refilled R k v ps qs
+refilled {K} {V} {R} o k v b ps qs sorted named found set =
+    let put : qs ≡ insert_entry R ps k (Filled v) = set ∙ set-insert o k (Filled v) (Filled b) ps sorted found in
+    let name = name-filled o k ps sorted named ∙ ap (name_under k (key_in R ps k)) found in
+    let entries : filled qs ≡ insert_entry R (filled ps) k v = ap filled put ∙ filled-insert o k ps sorted named (Filled v) v tt (λ i. Some (sym name i, v)) in
+    let there = entry-filled o k ps sorted named in
+    let entry = shown_at (lookup_entry (is_at (R k)) ps) (sym (lookup_is (is_at (R k)) ps) ∙ found) in
+    record {
+      entries = entries;
+      count = ap length entries ∙ length-insert_same o k v (filled ps) entry.0 (sorted-filled o ps sorted named) (there ∙ entry.1);
+      named = subst (AreNamed R) (sym put) (AreNamed-insert o ps k (Filled v) tt named);
+      undone = ap (put_back_slot R k (lookup (is_at (R k)) ps)) put ∙ put_back-insert o k (Filled v) ps sorted;
+    }
+  where
+    shown_at : (e : Option (K × Slot K V)) → option_map (λ p. p.1) e ≡ Some (Filled b) → (f : K × V) × (shown e ≡ Some f)
+    shown_at None is = cc
+    shown_at (Some p) is = let same : p.1 ≡ Filled b = cc in ((p.0, b), ap (entry_of p.0) same)
 
 -- and once one is taken out
 pub length-remove : {K X : Type 0} (test : K → Bool) (es : List (K × X)) (f : K × X) → lookup_entry test es ≡ Some f → length (remove_entry test es) + 1 ≡ length es
@@ -303,6 +340,14 @@ set_value-absent test (e ∷ es) x none = elim (test e.0) as (λ b. cond b (Some
   | true ↦ λ none. cc
   | false ↦ λ none. ap (λ l. e ∷ l) (set_value-absent test es x none)
 ] none
+
+-- and one of what stands there
+pub set_value-same : {K X : Type 0} (test : K → Bool) (es : List (K × X)) (x : X) → lookup test es ≡ Some x → set_value test es x ≡ es
+set_value-same test [] x found = refl
+set_value-same test (e ∷ es) x found = elim (test e.0) as (λ b. cond b (Some e.1) (lookup test es) ≡ Some x → cond b ((e.0, x) ∷ es) (e ∷ set_value test es x) ≡ e ∷ es) [
+  | true ↦ λ found. let same : e.1 ≡ x = cc in ap (λ y. (e.0, y) ∷ es) (sym same)
+  | false ↦ λ found. ap (λ l. e ∷ l) (set_value-same test es x found)
+] found
 
 -- the key and the value of a pair that is there
 pub pair_key : {A X Y : Type 0} (f : A → X) (g : A → Y) (r : Option A) → option_map f r ≡ option_map {T = X × Y} (λ e. e.0) (option_map (λ a. (f a, g a)) r)

@@ -1,5 +1,5 @@
 -- Places of keys, which stay while a mark is open, and the changes that going back undoes.
-use Rattle.std.specs.Prelude.{◌≡◌, ℕ, zero, suc, true, List, [], ◌∷◌, ◌++◌, length, Option, Some, None, ⊤}
+use Rattle.std.specs.Prelude.{◌≡◌, ℕ, zero, suc, Bool, true, false, List, [], ◌∷◌, ◌++◌, length, Option, Some, None, ⊤}
 use Rattle.std.specs.declared.cmp.Ordering.{Ordering}
 use Rattle.std.specs.declared.ops.Bound.{Bound}
 use Rattle.std.specs.declared.ops.Bound.TheVariants.{Excluded, Unbounded}
@@ -32,6 +32,12 @@ module _ {K V : Type 0} where
   entry_of key Empty = None
   entry_of key (Filled value) = Some (key, value)
   entry_of key (Renamed name value) = Some (name.value, value)
+
+  -- a value stands here under the key of the place
+  abbrev pub is_filled : Slot K V → Bool
+  is_filled Empty = false
+  is_filled (Filled value) = true
+  is_filled (Renamed name value) = false
 
   -- the value that stands here
   abbrev pub slot_value : Slot K V → Option V

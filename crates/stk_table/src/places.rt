@@ -10,7 +10,7 @@ ghost use Rattle.stk_table.specs.Places.{bound_above, entry_of, filled, put_back
 ghost use Rattle.stk_table.specs.Tabled.{entry_above, entry_from, key_in, value_at};
 
 use crate::slot::Slot;
-use crate::undo::{Point, Undo, clear, close, rewind, set};
+use crate::undo::{Point, Undo, clear, close, rewind, rewrite, set};
 use crate::walk::{find, first_from};
 use std::alloc::Global;
 use std::collections::BTreeMap;
@@ -96,6 +96,30 @@ impl<K: Ord + Copied, V: Copied> Places<K, V> {
     {
         // It tells that the keys ascend.
         let _ = self.tree.len();
+        let left = rewrite(
+            &mut self.tree,
+            &mut self.log,
+            self.depth > 0,
+            self.here,
+            key,
+            value,
+        )?;
+        match left {
+            None => {
+                self.here.marks = 0;
+                Ok(())
+            }
+            Some(value) => self.insert_elsewhere(key, value),
+        }
+    }
+
+    /// The same, whatever stands at the place of the key, if it has one.
+    fn insert_elsewhere(&mut self, key: &K, value: V) -> Result<(), TableFault>
+        ensures ok { OnOk result (self.new ≡ record self.old { entries = insert_entry K.cmp self.old.entries key.now value }) }
+        ensures err { OnErr result (self.new ≡ self.old) }
+    {
+        // It tells that the keys ascend.
+        let _ = self.tree.len();
         let len = len_with(&self.tree, key, self.here.len);
         let slot = filling(self.alloc, &self.tree, key, value)?;
         set(
@@ -160,7 +184,7 @@ impl<K: Ord + Copied, V: Copied> Places<K, V> {
         rewind(&mut self.tree, &mut self.log, &mut self.here);
         self.here.marks -= 1;
         self.depth -= 1;
-        clear(&mut self.tree, &mut self.log, self.depth);
+        clear(&mut self.tree, &mut self.log, self.depth, self.here.len);
     }
 
     /// Closes the latest mark.
@@ -171,7 +195,7 @@ impl<K: Ord + Copied, V: Copied> Places<K, V> {
     {
         close(&mut self.log, &mut self.here);
         self.depth -= 1;
-        clear(&mut self.tree, &mut self.log, self.depth);
+        clear(&mut self.tree, &mut self.log, self.depth, self.here.len);
     }
 }
 

@@ -1,7 +1,7 @@
 //! A place of a key.
 
 ghost use Rattle.std.specs.Prelude.{◌≡◌, option_map};
-ghost use Rattle.stk_table.specs.Places.{entry_of, slot_value};
+ghost use Rattle.stk_table.specs.Places.{entry_of, is_filled, slot_value};
 
 /// What stands at the place of a key.
 #[derive(Drop)]
@@ -25,6 +25,13 @@ impl<K, V> Slot<K, V> {
             Slot::Filled(value) => Some((key, value)),
             Slot::Renamed(name, value) => Some((name, value)),
         }
+    }
+
+    /// Whether a value stands here under the key of the place.
+    pub(crate) fn is_filled(&self) -> bool
+        ensures { result ≡ is_filled self.now }
+    {
+        matches!(self, Slot::Filled(_))
     }
 
     /// The value that stands here.

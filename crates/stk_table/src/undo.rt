@@ -1,11 +1,14 @@
 //! Changes of places that are noted, so that they can be undone.
 
-ghost use Rattle.std.specs.Prelude.{◌≡◌, ◌<◌, ◌++◌, List, ◌∷◌, [], length, vec_len, vec_capacity, OnOk, OnErr, if◌then◌else◌};
-ghost use Rattle.std.specs.BTreeMap.{insert_entry};
-ghost use Rattle.stk_table.specs.Places.{filled, marks_of, put_back_slot, undo_of, AreNamed, FitBelow, Fits};
+ghost use Rattle.std.specs.Prelude.{◌≡◌, ◌<◌, ◌++◌, List, ◌∷◌, [], length, vec_len, vec_capacity, OnOk, OnErr, IfOk, IfErr, IfSome, Some, None, true, if◌then◌else◌};
+ghost use Rattle.std.specs.BTreeMap.{insert_entry, is_at};
+ghost use Rattle.std.specs.Map.{lookup, set_value};
+ghost use Rattle.stk_table.specs.declared.slot.Slot.{Slot};
+ghost use Rattle.stk_table.specs.Places.{filled, is_filled, marks_of, put_back_slot, undo_of, AreNamed, FitBelow, Fits};
 
 use crate::slot::Slot;
 use std::collections::BTreeMap;
+use std::mem;
 use stk_types::{Copied, TableFault};
 
 /// A point between two changes.
@@ -55,6 +58,70 @@ pub(crate) fn set<K: Ord + Copied, V: Copied>(
     let undo = Undo { key, before, point };
     note(log, undo);
     Ok(())
+}
+
+/// Lets a value stand where one stands under the key of its place, and answers what stood there. Elsewhere
+/// the value comes back, and nothing changes.
+pub(crate) fn refill<K: Ord + Copied, V: Copied>(
+    tree: &mut BTreeMap<K, Slot<K, V>>,
+    key: &K,
+    value: V,
+) -> Result<Slot<K, V>, V>
+    ensures found { IfOk result (λ before. lookup (is_at (K.cmp key.now)) tree.old.entries ≡ Some before) }
+    ensures filled { IfOk result (λ before. is_filled before ≡ true) }
+    ensures entries { OnOk result (tree.new.entries ≡ set_value (is_at (K.cmp key.now)) tree.old.entries (Slot.Filled value)) }
+    ensures given { IfErr result (λ given. given ≡ value) }
+    ensures same { OnErr result (tree.new.entries ≡ tree.old.entries) }
+{
+    match tree.get_mut(key) {
+        Some(place) => {
+            if place.is_filled() {
+                Ok(mem::replace(place, Slot::Filled(value)))
+            } else {
+                Err(value)
+            }
+        }
+        None => Err(value),
+    }
+}
+
+/// Lets a value stand where one stands under the key of its place, and notes the change where a mark is
+/// open. Elsewhere the value comes back, and nothing changes, as where memory is wanting.
+pub(crate) fn rewrite<K: Ord + Copied, V: Copied>(
+    tree: &mut BTreeMap<K, Slot<K, V>>,
+    log: &mut Vec<Undo<K, V>>,
+    marked: bool,
+    here: Point,
+    key: &K,
+    value: V,
+) -> Result<Option<V>, TableFault>
+    ensures done { IfOk result (λ left. left ≡ None → (before : V) × (lookup (is_at (K.cmp key.now)) tree.old.entries ≡ Some (Slot.Filled before))) }
+    ensures entries { IfOk result (λ left. left ≡ None → tree.new.entries ≡ set_value (is_at (K.cmp key.now)) tree.old.entries (Slot.Filled value)) }
+    ensures log { IfOk result (λ left. left ≡ None → log.new.items ≡ (if marked then log.old.items ++ undo_of K.cmp tree.old.entries here key.now ∷ [] else log.old.items)) }
+    ensures left { IfOk result (λ left. IfSome left (λ given. (given ≡ value) × (tree.new.entries ≡ tree.old.entries) × (log.new.items ≡ log.old.items))) }
+    ensures tree_err { OnErr result (tree.new.entries ≡ tree.old.entries) }
+    ensures log_err { OnErr result (log.new.items ≡ log.old.items) }
+{
+    if !marked {
+        return match refill(tree, key, value) {
+            Ok(_before) => Ok(None),
+            Err(value) => Ok(Some(value)),
+        };
+    }
+    let noted = key.copied()?;
+    log.reserve(1)?;
+    match refill(tree, key, value) {
+        Ok(before) => {
+            let refilled = Undo {
+                key: noted,
+                before: Some(before),
+                point: here,
+            };
+            note(log, refilled);
+            Ok(None)
+        }
+        Err(value) => Ok(Some(value)),
+    }
 }
 
 /// Notes a change, for which there is room.
@@ -129,11 +196,13 @@ pub(crate) fn close<K: Ord + Copied, V: Copied>(log: &mut Vec<Undo<K, V>>, here:
     }
 }
 
-/// Where no mark is open, takes the empty places of changed keys out, and forgets the changes.
+/// Where no mark is open, takes the empty places of changed keys out, and forgets the changes. So many
+/// entries are seen: where there are as many places, none is empty.
 pub(crate) fn clear<K: Ord + Copied, V: Copied>(
     tree: &mut BTreeMap<K, Slot<K, V>>,
     log: &mut Vec<Undo<K, V>>,
     depth: usize,
+    len: usize,
 )
     ensures entries { filled tree.new.entries ≡ filled tree.old.entries }
     ensures named { AreNamed K.cmp tree.old.entries → AreNamed K.cmp tree.new.entries }
@@ -141,6 +210,10 @@ pub(crate) fn clear<K: Ord + Copied, V: Copied>(
     ensures log { depth ≡ 0 → log.new.items ≡ [] }
 {
     if depth > 0 {
+        return;
+    }
+    if tree.len() == len {
+        log.clear();
         return;
     }
     while let Some(undo) = log.pop() {

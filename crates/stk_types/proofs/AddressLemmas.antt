@@ -1,11 +1,11 @@
 -- Reading by pairs of digits, against `hex`, which reads capital letters too.
-use Rattle.std.proofs.Common.{◌≡◌, ◌∙◌, sym, ap, refl, ℕ, zero, suc, ◌+◌, ◌*◌, ◌/◌, ◌%◌, ◌<◌, List, [], ◌∷◌, length, slice_index, Bool, true, false, ◌&&◌, ◌==◌, is_some, cond, Option, Some, None, Result, Ok, Err, arith, eq-eqb, eqb-true, ◌⊎◌, inl, inr}
+use Rattle.std.proofs.Common.{◌≡◌, ◌∙◌, sym, ap, refl, ℕ, zero, suc, ◌+◌, ◌*◌, ◌/◌, ◌%◌, ◌<◌, List, [], ◌∷◌, length, slice_index, Bool, true, false, ◌&&◌, ◌==◌, is_some, cond, Option, Some, None, Result, Ok, Err, arith, eq-eqb, eqb-true}
 use Rattle.std.specs.Result.{result_ok}
 use Rattle.std.specs.List.{list_all}
 use Rattle.std.proofs.lemmas.Bool.{and_parts}
 use Rattle.std.proofs.lemmas.Bool.Decides.{nat_tests}
 use Rattle.hex.specs.declared.error.FromHexError.{FromHexError}
-use Rattle.hex.specs.Hex.{◌>>=◌ as ◌>>=ʰ◌, decode_pairs, decode_sized, pair_value, value_at, digit_or_error, hex_digit_value, encode_with, encode_lower, lower_digits, IsBytes}
+use Rattle.hex.specs.Hex.{◌>>=◌ as ◌>>=ʰ◌, decode_pairs, pair_value, value_at, digit_or_error, hex_digit_value, encode_with, encode_lower, lower_digits, IsBytes}
 use Rattle.hex.proofs.HexLemmas.{length-encode_with, decode_pairs-encode_with, IsDigits-lower_digits}
 use Rattle.stk_types.specs.Maybe.{◌>>=◌}
 use Rattle.stk_types.specs.Address.{digit_of, is_digit, bytes_of, address_of, address_text, IsAddress}
@@ -16,61 +16,10 @@ has_value : (o : Option ℕ) → is_some o ≡ true → (v : ℕ) × (o ≡ Some
 has_value None h = cc
 has_value (Some v) h = (v, refl)
 
-has_no_value : (o : Option ℕ) → is_some o ≡ false → o ≡ None
-has_no_value None h = refl
-has_no_value (Some v) h = cc
-
 same_value : (c : ℕ) → is_digit c ≡ true → hex_digit_value c ≡ digit_of c
 same_value c h = grind (arith, nat_tests)
 
--- ---- reading
-
-not_all : (p q r : Bool) → (p && (q && r)) ≡ false → (p ≡ false) ⊎ ((q ≡ false) ⊎ (r ≡ false))
-not_all true true r h = inr (inr h)
-not_all true false r h = inr (inl refl)
-not_all false q r h = inl refl
-
-no_high : (high low : ℕ) (rest : List ℕ) → digit_of high ≡ None → bytes_of (high ∷ low ∷ rest) ≡ None
-no_high high low rest e = rw e refl
-
-with_low : (h low : ℕ) (rest : List ℕ) → digit_of low ≡ None → (do
-  l ← digit_of low
-  bytes ← bytes_of rest
-  Some ((16 * h + l) ∷ bytes)) ≡ None
-with_low h low rest e = rw e refl
-
-no_low : (o : Option ℕ) (low : ℕ) (rest : List ℕ) → digit_of low ≡ None → (do
-  h ← o
-  l ← digit_of low
-  bytes ← bytes_of rest
-  Some ((16 * h + l) ∷ bytes)) ≡ None
-no_low None low rest e = refl
-no_low (Some h) low rest e = with_low h low rest e
-
-no_rest : (o p : Option ℕ) (rest : List ℕ) → bytes_of rest ≡ None → (do
-  h ← o
-  l ← p
-  bytes ← bytes_of rest
-  Some ((16 * h + l) ∷ bytes)) ≡ None
-no_rest None p rest e = refl
-no_rest (Some h) None rest e = refl
-no_rest (Some h) (Some l) rest e = rw e refl
-
--- a text with a byte that is no digit spells nothing
-pub bytes_of-other : (text : List ℕ) → list_all is_digit text ≡ false → bytes_of text ≡ None
-bytes_of-other [] h = cc
-bytes_of-other (c ∷ []) h = refl
-bytes_of-other (high ∷ low ∷ rest) h =
-    elim (not_all (is_digit high) (is_digit low) (list_all is_digit rest) h) [
-      | inl e ↦ no_high high low rest (has_no_value (digit_of high) e)
-      | inr (inl e) ↦ no_low (digit_of high) low rest (has_no_value (digit_of low) e)
-      | inr (inr e) ↦ no_rest (digit_of high) (digit_of low) rest (bytes_of-other rest e)
-    ]
-
-pub address_of-other : (text : List ℕ) → list_all is_digit text ≡ false → address_of text ≡ None
-address_of-other text h = grind (arith, nat_tests, bytes_of-other text h)
-
--- ---- where all are digits
+-- ---- reading, as `hex` does, where all are digits
 
 pair_is : (high low i h l : ℕ) → hex_digit_value high ≡ Some h → hex_digit_value low ≡ Some l → pair_value high low i ≡ Ok (h * 16 + l)
 pair_is high low i h l eh el =
@@ -90,7 +39,7 @@ same_pairs i high low h l rest dh dl xh xl again =
     rw (pair_is high low i h l xh xl, dh, dl, turned) (cons_ok (16 * h + l) (decode_pairs (i + 2) rest) (bytes_of rest) again)
 
 -- a text of such digits spells what `hex` reads
-pub bytes_of-digits : (i : ℕ) (text : List ℕ) → list_all is_digit text ≡ true → result_ok (decode_pairs i text) ≡ bytes_of text
+bytes_of-digits : (i : ℕ) (text : List ℕ) → list_all is_digit text ≡ true → result_ok (decode_pairs i text) ≡ bytes_of text
 unfolding decode_pairs
 bytes_of-digits i [] h = refl
 bytes_of-digits i (c ∷ []) h = refl
@@ -100,9 +49,6 @@ bytes_of-digits i (high ∷ low ∷ rest) h =
     let (a, da) = has_value (digit_of high) first in
     let (b, db) = has_value (digit_of low) second in
     same_pairs i high low a b rest da db (same_value high first ∙ da) (same_value low second ∙ db) (bytes_of-digits (i + 2) rest more)
-
-pub address_of-digits : (text : List ℕ) → list_all is_digit text ≡ true → result_ok (decode_sized text 20) ≡ address_of text
-address_of-digits text h = grind (arith, nat_tests, bytes_of-digits 0 text h)
 
 -- ---- printing, and reading that again
 

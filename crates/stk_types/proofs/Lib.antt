@@ -4,4 +4,7 @@ pub mod DayLemmas
 pub mod DateLemmas
 pub mod MomentLemmas
 pub mod AccountLemmas
+pub mod DigitLemmas
 pub mod OnLiterals
+pub mod OrderLemmas
+pub mod WordLemmas

@@ -7,3 +7,4 @@ pub mod Denom
 pub mod Calendar
 pub mod Moment
 pub mod Orders
+pub mod Words

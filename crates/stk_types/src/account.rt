@@ -1,6 +1,15 @@
-ghost use Rattle.std.specs.Prelude.{◌≡◌, ℕ, List, Some, None, IfSome};
+ghost use Rattle.std.specs.Prelude.{◌≡◌, ℕ, List, ◌∷◌, [], Some, None, nat_eq};
+ghost use Rattle.std.specs.Cmp.Lexicographic.{bytes_decides, pointwise};
+ghost use Rattle.std.specs.Cmp.Rules.{comparing};
+ghost use Rattle.std.specs.Cmp.{partial_order_from_own_ties};
+ghost use Rattle.std.specs.Ordering.{as_partial_cmp};
+ghost use Rattle.std.proofs.Common.{ap, rules};
 ghost use Rattle.stk_types.specs.Modules.{module_bytes, module_name, module_of, user_from};
+ghost use Rattle.stk_types.specs.Orders.{addr_cmp};
 
+use crate::words::{are_equal, order_of};
+use std::cmp::Ordering;
+use std::hash::{Hash, Hasher};
 use std::marker::Model;
 
 /// The modules that hold coins, in the order of their addresses.
@@ -46,16 +55,16 @@ impl Module {
 }
 
 /// The module that has this address.
-fn module_of(bytes: &[u8]) -> Option<Module>
+fn module_of(bytes: &[u8; 20]) -> Option<Module>
     ensures { result ≡ module_of bytes.now }
 {
-    if bytes == Module::FeeCollector.bytes().as_slice() {
+    if are_equal(bytes, &Module::FeeCollector.bytes()) {
         Some(Module::FeeCollector)
-    } else if bytes == Module::Bonded.bytes().as_slice() {
+    } else if are_equal(bytes, &Module::Bonded.bytes()) {
         Some(Module::Bonded)
-    } else if bytes == Module::NotBonded.bytes().as_slice() {
+    } else if are_equal(bytes, &Module::NotBonded.bytes()) {
         Some(Module::NotBonded)
-    } else if bytes == Module::Distribution.bytes().as_slice() {
+    } else if are_equal(bytes, &Module::Distribution.bytes()) {
         Some(Module::Distribution)
     } else {
         None
@@ -64,7 +73,7 @@ fn module_of(bytes: &[u8]) -> Option<Module>
 
 /// The address of a user, who may be an operator: twenty bytes that are no module's address. Ordered
 /// by the bytes; contracts see the list of them.
-#[derive(Clone, Copy, Debug, PartialEq, Eq, PartialOrd, Ord, Hash)]
+#[derive(Clone, Copy, Debug)]
 pub struct Addr {
     bytes: [u8; 20],
 }
@@ -99,6 +108,54 @@ impl Addr {
         ensures user { module_of result ≡ None }
     {
         self.bytes
+    }
+}
+
+impl PartialEq for Addr {
+    ghost eq = { pointwise nat_eq };
+
+    ghost laws = { Prim.search (comparing, rules) };
+
+    fn eq(&self, other: &Addr) -> bool {
+        are_equal(&self.bytes, &other.bytes)
+    }
+}
+
+impl Eq for Addr {
+    ghost laws = { Prim.search (comparing, rules) };
+}
+
+impl Ord for Addr {
+    ghost cmp = { addr_cmp };
+
+    ghost total = { Prim.search (comparing, rules) };
+
+    ghost matches_partial_cmp = { Prim.search (comparing, rules) };
+
+    ghost matches_eq = { Prim.search (comparing, rules) };
+
+    fn cmp(&self, other: &Addr) -> Ordering {
+        order_of(&self.bytes, &other.bytes)
+    }
+}
+
+impl PartialOrd for Addr {
+    ghost partial_cmp = { as_partial_cmp addr_cmp };
+
+    ghost laws = { partial_order_from_own_ties (Prim.search (comparing, rules)) (Prim.search (comparing, rules)) };
+
+    fn partial_cmp(&self, other: &Addr) -> Option<Ordering> {
+        Some(self.cmp(other))
+    }
+}
+
+impl Hash for Addr {
+    ghost hash_input = { λ addr. addr ∷ [] };
+
+    ghost respects_eq = { λ a b same. ap (λ bytes. bytes ∷ []) ((bytes_decides a b).0 same) };
+
+    fn hash<H: Hasher>(&self, state: &mut H) {
+        state.write(&self.bytes);
     }
 }
 

@@ -1,36 +1,12 @@
 ghost use Rattle.std.specs.Prelude.{◌≡◌, Some, None, IfOk, IfErr, string_bytes};
-ghost use Rattle.std.specs.List.{list_all};
-ghost use Rattle.stk_types.specs.Address.{is_digit, address_of, address_text, user_of};
+ghost use Rattle.stk_types.specs.Address.{address_of, address_text, user_of};
 ghost use Rattle.stk_types.specs.Accounts.{account_of, account_text};
 
 use crate::account::{Account, Addr};
 use crate::cons::ConsAddr;
+use crate::digits::read_bytes;
 use crate::fault::TextFault;
-use hex::FromHex;
 use std::alloc::Global;
-
-/// Whether the byte is a hexadecimal digit, with a small letter.
-fn is_digit(c: u8) -> bool
-    ensures { result ≡ is_digit c }
-{
-    matches!(c, b'0'..=b'9' | b'a'..=b'f')
-}
-
-fn are_digits(text: &[u8]) -> bool
-    ensures { result ≡ list_all is_digit text.now }
-{
-    text.iter().all(|c| is_digit(*c))
-}
-
-/// The twenty bytes that the text spells.
-fn read_bytes(text: &str) -> Option<[u8; 20]>
-    ensures { result ≡ address_of text.now }
-{
-    if !are_digits(text.as_bytes()) {
-        return None;
-    }
-    <[u8; 20] as FromHex>::from_hex(text).ok()
-}
 
 /// Reads an account: forty hexadecimal digits with small letters, which may be a module's address.
 /// `BadAddress` comes exactly at any other text. Takes no memory.

@@ -1,4 +1,4 @@
-ghost use Rattle.std.specs.Prelude.{◌≡◌, ◌≤◌, length, true, Some, None, IfOk, IfErr, nat_eq, string_bytes};
+ghost use Rattle.std.specs.Prelude.{◌≡◌, ◌≤◌, length, true, Some, None, IfOk, IfErr, nat_eq};
 ghost use Rattle.std.specs.List.{list_all};
 ghost use Rattle.std.specs.Cmp.Rules.{comparing};
 ghost use Rattle.std.specs.Cmp.{partial_order_from_own_ties};
@@ -11,7 +11,6 @@ ghost use Rattle.stk_types.specs.Orders.{denom_cmp};
 ghost use Rattle.stk_types.specs.Padded.{padded};
 
 use crate::fault::TextFault;
-use std::alloc::Global;
 use std::cmp::Ordering;
 use std::hash::{Hash, Hasher};
 use std::marker::Model;
@@ -171,16 +170,4 @@ pub fn read_denom(text: &str) -> Result<Denom, TextFault>
         Some(denom) => Ok(denom),
         None => Err(TextFault::BadDenom),
     }
-}
-
-/// Prints the name. The only error is `NoMemory`.
-pub fn print_denom(alloc: Global, denom: &Denom) -> Result<String, TextFault>
-    ensures text { IfOk result (λ text. string_bytes text ≡ denom.now) }
-    ensures fault { IfErr result (λ fault. fault ≡ TextFault.NoMemory) }
-{
-    let mut text = String::new(alloc);
-    for c in denom.bytes() {
-        text.push(*c as char)?;
-    }
-    Ok(text)
 }

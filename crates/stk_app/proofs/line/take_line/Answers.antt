@@ -5,7 +5,7 @@ pub returns-in-Err-clause-stops : goal.returns-in-Err-clause-stops
 returns-in-Err-clause-stops g c = answer_stops _ _ _ _ _ c.in-Err.ensures.err
 
 pub returns-in-Err-Failed-clause-stops : goal.returns-in-Err-Failed-clause-stops
-returns-in-Err-Failed-clause-stops g c = write_stops _ _ _ _ _ _ c.in-Ok.ensures.ok (rw c.deref.ensures.value at c.in-Err-Failed.ensures.err)
+returns-in-Err-Failed-clause-stops g c = write_stops _ _ _ _ _ _ c.in_default.ensures.ok (rw c.deref.ensures.value at c.in-Err-Failed.ensures.err)
 
-pub returns-clause-stops : goal.returns-clause-stops
-returns-clause-stops g c = full_stops _ _ _ _ _ _ c.in-Ok.ensures.ok (rw c.deref.ensures.value at c.in-Err-NoMemory.ensures.err)
+pub returns-in-Err-NoMemory-clause-stops : goal.returns-in-Err-NoMemory-clause-stops
+returns-in-Err-NoMemory-clause-stops g c = full_stops _ _ _ _ _ _ c.in_default.ensures.ok (rw c.deref.ensures.value at c.in-Err-NoMemory.ensures.err)

@@ -1,4 +1,4 @@
-use Rattle.std.proofs.Common.{◌≡◌}
+use Rattle.std.proofs.Common.{◌≡◌, ap}
 use Rattle.stk_machine.specs.Built.{stake_over}
 use Rattle.stk_machine.specs.GenesisState.{ground_at_start, empty_over}
 use Rattle.stk_chain.specs.Chained.{stands, marks_of, no_marks}
@@ -17,4 +17,4 @@ add_stake-requires-clause-rest g c =
     let is : stands m ≡ empty_over (ground_at_start genesis)
     = λ i. stake_over (c.new-2.ensures i).staked (record { bank = (book i).holdings; ctx = record { height = 0; time = genesis.time; params = genesis.params }; facts = c.new.ensures i }) in
     let marks : marks_of m ≡ no_marks = λ i. record { bank = (book i).marks; staking = (c.new-2.ensures i).marks } in
-    rests_first genesis m c.requires.starts is marks
+    rests_first genesis m c.requires.starts is marks (ap (λ r. r.power_reduction) c.new-2.ensures)

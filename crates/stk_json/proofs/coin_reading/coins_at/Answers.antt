@@ -1,11 +1,10 @@
 use Rattle.std.proofs.Common.{◌≡◌, sym, ◌∙◌, Ok, ap}
-use Rattle.serde_json.specs.View.{view}
 use Rattle.stk_json.specs.Nested.{list_at}
 use Rattle.stk_json.specs.Coin.{coin_of}
 use Rattle.stk_json.proofs.CoinLemmas.{coins_below}
 use Rattle.stk_json.proofs.coin_reading.coins_at.Goals as goal
 
 pub of-requires : goal.of-requires
-of-requires c =
-    let read : list_at coin_of c.args.number c.args.name.now (view c.args.value.now) ≡ Ok c.into_vec.result.items = c.in_ok-list.ensures ∙ sym (ap Ok c.into_vec.ensures) in
-    coins_below c.args.number c.args.name.now (view c.args.value.now) c.into_vec.result.items read
+of-requires g c =
+    let read : list_at coin_of c.args.number c.args.name.now (g.N.Tree.seen c.args.tree.now) ≡ Ok c.into_vec.result.items = c.in_ok-list.ensures ∙ sym (ap Ok c.into_vec.ensures) in
+    coins_below c.args.number c.args.name.now (g.N.Tree.seen c.args.tree.now) c.into_vec.result.items read

@@ -1,6 +1,7 @@
 use Rattle.std.proofs.Common.{◌≡◌, ◌++◌, map}
 use Rattle.std.specs.Prelude.{option_map}
-use Rattle.stk_report.specs.Groups.{accounts_in, opened}
+use Rattle.stk_machine.specs.Report.{accounts_in}
+use Rattle.stk_report.specs.Groups.{opened}
 use Rattle.stk_report.specs.Lines.{account_line, text_of}
 use Rattle.stk_json.specs.Told.{coins_seen}
 use Rattle.stk_report.proofs.accounts.push_accounts.Given as goal

@@ -2,7 +2,7 @@ use Rattle.std.proofs.Common.{◌≡◌, ◌∙◌, ◌++◌, ◌∷◌, [], ℕ
 use Rattle.std.specs.Prelude.{option_map}
 use Rattle.std.proofs.lemmas.List.{map-append}
 use Rattle.stk_json.specs.Line.{line_of}
-use Rattle.stk_report.specs.Groups.{is_same_account}
+use Rattle.stk_machine.specs.Report.{is_same_account}
 use Rattle.stk_report.specs.Lines.{account_line}
 use Rattle.stk_json.specs.Told.{coins_seen}
 use Rattle.stk_report.proofs.AccountLemmas.{first_gathered, other_gathered, same_gathered}

@@ -2,7 +2,7 @@ use Rattle.std.proofs.Common.{◌≡◌, drop}
 use Rattle.std.specs.List.{filter_map}
 use Rattle.stk_keep.specs.Orders.{place_cmp}
 use Rattle.stk_report.specs.Telling.{balance_in}
-use Rattle.stk_report.specs.Orders.{entries_with, in_order}
+use Rattle.stk_machine.specs.Orders.{entries_with, in_order}
 use Rattle.stk_report.proofs.groups.balances.Given as goal
 
 abbrev pub invariant-loop-item : goal.invariant-loop-item

@@ -2,7 +2,7 @@ use Rattle.std.proofs.Common.{◌≡◌, drop}
 use Rattle.std.specs.List.{filter_map}
 use Rattle.stk_types.specs.Orders.{cons_cmp}
 use Rattle.stk_report.specs.Telling.{signing_in}
-use Rattle.stk_report.specs.Orders.{entries_with}
+use Rattle.stk_machine.specs.Orders.{entries_with}
 use Rattle.stk_report.specs.Groups.{signing_of}
 use Rattle.stk_report.proofs.groups.signing_records.Given as goal
 

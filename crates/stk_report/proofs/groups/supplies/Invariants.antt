@@ -2,7 +2,7 @@ use Rattle.std.proofs.Common.{◌≡◌, drop}
 use Rattle.std.specs.List.{filter_map}
 use Rattle.stk_types.specs.Orders.{denom_cmp}
 use Rattle.stk_report.specs.Telling.{supply_in}
-use Rattle.stk_report.specs.Orders.{entries_with}
+use Rattle.stk_machine.specs.Orders.{entries_with}
 use Rattle.stk_report.specs.Groups.{supply_of}
 use Rattle.stk_report.proofs.groups.supplies.Given as goal
 

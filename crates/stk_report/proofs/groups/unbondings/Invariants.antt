@@ -2,7 +2,7 @@ use Rattle.std.proofs.Common.{◌≡◌, drop}
 use Rattle.std.specs.List.{filter_map}
 use Rattle.stk_keep.specs.Orders.{pair_cmp}
 use Rattle.stk_report.specs.Telling.{unbonding_in}
-use Rattle.stk_report.specs.Orders.{entries_with}
+use Rattle.stk_machine.specs.Orders.{entries_with}
 use Rattle.stk_report.specs.Seen.{seen}
 use Rattle.stk_report.specs.Groups.{unbondings_of}
 use Rattle.stk_report.proofs.groups.unbondings.Given as goal

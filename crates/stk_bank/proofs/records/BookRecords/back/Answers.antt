@@ -1,7 +1,13 @@
-use Rattle.std.proofs.Common.{◌∙◌, ◌++◌, ap}
+use Rattle.std.proofs.Common.{◌∙◌, ◌++◌, length, sym, ap}
 use Rattle.std.specs.Option.{option_to_list}
-use Rattle.stk_bank.proofs.StepLemmas.{numbers-pop}
+use Rattle.stk_rows.proofs.MarkLemmas.{numbers-pop, numbers-last}
 use Rattle.stk_bank.proofs.records.BookRecords.back.Goals as goal
+
+pub back_to-requires : goal.back_to-requires
+back_to-requires g c = record {
+  latest = numbers-last c.pop.new.self.items c.unwrap-mark.result (length c.self.inside.tables.marks)
+      (sym (c.pop.ensures.items ∙ ap (λ r. c.pop.new.self.items ++ option_to_list r) c.unwrap-mark.ensures) ∙ c.self.invariant);
+}
 
 pub invariant_of-self : goal.invariant_of-self
 invariant_of-self g c =

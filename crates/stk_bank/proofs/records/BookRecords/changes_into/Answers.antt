@@ -1,11 +1,13 @@
 use Rattle.std.proofs.Common.{◌∙◌, ap}
-use Rattle.stk_bank.proofs.ItemLemmas.{changes_at}
+use Rattle.stk_rows.proofs.KindLemmas.{changed-at}
+use Rattle.stk_bank.specs.Rows.{items_of}
+use Rattle.stk_bank.proofs.ItemLemmas.{kinds-apart}
 use Rattle.stk_bank.proofs.records.BookRecords.changes_into.Goals as goal
+
+pub changes_into-requires : goal.changes_into-requires
+changes_into-requires g c = record { told = ((λ k v m. tt, λ k v m. tt), (λ k v m. tt, λ k v m. tt), kinds-apart) }
 
 pub returns-clause-changes : goal.returns-clause-changes
 returns-clause-changes g c =
-    changes_at c.balances.result.now c.supplies.result.now c.args.self.now.settled c.args.self.now.holdings c.changes_into-2.result c.args.out.now.items c.changes_into.new.out.items c.changes_into-2.new.out.items
-    (c.balances.ensures.settled ∙ ap (λ b. b.settled.balances) c.self.view_is) (c.supplies.ensures.settled ∙ ap (λ b. b.settled.supplies) c.self.view_is)
-    (c.balances.ensures.entries ∙ ap (λ b. b.holdings.balances) c.self.view_is) (c.supplies.ensures.entries ∙ ap (λ b. b.holdings.supplies) c.self.view_is)
-    c.changes_into.ensures.settled c.changes_into-2.ensures.settled c.changes_into.ensures.ordered c.changes_into-2.ensures.ordered
-    c.in_ok-changes_into.ensures.changes c.changes_into-2.ensures.changes
+    changed-at items_of c.changes_into.result _ c.args.self.now.holdings (c.kinds.ensures.held ∙ ap (λ b. b.holdings) c.self.view_is) _ c.args.self.now.settled (c.kinds.ensures.settled ∙ ap (λ b. b.settled) c.self.view_is)
+    c.args.out.now.items c.changes_into.new.out.items c.changes_into.ensures.changes

@@ -1,11 +1,14 @@
-use Rattle.std.proofs.Common.{subst}
-use Rattle.stk_keep.specs.Items.{IsOnce}
+use Rattle.std.proofs.Common.{◌∙◌, ap}
+use Rattle.stk_rows.proofs.KindLemmas.{once-at, listed-at}
 use Rattle.stk_bank.specs.Rows.{items_of}
-use Rattle.stk_bank.proofs.ItemLemmas.{on_ok, items-once_at}
+use Rattle.stk_bank.proofs.ItemLemmas.{kinds-apart}
 use Rattle.stk_bank.proofs.records.BookRecords.items_into.Goals as goal
 
+pub items_into-requires : goal.items_into-requires
+items_into-requires g c = record { told = ((λ k v m. tt, λ k v m. tt), (λ k v m. tt, λ k v m. tt), kinds-apart) }
+
 pub returns-clause-once : goal.returns-clause-once
-returns-clause-once g c =
-    on_ok c.rows_into-2.result
-    (subst (λ b. IsOnce (items_of b.holdings)) c.self.view_is
-    (items-once_at c.balances.result.now c.supplies.result.now c.self.inside.tables.settled c.self.inside.tables.holdings c.balances.ensures.entries c.supplies.ensures.entries c.rows_into.ensures.ordered c.rows_into-2.ensures.ordered))
+returns-clause-once g c = once-at items_of c.items_into.result _ c.args.self.now.holdings (c.kinds.ensures.held ∙ ap (λ b. b.holdings) c.self.view_is) c.items_into.ensures.once
+
+pub returns-clause-items : goal.returns-clause-items
+returns-clause-items g c = listed-at items_of c.items_into.result _ c.args.self.now.holdings (c.kinds.ensures.held ∙ ap (λ b. b.holdings) c.self.view_is) c.args.out.now.items c.items_into.new.out.items c.items_into.ensures.items

@@ -2,7 +2,7 @@ use Rattle.std.proofs.Common.{◌≡◌, ◌++◌, length}
 use Rattle.std.specs.Prelude.{map}
 use Rattle.stk_types.specs.Orders.{denom_cmp}
 use Rattle.stk_keep.specs.Holdings.{coins_of}
-use Rattle.stk_bank.proofs.WalkLemmas.{left_of}
+use Rattle.stk_rows.proofs.WalkLemmas.{left_of}
 use Rattle.stk_bank.proofs.tables.Tables.coins_of.Given as goal
 
 abbrev pub invariant-loop-coin : goal.invariant-loop-coin

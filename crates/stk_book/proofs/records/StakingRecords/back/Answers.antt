@@ -1,6 +1,7 @@
 use Rattle.std.proofs.Common.{◌∙◌, ◌+◌, ◌++◌, length, sym, ap}
 use Rattle.std.specs.Option.{option_to_list}
-use Rattle.stk_book.proofs.StepLemmas.{numbers-pop, numbers-last, in_step-back, registered-back}
+use Rattle.stk_rows.proofs.MarkLemmas.{numbers-pop, numbers-last}
+use Rattle.stk_book.proofs.StepLemmas.{in_step-back, registered-back}
 use Rattle.stk_book.proofs.records.StakingRecords.back.Goals as goal
 
 pub back_to-requires : goal.back_to-requires

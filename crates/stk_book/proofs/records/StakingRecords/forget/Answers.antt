@@ -1,6 +1,7 @@
 use Rattle.std.proofs.Common.{◌∙◌, ◌+◌, ◌++◌, length, sym, ap}
 use Rattle.std.specs.Option.{option_to_list}
-use Rattle.stk_book.proofs.StepLemmas.{numbers-pop, numbers-last, in_step-forgotten, registered-forgotten}
+use Rattle.stk_rows.proofs.MarkLemmas.{numbers-pop, numbers-last}
+use Rattle.stk_book.proofs.StepLemmas.{in_step-forgotten, registered-forgotten}
 use Rattle.stk_book.proofs.records.StakingRecords.forget.Goals as goal
 
 pub forget-requires : goal.forget-requires

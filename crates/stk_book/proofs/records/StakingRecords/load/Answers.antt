@@ -1,7 +1,8 @@
-use Rattle.std.proofs.Common.{ap, subst}
+use Rattle.std.proofs.Common.{refl, ap, subst}
 use Rattle.stk_keep.specs.Items.{HasRoom}
+use Rattle.stk_rows.proofs.KindLemmas.{added-at}
 use Rattle.stk_book.specs.Rows.{items_of}
-use Rattle.stk_book.proofs.ItemLemmas.{validator-added, delegation-added, added-same, found_fit, room_none}
+use Rattle.stk_book.proofs.ItemLemmas.{validator-added, delegation-added, found_fit, room_none}
 use Rattle.stk_book.proofs.records.StakingRecords.load.Goals as goal
 
 pub add-requires : goal.add-requires
@@ -9,12 +10,12 @@ add-requires g c = record { new = room_none c.args.self.now.staked c.in-Validato
 
 pub returns-in_ok-add-in-Validator-clause-added : goal.returns-in_ok-add-in-Validator-clause-added
 returns-in_ok-add-in-Validator-clause-added g c = λ _.
-    added-same c.args.self.now.staked _ c.add.new.self.staked _ c.args.item.now
+    added-at items_of c.args.self.now.staked _ c.args.self.now.staked c.add.new.self.staked _ c.args.item.now
     (validator-added c.args.self.now.staked c.in-Validator.validator (found_fit c.args.self.now.staked c.known.ensures.validators c.known.ensures.operators) c.known.ensures.validators)
-    (ap (λ r. r.staked) c.in_ok-add-in-Validator.ensures.ok) c.in-Validator.is
+    refl (ap (λ r. r.staked) c.in_ok-add-in-Validator.ensures.ok) c.in-Validator.is
 
 pub returns-in_ok-put_shares-in-Delegation-clause-added : goal.returns-in_ok-put_shares-in-Delegation-clause-added
 returns-in_ok-put_shares-in-Delegation-clause-added g c = λ _.
-    added-same c.args.self.now.staked _ c.put_shares.new.self.staked _ c.args.item.now
-    (delegation-added c.args.self.now.staked c.in-Delegation.delegator c.in-Delegation.operator c.in-Delegation.shares c.known.ensures.delegations)
-    (ap (λ r. r.staked) c.in_ok-put_shares-in-Delegation.ensures.ok) c.in-Delegation.is
+    added-at items_of c.args.self.now.staked _ c.args.self.now.staked c.put_shares.new.self.staked _ c.args.item.now
+    (delegation-added c.args.self.now.staked c.in-Delegation.delegator c.in-Delegation.operator c.in-Delegation.shares (found_fit c.args.self.now.staked c.known.ensures.validators c.known.ensures.operators) c.known.ensures.delegations)
+    refl (ap (λ r. r.staked) c.in_ok-put_shares-in-Delegation.ensures.ok) c.in-Delegation.is

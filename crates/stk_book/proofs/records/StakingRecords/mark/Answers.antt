@@ -1,7 +1,8 @@
 use Rattle.std.proofs.Common.{◌∙◌, ◌++◌, [], ◌∷◌, length, sym, ap}
 use Rattle.std.specs.List.{range_with_len}
 use Rattle.stk_book.specs.Registered.{registered}
-use Rattle.stk_book.proofs.StepLemmas.{numbers-push, in_step-marked, registered-marked}
+use Rattle.stk_rows.proofs.MarkLemmas.{numbers-push}
+use Rattle.stk_book.proofs.StepLemmas.{in_step-marked, registered-marked}
 use Rattle.stk_book.proofs.records.StakingRecords.mark.Goals as goal
 
 pub invariant_of-self-in-Ok : goal.invariant_of-self-in-Ok

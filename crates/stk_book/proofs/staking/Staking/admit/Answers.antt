@@ -6,7 +6,7 @@ use Rattle.stk_keep.specs.Ground.{seen}
 use Rattle.stk_keep.specs.Hooks.{Stand}
 use Rattle.stk_keep.specs.Staked.{lists_of, bonded_tokens, other_tokens, HoldsStake}
 use Rattle.stk_keep.specs.World.{created}
-use Rattle.stk_keep.proofs.HookLemmas.{Stand-after_ok}
+use Rattle.stk_keep.proofs.HookLemmas.{Stand-after_ok, picked}
 use Rattle.stk_rules.proofs.SoundLemmas.{IsSoundAt, to_points, from_points}
 use Rattle.stk_book.proofs.ListLemmas.{lists-joined}
 use Rattle.stk_book.proofs.GroundLemmas.{holds-kept}
@@ -35,26 +35,33 @@ returns-clause-stand g c =
     let s = c.args.self.now.staked in
     let v = c.new_validator-v.result in
     let t = g.H.StakingHooks.tells in
-    let hs = g.H.StakingHooks.held c.args.hooks.now in
-    let hs2 = g.H.StakingHooks.held c.after_validator_created.new.self in
+    let hs = c.requires.stand.0 in
+    let holds = g.H.StakingHooks.holds c.after_validator_created.new.self in
     let u = seen g.B.Bank.holdings c.args.g.now in
     let u2 = seen g.B.Bank.holdings c.after_validator_created.new.g in
-    let ready = ready-created s c.args.m.now c.args.g.now.ctx.time v c.new_validator-v.ensures c.requires.new t hs u c.requires.stand in
+    let ready = ready-created s c.args.m.now c.args.g.now.ctx.time v c.new_validator-v.ensures c.requires.new t hs u c.requires.stand.1.1 in
     where_ok c.after_validator_created.result _ (λ e.
-    subst (Stand t hs2 u2) (sym (lists-joined s v) ∙ ap lists_of (sym (ap (λ r. r.staked) c.in_ok-add.ensures.ok)))
-    (Stand-after_ok t g.met.H.StakingHooks.lawful hs hs2 (created v) u u2 (lists_of s) ready (subst (λ r. Answers (t.told hs (created v) u) hs2 u2 r) e c.after_validator_created.ensures.told)))
+    let p = picked (t.told hs (created v) u) holds u2 (subst (λ r. Answers (t.told hs (created v) u) holds u2 r) e (c.after_validator_created.ensures.told hs c.requires.stand.1.0)) in (
+      p.0,
+      (
+        p.1.0,
+        subst (Stand t p.0 u2) (sym (lists-joined s v) ∙ ap lists_of (sym (ap (λ r. r.staked) c.in_ok-add.ensures.ok)))
+            (Stand-after_ok t g.met.H.StakingHooks.lawful hs p.0 (created v) u u2 (lists_of s) ready p.1.1),
+      ),
+    ))
 
 pub returns-clause-accounts : goal.returns-clause-accounts
 returns-clause-accounts g c =
     let s = c.args.self.now.staked in
     let v = c.new_validator-v.result in
     let t = g.H.StakingHooks.tells in
-    let hs = g.H.StakingHooks.held c.args.hooks.now in
-    let hs2 = g.H.StakingHooks.held c.after_validator_created.new.self in
+    let hs = c.requires.stand.0 in
+    let holds = g.H.StakingHooks.holds c.after_validator_created.new.self in
     let u = seen g.B.Bank.holdings c.args.g.now in
     let u2 = seen g.B.Bank.holdings c.after_validator_created.new.g in
-    let ready = ready-created s c.args.m.now c.args.g.now.ctx.time v c.new_validator-v.ensures c.requires.new t hs u c.requires.stand in
+    let ready = ready-created s c.args.m.now c.args.g.now.ctx.time v c.new_validator-v.ensures c.requires.new t hs u c.requires.stand.1.1 in
     where_ok c.after_validator_created.result _ (λ e.
-    let keeps = keeps-ok t g.met.H.StakingHooks.lawful hs hs2 (created v) u u2 (lists_of s) ready (subst (λ r. Answers (t.told hs (created v) u) hs2 u2 r) e c.after_validator_created.ensures.told) in
+    let p = picked (t.told hs (created v) u) holds u2 (subst (λ r. Answers (t.told hs (created v) u) holds u2 r) e (c.after_validator_created.ensures.told hs c.requires.stand.1.0)) in
+    let keeps = keeps-ok t g.met.H.StakingHooks.lawful hs p.0 (created v) u u2 (lists_of s) ready p.1.1 in
     subst (λ x. HoldsStake u2 (bonded_tokens x) (other_tokens x)) (sym (ap (λ r. r.staked) c.in_ok-add.ensures.ok))
     (joined_tokens s c.args.m.now c.args.g.now.ctx.time v c.new_validator-v.ensures c.requires.new u2 (holds-kept _ u u2 _ _ keeps c.requires.accounts)))

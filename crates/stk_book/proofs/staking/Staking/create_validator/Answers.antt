@@ -5,7 +5,7 @@ use Rattle.stk_keep.specs.Staked.{validator_of, with_validator, lists_of, bonded
 use Rattle.stk_keep.specs.World.{created}
 use Rattle.std.specs.Prelude.{Ok, Err}
 use Rattle.stk_keep.specs.Answers.{AnswersAs}
-use Rattle.stk_keep.proofs.HookLemmas.{Stand-after_ok, told-of_ok}
+use Rattle.stk_keep.proofs.HookLemmas.{Stand-after_ok, told-of_ok, picked}
 use Rattle.stk_rules.specs.Delegating.{wallet, delegated}
 use Rattle.stk_book.specs.Calls.{behind_log}
 use Rattle.stk_rules.proofs.SoundLemmas.{IsSoundAt, to_points, from_points}
@@ -36,60 +36,63 @@ delegate_to-delegated-requires-clause-stand g c =
     let s = c.args.self.now.staked in
     let v = c.new_validator-v.result in
     let t = g.H.StakingHooks.tells in
-    let hs = g.H.StakingHooks.held c.args.hooks.now in
-    let hs2 = g.H.StakingHooks.held c.after_validator_created.new.self in
+    let hs = c.requires.stand.0 in
     let u = seen g.B.Bank.holdings c.args.g.now in
     let u2 = seen g.B.Bank.holdings c.after_validator_created.new.g in
-    let ready = ready-created s c.args.m.now c.args.g.now.ctx.time v c.new_validator-v.ensures (sym c.in-None.ensures.value) t hs u c.requires.stand in
-    subst (Stand t hs2 u2) (sym (lists-joined s v) ∙ ap lists_of (sym (ap (λ r. r.staked) c.in_ok-add.ensures.ok)))
-    (Stand-after_ok t g.met.H.StakingHooks.lawful hs hs2 (created v) u u2 (lists_of s) ready c.in_ok-after_validator_created.ensures.told)
+    let p = picked (t.told hs (created v) u) (g.H.StakingHooks.holds c.after_validator_created.new.self) u2 (c.in_ok-after_validator_created.ensures.told hs c.requires.stand.1.0) in
+    let ready = ready-created s c.args.m.now c.args.g.now.ctx.time v c.new_validator-v.ensures (sym c.in-None.ensures.value) t hs u c.requires.stand.1.1 in (
+      p.0,
+      (
+        p.1.0,
+        subst (Stand t p.0 u2) (sym (lists-joined s v) ∙ ap lists_of (sym (ap (λ r. r.staked) c.in_ok-add.ensures.ok)))
+            (Stand-after_ok t g.met.H.StakingHooks.lawful hs p.0 (created v) u u2 (lists_of s) ready p.1.1),
+      ),
+    )
 
 pub delegate_to-delegated-requires-clause-accounts : goal.delegate_to-delegated-requires-clause-accounts
 delegate_to-delegated-requires-clause-accounts g c =
     let s = c.args.self.now.staked in
     let v = c.new_validator-v.result in
     let t = g.H.StakingHooks.tells in
-    let hs = g.H.StakingHooks.held c.args.hooks.now in
-    let hs2 = g.H.StakingHooks.held c.after_validator_created.new.self in
+    let hs = c.requires.stand.0 in
     let u = seen g.B.Bank.holdings c.args.g.now in
     let u2 = seen g.B.Bank.holdings c.after_validator_created.new.g in
-    let ready = ready-created s c.args.m.now c.args.g.now.ctx.time v c.new_validator-v.ensures (sym c.in-None.ensures.value) t hs u c.requires.stand in
-    let keeps = keeps-ok t g.met.H.StakingHooks.lawful hs hs2 (created v) u u2 (lists_of s) ready c.in_ok-after_validator_created.ensures.told in
+    let p = picked (t.told hs (created v) u) (g.H.StakingHooks.holds c.after_validator_created.new.self) u2 (c.in_ok-after_validator_created.ensures.told hs c.requires.stand.1.0) in
+    let ready = ready-created s c.args.m.now c.args.g.now.ctx.time v c.new_validator-v.ensures (sym c.in-None.ensures.value) t hs u c.requires.stand.1.1 in
+    let keeps = keeps-ok t g.met.H.StakingHooks.lawful hs p.0 (created v) u u2 (lists_of s) ready p.1.1 in
     subst (λ x. HoldsStake u2 (bonded_tokens x) (other_tokens x)) (sym (ap (λ r. r.staked) c.in_ok-add.ensures.ok))
     (joined_tokens s c.args.m.now c.args.g.now.ctx.time v c.new_validator-v.ensures (sym c.in-None.ensures.value) u2 (holds-kept _ u u2 _ _ keeps c.requires.accounts))
 
 pub returns-in-Ok-clause-told : goal.returns-in-Ok-clause-told
-returns-in-Ok-clause-told g c =
+returns-in-Ok-clause-told g c = λ hs o.
     let s = c.args.self.now.staked in
     let m = c.args.m.now in
     let v = c.new_validator-v.result in
     let t = g.H.StakingHooks.tells in
-    let hs = g.H.StakingHooks.held c.args.hooks.now in
-    let hs2 = g.H.StakingHooks.held c.after_validator_created.new.self in
     let u = seen g.B.Bank.holdings c.args.g.now in
     let u2 = seen g.B.Bank.holdings c.after_validator_created.new.g in
-    let given = told-of_ok (t.told hs (created v) u) hs2 u2 c.in_ok-after_validator_created.ensures.told in
-    let is = created_then t.told m s hs u v hs2 u2 given.0 c.new_validator-v.ensures (sym c.in_ok-form_create.ensures) (sym c.in-None.ensures.value) (sym c.in-None-at_cons.ensures.value) (sym c.is_other.ensures ∙ c.if-is_other.false) given.1 in
+    let p = picked (t.told hs (created v) u) (g.H.StakingHooks.holds c.after_validator_created.new.self) u2 (c.in_ok-after_validator_created.ensures.told hs o) in
+    let given = told-of_ok (t.told hs (created v) u) p.0 u2 p.1.1 in
+    let is = created_then t.told m s hs u v p.0 u2 given.0 c.new_validator-v.ensures (sym c.in_ok-form_create.ensures) (sym c.in-None.ensures.value) (sym c.in-None-at_cons.ensures.value) (sym c.is_other.ensures ∙ c.if-is_other.false) given.1 in
     let staked : c.add.new.self.staked ≡ with_validator v s = ap (λ r. r.staked) c.in_ok-add.ensures.ok in
-    let last : AnswersAs (delegated t.told v m.validator m.amount.amount wallet (behind_log given.0 (with_validator v s) hs2 u2)) c.delegate_to-delegated.new.self.staked (g.H.StakingHooks.held c.delegate_to-delegated.new.hooks) (seen g.B.Bank.holdings c.delegate_to-delegated.new.g) (Ok c.in-Ok.field-0)
-    = subst (λ x. AnswersAs (delegated t.told v m.validator m.amount.amount wallet (behind_log given.0 x hs2 u2)) c.delegate_to-delegated.new.self.staked (g.H.StakingHooks.held c.delegate_to-delegated.new.hooks) (seen g.B.Bank.holdings c.delegate_to-delegated.new.g) (Ok c.in-Ok.field-0)) staked (c.in-Ok.ensures.told given.0) in
-    subst (λ r. AnswersAs r c.delegate_to-delegated.new.self.staked (g.H.StakingHooks.held c.delegate_to-delegated.new.hooks) (seen g.B.Bank.holdings c.delegate_to-delegated.new.g) (Ok tt)) (sym is)
+    let last : AnswersAs (delegated t.told v m.validator m.amount.amount wallet (behind_log given.0 (with_validator v s) p.0 u2)) c.delegate_to-delegated.new.self.staked (g.H.StakingHooks.holds c.delegate_to-delegated.new.hooks) (seen g.B.Bank.holdings c.delegate_to-delegated.new.g) (Ok c.in-Ok.field-0)
+    = subst (λ x. AnswersAs (delegated t.told v m.validator m.amount.amount wallet (behind_log given.0 x p.0 u2)) c.delegate_to-delegated.new.self.staked (g.H.StakingHooks.holds c.delegate_to-delegated.new.hooks) (seen g.B.Bank.holdings c.delegate_to-delegated.new.g) (Ok c.in-Ok.field-0)) staked (c.in-Ok.ensures.told p.0 p.1.0 given.0) in
+    subst (λ r. AnswersAs r c.delegate_to-delegated.new.self.staked (g.H.StakingHooks.holds c.delegate_to-delegated.new.hooks) (seen g.B.Bank.holdings c.delegate_to-delegated.new.g) (Ok tt)) (sym is)
     (answers_ok _ _ _ _ _ last)
 
 pub returns-in-Err-clause-told : goal.returns-in-Err-clause-told
-returns-in-Err-clause-told g c =
+returns-in-Err-clause-told g c = λ hs o.
     let s = c.args.self.now.staked in
     let m = c.args.m.now in
     let v = c.new_validator-v.result in
     let t = g.H.StakingHooks.tells in
-    let hs = g.H.StakingHooks.held c.args.hooks.now in
-    let hs2 = g.H.StakingHooks.held c.after_validator_created.new.self in
     let u = seen g.B.Bank.holdings c.args.g.now in
     let u2 = seen g.B.Bank.holdings c.after_validator_created.new.g in
-    let given = told-of_ok (t.told hs (created v) u) hs2 u2 c.in_ok-after_validator_created.ensures.told in
-    let is = created_then t.told m s hs u v hs2 u2 given.0 c.new_validator-v.ensures (sym c.in_ok-form_create.ensures) (sym c.in-None.ensures.value) (sym c.in-None-at_cons.ensures.value) (sym c.is_other.ensures ∙ c.if-is_other.false) given.1 in
+    let p = picked (t.told hs (created v) u) (g.H.StakingHooks.holds c.after_validator_created.new.self) u2 (c.in_ok-after_validator_created.ensures.told hs o) in
+    let given = told-of_ok (t.told hs (created v) u) p.0 u2 p.1.1 in
+    let is = created_then t.told m s hs u v p.0 u2 given.0 c.new_validator-v.ensures (sym c.in_ok-form_create.ensures) (sym c.in-None.ensures.value) (sym c.in-None-at_cons.ensures.value) (sym c.is_other.ensures ∙ c.if-is_other.false) given.1 in
     let staked : c.add.new.self.staked ≡ with_validator v s = ap (λ r. r.staked) c.in_ok-add.ensures.ok in
-    let last : AnswersAs (delegated t.told v m.validator m.amount.amount wallet (behind_log given.0 (with_validator v s) hs2 u2)) c.delegate_to-delegated.new.self.staked (g.H.StakingHooks.held c.delegate_to-delegated.new.hooks) (seen g.B.Bank.holdings c.delegate_to-delegated.new.g) (Err c.in-Err.stop)
-    = subst (λ x. AnswersAs (delegated t.told v m.validator m.amount.amount wallet (behind_log given.0 x hs2 u2)) c.delegate_to-delegated.new.self.staked (g.H.StakingHooks.held c.delegate_to-delegated.new.hooks) (seen g.B.Bank.holdings c.delegate_to-delegated.new.g) (Err c.in-Err.stop)) staked (c.in-Err.ensures.told given.0) in
-    subst (λ r. AnswersAs r c.delegate_to-delegated.new.self.staked (g.H.StakingHooks.held c.delegate_to-delegated.new.hooks) (seen g.B.Bank.holdings c.delegate_to-delegated.new.g) (Err c.in-Err.stop)) (sym is)
+    let last : AnswersAs (delegated t.told v m.validator m.amount.amount wallet (behind_log given.0 (with_validator v s) p.0 u2)) c.delegate_to-delegated.new.self.staked (g.H.StakingHooks.holds c.delegate_to-delegated.new.hooks) (seen g.B.Bank.holdings c.delegate_to-delegated.new.g) (Err c.in-Err.stop)
+    = subst (λ x. AnswersAs (delegated t.told v m.validator m.amount.amount wallet (behind_log given.0 x p.0 u2)) c.delegate_to-delegated.new.self.staked (g.H.StakingHooks.holds c.delegate_to-delegated.new.hooks) (seen g.B.Bank.holdings c.delegate_to-delegated.new.g) (Err c.in-Err.stop)) staked (c.in-Err.ensures.told p.0 p.1.0 given.0) in
+    subst (λ r. AnswersAs r c.delegate_to-delegated.new.self.staked (g.H.StakingHooks.holds c.delegate_to-delegated.new.hooks) (seen g.B.Bank.holdings c.delegate_to-delegated.new.g) (Err c.in-Err.stop)) (sym is)
     (answers_err _ _ _ _ _ last)

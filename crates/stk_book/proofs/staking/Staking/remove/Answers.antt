@@ -3,12 +3,12 @@ use Rattle.stk_keep.specs.Ground.{seen}
 use Rattle.stk_keep.specs.Hooks.{Stand}
 use Rattle.stk_keep.specs.Staked.{lists_of}
 use Rattle.stk_keep.specs.World.{removed}
-use Rattle.stk_keep.proofs.HookLemmas.{Stand-after_ok}
+use Rattle.stk_keep.proofs.HookLemmas.{stand-noted, Stand-after_ok, picked}
 use Rattle.stk_rules.proofs.SoundLemmas.{IsSoundAt, to_points, from_points}
 use Rattle.stk_book.proofs.IndexLemmas.{alone_without}
 use Rattle.stk_book.proofs.SoundLemmas.{sound-taken}
 use Rattle.stk_book.proofs.ListLemmas.{lists-left}
-use Rattle.stk_book.proofs.GroundLemmas.{stand-noted, keeps-noted}
+use Rattle.stk_book.proofs.GroundLemmas.{keeps-noted}
 use Rattle.stk_book.proofs.DelegateLemmas.{keeps-ok}
 use Rattle.stk_book.proofs.RemoveLemmas.{ready-removed, sure_fault}
 use Rattle.stk_book.proofs.staking.Staking.remove.Goals as goal
@@ -23,17 +23,17 @@ pub after_validator_removed-requires : goal.after_validator_removed-requires
 after_validator_removed-requires g c =
     let s = c.args.self.now.staked in
     let h = to_points c.requires.sound.0 s c.requires.sound.1 in
-    (lists_of s, ready-removed c.requires.sound.0 s c.args.v.now h c.requires.stands c.requires.empty g.H.StakingHooks.tells (g.H.StakingHooks.held c.args.hooks.now) (seen g.B.Bank.holdings c.args.g.now) c.requires.stand)
+    let hs = c.requires.stand.0 in
+    (hs, (c.requires.stand.1.0, (lists_of s, ready-removed c.requires.sound.0 s c.args.v.now h c.requires.stands c.requires.empty g.H.StakingHooks.tells hs (seen g.B.Bank.holdings c.args.g.now) c.requires.stand.1.1)))
 
 pub returns-in-Err-clause-sure : goal.returns-in-Err-clause-sure
-returns-in-Err-clause-sure g c = λ sure.
+returns-in-Err-clause-sure g c = λ hs o stand sure.
     let s = c.args.self.now.staked in
     let h = to_points c.requires.sound.0 s c.requires.sound.1 in
     let t = g.H.StakingHooks.tells in
-    let hs = g.H.StakingHooks.held c.args.hooks.now in
     let u = seen g.B.Bank.holdings c.args.g.now in
-    let ready = ready-removed c.requires.sound.0 s c.args.v.now h c.requires.stands c.requires.empty t hs u c.requires.stand in
-    sure_fault t g.met.H.StakingHooks.lawful hs (g.H.StakingHooks.held c.after_validator_removed.new.self) c.args.v.now u (seen g.B.Bank.holdings c.after_validator_removed.new.g) (lists_of s) c.in-Err.fault sure ready c.in-Err.ensures.told
+    let ready = ready-removed c.requires.sound.0 s c.args.v.now h c.requires.stands c.requires.empty t hs u stand in
+    sure_fault t g.met.H.StakingHooks.lawful hs (g.H.StakingHooks.holds c.after_validator_removed.new.self) c.args.v.now u (seen g.B.Bank.holdings c.after_validator_removed.new.g) (lists_of s) c.in-Err.fault sure ready (c.in-Err.ensures.told hs o)
 
 pub returns-clause-sound : goal.returns-clause-sound
 returns-clause-sound g c =
@@ -49,23 +49,27 @@ returns-clause-stand g c =
     let s = c.args.self.now.staked in
     let h = to_points c.requires.sound.0 s c.requires.sound.1 in
     let t = g.H.StakingHooks.tells in
-    let hs = g.H.StakingHooks.held c.args.hooks.now in
+    let hs = c.requires.stand.0 in
     let u = seen g.B.Bank.holdings c.args.g.now in
     let u2 = seen g.B.Bank.holdings c.after_validator_removed.new.g in
-    let hs2 = g.H.StakingHooks.held c.after_validator_removed.new.self in
-    let ready = ready-removed c.requires.sound.0 s c.args.v.now h c.requires.stands c.requires.empty t hs u c.requires.stand in
-    let stand = Stand-after_ok t g.met.H.StakingHooks.lawful hs hs2 (removed c.args.v.now) u u2 (lists_of s) ready c.in-Ok.ensures.told in
-    stand-noted t hs2 u2 c.push.new.self (lists_of c.take.new.self.staked)
-    (subst (Stand t hs2 u2) (sym (lists-left s c.args.v.now.operator h.validators_ascend) ∙ ap lists_of (sym (ap (λ r. r.staked) c.in_ok-take.ensures.ok))) stand)
+    let ready = ready-removed c.requires.sound.0 s c.args.v.now h c.requires.stands c.requires.empty t hs u c.requires.stand.1.1 in
+    let p = picked (t.told hs (removed c.args.v.now) u) (g.H.StakingHooks.holds c.after_validator_removed.new.self) u2 (c.in-Ok.ensures.told hs c.requires.stand.1.0) in
+    let stand = Stand-after_ok t g.met.H.StakingHooks.lawful hs p.0 (removed c.args.v.now) u u2 (lists_of s) ready p.1.1 in (
+      p.0,
+      (
+        p.1.0,
+        stand-noted t p.0 u2 c.push.new.self (lists_of c.take.new.self.staked)
+            (subst (Stand t p.0 u2) (sym (lists-left s c.args.v.now.operator h.validators_ascend) ∙ ap lists_of (sym (ap (λ r. r.staked) c.in_ok-take.ensures.ok))) stand),
+      ),
+    )
 
 pub returns-clause-keeps : goal.returns-clause-keeps
-returns-clause-keeps g c =
+returns-clause-keeps g c = λ hs o stand.
     let s = c.args.self.now.staked in
     let h = to_points c.requires.sound.0 s c.requires.sound.1 in
     let t = g.H.StakingHooks.tells in
-    let hs = g.H.StakingHooks.held c.args.hooks.now in
     let u = seen g.B.Bank.holdings c.args.g.now in
     let u2 = seen g.B.Bank.holdings c.after_validator_removed.new.g in
-    let hs2 = g.H.StakingHooks.held c.after_validator_removed.new.self in
-    let ready = ready-removed c.requires.sound.0 s c.args.v.now h c.requires.stands c.requires.empty t hs u c.requires.stand in
-    keeps-noted _ u u2 _ c.push.new.self c.in_ok-push.ensures.ok (keeps-ok t g.met.H.StakingHooks.lawful hs hs2 (removed c.args.v.now) u u2 (lists_of s) ready c.in-Ok.ensures.told)
+    let p = picked (t.told hs (removed c.args.v.now) u) (g.H.StakingHooks.holds c.after_validator_removed.new.self) u2 (c.in-Ok.ensures.told hs o) in
+    let ready = ready-removed c.requires.sound.0 s c.args.v.now h c.requires.stands c.requires.empty t hs u stand in
+    keeps-noted _ u u2 _ c.push.new.self c.in_ok-push.ensures.ok (keeps-ok t g.met.H.StakingHooks.lawful hs p.0 (removed c.args.v.now) u u2 (lists_of s) ready p.1.1)

@@ -4,14 +4,14 @@ use Rattle.stk_keep.specs.Ground.{seen}
 use Rattle.stk_keep.specs.Hooks.{Stand, Ready, with_started}
 use Rattle.stk_keep.specs.Staked.{lists_of, validator_of, with_validator}
 use Rattle.stk_keep.specs.World.{modifying, modified}
-use Rattle.stk_keep.proofs.HookLemmas.{told-of_ok}
-use Rattle.stk_rules.specs.Unbonding.{falls_below_minimum}
-use Rattle.stk_book.specs.Calls.{jailed_if, jail_noted}
+use Rattle.stk_keep.proofs.HookLemmas.{told-of_ok, picked}
+use Rattle.stk_rules.specs.Unbonding.{falls_below_minimum, left_standing}
+use Rattle.stk_book.specs.Calls.{behind_log, jailed_if, jail_noted}
 use Rattle.stk_rules.proofs.SoundLemmas.{IsSoundAt, to_points, from_points}
 use Rattle.stk_rules.proofs.SoundLemmas.{found_itself}
 use Rattle.stk_book.proofs.GroundLemmas.{keeps_then}
 use Rattle.stk_book.proofs.DelegateLemmas.{ready-before}
-use Rattle.stk_book.proofs.UnbondLemmas.{Going, now_of, less_of, told-left_err, left_is, then_log, told-removed_err, told-removed_ok}
+use Rattle.stk_book.proofs.UnbondLemmas.{Going, now_of, less_of, told-left_err, leaves_picked, left_is, then_log, told-removed_err, told-removed_ok}
 use Rattle.stk_book.proofs.LeftLemmas.{some_held, held_few, stand_modifying, keeps_modifying, owes_modifying, ready_left, is_left, state_left, stands_left, sound_less, lists_less}
 use Rattle.stk_book.proofs.UnbondedLemmas.{is_gone, state_gone, mine_gone, is_unbonded_so}
 use Rattle.stk_book.proofs.staking.Staking.unbond_from.Goals as goal
@@ -24,9 +24,9 @@ before_shares_modified-requires g c =
     let v = c.args.v.now in
     let who = c.args.who.now in
     let t = g.H.StakingHooks.tells in
-    let hs = g.H.StakingHooks.held c.args.hooks.now in
+    let hs = c.requires.stand.0 in
     let u = seen g.B.Bank.holdings c.args.g.now in
-    (lists_of s, ready-before height s h v c.requires.stands who t hs u (Some c.args.held) c.requires.holds c.requires.stand)
+    (hs, (c.requires.stand.1.0, (lists_of s, ready-before height s h v c.requires.stands who t hs u (Some c.args.held) c.requires.holds c.requires.stand.1.1)))
 
 pub jail_if_low-requires-clause-tokens : goal.jail_if_low-requires-clause-tokens
 jail_if_low-requires-clause-tokens g c =
@@ -63,13 +63,14 @@ leave_standing-requires g c =
     let v = c.args.v.now in
     let who = c.args.who.now in
     let t = g.H.StakingHooks.tells in
-    let hs = g.H.StakingHooks.held c.args.hooks.now in
+    let hs = c.requires.stand.0 in
     let u = seen g.B.Bank.holdings c.args.g.now in
     let b = falls_below_minimum v who (c.args.held - c.args.part) in
     let lawful = g.met.H.StakingHooks.lawful in
-    let h1 = g.H.StakingHooks.held c.before_shares_modified.new.self in
     let u1 = seen g.B.Bank.holdings c.before_shares_modified.new.g in
-    let told = c.in_ok-before_shares_modified.ensures.told in
+    let first = picked (t.told hs (modifying v who c.args.held) u) (g.H.StakingHooks.holds c.before_shares_modified.new.self) u1 (c.in_ok-before_shares_modified.ensures.told hs c.requires.stand.1.0) in
+    let h1 = first.0 in
+    let told = first.1.1 in
     let left : c.sub-left.result ≡ c.args.held - c.args.part = c.sub-left.ensures in
     let now : c.in_ok-now.now ≡ now_of v b = c.in_ok-now.ensures.now ∙ ap (λ n. now_of v (falls_below_minimum v who n)) left in
     let staked1 : c.jail_if_low.new.self.staked ≡ jailed_if b v s = ap (λ r. r.staked) c.in_ok-now.ensures.staked ∙ ap (λ n. jailed_if (falls_below_minimum v who n) v s) left in
@@ -78,27 +79,33 @@ leave_standing-requires g c =
     let going_is : a ≡ record { now = now_of v b; left = c.args.held - c.args.part; staked = jailed_if b v s; view = jail_noted b v u1 } = λ i. record { now = now i; left = left i; staked = staked1 i; view = view1 i } in
     record {
       ready = λ some. (
-        with_started who v.operator false (lists_of s),
-        subst (λ (x : Going). Ready t h1 x.view (modified x.now who x.left) (with_started who v.operator false (lists_of s))) (sym going_is)
-            (ready_left height s h v c.requires.stands who c.args.held c.args.part c.requires.holds c.requires.part b t lawful hs h1 u u1 c.requires.stand told (subst (λ n. 0 < n) left some)),
+        h1,
+        (
+          first.1.0,
+          (
+            with_started who v.operator false (lists_of s),
+            subst (λ (x : Going). Ready t h1 x.view (modified x.now who x.left) (with_started who v.operator false (lists_of s))) (sym going_is)
+                (ready_left height s h v c.requires.stands who c.args.held c.args.part c.requires.holds c.requires.part b t lawful hs h1 u u1 c.requires.stand.1.1 told (subst (λ n. 0 < n) left some)),
+          ),
+        ),
       );
     }
 
 pub returns-in-Err-clause-told : goal.returns-in-Err-clause-told
-returns-in-Err-clause-told g c =
+returns-in-Err-clause-told g c = λ hs o.
     let s = c.args.self.now.staked in
     let height = c.requires.sound.0 in
     let h = to_points height s c.requires.sound.1 in
     let v = c.args.v.now in
     let who = c.args.who.now in
     let t = g.H.StakingHooks.tells in
-    let hs = g.H.StakingHooks.held c.args.hooks.now in
     let u = seen g.B.Bank.holdings c.args.g.now in
     let b = falls_below_minimum v who (c.args.held - c.args.part) in
     let lawful = g.met.H.StakingHooks.lawful in
-    let h1 = g.H.StakingHooks.held c.before_shares_modified.new.self in
     let u1 = seen g.B.Bank.holdings c.before_shares_modified.new.g in
-    let told = c.in_ok-before_shares_modified.ensures.told in
+    let first = picked (t.told hs (modifying v who c.args.held) u) (g.H.StakingHooks.holds c.before_shares_modified.new.self) u1 (c.in_ok-before_shares_modified.ensures.told hs o) in
+    let h1 = first.0 in
+    let told = first.1.1 in
     let left : c.sub-left.result ≡ c.args.held - c.args.part = c.sub-left.ensures in
     let now : c.in_ok-now.now ≡ now_of v b = c.in_ok-now.ensures.now ∙ ap (λ n. now_of v (falls_below_minimum v who n)) left in
     let staked1 : c.jail_if_low.new.self.staked ≡ jailed_if b v s = ap (λ r. r.staked) c.in_ok-now.ensures.staked ∙ ap (λ n. jailed_if (falls_below_minimum v who n) v s) left in
@@ -107,9 +114,9 @@ returns-in-Err-clause-told g c =
     let going_is : a ≡ record { now = now_of v b; left = c.args.held - c.args.part; staked = jailed_if b v s; view = jail_noted b v u1 } = λ i. record { now = now i; left = left i; staked = staked1 i; view = view1 i } in
     let given = told-of_ok (t.told hs (modifying v who c.args.held) u) h1 u1 told in
     let s2 = c.leave_standing.new.self.staked in
-    let h2 = g.H.StakingHooks.held c.leave_standing.new.hooks in
+    let h2 = g.H.StakingHooks.holds c.leave_standing.new.hooks in
     let u2 = seen g.B.Bank.holdings c.leave_standing.new.g in
-    told-left_err t.told v who c.args.held c.args.part s hs u h1 u1 given.0 given.1 a going_is s2 h2 u2 c.in-Err.fault (c.in-Err.ensures.told given.0)
+    told-left_err t.told v who c.args.held c.args.part s hs u h1 u1 given.0 given.1 a going_is s2 h2 u2 c.in-Err.fault (c.in-Err.ensures.told h1 first.1.0 given.0)
 
 pub remove-tokens-requires-clause-tokens : goal.remove-tokens-requires-clause-tokens
 remove-tokens-requires-clause-tokens g c =
@@ -145,13 +152,14 @@ put-requires g c =
     let v = c.args.v.now in
     let who = c.args.who.now in
     let t = g.H.StakingHooks.tells in
-    let hs = g.H.StakingHooks.held c.args.hooks.now in
+    let hs = c.requires.stand.0 in
     let u = seen g.B.Bank.holdings c.args.g.now in
     let b = falls_below_minimum v who (c.args.held - c.args.part) in
     let lawful = g.met.H.StakingHooks.lawful in
-    let h1 = g.H.StakingHooks.held c.before_shares_modified.new.self in
     let u1 = seen g.B.Bank.holdings c.before_shares_modified.new.g in
-    let told = c.in_ok-before_shares_modified.ensures.told in
+    let first = picked (t.told hs (modifying v who c.args.held) u) (g.H.StakingHooks.holds c.before_shares_modified.new.self) u1 (c.in_ok-before_shares_modified.ensures.told hs c.requires.stand.1.0) in
+    let h1 = first.0 in
+    let told = first.1.1 in
     let left : c.sub-left.result ≡ c.args.held - c.args.part = c.sub-left.ensures in
     let now : c.in_ok-now.now ≡ now_of v b = c.in_ok-now.ensures.now ∙ ap (λ n. now_of v (falls_below_minimum v who n)) left in
     let staked1 : c.jail_if_low.new.self.staked ≡ jailed_if b v s = ap (λ r. r.staked) c.in_ok-now.ensures.staked ∙ ap (λ n. jailed_if (falls_below_minimum v who n) v s) left in
@@ -160,12 +168,13 @@ put-requires g c =
     let going_is : a ≡ record { now = now_of v b; left = c.args.held - c.args.part; staked = jailed_if b v s; view = jail_noted b v u1 } = λ i. record { now = now i; left = left i; staked = staked1 i; view = view1 i } in
     let given = told-of_ok (t.told hs (modifying v who c.args.held) u) h1 u1 told in
     let s2 = c.leave_standing.new.self.staked in
-    let h2 = g.H.StakingHooks.held c.leave_standing.new.hooks in
     let u2 = seen g.B.Bank.holdings c.leave_standing.new.g in
-    let leaves = c.in-Ok.ensures.told given.0 in
+    let second = leaves_picked (left_standing t.told c.in_ok-now.now who c.sub-left.result (behind_log given.0 c.jail_if_low.new.self.staked h1 (seen g.B.Bank.holdings c.jail_if_low.new.g))) s2 (g.H.StakingHooks.holds c.leave_standing.new.hooks) u2 (c.in-Ok.ensures.told h1 first.1.0 given.0) in
+    let h2 = second.0 in
+    let leaves = second.1.1 in
     let eq = left_is t.told v who c.args.held c.args.part s hs u h1 u1 given.0 given.1 a going_is s2 h2 u2 leaves in
-    let stand_mod = stand_modifying height s h v c.requires.stands who c.args.held c.args.part c.requires.holds c.requires.part b t lawful hs h1 u u1 c.requires.stand told in
-    let ready_mod = ready_left height s h v c.requires.stands who c.args.held c.args.part c.requires.holds c.requires.part b t lawful hs h1 u u1 c.requires.stand told in
+    let stand_mod = stand_modifying height s h v c.requires.stands who c.args.held c.args.part c.requires.holds c.requires.part b t lawful hs h1 u u1 c.requires.stand.1.1 told in
+    let ready_mod = ready_left height s h v c.requires.stands who c.args.held c.args.part c.requires.holds c.requires.part b t lawful hs h1 u u1 c.requires.stand.1.1 told in
     let here = is_left t lawful (now_of v b) who (c.args.held - c.args.part) given.0 (jailed_if b v s) h1 (jail_noted b v u1) (lists_of s) ready_mod stand_mod eq.0 s2 h2 u2 eq.1 in
     let own : c.in_ok-now.now.operator ≡ v.operator = ap (λ x. x.operator) now in
     record {
@@ -184,13 +193,14 @@ remove_if_empty-requires-clause-stands g c =
     let v = c.args.v.now in
     let who = c.args.who.now in
     let t = g.H.StakingHooks.tells in
-    let hs = g.H.StakingHooks.held c.args.hooks.now in
+    let hs = c.requires.stand.0 in
     let u = seen g.B.Bank.holdings c.args.g.now in
     let b = falls_below_minimum v who (c.args.held - c.args.part) in
     let lawful = g.met.H.StakingHooks.lawful in
-    let h1 = g.H.StakingHooks.held c.before_shares_modified.new.self in
     let u1 = seen g.B.Bank.holdings c.before_shares_modified.new.g in
-    let told = c.in_ok-before_shares_modified.ensures.told in
+    let first = picked (t.told hs (modifying v who c.args.held) u) (g.H.StakingHooks.holds c.before_shares_modified.new.self) u1 (c.in_ok-before_shares_modified.ensures.told hs c.requires.stand.1.0) in
+    let h1 = first.0 in
+    let told = first.1.1 in
     let left : c.sub-left.result ≡ c.args.held - c.args.part = c.sub-left.ensures in
     let now : c.in_ok-now.now ≡ now_of v b = c.in_ok-now.ensures.now ∙ ap (λ n. now_of v (falls_below_minimum v who n)) left in
     let staked1 : c.jail_if_low.new.self.staked ≡ jailed_if b v s = ap (λ r. r.staked) c.in_ok-now.ensures.staked ∙ ap (λ n. jailed_if (falls_below_minimum v who n) v s) left in
@@ -199,12 +209,13 @@ remove_if_empty-requires-clause-stands g c =
     let going_is : a ≡ record { now = now_of v b; left = c.args.held - c.args.part; staked = jailed_if b v s; view = jail_noted b v u1 } = λ i. record { now = now i; left = left i; staked = staked1 i; view = view1 i } in
     let given = told-of_ok (t.told hs (modifying v who c.args.held) u) h1 u1 told in
     let s2 = c.leave_standing.new.self.staked in
-    let h2 = g.H.StakingHooks.held c.leave_standing.new.hooks in
     let u2 = seen g.B.Bank.holdings c.leave_standing.new.g in
-    let leaves = c.in-Ok.ensures.told given.0 in
+    let second = leaves_picked (left_standing t.told c.in_ok-now.now who c.sub-left.result (behind_log given.0 c.jail_if_low.new.self.staked h1 (seen g.B.Bank.holdings c.jail_if_low.new.g))) s2 (g.H.StakingHooks.holds c.leave_standing.new.hooks) u2 (c.in-Ok.ensures.told h1 first.1.0 given.0) in
+    let h2 = second.0 in
+    let leaves = second.1.1 in
     let eq = left_is t.told v who c.args.held c.args.part s hs u h1 u1 given.0 given.1 a going_is s2 h2 u2 leaves in
-    let stand_mod = stand_modifying height s h v c.requires.stands who c.args.held c.args.part c.requires.holds c.requires.part b t lawful hs h1 u u1 c.requires.stand told in
-    let ready_mod = ready_left height s h v c.requires.stands who c.args.held c.args.part c.requires.holds c.requires.part b t lawful hs h1 u u1 c.requires.stand told in
+    let stand_mod = stand_modifying height s h v c.requires.stands who c.args.held c.args.part c.requires.holds c.requires.part b t lawful hs h1 u u1 c.requires.stand.1.1 told in
+    let ready_mod = ready_left height s h v c.requires.stands who c.args.held c.args.part c.requires.holds c.requires.part b t lawful hs h1 u u1 c.requires.stand.1.1 told in
     let here = is_left t lawful (now_of v b) who (c.args.held - c.args.part) given.0 (jailed_if b v s) h1 (jail_noted b v u1) (lists_of s) ready_mod stand_mod eq.0 s2 h2 u2 eq.1 in
     let tok : c.remove-tokens.result.0 ≡ v.tokens - amount_out v.tokens v.shares c.args.part = ap (λ p. p.0) c.remove-tokens.ensures.value in
     let sh : c.remove-tokens.result.1 ≡ v.shares - c.args.part = ap (λ p. p.1) c.remove-tokens.ensures.value in
@@ -225,13 +236,14 @@ remove_if_empty-requires-clause-sound g c =
     let v = c.args.v.now in
     let who = c.args.who.now in
     let t = g.H.StakingHooks.tells in
-    let hs = g.H.StakingHooks.held c.args.hooks.now in
+    let hs = c.requires.stand.0 in
     let u = seen g.B.Bank.holdings c.args.g.now in
     let b = falls_below_minimum v who (c.args.held - c.args.part) in
     let lawful = g.met.H.StakingHooks.lawful in
-    let h1 = g.H.StakingHooks.held c.before_shares_modified.new.self in
     let u1 = seen g.B.Bank.holdings c.before_shares_modified.new.g in
-    let told = c.in_ok-before_shares_modified.ensures.told in
+    let first = picked (t.told hs (modifying v who c.args.held) u) (g.H.StakingHooks.holds c.before_shares_modified.new.self) u1 (c.in_ok-before_shares_modified.ensures.told hs c.requires.stand.1.0) in
+    let h1 = first.0 in
+    let told = first.1.1 in
     let left : c.sub-left.result ≡ c.args.held - c.args.part = c.sub-left.ensures in
     let now : c.in_ok-now.now ≡ now_of v b = c.in_ok-now.ensures.now ∙ ap (λ n. now_of v (falls_below_minimum v who n)) left in
     let staked1 : c.jail_if_low.new.self.staked ≡ jailed_if b v s = ap (λ r. r.staked) c.in_ok-now.ensures.staked ∙ ap (λ n. jailed_if (falls_below_minimum v who n) v s) left in
@@ -240,12 +252,13 @@ remove_if_empty-requires-clause-sound g c =
     let going_is : a ≡ record { now = now_of v b; left = c.args.held - c.args.part; staked = jailed_if b v s; view = jail_noted b v u1 } = λ i. record { now = now i; left = left i; staked = staked1 i; view = view1 i } in
     let given = told-of_ok (t.told hs (modifying v who c.args.held) u) h1 u1 told in
     let s2 = c.leave_standing.new.self.staked in
-    let h2 = g.H.StakingHooks.held c.leave_standing.new.hooks in
     let u2 = seen g.B.Bank.holdings c.leave_standing.new.g in
-    let leaves = c.in-Ok.ensures.told given.0 in
+    let second = leaves_picked (left_standing t.told c.in_ok-now.now who c.sub-left.result (behind_log given.0 c.jail_if_low.new.self.staked h1 (seen g.B.Bank.holdings c.jail_if_low.new.g))) s2 (g.H.StakingHooks.holds c.leave_standing.new.hooks) u2 (c.in-Ok.ensures.told h1 first.1.0 given.0) in
+    let h2 = second.0 in
+    let leaves = second.1.1 in
     let eq = left_is t.told v who c.args.held c.args.part s hs u h1 u1 given.0 given.1 a going_is s2 h2 u2 leaves in
-    let stand_mod = stand_modifying height s h v c.requires.stands who c.args.held c.args.part c.requires.holds c.requires.part b t lawful hs h1 u u1 c.requires.stand told in
-    let ready_mod = ready_left height s h v c.requires.stands who c.args.held c.args.part c.requires.holds c.requires.part b t lawful hs h1 u u1 c.requires.stand told in
+    let stand_mod = stand_modifying height s h v c.requires.stands who c.args.held c.args.part c.requires.holds c.requires.part b t lawful hs h1 u u1 c.requires.stand.1.1 told in
+    let ready_mod = ready_left height s h v c.requires.stands who c.args.held c.args.part c.requires.holds c.requires.part b t lawful hs h1 u u1 c.requires.stand.1.1 told in
     let here = is_left t lawful (now_of v b) who (c.args.held - c.args.part) given.0 (jailed_if b v s) h1 (jail_noted b v u1) (lists_of s) ready_mod stand_mod eq.0 s2 h2 u2 eq.1 in
     let tok : c.remove-tokens.result.0 ≡ v.tokens - amount_out v.tokens v.shares c.args.part = ap (λ p. p.0) c.remove-tokens.ensures.value in
     let sh : c.remove-tokens.result.1 ≡ v.shares - c.args.part = ap (λ p. p.1) c.remove-tokens.ensures.value in
@@ -266,13 +279,14 @@ remove_if_empty-requires-clause-stand g c =
     let v = c.args.v.now in
     let who = c.args.who.now in
     let t = g.H.StakingHooks.tells in
-    let hs = g.H.StakingHooks.held c.args.hooks.now in
+    let hs = c.requires.stand.0 in
     let u = seen g.B.Bank.holdings c.args.g.now in
     let b = falls_below_minimum v who (c.args.held - c.args.part) in
     let lawful = g.met.H.StakingHooks.lawful in
-    let h1 = g.H.StakingHooks.held c.before_shares_modified.new.self in
     let u1 = seen g.B.Bank.holdings c.before_shares_modified.new.g in
-    let told = c.in_ok-before_shares_modified.ensures.told in
+    let first = picked (t.told hs (modifying v who c.args.held) u) (g.H.StakingHooks.holds c.before_shares_modified.new.self) u1 (c.in_ok-before_shares_modified.ensures.told hs c.requires.stand.1.0) in
+    let h1 = first.0 in
+    let told = first.1.1 in
     let left : c.sub-left.result ≡ c.args.held - c.args.part = c.sub-left.ensures in
     let now : c.in_ok-now.now ≡ now_of v b = c.in_ok-now.ensures.now ∙ ap (λ n. now_of v (falls_below_minimum v who n)) left in
     let staked1 : c.jail_if_low.new.self.staked ≡ jailed_if b v s = ap (λ r. r.staked) c.in_ok-now.ensures.staked ∙ ap (λ n. jailed_if (falls_below_minimum v who n) v s) left in
@@ -281,12 +295,13 @@ remove_if_empty-requires-clause-stand g c =
     let going_is : a ≡ record { now = now_of v b; left = c.args.held - c.args.part; staked = jailed_if b v s; view = jail_noted b v u1 } = λ i. record { now = now i; left = left i; staked = staked1 i; view = view1 i } in
     let given = told-of_ok (t.told hs (modifying v who c.args.held) u) h1 u1 told in
     let s2 = c.leave_standing.new.self.staked in
-    let h2 = g.H.StakingHooks.held c.leave_standing.new.hooks in
     let u2 = seen g.B.Bank.holdings c.leave_standing.new.g in
-    let leaves = c.in-Ok.ensures.told given.0 in
+    let second = leaves_picked (left_standing t.told c.in_ok-now.now who c.sub-left.result (behind_log given.0 c.jail_if_low.new.self.staked h1 (seen g.B.Bank.holdings c.jail_if_low.new.g))) s2 (g.H.StakingHooks.holds c.leave_standing.new.hooks) u2 (c.in-Ok.ensures.told h1 first.1.0 given.0) in
+    let h2 = second.0 in
+    let leaves = second.1.1 in
     let eq = left_is t.told v who c.args.held c.args.part s hs u h1 u1 given.0 given.1 a going_is s2 h2 u2 leaves in
-    let stand_mod = stand_modifying height s h v c.requires.stands who c.args.held c.args.part c.requires.holds c.requires.part b t lawful hs h1 u u1 c.requires.stand told in
-    let ready_mod = ready_left height s h v c.requires.stands who c.args.held c.args.part c.requires.holds c.requires.part b t lawful hs h1 u u1 c.requires.stand told in
+    let stand_mod = stand_modifying height s h v c.requires.stands who c.args.held c.args.part c.requires.holds c.requires.part b t lawful hs h1 u u1 c.requires.stand.1.1 told in
+    let ready_mod = ready_left height s h v c.requires.stands who c.args.held c.args.part c.requires.holds c.requires.part b t lawful hs h1 u u1 c.requires.stand.1.1 told in
     let here = is_left t lawful (now_of v b) who (c.args.held - c.args.part) given.0 (jailed_if b v s) h1 (jail_noted b v u1) (lists_of s) ready_mod stand_mod eq.0 s2 h2 u2 eq.1 in
     let tok : c.remove-tokens.result.0 ≡ v.tokens - amount_out v.tokens v.shares c.args.part = ap (λ p. p.0) c.remove-tokens.ensures.value in
     let sh : c.remove-tokens.result.1 ≡ v.shares - c.args.part = ap (λ p. p.1) c.remove-tokens.ensures.value in
@@ -297,23 +312,23 @@ remove_if_empty-requires-clause-stand g c =
     let s3_is : s3 ≡ with_validator less s2 = ap (λ r. r.staked) c.in_ok-put.ensures.ok in
     let s3_at : s3 ≡ with_validator (less_of v b c.args.part) (state_left height s h v c.requires.stands who c.args.held c.args.part c.requires.holds c.requires.part b)
     = s3_is ∙ (λ i. with_validator (less_is i) (here.mine i)) in
-    subst (Stand t h2 u2) (sym (ap lists_of s3_at ∙ lists_less height s h v c.requires.stands who c.args.held c.args.part c.requires.holds c.requires.part b ((c.args.held - c.args.part) == 0) refl)) here.stand
+    (h2, (second.1.0, subst (Stand t h2 u2) (sym (ap lists_of s3_at ∙ lists_less height s h v c.requires.stands who c.args.held c.args.part c.requires.holds c.requires.part b ((c.args.held - c.args.part) == 0) refl)) here.stand))
 
 pub returns-in-Err-remove_if_empty-clause-told : goal.returns-in-Err-remove_if_empty-clause-told
-returns-in-Err-remove_if_empty-clause-told g c =
+returns-in-Err-remove_if_empty-clause-told g c = λ hs o.
     let s = c.args.self.now.staked in
     let height = c.requires.sound.0 in
     let h = to_points height s c.requires.sound.1 in
     let v = c.args.v.now in
     let who = c.args.who.now in
     let t = g.H.StakingHooks.tells in
-    let hs = g.H.StakingHooks.held c.args.hooks.now in
     let u = seen g.B.Bank.holdings c.args.g.now in
     let b = falls_below_minimum v who (c.args.held - c.args.part) in
     let lawful = g.met.H.StakingHooks.lawful in
-    let h1 = g.H.StakingHooks.held c.before_shares_modified.new.self in
     let u1 = seen g.B.Bank.holdings c.before_shares_modified.new.g in
-    let told = c.in_ok-before_shares_modified.ensures.told in
+    let first = picked (t.told hs (modifying v who c.args.held) u) (g.H.StakingHooks.holds c.before_shares_modified.new.self) u1 (c.in_ok-before_shares_modified.ensures.told hs o) in
+    let h1 = first.0 in
+    let told = first.1.1 in
     let left : c.sub-left.result ≡ c.args.held - c.args.part = c.sub-left.ensures in
     let now : c.in_ok-now.now ≡ now_of v b = c.in_ok-now.ensures.now ∙ ap (λ n. now_of v (falls_below_minimum v who n)) left in
     let staked1 : c.jail_if_low.new.self.staked ≡ jailed_if b v s = ap (λ r. r.staked) c.in_ok-now.ensures.staked ∙ ap (λ n. jailed_if (falls_below_minimum v who n) v s) left in
@@ -322,13 +337,10 @@ returns-in-Err-remove_if_empty-clause-told g c =
     let going_is : a ≡ record { now = now_of v b; left = c.args.held - c.args.part; staked = jailed_if b v s; view = jail_noted b v u1 } = λ i. record { now = now i; left = left i; staked = staked1 i; view = view1 i } in
     let given = told-of_ok (t.told hs (modifying v who c.args.held) u) h1 u1 told in
     let s2 = c.leave_standing.new.self.staked in
-    let h2 = g.H.StakingHooks.held c.leave_standing.new.hooks in
     let u2 = seen g.B.Bank.holdings c.leave_standing.new.g in
-    let leaves = c.in-Ok.ensures.told given.0 in
-    let eq = left_is t.told v who c.args.held c.args.part s hs u h1 u1 given.0 given.1 a going_is s2 h2 u2 leaves in
-    let stand_mod = stand_modifying height s h v c.requires.stands who c.args.held c.args.part c.requires.holds c.requires.part b t lawful hs h1 u u1 c.requires.stand told in
-    let ready_mod = ready_left height s h v c.requires.stands who c.args.held c.args.part c.requires.holds c.requires.part b t lawful hs h1 u u1 c.requires.stand told in
-    let here = is_left t lawful (now_of v b) who (c.args.held - c.args.part) given.0 (jailed_if b v s) h1 (jail_noted b v u1) (lists_of s) ready_mod stand_mod eq.0 s2 h2 u2 eq.1 in
+    let second = leaves_picked (left_standing t.told c.in_ok-now.now who c.sub-left.result (behind_log given.0 c.jail_if_low.new.self.staked h1 (seen g.B.Bank.holdings c.jail_if_low.new.g))) s2 (g.H.StakingHooks.holds c.leave_standing.new.hooks) u2 (c.in-Ok.ensures.told h1 first.1.0 given.0) in
+    let h2 = second.0 in
+    let leaves = second.1.1 in
     let tok : c.remove-tokens.result.0 ≡ v.tokens - amount_out v.tokens v.shares c.args.part = ap (λ p. p.0) c.remove-tokens.ensures.value in
     let sh : c.remove-tokens.result.1 ≡ v.shares - c.args.part = ap (λ p. p.1) c.remove-tokens.ensures.value in
     let out : c.remove-tokens.result.2 ≡ amount_out v.tokens v.shares c.args.part = ap (λ p. p.2) c.remove-tokens.ensures.value in
@@ -336,29 +348,27 @@ returns-in-Err-remove_if_empty-clause-told g c =
     let less_is : less ≡ less_of v b c.args.part = λ i. record (now i) { tokens = tok i; shares = sh i } in
     let s3 = c.put.new.self.staked in
     let s3_is : s3 ≡ with_validator less s2 = ap (λ r. r.staked) c.in_ok-put.ensures.ok in
-    let s3_at : s3 ≡ with_validator (less_of v b c.args.part) (state_left height s h v c.requires.stands who c.args.held c.args.part c.requires.holds c.requires.part b)
-    = s3_is ∙ (λ i. with_validator (less_is i) (here.mine i)) in
     let s4 = c.remove_if_empty.new.self.staked in
-    let h4 = g.H.StakingHooks.held c.remove_if_empty.new.hooks in
+    let h4 = g.H.StakingHooks.holds c.remove_if_empty.new.hooks in
     let u4 = seen g.B.Bank.holdings c.remove_if_empty.new.g in
     let k = then_log t.told v who c.args.held c.args.part s hs u h1 u1 given.0 given.1 a going_is s2 h2 u2 leaves in
-    told-removed_err t.told v who c.args.held c.args.part s hs u h1 u1 given.0 given.1 a going_is s2 h2 u2 leaves less s3 less_is s3_is s4 h4 u4 c.in-Err-remove_if_empty.fault (c.in-Err-remove_if_empty.ensures.told k)
+    told-removed_err t.told v who c.args.held c.args.part s hs u h1 u1 given.0 given.1 a going_is s2 h2 u2 leaves less s3 less_is s3_is s4 h4 u4 c.in-Err-remove_if_empty.fault (c.in-Err-remove_if_empty.ensures.told h2 second.1.0 k)
 
 pub returns-in-Ok-remove_if_empty-clause-told : goal.returns-in-Ok-remove_if_empty-clause-told
-returns-in-Ok-remove_if_empty-clause-told g c =
+returns-in-Ok-remove_if_empty-clause-told g c = λ hs o.
     let s = c.args.self.now.staked in
     let height = c.requires.sound.0 in
     let h = to_points height s c.requires.sound.1 in
     let v = c.args.v.now in
     let who = c.args.who.now in
     let t = g.H.StakingHooks.tells in
-    let hs = g.H.StakingHooks.held c.args.hooks.now in
     let u = seen g.B.Bank.holdings c.args.g.now in
     let b = falls_below_minimum v who (c.args.held - c.args.part) in
     let lawful = g.met.H.StakingHooks.lawful in
-    let h1 = g.H.StakingHooks.held c.before_shares_modified.new.self in
     let u1 = seen g.B.Bank.holdings c.before_shares_modified.new.g in
-    let told = c.in_ok-before_shares_modified.ensures.told in
+    let first = picked (t.told hs (modifying v who c.args.held) u) (g.H.StakingHooks.holds c.before_shares_modified.new.self) u1 (c.in_ok-before_shares_modified.ensures.told hs o) in
+    let h1 = first.0 in
+    let told = first.1.1 in
     let left : c.sub-left.result ≡ c.args.held - c.args.part = c.sub-left.ensures in
     let now : c.in_ok-now.now ≡ now_of v b = c.in_ok-now.ensures.now ∙ ap (λ n. now_of v (falls_below_minimum v who n)) left in
     let staked1 : c.jail_if_low.new.self.staked ≡ jailed_if b v s = ap (λ r. r.staked) c.in_ok-now.ensures.staked ∙ ap (λ n. jailed_if (falls_below_minimum v who n) v s) left in
@@ -367,13 +377,10 @@ returns-in-Ok-remove_if_empty-clause-told g c =
     let going_is : a ≡ record { now = now_of v b; left = c.args.held - c.args.part; staked = jailed_if b v s; view = jail_noted b v u1 } = λ i. record { now = now i; left = left i; staked = staked1 i; view = view1 i } in
     let given = told-of_ok (t.told hs (modifying v who c.args.held) u) h1 u1 told in
     let s2 = c.leave_standing.new.self.staked in
-    let h2 = g.H.StakingHooks.held c.leave_standing.new.hooks in
     let u2 = seen g.B.Bank.holdings c.leave_standing.new.g in
-    let leaves = c.in-Ok.ensures.told given.0 in
-    let eq = left_is t.told v who c.args.held c.args.part s hs u h1 u1 given.0 given.1 a going_is s2 h2 u2 leaves in
-    let stand_mod = stand_modifying height s h v c.requires.stands who c.args.held c.args.part c.requires.holds c.requires.part b t lawful hs h1 u u1 c.requires.stand told in
-    let ready_mod = ready_left height s h v c.requires.stands who c.args.held c.args.part c.requires.holds c.requires.part b t lawful hs h1 u u1 c.requires.stand told in
-    let here = is_left t lawful (now_of v b) who (c.args.held - c.args.part) given.0 (jailed_if b v s) h1 (jail_noted b v u1) (lists_of s) ready_mod stand_mod eq.0 s2 h2 u2 eq.1 in
+    let second = leaves_picked (left_standing t.told c.in_ok-now.now who c.sub-left.result (behind_log given.0 c.jail_if_low.new.self.staked h1 (seen g.B.Bank.holdings c.jail_if_low.new.g))) s2 (g.H.StakingHooks.holds c.leave_standing.new.hooks) u2 (c.in-Ok.ensures.told h1 first.1.0 given.0) in
+    let h2 = second.0 in
+    let leaves = second.1.1 in
     let tok : c.remove-tokens.result.0 ≡ v.tokens - amount_out v.tokens v.shares c.args.part = ap (λ p. p.0) c.remove-tokens.ensures.value in
     let sh : c.remove-tokens.result.1 ≡ v.shares - c.args.part = ap (λ p. p.1) c.remove-tokens.ensures.value in
     let out : c.remove-tokens.result.2 ≡ amount_out v.tokens v.shares c.args.part = ap (λ p. p.2) c.remove-tokens.ensures.value in
@@ -381,13 +388,11 @@ returns-in-Ok-remove_if_empty-clause-told g c =
     let less_is : less ≡ less_of v b c.args.part = λ i. record (now i) { tokens = tok i; shares = sh i } in
     let s3 = c.put.new.self.staked in
     let s3_is : s3 ≡ with_validator less s2 = ap (λ r. r.staked) c.in_ok-put.ensures.ok in
-    let s3_at : s3 ≡ with_validator (less_of v b c.args.part) (state_left height s h v c.requires.stands who c.args.held c.args.part c.requires.holds c.requires.part b)
-    = s3_is ∙ (λ i. with_validator (less_is i) (here.mine i)) in
     let s4 = c.remove_if_empty.new.self.staked in
-    let h4 = g.H.StakingHooks.held c.remove_if_empty.new.hooks in
+    let h4 = g.H.StakingHooks.holds c.remove_if_empty.new.hooks in
     let u4 = seen g.B.Bank.holdings c.remove_if_empty.new.g in
     let k = then_log t.told v who c.args.held c.args.part s hs u h1 u1 given.0 given.1 a going_is s2 h2 u2 leaves in
-    told-removed_ok t.told v who c.args.held c.args.part s hs u h1 u1 given.0 given.1 a going_is s2 h2 u2 leaves less s3 less_is s3_is s4 h4 u4 c.remove-tokens.result.2 out (c.in-Ok-remove_if_empty.ensures.told k)
+    told-removed_ok t.told v who c.args.held c.args.part s hs u h1 u1 given.0 given.1 a going_is s2 h2 u2 leaves less s3 less_is s3_is s4 h4 u4 c.remove-tokens.result.2 out (c.in-Ok-remove_if_empty.ensures.told h2 second.1.0 k)
 
 pub returns-in-Ok-remove_if_empty-clause-unbonded : goal.returns-in-Ok-remove_if_empty-clause-unbonded
 returns-in-Ok-remove_if_empty-clause-unbonded g c =
@@ -397,13 +402,14 @@ returns-in-Ok-remove_if_empty-clause-unbonded g c =
     let v = c.args.v.now in
     let who = c.args.who.now in
     let t = g.H.StakingHooks.tells in
-    let hs = g.H.StakingHooks.held c.args.hooks.now in
+    let hs = c.requires.stand.0 in
     let u = seen g.B.Bank.holdings c.args.g.now in
     let b = falls_below_minimum v who (c.args.held - c.args.part) in
     let lawful = g.met.H.StakingHooks.lawful in
-    let h1 = g.H.StakingHooks.held c.before_shares_modified.new.self in
     let u1 = seen g.B.Bank.holdings c.before_shares_modified.new.g in
-    let told = c.in_ok-before_shares_modified.ensures.told in
+    let first = picked (t.told hs (modifying v who c.args.held) u) (g.H.StakingHooks.holds c.before_shares_modified.new.self) u1 (c.in_ok-before_shares_modified.ensures.told hs c.requires.stand.1.0) in
+    let h1 = first.0 in
+    let told = first.1.1 in
     let left : c.sub-left.result ≡ c.args.held - c.args.part = c.sub-left.ensures in
     let now : c.in_ok-now.now ≡ now_of v b = c.in_ok-now.ensures.now ∙ ap (λ n. now_of v (falls_below_minimum v who n)) left in
     let staked1 : c.jail_if_low.new.self.staked ≡ jailed_if b v s = ap (λ r. r.staked) c.in_ok-now.ensures.staked ∙ ap (λ n. jailed_if (falls_below_minimum v who n) v s) left in
@@ -412,12 +418,13 @@ returns-in-Ok-remove_if_empty-clause-unbonded g c =
     let going_is : a ≡ record { now = now_of v b; left = c.args.held - c.args.part; staked = jailed_if b v s; view = jail_noted b v u1 } = λ i. record { now = now i; left = left i; staked = staked1 i; view = view1 i } in
     let given = told-of_ok (t.told hs (modifying v who c.args.held) u) h1 u1 told in
     let s2 = c.leave_standing.new.self.staked in
-    let h2 = g.H.StakingHooks.held c.leave_standing.new.hooks in
     let u2 = seen g.B.Bank.holdings c.leave_standing.new.g in
-    let leaves = c.in-Ok.ensures.told given.0 in
+    let second = leaves_picked (left_standing t.told c.in_ok-now.now who c.sub-left.result (behind_log given.0 c.jail_if_low.new.self.staked h1 (seen g.B.Bank.holdings c.jail_if_low.new.g))) s2 (g.H.StakingHooks.holds c.leave_standing.new.hooks) u2 (c.in-Ok.ensures.told h1 first.1.0 given.0) in
+    let h2 = second.0 in
+    let leaves = second.1.1 in
     let eq = left_is t.told v who c.args.held c.args.part s hs u h1 u1 given.0 given.1 a going_is s2 h2 u2 leaves in
-    let stand_mod = stand_modifying height s h v c.requires.stands who c.args.held c.args.part c.requires.holds c.requires.part b t lawful hs h1 u u1 c.requires.stand told in
-    let ready_mod = ready_left height s h v c.requires.stands who c.args.held c.args.part c.requires.holds c.requires.part b t lawful hs h1 u u1 c.requires.stand told in
+    let stand_mod = stand_modifying height s h v c.requires.stands who c.args.held c.args.part c.requires.holds c.requires.part b t lawful hs h1 u u1 c.requires.stand.1.1 told in
+    let ready_mod = ready_left height s h v c.requires.stands who c.args.held c.args.part c.requires.holds c.requires.part b t lawful hs h1 u u1 c.requires.stand.1.1 told in
     let here = is_left t lawful (now_of v b) who (c.args.held - c.args.part) given.0 (jailed_if b v s) h1 (jail_noted b v u1) (lists_of s) ready_mod stand_mod eq.0 s2 h2 u2 eq.1 in
     let tok : c.remove-tokens.result.0 ≡ v.tokens - amount_out v.tokens v.shares c.args.part = ap (λ p. p.0) c.remove-tokens.ensures.value in
     let sh : c.remove-tokens.result.1 ≡ v.shares - c.args.part = ap (λ p. p.1) c.remove-tokens.ensures.value in
@@ -429,30 +436,30 @@ returns-in-Ok-remove_if_empty-clause-unbonded g c =
     let s3_at : s3 ≡ with_validator (less_of v b c.args.part) (state_left height s h v c.requires.stands who c.args.held c.args.part c.requires.holds c.requires.part b)
     = s3_is ∙ (λ i. with_validator (less_is i) (here.mine i)) in
     let s4 = c.remove_if_empty.new.self.staked in
-    let h4 = g.H.StakingHooks.held c.remove_if_empty.new.hooks in
+    let h4 = g.H.StakingHooks.holds c.remove_if_empty.new.hooks in
     let u4 = seen g.B.Bank.holdings c.remove_if_empty.new.g in
     let k = then_log t.told v who c.args.held c.args.part s hs u h1 u1 given.0 given.1 a going_is s2 h2 u2 leaves in
     let kept = c.remove-tokens.ensures.no_token_lost in
     let within : c.remove-tokens.result.2 ≤ v.tokens = omega (arith, kept) in
-    let gone = mine_gone t.told less k s3 h2 u2 s4 h4 u4 (c.in-Ok-remove_if_empty.ensures.told k) in
+    let gone = mine_gone t.told less k s3 h2 u2 s4 h4 u4 (c.in-Ok-remove_if_empty.ensures.told h2 second.1.0 k) in
     is_unbonded_so height s h v c.requires.stands who c.args.held c.args.part c.requires.holds c.requires.part s4 c.remove-tokens.result.2
     (gone ∙ (λ i. state_gone (is_gone (less_is i)) (less_is i).operator (s3_at i))) out within
 
 pub returns-in-Ok-remove_if_empty-clause-keeps : goal.returns-in-Ok-remove_if_empty-clause-keeps
-returns-in-Ok-remove_if_empty-clause-keeps g c =
+returns-in-Ok-remove_if_empty-clause-keeps g c = λ hs o stand.
     let s = c.args.self.now.staked in
     let height = c.requires.sound.0 in
     let h = to_points height s c.requires.sound.1 in
     let v = c.args.v.now in
     let who = c.args.who.now in
     let t = g.H.StakingHooks.tells in
-    let hs = g.H.StakingHooks.held c.args.hooks.now in
     let u = seen g.B.Bank.holdings c.args.g.now in
     let b = falls_below_minimum v who (c.args.held - c.args.part) in
     let lawful = g.met.H.StakingHooks.lawful in
-    let h1 = g.H.StakingHooks.held c.before_shares_modified.new.self in
     let u1 = seen g.B.Bank.holdings c.before_shares_modified.new.g in
-    let told = c.in_ok-before_shares_modified.ensures.told in
+    let first = picked (t.told hs (modifying v who c.args.held) u) (g.H.StakingHooks.holds c.before_shares_modified.new.self) u1 (c.in_ok-before_shares_modified.ensures.told hs o) in
+    let h1 = first.0 in
+    let told = first.1.1 in
     let left : c.sub-left.result ≡ c.args.held - c.args.part = c.sub-left.ensures in
     let now : c.in_ok-now.now ≡ now_of v b = c.in_ok-now.ensures.now ∙ ap (λ n. now_of v (falls_below_minimum v who n)) left in
     let staked1 : c.jail_if_low.new.self.staked ≡ jailed_if b v s = ap (λ r. r.staked) c.in_ok-now.ensures.staked ∙ ap (λ n. jailed_if (falls_below_minimum v who n) v s) left in
@@ -461,12 +468,13 @@ returns-in-Ok-remove_if_empty-clause-keeps g c =
     let going_is : a ≡ record { now = now_of v b; left = c.args.held - c.args.part; staked = jailed_if b v s; view = jail_noted b v u1 } = λ i. record { now = now i; left = left i; staked = staked1 i; view = view1 i } in
     let given = told-of_ok (t.told hs (modifying v who c.args.held) u) h1 u1 told in
     let s2 = c.leave_standing.new.self.staked in
-    let h2 = g.H.StakingHooks.held c.leave_standing.new.hooks in
     let u2 = seen g.B.Bank.holdings c.leave_standing.new.g in
-    let leaves = c.in-Ok.ensures.told given.0 in
+    let second = leaves_picked (left_standing t.told c.in_ok-now.now who c.sub-left.result (behind_log given.0 c.jail_if_low.new.self.staked h1 (seen g.B.Bank.holdings c.jail_if_low.new.g))) s2 (g.H.StakingHooks.holds c.leave_standing.new.hooks) u2 (c.in-Ok.ensures.told h1 first.1.0 given.0) in
+    let h2 = second.0 in
+    let leaves = second.1.1 in
     let eq = left_is t.told v who c.args.held c.args.part s hs u h1 u1 given.0 given.1 a going_is s2 h2 u2 leaves in
-    let stand_mod = stand_modifying height s h v c.requires.stands who c.args.held c.args.part c.requires.holds c.requires.part b t lawful hs h1 u u1 c.requires.stand told in
-    let ready_mod = ready_left height s h v c.requires.stands who c.args.held c.args.part c.requires.holds c.requires.part b t lawful hs h1 u u1 c.requires.stand told in
+    let stand_mod = stand_modifying height s h v c.requires.stands who c.args.held c.args.part c.requires.holds c.requires.part b t lawful hs h1 u u1 stand told in
+    let ready_mod = ready_left height s h v c.requires.stands who c.args.held c.args.part c.requires.holds c.requires.part b t lawful hs h1 u u1 stand told in
     let here = is_left t lawful (now_of v b) who (c.args.held - c.args.part) given.0 (jailed_if b v s) h1 (jail_noted b v u1) (lists_of s) ready_mod stand_mod eq.0 s2 h2 u2 eq.1 in
     let tok : c.remove-tokens.result.0 ≡ v.tokens - amount_out v.tokens v.shares c.args.part = ap (λ p. p.0) c.remove-tokens.ensures.value in
     let sh : c.remove-tokens.result.1 ≡ v.shares - c.args.part = ap (λ p. p.1) c.remove-tokens.ensures.value in
@@ -478,10 +486,11 @@ returns-in-Ok-remove_if_empty-clause-keeps g c =
     let s3_at : s3 ≡ with_validator (less_of v b c.args.part) (state_left height s h v c.requires.stands who c.args.held c.args.part c.requires.holds c.requires.part b)
     = s3_is ∙ (λ i. with_validator (less_is i) (here.mine i)) in
     let s4 = c.remove_if_empty.new.self.staked in
-    let h4 = g.H.StakingHooks.held c.remove_if_empty.new.hooks in
+    let h4 = g.H.StakingHooks.holds c.remove_if_empty.new.hooks in
     let u4 = seen g.B.Bank.holdings c.remove_if_empty.new.g in
     let k = then_log t.told v who c.args.held c.args.part s hs u h1 u1 given.0 given.1 a going_is s2 h2 u2 leaves in
-    let first = keeps_modifying height s h v c.requires.stands who c.args.held c.args.part c.requires.holds c.requires.part b t lawful hs h1 u u1 c.requires.stand told in
-    let owes = owes_modifying height s h v c.requires.stands who c.args.held c.args.part c.requires.holds c.requires.part b t lawful hs h1 u u1 c.requires.stand told in
+    let kept1 = keeps_modifying height s h v c.requires.stands who c.args.held c.args.part c.requires.holds c.requires.part b t lawful hs h1 u u1 stand told in
+    let owes = owes_modifying height s h v c.requires.stands who c.args.held c.args.part c.requires.holds c.requires.part b t lawful hs h1 u u1 stand told in
     keeps_then (t.owes hs ≡ None) (t.owes h2 ≡ None) u u2 u4 (λ n. here.owes (owes n))
-    (keeps_then (t.owes hs ≡ None) (t.owes h1 ≡ None) u (jail_noted b v u1) u2 owes first here.keeps) c.in-Ok-remove_if_empty.ensures.keeps
+    (keeps_then (t.owes hs ≡ None) (t.owes h1 ≡ None) u (jail_noted b v u1) u2 owes kept1 here.keeps) (c.in-Ok-remove_if_empty.ensures.keeps h2 second.1.0
+    (subst (Stand t h2 u2) (sym (ap lists_of s3_at ∙ lists_less height s h v c.requires.stands who c.args.held c.args.part c.requires.holds c.requires.part b ((c.args.held - c.args.part) == 0) refl)) here.stand))

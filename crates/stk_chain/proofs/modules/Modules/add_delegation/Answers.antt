@@ -20,13 +20,13 @@ delegate-delegated-requires-clause-origin g c = (one c.args.d.now c.requires.nex
 pub returns-in-Ok-clause-added : goal.returns-in-Ok-clause-added
 returns-in-Ok-clause-added g c =
     let m2 : Modules = record { ground = c.delegate-delegated.new.g; staking = c.delegate-delegated.new.self } in
-    delegated_added c.args.d.now c.requires.next.0 c.args.self.now c.requires.next.1 m2 c.in-Ok.field-0 c.in-Ok.ensures.told
+    delegated_added c.args.d.now c.requires.next.0 c.args.self.now c.requires.next.1 m2 c.in-Ok.field-0 (c.in-Ok.ensures.told tt tt)
 
 pub returns-in-Ok-clause-rest : goal.returns-in-Ok-clause-rest
 returns-in-Ok-clause-rest g c =
     let m2 : Modules = record { ground = c.delegate-delegated.new.g; staking = c.delegate-delegated.new.self } in
-    rests_next c.args.self.now m2 c.requires.rest (delegated_view c.args.d.now c.requires.next.0 c.args.self.now c.requires.next.1 m2.staking.staked (ground_of m2) c.in-Ok.field-0 c.in-Ok.ensures.told)
+    rests_next c.args.self.now m2 c.requires.rest (delegated_view c.args.d.now c.requires.next.0 c.args.self.now c.requires.next.1 m2.staking.staked (ground_of m2) c.in-Ok.field-0 (c.in-Ok.ensures.told tt tt))
     c.in-Ok.ensures.undone.marks c.in-Ok.ensures.behind c.in-Ok.ensures.sound c.in-Ok.ensures.accounts
 
 pub never_refused-requires : goal.never_refused-requires
-never_refused-requires g c = never_refused c.args.d.now c.requires.next.0 c.args.self.now c.requires.next.1 c.delegate-delegated.new.self.staked (ground_of (record { ground = c.delegate-delegated.new.g; staking = c.delegate-delegated.new.self })) c.in-Err.why c.in-Err.ensures.told
+never_refused-requires g c = never_refused c.args.d.now c.requires.next.0 c.args.self.now c.requires.next.1 c.delegate-delegated.new.self.staked (ground_of (record { ground = c.delegate-delegated.new.g; staking = c.delegate-delegated.new.self })) c.in-Err.why (c.in-Err.ensures.told tt tt)

@@ -2,7 +2,7 @@ use Rattle.std.proofs.Common.{◌∙◌, Ok, sym, ap, subst}
 use Rattle.stk_keep.specs.declared.messages.CreateValidator.{CreateValidator}
 use Rattle.stk_keep.specs.NoHooks.{nothing_told}
 use Rattle.stk_keep.specs.Staked.{validator_of, validator_by_cons}
-use Rattle.stk_rules.specs.Answers.{Leaves}
+use Rattle.stk_rules.specs.Answers.{WantsMemory, Leaves}
 use Rattle.stk_rules.specs.Validators.{new_validator, stored}
 use Rattle.stk_book.specs.Calls.{HasRates}
 use Rattle.stk_machine.proofs.UnhookedLemmas.{over}
@@ -23,12 +23,15 @@ admit-requires-clause-rates g c = subst HasRates (sym c.creation_of-m.ensures) c
 pub admit-requires-clause-stand : goal.admit-requires-clause-stand
 admit-requires-clause-stand g c = idle_stand (ground_of c.args.self.now) c.args.self.now.staking.staked c.requires.rest.steady.in_order
 
+pub unreachable-requires : goal.unreachable-requires
+unreachable-requires g c = subst WantsMemory c.in-Err-Over.field-0-is (c.in-Err-Over.ensures.told tt tt)
+
 pub returns-in-Ok-clause-added : goal.returns-in-Ok-clause-added
 returns-in-Ok-clause-added g c =
     let m = c.args.self.now in
     let m2 : Modules = record { ground = c.admit.new.g; staking = c.admit.new.self } in
     let told : AdmittedAs c.args.v.now m.ground.ctx.params.bond_denom m.ground.ctx.time m.staking.staked (ground_of m) m2.staking.staked (ground_of m2) (Ok tt)
-    = subst (λ (x : CreateValidator). Leaves (stored nothing_told.told (new_validator x m.ground.ctx.time) (over tt m.staking.staked (ground_of m))) m2.staking.staked tt (ground_of m2) (Ok tt)) c.creation_of-m.ensures c.in-Ok.ensures.told in
+    = subst (λ (x : CreateValidator). Leaves (stored nothing_told.told (new_validator x m.ground.ctx.time) (over tt m.staking.staked (ground_of m))) m2.staking.staked (λ y. Unit {0}) (ground_of m2) (Ok tt)) c.creation_of-m.ensures (c.in-Ok.ensures.told tt tt) in
     admitted_added c.args.v.now m m2 told
 
 pub returns-in-Ok-clause-rest : goal.returns-in-Ok-clause-rest
@@ -36,6 +39,6 @@ returns-in-Ok-clause-rest g c =
     let m = c.args.self.now in
     let m2 : Modules = record { ground = c.admit.new.g; staking = c.admit.new.self } in
     let told : AdmittedAs c.args.v.now m.ground.ctx.params.bond_denom m.ground.ctx.time m.staking.staked (ground_of m) m2.staking.staked (ground_of m2) (Ok tt)
-    = subst (λ (x : CreateValidator). Leaves (stored nothing_told.told (new_validator x m.ground.ctx.time) (over tt m.staking.staked (ground_of m))) m2.staking.staked tt (ground_of m2) (Ok tt)) c.creation_of-m.ensures c.in-Ok.ensures.told in
+    = subst (λ (x : CreateValidator). Leaves (stored nothing_told.told (new_validator x m.ground.ctx.time) (over tt m.staking.staked (ground_of m))) m2.staking.staked (λ y. Unit {0}) (ground_of m2) (Ok tt)) c.creation_of-m.ensures (c.in-Ok.ensures.told tt tt) in
     rests_next m m2 c.requires.rest (admitted_view c.args.v.now m.ground.ctx.params.bond_denom m.ground.ctx.time m.staking.staked (ground_of m) m2.staking.staked (ground_of m2) told)
     c.in-Ok.ensures.undone.marks c.in-Ok.ensures.behind c.in-Ok.ensures.sound c.in-Ok.ensures.accounts

@@ -1,4 +1,4 @@
-use Rattle.std.proofs.Common.{sym, subst}
+use Rattle.std.proofs.Common.{sym, ap, subst}
 use Rattle.stk_msgs.specs.declared.message.Msg.{Msg}
 use Rattle.stk_machine.specs.Built.{built_effect}
 use Rattle.stk_chain.specs.Answers.{MessageEnds}
@@ -12,7 +12,7 @@ returns-in-CreateValidator-clause-ends g c =
     let old = c.args.self.now in
     let after = c.create_validator.new in
     subst (λ (x : Msg). MessageEnds (built_effect x (stands old)) (stands (record { ground = after.g; staking = after.self })) c.create_validator.result) (sym c.in-CreateValidator.is)
-    (created_ends c.in-CreateValidator.m old.staking.staked after.self.staked (ground_of old) (ground_of (record { ground = after.g; staking = after.self })) c.create_validator.result c.create_validator.ensures.told)
+    (created_ends c.in-CreateValidator.m old.staking.staked after.self.staked (ground_of old) (ground_of (record { ground = after.g; staking = after.self })) c.create_validator.result (c.create_validator.ensures.told tt tt))
 
 pub returns-in-EditValidator-clause-ends : goal.returns-in-EditValidator-clause-ends
 returns-in-EditValidator-clause-ends g c =
@@ -24,4 +24,4 @@ returns-in-EditValidator-clause-ends g c =
 pub returns-in-EditValidator-clause-steady : goal.returns-in-EditValidator-clause-steady
 returns-in-EditValidator-clause-steady g c =
     let after = c.edit_validator.new in
-    steady_edited c.in-EditValidator.m c.args.self.now (record { ground = after.g; staking = after.self }) c.edit_validator.result c.edit_validator.ensures.told c.edit_validator.ensures.ground c.edit_validator.ensures.sound c.requires.steady
+    steady_edited c.in-EditValidator.m c.args.self.now (record { ground = after.g; staking = after.self }) c.edit_validator.result c.edit_validator.ensures.told c.edit_validator.ensures.ground c.edit_validator.ensures.sound (ap (λ b. b.power_reduction) c.edit_validator.ensures.behind) c.requires.steady

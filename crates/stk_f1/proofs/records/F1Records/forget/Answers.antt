@@ -1,6 +1,6 @@
 use Rattle.std.proofs.Common.{◌∙◌, ◌++◌, length, sym, ap}
 use Rattle.std.specs.Option.{option_to_list}
-use Rattle.stk_f1.proofs.StepLemmas.{numbers-pop, numbers-last}
+use Rattle.stk_rows.proofs.MarkLemmas.{numbers-pop, numbers-last}
 use Rattle.stk_f1.proofs.records.F1Records.forget.Goals as goal
 
 pub forget-requires : goal.forget-requires

@@ -1,7 +1,7 @@
 use Rattle.std.proofs.Common.{◌≡◌, ◌∙◌, true, false, refl, sym, ap}
-use Rattle.stk_f1.specs.Kept.{with_history}
-use Rattle.stk_f1.specs.Rows.{is_record}
-use Rattle.stk_f1.proofs.ItemLemmas.{no_record, current-added, historical-added, start-added, event-added, added-same}
+use Rattle.stk_rows.proofs.KindLemmas.{added-at}
+use Rattle.stk_f1.specs.Rows.{items_of, is_record}
+use Rattle.stk_f1.proofs.ItemLemmas.{no_record, current-added, historical-added, start-added, event-added}
 use Rattle.stk_f1.proofs.records.F1Records.load.Goals as goal
 
 pub returns-in_default : goal.returns-in_default
@@ -14,28 +14,30 @@ returns-in_default g c =
       marks = refl;
       settled = refl;
       spent = λ h. sym c.if-is_spent.false ∙ c.is_spent.ensures ∙ ap (λ b. b.spent) c.self.view_is ∙ h;
+      spent_ok = refl;
+      spent_err = tt;
     }
 
 pub returns-in_ok-put_current-in-CurrentPeriod-clause-added : goal.returns-in_ok-put_current-in-CurrentPeriod-clause-added
 returns-in_ok-put_current-in-CurrentPeriod-clause-added g c = λ _.
-    added-same c.self.inside.tables.kept _ c.args.self.now.kept c.put_current.new.self.kept _ c.args.item.now
+    added-at items_of c.self.inside.tables.kept _ c.args.self.now.kept c.put_current.new.self.kept _ c.args.item.now
     (current-added c.self.inside.tables.kept c.in-CurrentPeriod.operator c.in-CurrentPeriod.period c.known.ensures.current)
     (ap (λ b. b.kept) c.self.view_is) (ap (λ b. b.kept) c.in_ok-put_current-in-CurrentPeriod.ensures.ok) c.in-CurrentPeriod.is
 
 pub returns-in_ok-add_record-in-Historical-clause-added : goal.returns-in_ok-add_record-in-Historical-clause-added
 returns-in_ok-add_record-in-Historical-clause-added g c = λ _.
-    added-same c.self.inside.tables.kept _ c.args.self.now.kept c.add_record.new.self.kept _ c.args.item.now
+    added-at items_of c.self.inside.tables.kept _ c.args.self.now.kept c.add_record.new.self.kept _ c.args.item.now
     (historical-added c.self.inside.tables.kept c.in-Historical.operator c.in-Historical.period c.in-Historical.history c.known.ensures.historical)
-    (ap (λ b. b.kept) c.self.view_is) (ap (λ b. b.kept) c.in_ok-add_record-in-Historical.ensures.ok ∙ ap (λ h. with_history c.in-Historical.operator c.in-Historical.period h c.self.inside.tables.kept) c.in_ok-copied-in-Historical.ensures.same) c.in-Historical.is
+    (ap (λ b. b.kept) c.self.view_is) (ap (λ b. b.kept) c.in_ok-add_record-in-Historical.ensures.ok) c.in-Historical.is
 
 pub returns-in_ok-put_info-in-Start-clause-added : goal.returns-in_ok-put_info-in-Start-clause-added
 returns-in_ok-put_info-in-Start-clause-added g c = λ _.
-    added-same c.self.inside.tables.kept _ c.args.self.now.kept c.put_info.new.self.kept _ c.args.item.now
+    added-at items_of c.self.inside.tables.kept _ c.args.self.now.kept c.put_info.new.self.kept _ c.args.item.now
     (start-added c.self.inside.tables.kept c.in-Start.delegator c.in-Start.operator c.in-Start.info c.known.ensures.starts)
     (ap (λ b. b.kept) c.self.view_is) (ap (λ b. b.kept) c.in_ok-put_info-in-Start.ensures.ok) c.in-Start.is
 
 pub returns-in_ok-put_event-in-Event-clause-added : goal.returns-in_ok-put_event-in-Event-clause-added
 returns-in_ok-put_event-in-Event-clause-added g c = λ _.
-    added-same c.self.inside.tables.kept _ c.args.self.now.kept c.put_event.new.self.kept _ c.args.item.now
+    added-at items_of c.self.inside.tables.kept _ c.args.self.now.kept c.put_event.new.self.kept _ c.args.item.now
     (event-added c.self.inside.tables.kept c.in-Event.operator c.in-Event.event c.known.ensures.events)
     (ap (λ b. b.kept) c.self.view_is) (ap (λ b. b.kept) c.in_ok-put_event-in-Event.ensures.ok) c.in-Event.is

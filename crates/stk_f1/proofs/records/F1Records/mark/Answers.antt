@@ -1,6 +1,6 @@
 use Rattle.std.proofs.Common.{◌∙◌, ◌++◌, [], ◌∷◌, length, sym, ap}
 use Rattle.std.specs.List.{range_with_len}
-use Rattle.stk_f1.proofs.StepLemmas.{numbers-push}
+use Rattle.stk_rows.proofs.MarkLemmas.{numbers-push}
 use Rattle.stk_f1.proofs.records.F1Records.mark.Goals as goal
 
 pub invariant_of-self-in-Ok : goal.invariant_of-self-in-Ok

@@ -1,0 +1,116 @@
+//! Balances and supplies as kinds of records.
+
+ghost use Rattle.std.specs.Prelude.{◌≡◌};
+ghost use Rattle.stk_rows.specs.Rows.{AnyValue};
+ghost use Rattle.stk_bank.specs.Rows.{balance_item, supply_item, balance_gone, supply_gone, balance_entry, supply_entry, same_amount};
+
+use std::alloc::Global;
+use stk_keep::Item;
+use stk_rows::Row;
+use stk_table::TableFault;
+use stk_types::{Account, Denom};
+
+/// Balances, by account and denomination.
+pub(crate) struct BalanceKind;
+
+/// Supplies, by denomination.
+pub(crate) struct SupplyKind;
+
+impl Row for BalanceKind {
+    type Key = (Account, Denom);
+
+    type Value = u128;
+
+    ghost Fits = { AnyValue };
+
+    ghost item_of = { balance_item };
+
+    ghost gone_of = { balance_gone };
+
+    ghost same = { same_amount };
+
+    ghost entry_of = { balance_entry };
+
+    fn item(key: &(Account, Denom), value: &u128) -> Result<Item, TableFault> {
+        Ok(balance(key, *value))
+    }
+
+    fn gone(_alloc: Global, key: &(Account, Denom)) -> Item {
+        balance(key, 0)
+    }
+
+    fn is_same(value: &u128, other: &u128) -> bool {
+        *value == *other
+    }
+
+    fn entry(item: &Item) -> Result<Option<((Account, Denom), u128)>, TableFault> {
+        match item {
+            Item::Balance {
+                account,
+                denom,
+                amount,
+            } => Ok(Some(((*account, *denom), *amount))),
+            _ => Ok(None),
+        }
+    }
+
+    fn told() {}
+}
+
+impl Row for SupplyKind {
+    type Key = Denom;
+
+    type Value = u128;
+
+    ghost Fits = { AnyValue };
+
+    ghost item_of = { supply_item };
+
+    ghost gone_of = { supply_gone };
+
+    ghost same = { same_amount };
+
+    ghost entry_of = { supply_entry };
+
+    fn item(key: &Denom, value: &u128) -> Result<Item, TableFault> {
+        Ok(supply(key, *value))
+    }
+
+    fn gone(_alloc: Global, key: &Denom) -> Item {
+        supply(key, 0)
+    }
+
+    fn is_same(value: &u128, other: &u128) -> bool {
+        *value == *other
+    }
+
+    fn entry(item: &Item) -> Result<Option<(Denom, u128)>, TableFault> {
+        match item {
+            Item::Supply { denom, amount } => Ok(Some((*denom, *amount))),
+            _ => Ok(None),
+        }
+    }
+
+    fn told() {}
+}
+
+/// The item of a balance.
+fn balance(place: &(Account, Denom), amount: u128) -> Item
+    ensures { result ≡ balance_item place.now amount }
+{
+    Item::Balance {
+        account: place.0,
+        denom: place.1,
+        amount,
+    }
+}
+
+/// The item of a supply.
+fn supply(denom: &Denom, amount: u128) -> Item
+    ensures { result ≡ supply_item denom.now amount }
+{
+    Item::Supply {
+        denom: *denom,
+        amount,
+    }
+}

@@ -1,6 +1,0 @@
-use Rattle.std.proofs.Common.{refl, ap}
-use Rattle.stk_book.proofs.TrialLemmas.{fit-opened}
-use Rattle.stk_book.proofs.tests.opened.Goals as goal
-
-pub returns-clause-fit : goal.returns-clause-fit
-returns-clause-fit g c = fit-opened c.new.result.staked _ (ap (λ r. r.staked) c.new.ensures) c.params.ensures c.moment.ensures refl c.in_ok-bank.ensures.backed

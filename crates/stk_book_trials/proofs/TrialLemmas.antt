@@ -1,0 +1,100 @@
+-- What the calls of tests leave is fit for the next ones.
+use Rattle.std.proofs.Common.{◌≡◌, ◌∙◌, ℕ, ◌+◌, ◌-◌, ◌^◌, ◌<◌, ◌≤◌, Bool, true, false, cond, List, Some, None, sym, ap, subst, arith}
+use Rattle.std.specs.Prelude.{option_map}
+use Rattle.std.specs.List.Sorted.{IsStrictlySortedBy}
+use Rattle.stk_types.specs.declared.status.BondStatus.{BondStatus}
+use Rattle.stk_keep.specs.declared.entities.Validator.{Validator}
+use Rattle.stk_types.specs.declared.account.Account.TheVariants as account
+use Rattle.stk_types.specs.declared.account.Module.TheVariants as holder
+use Rattle.stk_keep.specs.Hooks.{Keeps}
+use Rattle.stk_keep.specs.Staked.{Staked, validator_of, with_validator, tokens_where, is_bonded, bonded_tokens, other_tokens, IsUnbonded}
+use Rattle.stk_keep.specs.World.{View}
+use Rattle.stk_keep.specs.Ground.{AreInRange, IsInOrder, end_of_blocks}
+use Rattle.stk_keep.specs.Holdings.{IsBacked, balance_of}
+use Rattle.stk_book.specs.Registered.{no_stake}
+use Rattle.stk_book.specs.Calls.{IsSoundStake, with_if, changed_at}
+use Rattle.stk_book_trials.specs.Trials.{IsFit}
+use Rattle.stk_rules.proofs.SoundLemmas.{IsSoundAt, to_points, from_points}
+use Rattle.stk_rules.proofs.TokenLemmas.{tokens-put}
+
+-- with fewer tokens
+abbrev burnt : ℕ → Validator → Validator
+burnt n v = record v { tokens = v.tokens - n }
+
+fewer_counted : (b : Bool) (t n : ℕ) → cond b (t - n) 0 ≤ cond b t 0
+fewer_counted true t n = omega arith
+fewer_counted false t n = omega arith
+
+-- what is owed doesn't grow where a validator's tokens are burnt
+owed-burnt : (test : BondStatus → Bool) (height : ℕ) (s : Staked) (v : Validator) (n : ℕ) → IsSoundAt height s → validator_of s v.operator ≡ Some v
+    → tokens_where test (with_validator (burnt n v) s).validators ≤ tokens_where test s.validators
+owed-burnt test height s v n h f =
+    let put = tokens-put test v.operator v (burnt n v) s.validators h.validators_ascend f in
+    let less = fewer_counted (test v.status) v.tokens n in
+    omega (arith, put, less)
+
+fit_with : (s s2 : Staked) (v : Validator) (n : ℕ) (g : View) → IsFit s g → validator_of s v.operator ≡ Some v → s2 ≡ with_validator (burnt n v) s → IsSoundStake s2 → IsFit s2 g
+fit_with s s2 v n g fit f e sound =
+    let h = to_points fit.sound.0 s fit.sound.1 in
+    let bonded : bonded_tokens s2 ≤ bonded_tokens s = subst (λ x. bonded_tokens x ≤ bonded_tokens s) (sym e) (owed-burnt is_bonded fit.sound.0 s v n h f) in
+    let other : other_tokens s2 ≤ other_tokens s = subst (λ x. other_tokens x ≤ other_tokens s) (sym e) (owed-burnt (λ status. cond (is_bonded status) false true) fit.sound.0 s v n h f) in
+    let has_bonded = fit.accounts.in_bonded in
+    let has_other = fit.accounts.in_not_bonded in
+    record {
+      sound = sound;
+      in_order = fit.in_order;
+      accounts = record { in_bonded = omega (arith, bonded, has_bonded); in_not_bonded = omega (arith, other, has_other) };
+    }
+
+-- tokens were burnt
+pub fit-burnt : (s s2 : Staked) (operator : List ℕ) (v : Validator) (n : ℕ) (g : View) → IsFit s g → validator_of s operator ≡ Some v → s2 ≡ changed_at (burnt n) operator s → IsSoundStake s2 → IsFit s2 g
+fit-burnt s s2 operator v n g fit found e sound =
+    let own : v.operator ≡ operator = (to_points fit.sound.0 s fit.sound.1).operators operator v found in
+    fit_with s s2 v n g fit (ap (validator_of s) own ∙ found) (e ∙ ap (λ o. with_if (option_map (burnt n) o) s) found) sound
+
+within : (new part old held held2 : ℕ) → new + part ≡ old → old ≤ held → held2 ≡ held → new ≤ held2
+within new part old held held2 e l h = omega (arith, e, l, h)
+
+-- shares were unbonded, and the hooks kept the accounts
+pub fit-unbonded : {N : Type 0} (s s2 : Staked) (who operator : List ℕ) (part out : ℕ) (v v2 : View) → IsFit s v → IsUnbonded who operator part out s s2 → Keeps N v v2 → IsInOrder v2 → IsSoundStake s2 → IsFit s2 v2
+fit-unbonded s s2 who operator part out v v2 fit u keeps order sound =
+    let d = v.ctx.params.bond_denom in
+    let same : v2.ctx.params.bond_denom ≡ d = ap (λ c. c.params.bond_denom) keeps.ctx in
+    record {
+      sound = sound;
+      in_order = order;
+      accounts = record {
+        in_bonded = subst (λ q. bonded_tokens s2 ≤ balance_of v2.bank (account.Module holder.Bonded) q) (sym same) (within _ _ _ _ _ u.bonded fit.accounts.in_bonded (keeps.bonded d));
+        in_not_bonded = subst (λ q. other_tokens s2 ≤ balance_of v2.bank (account.Module holder.NotBonded) q) (sym same) (within _ _ _ _ _ u.other fit.accounts.in_not_bonded (keeps.not_bonded d));
+      };
+    }
+
+-- nothing stands yet, at the beginning of time
+pub fit-opened : (s : Staked) (v : View) → s ≡ no_stake → AreInRange v.ctx.params → v.ctx.time ≡ 0 → v.ctx.height ≡ 1 → IsBacked v.bank → IsFit s v
+unfolding IsStrictlySortedBy
+fit-opened s v e params time height bank = subst (λ x. IsFit x v) (sym e) (record {
+  sound = (
+    0,
+    from_points 0 no_stake (record {
+      validators_ascend = tt;
+      delegations_ascend = tt;
+      operators = λ o w f. absurd (none_found w f);
+      validators = λ o w f. absurd (none_found w f);
+      cons = λ o p u w f. absurd (none_found u f);
+      shares = λ o w f. absurd (none_found w f);
+      positive = λ k n f. absurd (none_found n f);
+      existing = λ k n f. absurd (none_found n f);
+    }),
+  );
+  in_order = record { params = params; time = early v.ctx.time time; height = low v.ctx.height height; bank = bank };
+  accounts = record { in_bonded = omega arith; in_not_bonded = omega arith };
+})
+  where
+    none_found : {A : Type 0} (a : A) → None ≡ Some a → ⊥
+    none_found a f = absurd cc
+
+    early : (t : ℕ) → t ≡ 0 → t < end_of_blocks
+    early t f = omega (arith, f)
+
+    low : (h : ℕ) → h ≡ 1 → h < 2 ^ 63
+    low h f = omega (arith, f)

@@ -1,0 +1,62 @@
+-- What the laws say of messages that change stakes, and of the parts of a block: accounts that are reached stay so.
+use Rattle.std.specs.Prelude.{ℕ, ◌<◌, List, IfOk}
+use Rattle.stk_types.specs.declared.account.Account.TheVariants as account
+use Rattle.stk_types.specs.declared.account.Module.TheVariants as holder
+use Rattle.stk_coins.specs.declared.coin.Coin.{Coin}
+use Rattle.stk_coins.specs.Coins.{IsMoney}
+use Rattle.stk_keep.specs.Holdings.{coins_of}
+use Rattle.stk_keep.specs.declared.messages.Vote.{Vote}
+use Rattle.stk_rules.specs.Amounts.{in_units}
+use Rattle.stk_rules.specs.Sound.{IsSound}
+use Rattle.stk_keep.specs.declared.messages.CreateValidator.{CreateValidator}
+use Rattle.stk_rules.specs.Chain.{State, allocation_step, set_step, maturing_step, unbondings_step, redelegations_step}
+use Rattle.stk_rules.specs.Effects.{create_validator, delegate, undelegate, cancel_unbonding}
+use Rattle.stk_rules.specs.Laws.{Keeps, next_block}
+use Rattle.stk_bracket.specs.States.{ReachedStays, NoneStartedHere}
+
+-- delegating keeps accounts reached
+abbrev pub DelegatingKeepsReached : Type 0
+DelegatingKeepsReached = (who operator : List ℕ) (coin : Coin) → Keeps ReachedStays (delegate who operator coin)
+
+-- and so does cancelling an unbonding
+abbrev pub CancellingKeepsReached : Type 0
+CancellingKeepsReached = (who operator : List ℕ) (coin : Coin) (height : ℕ) → Keeps ReachedStays (cancel_unbonding who operator coin height)
+
+-- and so does creating a validator, whose operator delegates to it
+abbrev pub CreatingKeepsReached : Type 0
+CreatingKeepsReached = (m : CreateValidator) → Keeps ReachedStays (create_validator m)
+
+-- and so does undelegating
+abbrev pub UndelegatingKeepsReached : Type 0
+UndelegatingKeepsReached = (who operator : List ℕ) (coin : Coin) → Keeps ReachedStays (undelegate who operator coin)
+
+-- and so do the mature entries of a block: unbondings that are paid, and redelegations that go
+abbrev pub UnbondingsStepKeepsReached : Type 0
+UnbondingsStepKeepsReached = Keeps ReachedStays unbondings_step
+
+abbrev pub RedelegationsStepKeepsReached : Type 0
+RedelegationsStepKeepsReached = Keeps ReachedStays redelegations_step
+
+-- and so does making the bonded set anew
+abbrev pub BondedSetKeepsReached : Type 0
+BondedSetKeepsReached = Keeps ReachedStays set_step
+
+-- and so do validators whose unbonding is mature
+abbrev pub MaturingKeepsReached : Type 0
+MaturingKeepsReached = Keeps ReachedStays maturing_step
+
+-- In the block after a sound state no start is of its height, before anything is done.
+abbrev pub NoneStartedInNext : Type 0
+NoneStartedInNext = (w : State) (height time : ℕ) → IsSound w → w.view.ctx.height < height → NoneStartedHere (next_block height time w)
+
+-- where no start is of this height, and the fees of the block are coins, allocating them keeps accounts reached
+abbrev pub AllocationKeepsReached : Type 0
+AllocationKeepsReached =
+    (votes : List Vote) (w : State) → IsSound w → NoneStartedHere w → IsMoney (in_units (coins_of w.view.bank (account.Module holder.FeeCollector)))
+    → IfOk (allocation_step votes w) (ReachedStays w)
+
+-- So the beginning of a block as one step keeps accounts reached: the next block, then the allocation of its fees.
+abbrev pub BlockBeginKeepsReached : Type 0
+BlockBeginKeepsReached =
+    (votes : List Vote) (height time : ℕ) (w : State) → IsSound w → IsSound (next_block height time w) → w.view.ctx.height < height
+    → IsMoney (in_units (coins_of w.view.bank (account.Module holder.FeeCollector))) → IfOk (allocation_step votes (next_block height time w)) (ReachedStays w)

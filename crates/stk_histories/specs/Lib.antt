@@ -1,0 +1,7 @@
+pub mod Worked
+pub mod WholeRows
+pub mod HistoryRows
+pub mod LifeRows
+pub mod RandomRows
+pub mod SoundRows
+pub mod BuiltRows

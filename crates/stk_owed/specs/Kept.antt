@@ -1,0 +1,120 @@
+-- What keeps a sound state sound, step by step: the statement `SoundIsKept` of `stk_rules` in parts.
+use Rattle.std.specs.Prelude.{List, length, ℕ, IfOk, ◌+◌, ◌<◌, ◌≤◌, ◌^◌}
+use Rattle.stk_types.specs.declared.account.Account.{Account}
+use Rattle.stk_coins.specs.declared.coin.Coin.{Coin}
+use Rattle.stk_coins.specs.Coins.{Money, IsMoney}
+use Rattle.stk_keep.specs.declared.messages.CreateValidator.{CreateValidator}
+use Rattle.stk_keep.specs.declared.messages.EditValidator.{EditValidator}
+use Rattle.stk_keep.specs.declared.messages.Evidence.{Evidence}
+use Rattle.stk_keep.specs.declared.messages.Vote.{Vote}
+use Rattle.stk_keep.specs.Ground.{end_of_blocks}
+use Rattle.stk_rules.specs.Chain.{State, vote_step, evidence_step, allocation_step, set_step, maturing_step, unbondings_step, redelegations_step}
+use Rattle.stk_rules.specs.Effects.{send, begin_redelegate, undelegate, cancel_unbonding, create_validator, delegate, withdraw_reward, edit_validator, unjail, withdraw_commission, set_withdraw_address, fund_community_pool, community_pool_spend, fee_paid}
+use Rattle.stk_rules.specs.Laws.{Keeps, AreWhole, AreVotes, IsPower, CountsBelow, next_block}
+use Rattle.stk_rules.specs.Sound.{IsSound}
+use Rattle.stk_msgs.specs.declared.block.Block.{Block}
+use Rattle.stk_msgs.specs.declared.block.Tx.{Tx}
+use Rattle.stk_msgs.specs.declared.message.Msg.{Msg}
+use Rattle.stk_machine.specs.Machine.{tx_applied, run_of}
+use Rattle.stk_machine.specs.Messages.{effect_of}
+use Rattle.stk_machine.specs.Promises.{MessageHasCoins, TxHasCoins, AreInput}
+
+-- the state after a step is sound
+abbrev pub IsSoundAfter : State → State → Type 0
+IsSoundAfter old new = IsSound new
+
+-- fees
+abbrev pub FeesKeepSoundness : Type 0
+FeesKeepSoundness = (payer : List ℕ) (fee : Money) → IsMoney fee → Keeps IsSoundAfter (fee_paid payer fee)
+
+-- sends
+abbrev pub SendsKeepSoundness : Type 0
+SendsKeepSoundness = (from : List ℕ) (to : Account) (coins : Money) → IsMoney coins → Keeps IsSoundAfter (send from to coins)
+
+-- payees
+abbrev pub PayeesKeepSoundness : Type 0
+PayeesKeepSoundness = (who : List ℕ) (to : Account) → Keeps IsSoundAfter (set_withdraw_address who to)
+
+-- coins that join and leave the community pool
+abbrev pub FundingKeepsSoundness : Type 0
+FundingKeepsSoundness = (who : List ℕ) (coins : Money) → IsMoney coins → Keeps IsSoundAfter (fund_community_pool who coins)
+
+abbrev pub SpendingKeepsSoundness : Type 0
+SpendingKeepsSoundness = (authority : List ℕ) (to : Account) (coins : Money) → IsMoney coins → Keeps IsSoundAfter (community_pool_spend authority to coins)
+
+-- commission
+abbrev pub CommissionsKeepSoundness : Type 0
+CommissionsKeepSoundness = (operator : List ℕ) → Keeps IsSoundAfter (withdraw_commission operator)
+
+-- edits of a validator, and leaving jail
+abbrev pub EditsKeepSoundness : Type 0
+EditsKeepSoundness = (m : EditValidator) → Keeps IsSoundAfter (edit_validator m)
+
+abbrev pub UnjailingKeepsSoundness : Type 0
+UnjailingKeepsSoundness = (operator : List ℕ) → Keeps IsSoundAfter (unjail operator)
+
+-- withdrawing a reward
+abbrev pub RewardsKeepSoundness : Type 0
+RewardsKeepSoundness = (who operator : List ℕ) → Keeps IsSoundAfter (withdraw_reward who operator)
+
+-- delegating
+abbrev pub DelegatingKeepsSoundness : Type 0
+DelegatingKeepsSoundness = (who operator : List ℕ) (coin : Coin) → Keeps IsSoundAfter (delegate who operator coin)
+
+-- creating a validator
+abbrev pub CreatingKeepsSoundness : Type 0
+CreatingKeepsSoundness = (m : CreateValidator) → Keeps IsSoundAfter (create_validator m)
+
+-- undelegating, where no entry of this height lost anything, and cancelling
+abbrev pub UndelegatingKeepsSoundness : Type 0
+UndelegatingKeepsSoundness = (who operator : List ℕ) (coin : Coin) (w : State) → IsSound w → AreWhole w → IfOk (undelegate who operator coin w) (IsSoundAfter w)
+
+abbrev pub CancellingKeepsSoundness : Type 0
+CancellingKeepsSoundness = (who operator : List ℕ) (coin : Coin) (height : ℕ) → Keeps IsSoundAfter (cancel_unbonding who operator coin height)
+
+-- redelegating
+abbrev pub RedelegatingKeepsSoundness : Type 0
+RedelegatingKeepsSoundness = (who source target : List ℕ) (coin : Coin) → Keeps IsSoundAfter (begin_redelegate who source target coin)
+
+-- the next block, which is later and not before its time
+abbrev pub NextBlockKeepsSoundness : Type 0
+NextBlockKeepsSoundness = (height time : ℕ) (w : State) → IsSound w → w.view.ctx.height < height → height < 2 ^ 63 → w.view.ctx.time ≤ time → time < end_of_blocks → IsSound (next_block height time w)
+
+-- every message, where no entry of this height lost anything
+abbrev pub MessagesKeepSoundness : Type 0
+MessagesKeepSoundness = (m : Msg) → MessageHasCoins m → (w : State) → IsSound w → AreWhole w → IfOk (effect_of m w) (IsSoundAfter w)
+
+-- every transaction, whether its fee is paid or not, and whether its messages are carried out or one is refused
+abbrev pub TransactionsKeepSoundness : Type 0
+TransactionsKeepSoundness = (tx : Tx) → TxHasCoins tx → (w : State) → IsSound w → AreWhole w → IsSound (tx_applied tx w).state
+
+-- mature unbondings that are paid, and mature redelegations that go
+abbrev pub UnbondingsStepKeepsSoundness : Type 0
+UnbondingsStepKeepsSoundness = Keeps IsSoundAfter unbondings_step
+
+abbrev pub RedelegationsStepKeepsSoundness : Type 0
+RedelegationsStepKeepsSoundness = Keeps IsSoundAfter redelegations_step
+
+-- the fees of a block, among votes of validators that stand
+abbrev pub AllocationKeepsSoundness : Type 0
+AllocationKeepsSoundness = (votes : List Vote) (w : State) → IsSound w → AreVotes votes w → IfOk (allocation_step votes w) (IsSoundAfter w)
+
+-- mature validators
+abbrev pub MaturingKeepsSoundness : Type 0
+MaturingKeepsSoundness = Keeps IsSoundAfter maturing_step
+
+-- the bonded set
+abbrev pub BondingKeepsSoundness : Type 0
+BondingKeepsSoundness = Keeps IsSoundAfter set_step
+
+-- a vote, of a record of which fewer votes were counted than the height is, and a piece of evidence
+abbrev pub VotesKeepSoundness : Type 0
+VotesKeepSoundness = (t : Vote) (w : State) → IsSound w → IsPower t.power w → CountsBelow t.cons w → IfOk (vote_step t w) (IsSoundAfter w)
+
+abbrev pub EvidenceKeepsSoundness : Type 0
+EvidenceKeepsSoundness = (e : Evidence) (w : State) → IsSound w → IsPower e.power w → 1 ≤ e.height → e.height < w.view.ctx.height → e.time ≤ w.view.ctx.time → IfOk (evidence_step e w) (IsSoundAfter w)
+
+-- Wherever blocks lead to from a sound state, up to the first that may not follow, the state is sound, as long as there are
+-- heights.
+abbrev pub RunsKeepSoundness : Type 0
+RunsKeepSoundness = (blocks : List Block) (w : State) → AreInput blocks → IsSound w → w.view.ctx.height + length blocks < 2 ^ 63 → IsSound (run_of blocks w).state

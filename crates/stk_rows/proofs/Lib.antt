@@ -1,0 +1,6 @@
+pub mod MemberLemmas
+pub mod KindLemmas
+pub mod RowLemmas
+pub mod WalkLemmas
+pub mod MarkLemmas
+pub mod SameLemmas

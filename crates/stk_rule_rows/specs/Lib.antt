@@ -1,0 +1,4 @@
+pub mod FeeRows
+pub mod ShareRows
+pub mod SlashRows
+pub mod StakeRows
