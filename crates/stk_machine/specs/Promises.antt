@@ -1,5 +1,4 @@
--- What the whole machine keeps, whatever the input. How transactions end, and how six kinds of messages are refused, is
--- proved; all else is stated, not proved.
+-- What the whole machine keeps, whatever the input. What is only stated says so; all else is proved, here or in `stk_owed`.
 use Rattle.std.specs.Prelude.{◌≡◌, ℕ, ◌+◌, ◌^◌, ◌<◌, Bool, true, false, List, [], ◌∷◌, ◌++◌, length, map, sum, All, None, Some, IsOkAnd, Ok, Err}
 use Rattle.stk_coins.specs.Coins.{IsMoney}
 use Rattle.stk_keep.specs.declared.entities.Validator.{Validator}
@@ -104,15 +103,16 @@ pub record Replayed : Type 0 where
 abbrev pub run_in : Replayed → Run
 run_in r = run_of r.blocks r.start.state
 
--- Stated, not proved: a good genesis starts a chain, whose state is sound.
+-- A good genesis starts a chain, whose state is sound. Proved: `genesis_is_sound` of `stk_owed`.
 abbrev pub GenesisIsSound : Type 0
 GenesisIsSound = (g : Genesis) → IsGoodGenesis g → IsOkAnd (chain_started g) (λ s. IsSound s.state)
 
--- Stated, not proved: wherever blocks lead to, the state is sound.
+-- Wherever blocks lead to, the state is sound. Proved: `runs_are_sound` of `stk_owed`.
 abbrev pub RunsAreSound : Type 0
 RunsAreSound = (r : Replayed) → IsSound (run_in r).state
 
--- Stated, not proved: after the genesis and after each block the three accounts hold what they owe.
+-- After the genesis and after each block the three accounts hold what they owe. Proved: `accounts_hold_what_is_owed` of
+-- `stk_owed`.
 abbrev pub AccountsHoldWhatIsOwed : Type 0
 AccountsHoldWhatIsOwed = (r : Replayed) → HoldsWhatIsOwed r.start.state × HoldsWhatIsOwed (run_in r).state
 

@@ -33,3 +33,4 @@ pub mod Starting
 pub mod Together
 pub mod Giving
 pub mod Founding
+pub mod Refusing

@@ -1,4 +1,5 @@
--- What keeps a sound state sound, step by step: the statement `SoundIsKept` of `stk_rules` in parts.
+-- What keeps a sound state sound, step by step: the statement `SoundIsKept` of `stk_rules` in parts; and how funding the
+-- community pool is refused.
 use Rattle.std.specs.Prelude.{List, length, ℕ, IfOk, ◌+◌, ◌<◌, ◌≤◌, ◌^◌}
 use Rattle.stk_types.specs.declared.account.Account.{Account}
 use Rattle.stk_coins.specs.declared.coin.Coin.{Coin}
@@ -11,6 +12,7 @@ use Rattle.stk_keep.specs.Ground.{end_of_blocks}
 use Rattle.stk_rules.specs.Chain.{State, vote_step, evidence_step, allocation_step, set_step, maturing_step, unbondings_step, redelegations_step}
 use Rattle.stk_rules.specs.Effects.{send, begin_redelegate, undelegate, cancel_unbonding, create_validator, delegate, withdraw_reward, edit_validator, unjail, withdraw_commission, set_withdraw_address, fund_community_pool, community_pool_spend, fee_paid}
 use Rattle.stk_rules.specs.Laws.{Keeps, AreWhole, AreVotes, IsPower, CountsBelow, next_block}
+use Rattle.stk_rules.specs.RefusalOrder.{IsRefusedBy, against_fund}
 use Rattle.stk_rules.specs.Sound.{IsSound}
 use Rattle.stk_msgs.specs.declared.block.Block.{Block}
 use Rattle.stk_msgs.specs.declared.block.Tx.{Tx}
@@ -118,3 +120,7 @@ EvidenceKeepsSoundness = (e : Evidence) (w : State) → IsSound w → IsPower e.
 -- heights.
 abbrev pub RunsKeepSoundness : Type 0
 RunsKeepSoundness = (blocks : List Block) (w : State) → AreInput blocks → IsSound w → w.view.ctx.height + length blocks < 2 ^ 63 → IsSound (run_of blocks w).state
+
+-- Funding the community pool is refused by the first of its conditions that holds, and accepted where none does.
+abbrev pub FundsNameConditions : Type 0
+FundsNameConditions = (who : List ℕ) (coins : Money) → IsMoney coins → IsRefusedBy (fund_community_pool who coins) (against_fund who coins)

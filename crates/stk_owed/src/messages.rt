@@ -1,6 +1,6 @@
 //! Fees and messages keep a state sound: laws as functions that do nothing, whose contracts are the laws.
 
-ghost use Rattle.stk_owed.specs.Kept.{FeesKeepSoundness, SendsKeepSoundness, PayeesKeepSoundness, FundingKeepsSoundness, SpendingKeepsSoundness, CommissionsKeepSoundness, EditsKeepSoundness, UnjailingKeepsSoundness, RewardsKeepSoundness, DelegatingKeepsSoundness, CreatingKeepsSoundness, UndelegatingKeepsSoundness, CancellingKeepsSoundness, RedelegatingKeepsSoundness, MessagesKeepSoundness, TransactionsKeepSoundness};
+ghost use Rattle.stk_owed.specs.Kept.{FeesKeepSoundness, SendsKeepSoundness, PayeesKeepSoundness, FundingKeepsSoundness, SpendingKeepsSoundness, CommissionsKeepSoundness, EditsKeepSoundness, UnjailingKeepsSoundness, RewardsKeepSoundness, DelegatingKeepsSoundness, CreatingKeepsSoundness, UndelegatingKeepsSoundness, CancellingKeepsSoundness, RedelegatingKeepsSoundness, MessagesKeepSoundness, TransactionsKeepSoundness, FundsNameConditions};
 
 /// A fee that is paid leaves a sound state sound.
 #[tactic(auto, using(crate::proofs::Moves::fees_keep_soundness))]
@@ -81,4 +81,11 @@ pub fn redelegating_keeps_soundness()
 pub fn transactions_keep_soundness()
     ensures messages { MessagesKeepSoundness }
     ensures transactions { TransactionsKeepSoundness }
+{}
+
+/// From a sound state funding the community pool is refused by the first of its conditions that holds, and accepted where none
+/// does.
+#[tactic(auto, using(crate::proofs::Refusing::funds_refused))]
+pub fn funds_name_conditions()
+    ensures { FundsNameConditions }
 {}

@@ -1,5 +1,6 @@
--- The laws of the rules, as statements. None of them is proved here: stated, not proved. A law of states is said of each
--- atomic step: a message, an allocation, a vote, a piece of evidence, an action of a block's end, and the next block.
+-- The laws of the rules, as statements. None of them is proved here; those that `stk_owed` proves say so, and the others are
+-- stated, not proved. A law of states is said of each atomic step: a message, an allocation, a vote, a piece of evidence, an
+-- action of a block's end, and the next block.
 use Rattle.std.specs.Prelude.{◌≡◌, ℕ, ◌+◌, ◌-◌, ◌*◌, ◌^◌, ◌<◌, ◌≤◌, List, [], ◌∷◌, length, map, sum, All, IfOk, Result, Ok, Some, None}
 use Rattle.stk_types.specs.declared.account.Account.{Account}
 use Rattle.stk_coins.specs.declared.coin.Coin.{Coin}
@@ -84,7 +85,7 @@ pub record KeptByBlocks (P : State → State → Type 0) : Type 0 where
 
 -- ---- the statements
 
--- Stated, not proved: each atomic step keeps a state sound; with it, the three accounts hold what they owe.
+-- Each atomic step keeps a state sound; with it, the three accounts hold what they owe. Proved: `sound_is_kept` of `stk_owed`.
 abbrev pub SoundIsKept : Type 0
 SoundIsKept = KeptByMessages (λ old new. IsSound new) × KeptByBlocks (λ old new. IsSound new)
 
@@ -105,7 +106,7 @@ SupplyFallsByBurns old new = (d : List ℕ) → supply_of new.view.bank d + burn
 abbrev pub OnlyBurnsLowerSupplies : Type 0
 OnlyBurnsLowerSupplies = KeptByMessages SupplyFallsByBurns × KeptByBlocks SupplyFallsByBurns
 
--- Stated, not proved: the end of a block never exceeds.
+-- The end of a block never exceeds. Proved: `blocks_end` of `stk_owed`.
 abbrev pub BlocksEnd : Type 0
 BlocksEnd = (w : State) → IsSound w → ((s : State) × (set_step w ≡ Ok s)) × ((s : State) × (maturing_step w ≡ Ok s))
 
