@@ -7,14 +7,14 @@ use Rattle.stk_app.specs.declared.status.Status.{Status}
 use Rattle.stk_app.specs.declared.status.Status.TheVariants.{Done, Usage, BadInput, Limit, ReadFault, WriteFault, NoMemory}
 
 -- The number by which the process ends, for each status.
-abbrev pub number_of : Status → ℕ
-number_of Done = 0
-number_of Usage = 1
-number_of (BadInput line fault) = 2
-number_of (Limit line kind) = 3
-number_of ReadFault = 4
-number_of WriteFault = 5
-number_of NoMemory = 7
+abbrev pub status_number : Status → ℕ
+status_number Done = 0
+status_number Usage = 1
+status_number (BadInput line fault) = 2
+status_number (Limit line kind) = 3
+status_number ReadFault = 4
+status_number WriteFault = 5
+status_number NoMemory = 7
 
 -- The number by which a block's fault is named.
 abbrev pub number_of_fault : BlockFault → ℕ

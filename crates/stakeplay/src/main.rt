@@ -3,7 +3,7 @@
 #![tactic(auto)]
 
 ghost use Rattle.std.specs.Prelude.{◌≡◌};
-ghost use Rattle.stakeplay.specs.Statuses.{fault_number, line_number, number_of, number_of_fault};
+ghost use Rattle.stakeplay.specs.Statuses.{fault_number, line_number, status_number, number_of_fault};
 
 use std::alloc::Global;
 use std::env::{self, Env};
@@ -15,7 +15,7 @@ use stk_msgs::BlockFault;
 
 /// The number by which the process ends.
 fn number_of(status: &Status) -> u8
-    ensures { result ≡ number_of status.now }
+    ensures { result ≡ status_number status.now }
 {
     match status {
         Status::Done => 0,

@@ -31,7 +31,7 @@ use Rattle.stk_json.specs.declared.kind.Kind.{Kind}
 use Rattle.stk_json.specs.declared.kind.Kind.TheVariants as kind
 use Rattle.stk_json.specs.Reading.{tree_of}
 use Rattle.stk_json.specs.Members.{member_at, spelled_by, amount_of, amount_at, denom_at, number_at, user_at, account_at, moment_at, word_at, only_named}
-use Rattle.stk_json.specs.Nested.{each, with_front, list_at}
+use Rattle.stk_json.specs.Nested.{each_element, with_front, list_at}
 use Rattle.stk_json.specs.Coin.{coin_of, coins_at, money_of}
 use Rattle.stk_json.specs.Messages as messages
 use Rattle.stk_json.specs.Block.{vote_of, evidence_of, tx_of, block_of_tree, block_of}
@@ -73,12 +73,12 @@ from P Q f r h next = holds_then P Q r f h next
 HoldsEach : {A : Type 0} → (A → Type 0) → List A → Type 0
 HoldsEach P xs = AllByRecursion P xs
 
-holds_each : {A : Type 0} (P : A → Type 0) (form : Data → Result A LineFault) → ((d : Data) → Holds P (form d)) → (items : Items) → Holds (HoldsEach P) (each form items)
+holds_each : {A : Type 0} (P : A → Type 0) (form : Data → Result A LineFault) → ((d : Data) → Holds P (form d)) → (items : Items) → Holds (HoldsEach P) (each_element form items)
 unfolding Holds HoldsEach
 holds_each P form one no_items = tt
 holds_each P form one (item d ds) =
-    holds_then P (HoldsEach P) (form d) (λ x. with_front (x ∷ []) (each form ds)) (one d) (λ x h.
-    holds_then (HoldsEach P) (HoldsEach P) (each form ds) (λ rest. Ok ((x ∷ []) ++ rest)) (holds_each P form one ds) (λ rest hs. (h, hs)))
+    holds_then P (HoldsEach P) (form d) (λ x. with_front (x ∷ []) (each_element form ds)) (one d) (λ x h.
+    holds_then (HoldsEach P) (HoldsEach P) (each_element form ds) (λ rest. Ok ((x ∷ []) ++ rest)) (holds_each P form one ds) (λ rest hs. (h, hs)))
 
 holds_list : {A : Type 0} (P : A → Type 0) (form : Data → Result A LineFault) → ((d : Data) → Holds P (form d)) → (number : ℕ) (name : List ℕ) (d : Data) → Holds (HoldsEach P) (list_at form number name d)
 holds_list P form one number name d = past _ _ (member_at as_array number name d) (holds_each P form one)
@@ -223,15 +223,15 @@ TxIsRead tx = IsMoney tx.fee × HoldsEach MessageHasCoins tx.msgs
 
 tx_given : (payer : List ℕ) (fee : Money) (msgs : List Msg) → IsMoney fee → HoldsEach MessageHasCoins msgs → Holds TxIsRead (Ok (record { payer = payer; fee = fee; msgs = msgs }))
 unfolding TxIsRead
-tx_given payer fee msgs money each = given (λ (tx : Tx). IsMoney tx.fee × HoldsEach MessageHasCoins tx.msgs) (record { payer = payer; fee = fee; msgs = msgs }) (money, each)
+tx_given payer fee msgs money each_element = given (λ (tx : Tx). IsMoney tx.fee × HoldsEach MessageHasCoins tx.msgs) (record { payer = payer; fee = fee; msgs = msgs }) (money, each_element)
 
 holds_tx : (d : Data) → Holds TxIsRead (tx_of d)
 unfolding tx_of
 holds_tx d =
     past _ _ (user_at 80 (codes "payer") d) (λ payer.
     from _ _ _ (coins_at 81 (codes "fee") d) (holds_coins 81 (codes "fee") d) (λ fee money.
-    from _ _ _ (list_at messages.message_of 82 (codes "msgs") d) (holds_list MessageHasCoins messages.message_of holds_message 82 (codes "msgs") d) (λ msgs each.
-    past _ _ (only_named (codes "payer" ∷ codes "fee" ∷ codes "msgs" ∷ []) d) (λ only. tx_given payer fee msgs money each))))
+    from _ _ _ (list_at messages.message_of 82 (codes "msgs") d) (holds_list MessageHasCoins messages.message_of holds_message 82 (codes "msgs") d) (λ msgs each_element.
+    past _ _ (only_named (codes "payer" ∷ codes "fee" ∷ codes "msgs" ∷ []) d) (λ only. tx_given payer fee msgs money each_element))))
 
 -- the height is in its range, and all transactions have lists of coins
 BlockIsRead : Block → Type 0
@@ -245,8 +245,8 @@ holds_number number name d = search rules
 block_given : (height time : ℕ) (votes : List Vote) (evidence : List Evidence) (txs : List Tx) → height < 2 ^ 63 → HoldsEach TxIsRead txs
     → Holds BlockIsRead (Ok (record { height = height; time = time; votes = votes; evidence = evidence; txs = txs }))
 unfolding BlockIsRead
-block_given height time votes evidence txs low each =
-    given (λ (b : Block). (b.height < 2 ^ 63) × HoldsEach TxIsRead b.txs) (record { height = height; time = time; votes = votes; evidence = evidence; txs = txs }) (low, each)
+block_given height time votes evidence txs low each_element =
+    given (λ (b : Block). (b.height < 2 ^ 63) × HoldsEach TxIsRead b.txs) (record { height = height; time = time; votes = votes; evidence = evidence; txs = txs }) (low, each_element)
 
 holds_block : (d : Data) → Holds BlockIsRead (block_of_tree d)
 unfolding block_of_tree
@@ -256,9 +256,9 @@ holds_block d =
     past _ _ (moment_at 62 (codes "time") d) (λ time.
     past _ _ (list_at vote_of 63 (codes "votes") d) (λ votes.
     past _ _ (list_at evidence_of 64 (codes "evidence") d) (λ evidence.
-    from _ _ _ (list_at tx_of 65 (codes "txs") d) (holds_list TxIsRead tx_of holds_tx 65 (codes "txs") d) (λ txs each.
+    from _ _ _ (list_at tx_of 65 (codes "txs") d) (holds_list TxIsRead tx_of holds_tx 65 (codes "txs") d) (λ txs each_element.
     past _ _ (only_named (codes "kind" ∷ codes "height" ∷ codes "time" ∷ codes "votes" ∷ codes "evidence" ∷ codes "txs" ∷ []) d) (λ only.
-    block_given height time votes evidence txs low each)))))))
+    block_given height time votes evidence txs low each_element)))))))
 
 holds_line : (line : List ℕ) → Holds BlockIsRead (block_of line)
 unfolding block_of

@@ -10,7 +10,7 @@ use Rattle.stk_keep.specs.declared.refusal.Refusal.{Refusal}
 use Rattle.stk_keep.specs.declared.refusal.Refusal.TheVariants.{NonPositive, CommissionRange, MinSelfNotPositive, SelfBelowMinimum, CommissionBelowMinimum, ValidatorExists, ConsKeyExists, WrongDenom, Overflow}
 use Rattle.stk_keep.specs.Holdings.{balance_of}
 use Rattle.stk_keep.specs.Hooks.{Tells, Stand, Ready}
-use Rattle.stk_keep.specs.Staked.{Staked, validator_of, validator_by_cons, with_validator, lists_of, is_bonded, bonded_tokens, other_tokens, HoldsStake}
+use Rattle.stk_keep.specs.Staked.{Staked, validator_at, validator_by_cons, put_validator, lists_of, is_bonded, bonded_tokens, other_tokens, HoldsStake}
 use Rattle.stk_keep.specs.declared.faults.Stop.{Stop}
 use Rattle.stk_keep.specs.declared.faults.Stop.TheVariants as stop
 use Rattle.stk_keep.specs.Answers.{AnswersAs}
@@ -62,9 +62,9 @@ rates m minimum e = rates_within m (formed m minimum e).1
 new_is_sound : (height : ℕ) (m : CreateValidator) (time : ℕ) → HasRates m → ValidatorIsSound height (new_validator m time)
 new_is_sound height m time r = record { max_rate = r.max_rate; rate = r.rate; max_change = r.max_change; tokens = omega arith; empty = λ z. refl; unbonding_height = omega arith }
 
-module _ (s : Staked) (m : CreateValidator) (time : ℕ) (v : Validator) (is : v ≡ new_validator m time) (none : validator_of s m.validator ≡ None) where
-  none_at : validator_of s v.operator ≡ None
-  none_at = ap (λ x. validator_of s x.operator) is ∙ none
+module _ (s : Staked) (m : CreateValidator) (time : ℕ) (v : Validator) (is : v ≡ new_validator m time) (none : validator_at s m.validator ≡ None) where
+  none_at : validator_at s v.operator ≡ None
+  none_at = ap (λ x. validator_at s x.operator) is ∙ none
 
   pub ready-created : {S : Type 0} (t : Tells S) (hs : S) (u : View) → Stand t hs u (lists_of s) → Ready t hs u (created v) (lists_of s)
   ready-created t hs u p = record { stand = p; needs = ap is_some none_at; tokens = subst (λ n. n ≤ 10 ^ 18) (sym (ap (λ x. x.tokens) is)) (omega arith) }
@@ -76,7 +76,7 @@ module _ (s : Staked) (m : CreateValidator) (time : ℕ) (v : Validator) (is : v
   empty true = ap (λ x. x.tokens) is
   empty false = refl
 
-  pub joined_tokens : (u : View) → HoldsStake u (bonded_tokens s) (other_tokens s) → HoldsStake u (bonded_tokens (with_validator v s)) (other_tokens (with_validator v s))
+  pub joined_tokens : (u : View) → HoldsStake u (bonded_tokens s) (other_tokens s) → HoldsStake u (bonded_tokens (put_validator v s)) (other_tokens (put_validator v s))
   joined_tokens u h = record {
     in_bonded = subst (λ n. n ≤ balance_of u.bank (account.Module holder.Bonded) u.ctx.params.bond_denom)
         (sym (nothing_more (counted is_bonded v) (bonded_tokens s) _ (tokens-joined is_bonded v.operator v s.validators none_at) (empty (is_bonded v.status)))) h.in_bonded;
@@ -85,7 +85,7 @@ module _ (s : Staked) (m : CreateValidator) (time : ℕ) (v : Validator) (is : v
   }
 
 pub sound-created : (height : ℕ) (s : Staked) → IsSoundAt height s → (m : CreateValidator) (time : ℕ) (v : Validator) → v ≡ new_validator m time → HasRates m
-    → validator_of s m.validator ≡ None → validator_by_cons s m.cons ≡ None → IsSoundAt height (with_validator v s)
+    → validator_at s m.validator ≡ None → validator_by_cons s m.cons ≡ None → IsSoundAt height (put_validator v s)
 sound-created height s h m time v is has none nobody = sound-joined height s v h (none_at s m time v is none)
     (λ p x e c. nobody_has s.validators m.cons p x nobody e (c ∙ ap (λ y. y.cons) is))
     (subst (ValidatorIsSound height) (sym is) (new_is_sound height m time has))
@@ -120,13 +120,13 @@ module _ {H : Type 0} (told : H → Hook → View → Told H) (m : CreateValidat
     stop_if x ValidatorExists
     stop_if y ConsKeyExists
     stop_if z WrongDenom
-    w1 ← stopping Overflow (hooked t (over (with_validator v s) h u))
+    w1 ← stopping Overflow (hooked t (over (put_validator v s) h u))
     (issued, w2) ← delegated told v m.validator m.amount.amount wallet w1
     Ok (tt, w2)
 
   pub created_then : (v : Validator) (h1 : H) (u1 : View) (log : Log) → v ≡ new_validator m u.ctx.time → create_formed m u.ctx.params.min_commission_rate ≡ Ok tt
-      → validator_of s m.validator ≡ None → validator_by_cons s m.cons ≡ None → is_wrong m.amount u ≡ false → told h (created v) u ≡ gives h1 u1 log
-      → rule.created told m (over s h u) ≡ (delegated told v m.validator m.amount.amount wallet (behind_log log (with_validator v s) h1 u1) >>= ended)
+      → validator_at s m.validator ≡ None → validator_by_cons s m.cons ≡ None → is_wrong m.amount u ≡ false → told h (created v) u ≡ gives h1 u1 log
+      → rule.created told m (over s h u) ≡ (delegated told v m.validator m.amount.amount wallet (behind_log log (put_validator v s) h1 u1) >>= ended)
   unfolding chain
   created_then v h1 u1 log is well none nobody right t =
       let f = formed m u.ctx.params.min_commission_rate well in

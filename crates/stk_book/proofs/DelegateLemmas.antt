@@ -15,14 +15,14 @@ use Rattle.stk_keep.specs.Entries.{with, without, with_number, number_at}
 use Rattle.stk_keep.specs.Holdings.{balance_of, IsBacked}
 use Rattle.stk_keep.specs.Hooks.{Lists, Tells, Stand, Ready, Keeps, Lawful, after}
 use Rattle.stk_keep.specs.Orders.{pair_cmp}
-use Rattle.stk_keep.specs.Staked.{Staked, validator_of, shares_of, with_validator, lists_of, is_bonded, tokens_where, bonded_tokens, other_tokens, HoldsStake}
+use Rattle.stk_keep.specs.Staked.{Staked, validator_at, delegation, put_validator, lists_of, is_bonded, tokens_where, bonded_tokens, other_tokens, HoldsStake}
 use Rattle.stk_keep.specs.Steps.{◌>>=◌, ◌>>◌, stop_if, stopping}
 use Rattle.stk_keep.specs.World.{View, Hook, modified}
 use Rattle.stk_keep.proofs.HookLemmas.{told-of_ok, Stand-after_ok}
 use Rattle.stk_keep.proofs.HoldingLemmas.{balance-most}
 use Rattle.stk_rules.specs.Delegating.{Origin, wallet, pool, shares_given, paid_in, hook_before}
 use Rattle.stk_rules.specs.Sound.{ValidatorIsSound}
-use Rattle.stk_rules.specs.Stakes.{with_shares, refusal_of_shares}
+use Rattle.stk_rules.specs.Stakes.{put_delegation, refusal_of_shares}
 use Rattle.stk_book.specs.Calls.{HasOrigin, CanPay, PaysAs}
 use Rattle.stk_rules.proofs.SoundLemmas.{IsSoundAt}
 use Rattle.stk_rules.proofs.SoundLemmas.{sound-changed, held_within}
@@ -63,12 +63,12 @@ shares-given v n issued e = given_at v n issued (issued_shares v.tokens v.shares
 
 -- ---- the hooks may be called
 
-module _ (height : ℕ) (s : Staked) (h : IsSoundAt height s) (v : Validator) (f : validator_of s v.operator ≡ Some v) (who : List ℕ) where
-  number_is : (held : Option ℕ) → shares_of s who v.operator ≡ held → number_at pair_cmp s.delegations (v.operator, who) ≡ unwrap_or held 0
+module _ (height : ℕ) (s : Staked) (h : IsSoundAt height s) (v : Validator) (f : validator_at s v.operator ≡ Some v) (who : List ℕ) where
+  number_is : (held : Option ℕ) → delegation s who v.operator ≡ held → number_at pair_cmp s.delegations (v.operator, who) ≡ unwrap_or held 0
   number_is held e = ap (λ x. unwrap_or x 0) e
 
   -- a delegation has no more shares than its validator
-  pub held-most : (held : Option ℕ) → shares_of s who v.operator ≡ held → unwrap_or held 0 ≤ v.shares
+  pub held-most : (held : Option ℕ) → delegation s who v.operator ≡ held → unwrap_or held 0 ≤ v.shares
   held-most held e =
       let within = held_within s.delegations v.operator who in
       let one = number_is held e in
@@ -76,7 +76,7 @@ module _ (height : ℕ) (s : Staked) (h : IsSoundAt height s) (v : Validator) (f
       omega (arith, within, one, own)
 
   module _ {S : Type 0} (t : Tells S) (hs : S) where
-    pub ready-before : (u : View) (held : Option ℕ) → shares_of s who v.operator ≡ held → Stand t hs u (lists_of s) → Ready t hs u (hook_before v who held) (lists_of s)
+    pub ready-before : (u : View) (held : Option ℕ) → delegation s who v.operator ≡ held → Stand t hs u (lists_of s) → Ready t hs u (hook_before v who held) (lists_of s)
     ready-before u None e p = record { stand = p; needs = (ap is_some f, ap is_some e); tokens = (h.validators v.operator v f).tokens }
     ready-before u (Some m) e p = record { stand = p; needs = (ap is_some e, h.positive (v.operator, who) m e, held-most (Some m) e); tokens = (h.validators v.operator v f).tokens }
 
@@ -84,11 +84,11 @@ module _ (height : ℕ) (s : Staked) (h : IsSoundAt height s) (v : Validator) (f
     still_operator None = ap is_some f
     still_operator (Some m) = ap is_some f
 
-    not_started : (held : Option ℕ) → shares_of s who v.operator ≡ held → (after (hook_before v who held) (lists_of s)).started who v.operator ≡ false
+    not_started : (held : Option ℕ) → delegation s who v.operator ≡ held → (after (hook_before v who held) (lists_of s)).started who v.operator ≡ false
     not_started None e = ap is_some e
     not_started (Some m) e = itself_started who v.operator false (lists_of s)
 
-    pub ready-after : (u : View) (held : Option ℕ) (w : Validator) (total : ℕ) → shares_of s who v.operator ≡ held → w.operator ≡ v.operator → 0 < total → total ≤ w.shares → w.tokens ≤ 10 ^ 18
+    pub ready-after : (u : View) (held : Option ℕ) (w : Validator) (total : ℕ) → delegation s who v.operator ≡ held → w.operator ≡ v.operator → 0 < total → total ≤ w.shares → w.tokens ≤ 10 ^ 18
         → Stand t hs u (after (hook_before v who held) (lists_of s)) → Ready t hs u (modified w who total) (after (hook_before v who held) (lists_of s))
     ready-after u held w total e o some most tokens p = record {
       stand = p;
@@ -108,12 +108,12 @@ module _ (height : ℕ) (s : Staked) (h : IsSoundAt height s) (v : Validator) (f
   not_zero : (total : ℕ) → 0 < total → (total == 0) ≡ false
   not_zero total some = grind (arith, nat_tests)
 
-  module _ (w : Validator) (o : w.operator ≡ v.operator) (held : Option ℕ) (e : shares_of s who v.operator ≡ held) (total : ℕ) (some : 0 < total) where
+  module _ (w : Validator) (o : w.operator ≡ v.operator) (held : Option ℕ) (e : delegation s who v.operator ≡ held) (total : ℕ) (some : 0 < total) where
     abbrev pub after_delegating : Staked
-    after_delegating = with_shares who v.operator total (with_validator w s)
+    after_delegating = put_delegation who v.operator total (put_validator w s)
 
-    found_w : validator_of s w.operator ≡ Some v
-    found_w = ap (validator_of s) o ∙ f
+    found_w : validator_at s w.operator ≡ Some v
+    found_w = ap (validator_at s) o ∙ f
 
     is_put : put_with w (with_number pair_cmp s.delegations (w.operator, who) total) s ≡ after_delegating
     is_put = (λ i. put_with w (with_is total some s.delegations (o i, who) i) s)
@@ -201,7 +201,7 @@ pub record IsReached {S : Type 0} (t : Tells S) (hs : S) (u : View) (s : Staked)
   pub holds : HoldsStake u (bonded_tokens s + cond (is_bonded v.status) n 0) (other_tokens s + cond (is_bonded v.status) 0 n)
   pub tokens : v.tokens + n ≤ 10 ^ 18
 
-module _ (height : ℕ) (s : Staked) (h : IsSoundAt height s) (v : Validator) (f : validator_of s v.operator ≡ Some v) (who : List ℕ) (held : Option ℕ) (e : shares_of s who v.operator ≡ held)
+module _ (height : ℕ) (s : Staked) (h : IsSoundAt height s) (v : Validator) (f : validator_at s v.operator ≡ Some v) (who : List ℕ) (held : Option ℕ) (e : delegation s who v.operator ≡ held)
     {S : Type 0} (t : Tells S) (lawful : Lawful t) (hs hs1 : S) (u u1 : View) (stand : Stand t hs u (lists_of s)) (told : Answers (t.told hs (hook_before v who held) u) (λ a. hs1 ≡ a) u1 (Ok tt)) where
   ready : Ready t hs u (hook_before v who held) (lists_of s)
   ready = ready-before height s h v f who t hs u held e stand
@@ -244,7 +244,7 @@ sums_up x issued held = omega arith
 no_less : (x i : ℕ) → 0 < i → x + i ≡ 0 → ⊥
 no_less x i p e = omega (arith, p, e)
 
-module _ (height : ℕ) (s : Staked) (h : IsSoundAt height s) (v : Validator) (f : validator_of s v.operator ≡ Some v) (who : List ℕ) (held : Option ℕ) (e : shares_of s who v.operator ≡ held)
+module _ (height : ℕ) (s : Staked) (h : IsSoundAt height s) (v : Validator) (f : validator_at s v.operator ≡ Some v) (who : List ℕ) (held : Option ℕ) (e : delegation s who v.operator ≡ held)
     (n issued total shares : ℕ) (given : IsGivenShares v issued) (shares_is : shares ≡ v.shares + issued) (total_is : total ≡ unwrap_or held 0 + issued)
     {S : Type 0} (t : Tells S) (hs : S) (u : View) (at_u : IsReached t hs u s v who held n) where
   some_total : 0 < total
@@ -266,20 +266,20 @@ module _ (height : ℕ) (s : Staked) (h : IsSoundAt height s) (v : Validator) (f
     unbonding_height = old.unbonding_height;
   }
 
-  pub sound-delegated : IsSoundAt height (with_shares who v.operator total (with_validator (grown v n shares) s))
+  pub sound-delegated : IsSoundAt height (put_delegation who v.operator total (put_validator (grown v n shares) s))
   sound-delegated = sound-after height s h v f who (grown v n shares) refl held e total some_total refl grown_is_sound
       (ap (λ x. x + unwrap_or held 0) shares_is ∙ sums_up v.shares issued (unwrap_or held 0) ∙ ap (λ x. v.shares + x) (sym total_is))
 
-  pub lists-delegated_is : after (modified (grown v n shares) who total) (after (hook_before v who held) (lists_of s)) ≡ lists_of (with_shares who v.operator total (with_validator (grown v n shares) s))
+  pub lists-delegated_is : after (modified (grown v n shares) who total) (after (hook_before v who held) (lists_of s)) ≡ lists_of (put_delegation who v.operator total (put_validator (grown v n shares) s))
   lists-delegated_is = lists-after height s h v f who (grown v n shares) refl held e total some_total
 
-  bonded_is : bonded_tokens (with_shares who v.operator total (with_validator (grown v n shares) s)) ≡ bonded_tokens s + cond (is_bonded v.status) n 0
+  bonded_is : bonded_tokens (put_delegation who v.operator total (put_validator (grown v n shares) s)) ≡ bonded_tokens s + cond (is_bonded v.status) n 0
   bonded_is = grown_tokens (is_bonded v.status) (bonded_tokens s) _ v.tokens (v.tokens + n) n refl (tokens-after height s h v f who (grown v n shares) refl held e total some_total is_bonded)
 
-  other_is : other_tokens (with_shares who v.operator total (with_validator (grown v n shares) s)) ≡ other_tokens s + cond (is_bonded v.status) 0 n
+  other_is : other_tokens (put_delegation who v.operator total (put_validator (grown v n shares) s)) ≡ other_tokens s + cond (is_bonded v.status) 0 n
   other_is = grown_other (is_bonded v.status) (other_tokens s) _ v.tokens (v.tokens + n) n refl (tokens-after height s h v f who (grown v n shares) refl held e total some_total not_bonded)
 
-  pub holds-delegated : HoldsStake u (bonded_tokens (with_shares who v.operator total (with_validator (grown v n shares) s))) (other_tokens (with_shares who v.operator total (with_validator (grown v n shares) s)))
+  pub holds-delegated : HoldsStake u (bonded_tokens (put_delegation who v.operator total (put_validator (grown v n shares) s))) (other_tokens (put_delegation who v.operator total (put_validator (grown v n shares) s)))
   holds-delegated = record {
     in_bonded = subst (λ x. x ≤ balance_of u.bank (account.Module holder.Bonded) u.ctx.params.bond_denom) (sym bonded_is) at_u.holds.in_bonded;
     in_not_bonded = subst (λ x. x ≤ balance_of u.bank (account.Module holder.NotBonded) u.ctx.params.bond_denom) (sym other_is) at_u.holds.in_not_bonded;

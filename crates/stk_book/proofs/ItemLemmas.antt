@@ -11,8 +11,8 @@ use Rattle.stk_keep.specs.declared.items.Item.{Item}
 use Rattle.stk_keep.specs.declared.items.Item.TheVariants as item
 use Rattle.stk_keep.specs.Items.{no_validator, key_of, HasRoom, IsAdded}
 use Rattle.stk_keep.specs.Orders.{pair_cmp}
-use Rattle.stk_keep.specs.Staked.{Staked, validator_of, with_validator}
-use Rattle.stk_rules.specs.Stakes.{with_shares}
+use Rattle.stk_keep.specs.Staked.{Staked, validator_at, put_validator}
+use Rattle.stk_rules.specs.Stakes.{put_delegation}
 use Rattle.stk_rules.proofs.OrderLemmas.{addr_total, pair_total}
 use Rattle.stk_rules.proofs.SoundLemmas.{exact_addr, exact_pair}
 use Rattle.stk_rows.specs.Kinds.{AreApart}
@@ -89,29 +89,29 @@ pub keyed_fit : (es : Validators) → AreKeyed es → AreFit FitsOperator es
 keyed_fit es h k v c = keyed_at es h k v (member es (k, v) c)
 
 -- the same where it is known of what is found
-pub found_fit : (s : Staked) → IsStrictlySortedBy addr_cmp (keys_of s.validators) → ((o : List ℕ) (v : Validator) → validator_of s o ≡ Some v → v.operator ≡ o) → AreFit FitsOperator s.validators
+pub found_fit : (s : Staked) → IsStrictlySortedBy addr_cmp (keys_of s.validators) → ((o : List ℕ) (v : Validator) → validator_at s o ≡ Some v → v.operator ≡ o) → AreFit FitsOperator s.validators
 found_fit s sorted h k v c = h k v (value_of addr_cmp addr_total exact_addr s.validators k v (IsDistinct-from_sorted addr_cmp (keys_of s.validators) sorted) (member s.validators (k, v) c))
 
 -- ---- one more
 
 module _ (s : Staked) where
-  pub validator-added : (v : Validator) → AreFit FitsOperator s.validators → IsStrictlySortedBy addr_cmp (keys_of s.validators) → IsAdded (items_of s) (item.Validator v) (items_of (with_validator v s))
+  pub validator-added : (v : Validator) → AreFit FitsOperator s.validators → IsStrictlySortedBy addr_cmp (keys_of s.validators) → IsAdded (items_of s) (item.Validator v) (items_of (put_validator v s))
   validator-added v fits sorted = added-first validator-rowed.kind delegation-rowed.kind kinds-apart
       (rows_of validator_item s.validators) (rows_of validator_item (insert_entry addr_cmp s.validators v.operator v)) (rows_of delegation_item s.delegations) (item.Validator v) refl
       (rows-of-kind pair_cmp pair_total AnyValue delegation_item delegation_gone same_shares delegation_entry delegation-rowed s.delegations (λ k n c. tt))
       (row-added addr_cmp addr_total FitsOperator validator_item validator_gone same_validator validator_entry validator-rowed s.validators fits sorted v.operator v refl)
 
-  pub delegation-added : (who o : List ℕ) (n : ℕ) → AreFit FitsOperator s.validators → IsStrictlySortedBy pair_cmp (keys_of s.delegations) → IsAdded (items_of s) (item.Delegation o who n) (items_of (with_shares who o n s))
+  pub delegation-added : (who o : List ℕ) (n : ℕ) → AreFit FitsOperator s.validators → IsStrictlySortedBy pair_cmp (keys_of s.delegations) → IsAdded (items_of s) (item.Delegation o who n) (items_of (put_delegation who o n s))
   delegation-added who o n fits sorted = added-second validator-rowed.kind delegation-rowed.kind kinds-apart
       (rows_of delegation_item s.delegations) (rows_of delegation_item (insert_entry pair_cmp s.delegations (o, who) n)) (rows_of validator_item s.validators) (item.Delegation o who n) refl
       (rows-of-kind addr_cmp addr_total FitsOperator validator_item validator_gone same_validator validator_entry validator-rowed s.validators fits)
       (row-added pair_cmp pair_total AnyValue delegation_item delegation_gone same_shares delegation_entry delegation-rowed s.delegations (λ k m c. tt) sorted (o, who) n tt)
 
 -- where there is room for a validator, its operator has none
-pub room_none : (s : Staked) (v : Validator) → ((o : List ℕ) (w : Validator) → validator_of s o ≡ Some w → w.operator ≡ o) → HasRoom (items_of s) (item.Validator v) → validator_of s v.operator ≡ None
-room_none s v known room = by (validator_of s v.operator) refl
+pub room_none : (s : Staked) (v : Validator) → ((o : List ℕ) (w : Validator) → validator_at s o ≡ Some w → w.operator ≡ o) → HasRoom (items_of s) (item.Validator v) → validator_at s v.operator ≡ None
+room_none s v known room = by (validator_at s v.operator) refl
   where
-    by : (r : Option Validator) → validator_of s v.operator ≡ r → r ≡ None
+    by : (r : Option Validator) → validator_at s v.operator ≡ r → r ≡ None
     by None e = refl
     by (Some w) e =
         let row = row-member addr_cmp addr_total FitsOperator validator_item validator_gone same_validator validator_entry validator-rowed s.validators (item.Validator w) (v.operator, w, refl, e) in

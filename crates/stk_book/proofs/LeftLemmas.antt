@@ -11,11 +11,11 @@ use Rattle.stk_keep.specs.Entries.{with, without, with_number, number_at}
 use Rattle.stk_keep.specs.Hooks.{Lists, Tells, Stand, Ready, Keeps, Lawful, with_started}
 use Rattle.stk_keep.specs.Log.{Log}
 use Rattle.stk_keep.specs.Orders.{pair_cmp}
-use Rattle.stk_keep.specs.Staked.{Staked, validator_of, shares_of, with_validator, lists_of}
+use Rattle.stk_keep.specs.Staked.{Staked, validator_at, delegation, put_validator, lists_of}
 use Rattle.stk_keep.specs.World.{View, hooked, modifying, modified}
 use Rattle.stk_keep.proofs.HookLemmas.{told-of_ok, stand-noted, Stand-after_ok}
 use Rattle.stk_rules.specs.Sound.{ValidatorIsSound}
-use Rattle.stk_rules.specs.Stakes.{with_shares, without_shares}
+use Rattle.stk_rules.specs.Stakes.{put_delegation, without_shares}
 use Rattle.stk_rules.specs.Unbonding.{left_standing}
 use Rattle.stk_book.specs.Calls.{behind_log, jailed_if, jail_noted}
 use Rattle.stk_rules.proofs.SoundLemmas.{IsSoundAt}
@@ -42,7 +42,7 @@ not_jailed v = λ i. record v { jailed = sym (or_false v.jailed) i }
 is_jailed : (v : Validator) → record v { jailed = true } ≡ now_of v true
 is_jailed v = λ i. record v { jailed = sym (or_true v.jailed) i }
 
-pub found_now : (b : Bool) (v : Validator) (s : Staked) → validator_of s v.operator ≡ Some v → validator_of (jailed_if b v s) v.operator ≡ Some (now_of v b)
+pub found_now : (b : Bool) (v : Validator) (s : Staked) → validator_at s v.operator ≡ Some v → validator_at (jailed_if b v s) v.operator ≡ Some (now_of v b)
 found_now true v s f = found_itself s (record v { jailed = true }) ∙ ap Some (is_jailed v)
 found_now false v s f = f ∙ ap Some (not_jailed v)
 
@@ -50,14 +50,14 @@ pub same_delegations : (b : Bool) (v : Validator) (s : Staked) → (jailed_if b 
 same_delegations true v s = refl
 same_delegations false v s = refl
 
-pub sound_now : (height : ℕ) (b : Bool) (v : Validator) (s : Staked) → IsSoundAt height s → validator_of s v.operator ≡ Some v → IsSoundAt height (jailed_if b v s)
+pub sound_now : (height : ℕ) (b : Bool) (v : Validator) (s : Staked) → IsSoundAt height s → validator_at s v.operator ≡ Some v → IsSoundAt height (jailed_if b v s)
 sound_now height true v s h f = sound-put height (record v { jailed = true }) v s h f (record { operator = refl; cons = refl; shares = refl; sound = valid })
   where
     valid : ValidatorIsSound height (record v { jailed = true })
     valid = let k = h.validators v.operator v f in record { max_rate = k.max_rate; rate = k.rate; max_change = k.max_change; tokens = k.tokens; empty = k.empty; unbonding_height = k.unbonding_height }
 sound_now height false v s h f = h
 
-pub lists_now : (b : Bool) (v : Validator) (s : Staked) → validator_of s v.operator ≡ Some v → lists_of (jailed_if b v s) ≡ lists_of s
+pub lists_now : (b : Bool) (v : Validator) (s : Staked) → validator_at s v.operator ≡ Some v → lists_of (jailed_if b v s) ≡ lists_of s
 lists_now true v s f = lists-put s (record v { jailed = true }) v f
 lists_now false v s f = refl
 
@@ -93,7 +93,7 @@ module _ {S : Type 0} (t : Tells S) (lawful : Lawful t) (now : Validator) (who :
   set_at z = record { validators = s1.validators; delegations = cond z (without pair_cmp s1.delegations (now.operator, who)) (with pair_cmp s1.delegations (now.operator, who) left) }
 
   left_by : (z : Bool) → (left == 0) ≡ z
-      → cond z (Ok (behind_log k1 (without_shares who now.operator s1) h1 u1)) (hooked (t.told h1 (modified now who left) u1) (behind_log k1 (with_shares who now.operator left s1) h1 u1)) ≡ Ok (behind_log k2 s2 h2 u2)
+      → cond z (Ok (behind_log k1 (without_shares who now.operator s1) h1 u1)) (hooked (t.told h1 (modified now who left) u1) (behind_log k1 (put_delegation who now.operator left s1) h1 u1)) ≡ Ok (behind_log k2 s2 h2 u2)
       → (s2 ≡ set_at z) × Stand t h2 u2 (with_started who now.operator (cond z false true) l) × Keeps (t.owes h1 ≡ None) u1 u2 × (t.owes h1 ≡ None → t.owes h2 ≡ None)
   unfolding set_at
   left_by true z e =
@@ -108,7 +108,7 @@ module _ {S : Type 0} (t : Tells S) (lawful : Lawful t) (now : Validator) (who :
       )
   left_by false z e =
       let some : 0 < left = grind (arith, nat_tests) in
-      let is = hooked_ok (t.told h1 (modified now who left) u1) (behind_log k1 (with_shares who now.operator left s1) h1 u1) (behind_log k2 s2 h2 u2) e in (
+      let is = hooked_ok (t.told h1 (modified now who left) u1) (behind_log k1 (put_delegation who now.operator left s1) h1 u1) (behind_log k2 s2 h2 u2) e in (
         is.1.1,
         subst (Stand t h2 u2) (started-twice who now.operator true false l) (lawful.follows h1 h2 (modified now who left) u1 u2 is.0 (with_started who now.operator false l) (ready some) is.1.0),
         lawful.keeps h1 h2 (modified now who left) u1 u2 is.0 (with_started who now.operator false l) (ready some) is.1.0,
@@ -133,7 +133,7 @@ all_gone t x part p z = ap (λ b. t - (if b then t else trunc_of (value_even_of 
     nothing : (n : ℕ) → n - n ≡ 0
     nothing n = omega arith
 
-module _ (height : ℕ) (s : Staked) (h : IsSoundAt height s) (v : Validator) (f : validator_of s v.operator ≡ Some v) (who : List ℕ) (held part : ℕ) (e : shares_of s who v.operator ≡ Some held) (few : part ≤ held) (b : Bool) where
+module _ (height : ℕ) (s : Staked) (h : IsSoundAt height s) (v : Validator) (f : validator_at s v.operator ≡ Some v) (who : List ℕ) (held part : ℕ) (e : delegation s who v.operator ≡ Some held) (few : part ≤ held) (b : Bool) where
   pub some_held : 0 < held
   some_held = h.positive (v.operator, who) held e
 
@@ -152,14 +152,14 @@ module _ (height : ℕ) (s : Staked) (h : IsSoundAt height s) (v : Validator) (f
   abbrev pub state_left : Staked
   state_left = record { validators = (jailed_if b v s).validators; delegations = with_number pair_cmp (jailed_if b v s).delegations (v.operator, who) (held - part) }
 
-  pub stands_left : validator_of state_left v.operator ≡ Some (now_of v b)
+  pub stands_left : validator_at state_left v.operator ≡ Some (now_of v b)
   stands_left = found_now b v s f
 
-  pub sound_less : IsSoundAt height (with_validator (less_of v b part) state_left)
+  pub sound_less : IsSoundAt height (put_validator (less_of v b part) state_left)
   sound_less = sound-changed height (less_of v b part) (now_of v b) who (held - part) (jailed_if b v s) (sound_now height b v s h f) (found_now b v s f) refl valid_less
       (ap (λ ds. (v.shares - part) + number_at pair_cmp ds (v.operator, who)) (same_delegations b v s) ∙ ap (λ x. (v.shares - part) + unwrap_or x 0) e ∙ sums_left v.shares part held few held_few)
 
-  pub lists_less : (z : Bool) → ((held - part) == 0) ≡ z → lists_of (with_validator (less_of v b part) state_left) ≡ with_started who v.operator (cond z false true) (lists_of s)
+  pub lists_less : (z : Bool) → ((held - part) == 0) ≡ z → lists_of (put_validator (less_of v b part) state_left) ≡ with_started who v.operator (cond z false true) (lists_of s)
   lists_less z q =
       lists-changed (jailed_if b v s) (less_of v b part) (now_of v b) who (held - part) z (sound_now height b v s h f).delegations_ascend (found_now b v s f) q
       ∙ ap (with_started who v.operator (cond z false true)) (lists_now b v s f)

@@ -9,7 +9,7 @@ use Rattle.stk_keep.specs.declared.entities.Validator.{Validator}
 use Rattle.stk_keep.specs.Entries.{at, with_number}
 use Rattle.stk_keep.specs.Hooks.{Lists, with_operator, with_started, after}
 use Rattle.stk_keep.specs.Orders.{pair_cmp, same_addr}
-use Rattle.stk_keep.specs.Staked.{Staked, validator_of, with_validator, lists_of}
+use Rattle.stk_keep.specs.Staked.{Staked, validator_at, put_validator, lists_of}
 use Rattle.stk_keep.specs.World.{modified}
 use Rattle.stk_rules.specs.Delegating.{hook_before}
 use Rattle.stk_rules.specs.Stakes.{without_validator}
@@ -39,10 +39,10 @@ still_some true w v r h = sym (ap is_some (h refl))
 still_some false w v r h = refl
 
 -- the operators stay where a validator is put in the place of one
-pub operators-put : (s : Staked) (w v : Validator) → validator_of s w.operator ≡ Some v → (o : List ℕ) → is_some (validator_of (with_validator w s) o) ≡ is_some (validator_of s o)
-operators-put s w v f o = ap is_some (found-put s w o) ∙ still_some (same_addr o w.operator) w v (validator_of s o) (λ e. ap (validator_of s) (same_is o w.operator e) ∙ f)
+pub operators-put : (s : Staked) (w v : Validator) → validator_at s w.operator ≡ Some v → (o : List ℕ) → is_some (validator_at (put_validator w s) o) ≡ is_some (validator_at s o)
+operators-put s w v f o = ap is_some (found-put s w o) ∙ still_some (same_addr o w.operator) w v (validator_at s o) (λ e. ap (validator_at s) (same_is o w.operator e) ∙ f)
 
-pub lists-put : (s : Staked) (w v : Validator) → validator_of s w.operator ≡ Some v → lists_of (with_validator w s) ≡ lists_of s
+pub lists-put : (s : Staked) (w v : Validator) → validator_at s w.operator ≡ Some v → lists_of (put_validator w s) ≡ lists_of s
 lists-put s w v f = same_lists _ _ (operators-put s w v f) (λ x o. refl)
 
 some_cond : (b : Bool) (x y : Option ℕ) → is_some (cond b x y) ≡ cond b (is_some x) (is_some y)
@@ -57,7 +57,7 @@ is_zero n b e = (ap (λ z. is_some (cond z None (Some n))) e) ∙ by b
     by false = refl
 
 -- the lists after a validator is put in the place of one, and the number of one of its delegations is set
-pub lists-changed : (s : Staked) (w v : Validator) (who : List ℕ) (n : ℕ) (b : Bool) → IsStrictlySortedBy pair_cmp (keys_of s.delegations) → validator_of s w.operator ≡ Some v → (n == 0) ≡ b
+pub lists-changed : (s : Staked) (w v : Validator) (who : List ℕ) (n : ℕ) (b : Bool) → IsStrictlySortedBy pair_cmp (keys_of s.delegations) → validator_at s w.operator ≡ Some v → (n == 0) ≡ b
     → lists_of (put_with w (with_number pair_cmp s.delegations (w.operator, who) n) s) ≡ with_started who w.operator (cond b false true) (lists_of s)
 lists-changed s w v who n b a f z = same_lists _ _ (operators-put s w v f) (λ x o.
     ap is_some (at-number s.delegations (w.operator, who) (o, x) n a)
@@ -81,15 +81,15 @@ joins : (b : Bool) (w : Validator) (r : Option Validator) → is_some (cond b (S
 joins true w r = refl
 joins false w r = refl
 
-pub lists-joined : (s : Staked) (w : Validator) → lists_of (with_validator w s) ≡ with_operator w.operator true (lists_of s)
-lists-joined s w = same_lists _ _ (λ o. ap is_some (found-put s w o) ∙ joins (same_addr o w.operator) w (validator_of s o) ∙ ap (λ b. if b then true else is_some (validator_of s o)) (same_back o w.operator)) (λ x o. refl)
+pub lists-joined : (s : Staked) (w : Validator) → lists_of (put_validator w s) ≡ with_operator w.operator true (lists_of s)
+lists-joined s w = same_lists _ _ (λ o. ap is_some (found-put s w o) ∙ joins (same_addr o w.operator) w (validator_at s o) ∙ ap (λ b. if b then true else is_some (validator_at s o)) (same_back o w.operator)) (λ x o. refl)
 
 leaves : (b : Bool) (r : Option Validator) → is_some (cond b None r) ≡ (if b then false else is_some r)
 leaves true r = refl
 leaves false r = refl
 
 pub lists-left : (s : Staked) (p : List ℕ) → IsStrictlySortedBy addr_cmp (keys_of s.validators) → lists_of (without_validator p s) ≡ with_operator p false (lists_of s)
-lists-left s p a = same_lists _ _ (λ o. ap is_some (found-taken s p o a) ∙ leaves (same_addr o p) (validator_of s o) ∙ ap (λ b. if b then false else is_some (validator_of s o)) (same_back o p)) (λ x o. refl)
+lists-left s p a = same_lists _ _ (λ o. ap is_some (found-taken s p o a) ∙ leaves (same_addr o p) (validator_at s o) ∙ ap (λ b. if b then false else is_some (validator_at s o)) (same_back o p)) (λ x o. refl)
 
 pub itself_started : (who o : List ℕ) (b : Bool) (l : Lists) → (with_started who o b l).started who o ≡ b
 itself_started who o b l = (λ i. if same_itself who i && same_itself o i then b else l.started who o)

@@ -7,12 +7,12 @@ use Rattle.stk_keep.specs.declared.faults.HookFault.{HookFault}
 use Rattle.stk_keep.specs.declared.faults.HookFault.TheVariants as hook
 use Rattle.stk_keep.specs.Answers.{Answers}
 use Rattle.stk_keep.specs.Hooks.{Lists, Tells, Stand, Ready, Lawful, IsGiven}
-use Rattle.stk_keep.specs.Staked.{Staked, validator_of, lists_of}
+use Rattle.stk_keep.specs.Staked.{Staked, validator_at, lists_of}
 use Rattle.stk_keep.specs.World.{View, Told, gives, exceeds, removed}
 use Rattle.stk_rules.proofs.SoundLemmas.{IsSoundAt}
 use Rattle.stk_book.proofs.SoundLemmas.{no_shares}
 
-pub ready-removed : (height : ℕ) (s : Staked) (v : Validator) → IsSoundAt height s → validator_of s v.operator ≡ Some v → v.shares ≡ 0 → {S : Type 0} (t : Tells S) (hs : S) (u : View) → Stand t hs u (lists_of s)
+pub ready-removed : (height : ℕ) (s : Staked) (v : Validator) → IsSoundAt height s → validator_at s v.operator ≡ Some v → v.shares ≡ 0 → {S : Type 0} (t : Tells S) (hs : S) (u : View) → Stand t hs u (lists_of s)
     → Ready t hs u (removed v) (lists_of s)
 ready-removed height s v h f z t hs u p = record { stand = p; needs = (ap is_some f, λ who. ap is_some (no_shares height s v h f z who)); tokens = (h.validators v.operator v f).tokens }
 

@@ -8,7 +8,7 @@ use Rattle.stk_types.specs.Orders.{addr_cmp}
 use Rattle.stk_keep.specs.declared.entities.Validator.{Validator}
 use Rattle.stk_keep.specs.Entries.{at, number_at}
 use Rattle.stk_keep.specs.Orders.{pair_cmp, same_addr}
-use Rattle.stk_keep.specs.Staked.{Staked, validator_of, shares_of, with_validator}
+use Rattle.stk_keep.specs.Staked.{Staked, validator_at, delegation, put_validator}
 use Rattle.stk_rules.specs.Stakes.{without_validator}
 use Rattle.stk_table.proofs.CallerLemmas.{sorted-remove_entry}
 use Rattle.stk_rules.proofs.EntryLemmas.{at-taken}
@@ -18,7 +18,7 @@ use Rattle.stk_rules.proofs.SoundLemmas.{IsSoundAt, to_points, from_points, soun
 
 -- ---- look-ups after a change
 
-pub found-taken : (s : Staked) (p o : List ℕ) → IsStrictlySortedBy addr_cmp (keys_of s.validators) → validator_of (without_validator p s) o ≡ cond (same_addr o p) None (validator_of s o)
+pub found-taken : (s : Staked) (p o : List ℕ) → IsStrictlySortedBy addr_cmp (keys_of s.validators) → validator_at (without_validator p s) o ≡ cond (same_addr o p) None (validator_at s o)
 found-taken s p o a = at-taken addr_cmp addr_total s.validators p o a
 
 pub not_taken : {A : Type 0} (b : Bool) (x : A) (r : Option A) → cond b None r ≡ Some x → (b ≡ false) × (r ≡ Some x)
@@ -34,7 +34,7 @@ pub record IsWellMade (v : Validator) : Type 0 where
   pub empty : v.shares ≡ 0 → v.tokens ≡ 0
 
 -- a validator is set in the place of one with its operator, consensus address and shares
-pub sound-set : (s s2 : Staked) (w v : Validator) → IsSoundStake s → validator_of s w.operator ≡ Some v → s2 ≡ with_validator w s → w.cons ≡ v.cons → w.shares ≡ v.shares
+pub sound-set : (s s2 : Staked) (w v : Validator) → IsSoundStake s → validator_at s w.operator ≡ Some v → s2 ≡ put_validator w s → w.cons ≡ v.cons → w.shares ≡ v.shares
     → w.operator ≡ v.operator → (IsWellMade v → IsWellMade w) → IsSoundStake s2
 sound-set s s2 w v sound f e c n o ok =
     let at_first = to_points sound.0 s sound.1 in
@@ -56,10 +56,10 @@ sound-set s s2 w v sound f e c n o ok =
 -- ---- a validator goes that has no shares
 
 -- no delegation to a validator without shares
-pub no_shares : (height : ℕ) (s : Staked) (v : Validator) → IsSoundAt height s → validator_of s v.operator ≡ Some v → v.shares ≡ 0 → (who : List ℕ) → shares_of s who v.operator ≡ None
-no_shares height s v h f z who = by (shares_of s who v.operator) refl
+pub no_shares : (height : ℕ) (s : Staked) (v : Validator) → IsSoundAt height s → validator_at s v.operator ≡ Some v → v.shares ≡ 0 → (who : List ℕ) → delegation s who v.operator ≡ None
+no_shares height s v h f z who = by (delegation s who v.operator) refl
   where
-    by : (x : Option ℕ) → shares_of s who v.operator ≡ x → x ≡ None
+    by : (x : Option ℕ) → delegation s who v.operator ≡ x → x ≡ None
     by None e = refl
     by (Some n) e =
         let some = h.positive (v.operator, who) n e in
@@ -68,9 +68,9 @@ no_shares height s v h f z who = by (shares_of s who v.operator) refl
         let own = h.shares v.operator v f in
         absurd (omega (arith, some, within, is, own, z))
 
-module _ (height : ℕ) (s : Staked) (v : Validator) (h : IsSoundAt height s) (f : validator_of s v.operator ≡ Some v) (z : v.shares ≡ 0) where
-  old_found : (o : List ℕ) (x : Validator) → validator_of (without_validator v.operator s) o ≡ Some x → (same_addr o v.operator ≡ false) × (validator_of s o ≡ Some x)
-  old_found o x e = not_taken (same_addr o v.operator) x (validator_of s o) (sym (found-taken s v.operator o h.validators_ascend) ∙ e)
+module _ (height : ℕ) (s : Staked) (v : Validator) (h : IsSoundAt height s) (f : validator_at s v.operator ≡ Some v) (z : v.shares ≡ 0) where
+  old_found : (o : List ℕ) (x : Validator) → validator_at (without_validator v.operator s) o ≡ Some x → (same_addr o v.operator ≡ false) × (validator_at s o ≡ Some x)
+  old_found o x e = not_taken (same_addr o v.operator) x (validator_at s o) (sym (found-taken s v.operator o h.validators_ascend) ∙ e)
 
   pub sound-taken : IsSoundAt height (without_validator v.operator s)
   sound-taken = record {
@@ -84,7 +84,7 @@ module _ (height : ℕ) (s : Staked) (v : Validator) (h : IsSoundAt height s) (f
     existing = λ k n e. subst IsSome (sym (found-taken s v.operator k.0 h.validators_ascend)) (still k n e (same_addr k.0 v.operator) refl);
   }
     where
-      still : (k : List ℕ × List ℕ) (n : ℕ) → at pair_cmp s.delegations k ≡ Some n → (b : Bool) → same_addr k.0 v.operator ≡ b → IsSome (cond b None (validator_of s k.0))
+      still : (k : List ℕ × List ℕ) (n : ℕ) → at pair_cmp s.delegations k ≡ Some n → (b : Bool) → same_addr k.0 v.operator ≡ b → IsSome (cond b None (validator_at s k.0))
       still k n e true q =
           let none : at pair_cmp s.delegations (v.operator, k.1) ≡ None = no_shares height s v h f z k.1 in
           let here : at pair_cmp s.delegations (v.operator, k.1) ≡ Some n = ap (λ o. at pair_cmp s.delegations (o, k.1)) (sym (same_is k.0 v.operator q)) ∙ e in

@@ -9,11 +9,11 @@ use Rattle.stk_keep.specs.declared.faults.HookFault.TheVariants as hook
 use Rattle.stk_keep.specs.Answers.{Follows}
 use Rattle.stk_keep.specs.Log.{Log}
 use Rattle.stk_keep.specs.Log as log
-use Rattle.stk_keep.specs.Staked.{Staked, with_validator}
+use Rattle.stk_keep.specs.Staked.{Staked, put_validator}
 use Rattle.stk_keep.specs.Steps.{◌>>=◌}
 use Rattle.stk_keep.specs.World.{View, Hook, Told, gives, exceeds, World, hooked, modifying, over_mine, logged}
 use Rattle.stk_rules.specs.Answers.{WantsMemory, Leaves}
-use Rattle.stk_rules.specs.Unbonding.{falls_below_minimum, jailed, left_standing, removed_if_empty, unbonded_shares}
+use Rattle.stk_rules.specs.Unbonding.{falls_below_minimum, put_in_jail, left_standing, removed_if_empty, unbonded_shares}
 use Rattle.stk_book.specs.Calls.{over, behind_log, jailed_if, jail_noted}
 
 -- ---- answers of one step within another
@@ -71,7 +71,7 @@ pub record Going : Type 0 where
   pub staked : Staked
   pub view : View
 
-jailed_is : {H : Type 0} (b : Bool) (v : Validator) (k : Log) (s : Staked) (h : H) (u : View) → (if b then jailed v (behind_log k s h u) else behind_log k s h u) ≡ behind_log k (jailed_if b v s) h (jail_noted b v u)
+jailed_is : {H : Type 0} (b : Bool) (v : Validator) (k : Log) (s : Staked) (h : H) (u : View) → (if b then put_in_jail v (behind_log k s h u) else behind_log k s h u) ≡ behind_log k (jailed_if b v s) h (jail_noted b v u)
 jailed_is true v k s h u = refl
 jailed_is false v k s h u = refl
 
@@ -84,10 +84,10 @@ module _ {H : Type 0} (told : H → Hook → View → Told H) (v : Validator) (w
 
   -- the rest of the rule, once what is left of the delegation stands
   abbrev rest : World Staked H → Result (ℕ × World Staked H) Over
-  rest w = removed_if_empty told (less_of v falls part) (logged v.operator log.left (over_mine (with_validator (less_of v falls part)) w)) >>= with_number_of (amount_out v.tokens v.shares part)
+  rest w = removed_if_empty told (less_of v falls part) (logged v.operator log.left (over_mine (put_validator (less_of v falls part)) w)) >>= with_number_of (amount_out v.tokens v.shares part)
 
   from_hook : Told H → Result (ℕ × World Staked H) Over
-  from_hook t = hooked t (over s h u) >>= λ w1. left_standing told (now_of v falls) who (held - part) (if falls then jailed v w1 else w1) >>= rest
+  from_hook t = hooked t (over s h u) >>= λ w1. left_standing told (now_of v falls) who (held - part) (if falls then put_in_jail v w1 else w1) >>= rest
 
   unbonded-then : unbonded_shares told v who held part (over s h u) ≡ (left_standing told going.now who going.left (behind_log k1 going.staked h1 going.view) >>= rest)
   unfolding from_hook
@@ -111,17 +111,17 @@ module _ {H : Type 0} (told : H → Hook → View → Told H) (v : Validator) (w
       then_log = left_is.0 ++ (v.operator, log.left) ∷ []
 
       unbonded-last : unbonded_shares told v who held part (over s h u)
-          ≡ (removed_if_empty told (less_of v falls part) (behind_log then_log (with_validator (less_of v falls part) s2) h2 u2) >>= with_number_of (amount_out v.tokens v.shares part))
+          ≡ (removed_if_empty told (less_of v falls part) (behind_log then_log (put_validator (less_of v falls part) s2) h2 u2) >>= with_number_of (amount_out v.tokens v.shares part))
       unbonded-last = unbonded-then ∙ ap (λ r. r >>= rest) left_is.1
 
-      module _ (less : Validator) (s3 : Staked) (less_is : less ≡ less_of v falls part) (s3_is : s3 ≡ with_validator less s2) (s4 : Staked) (h4 : H → Type 0) (u4 : View) where
-        s3_at : s3 ≡ with_validator (less_of v falls part) s2
-        s3_at = s3_is ∙ ap (λ x. with_validator x s2) less_is
+      module _ (less : Validator) (s3 : Staked) (less_is : less ≡ less_of v falls part) (s3_is : s3 ≡ put_validator less s2) (s4 : Staked) (h4 : H → Type 0) (u4 : View) where
+        s3_at : s3 ≡ put_validator (less_of v falls part) s2
+        s3_at = s3_is ∙ ap (λ x. put_validator x s2) less_is
 
         pub told-removed_err : (fault : HookFault) → Leaves (removed_if_empty told less (behind_log then_log s3 h2 u2)) s4 h4 u4 (Err fault) → Follows (unbonded_shares told v who held part (over s h u)) s4 h4 u4 (Err fault)
         told-removed_err fault m =
             subst (λ r. Follows r s4 h4 u4 (Err fault)) (sym unbonded-last)
-            (follows_err (removed_if_empty told (less_of v falls part) (behind_log then_log (with_validator (less_of v falls part) s2) h2 u2)) (with_number_of (amount_out v.tokens v.shares part)) s4 h4 u4 fault
+            (follows_err (removed_if_empty told (less_of v falls part) (behind_log then_log (put_validator (less_of v falls part) s2) h2 u2)) (with_number_of (amount_out v.tokens v.shares part)) s4 h4 u4 fault
             (subst (λ x. Leaves (removed_if_empty told (less_of v falls part) (behind_log then_log x h2 u2)) s4 h4 u4 (Err fault)) s3_at
             (subst (λ x. Leaves (removed_if_empty told x (behind_log then_log s3 h2 u2)) s4 h4 u4 (Err fault)) less_is m)))
 
@@ -129,6 +129,6 @@ module _ {H : Type 0} (told : H → Hook → View → Told H) (v : Validator) (w
         told-removed_ok out out_is m =
             subst (λ n. Follows (unbonded_shares told v who held part (over s h u)) s4 h4 u4 (Ok n)) (sym out_is)
             (subst (λ r. Follows r s4 h4 u4 (Ok (amount_out v.tokens v.shares part))) (sym unbonded-last)
-            (follows_ok (removed_if_empty told (less_of v falls part) (behind_log then_log (with_validator (less_of v falls part) s2) h2 u2)) (amount_out v.tokens v.shares part) s4 h4 u4
+            (follows_ok (removed_if_empty told (less_of v falls part) (behind_log then_log (put_validator (less_of v falls part) s2) h2 u2)) (amount_out v.tokens v.shares part) s4 h4 u4
             (subst (λ x. Leaves (removed_if_empty told (less_of v falls part) (behind_log then_log x h2 u2)) s4 h4 u4 (Ok tt)) s3_at
             (subst (λ x. Leaves (removed_if_empty told x (behind_log then_log s3 h2 u2)) s4 h4 u4 (Ok tt)) less_is m))))

@@ -13,7 +13,7 @@ use Rattle.stk_keep.specs.declared.facts.Fact.TheVariants.{Removed}
 use Rattle.stk_keep.specs.Entries.{at, with_number}
 use Rattle.stk_keep.specs.Log.{Log}
 use Rattle.stk_keep.specs.Orders.{pair_cmp, same_addr}
-use Rattle.stk_keep.specs.Staked.{Staked, validator_of, shares_of, with_validator, is_bonded, is_unbonded, tokens_where, bonded_tokens, other_tokens, shares_left, validator_left, IsUnbonded}
+use Rattle.stk_keep.specs.Staked.{Staked, validator_at, delegation, put_validator, is_bonded, is_unbonded, tokens_where, bonded_tokens, other_tokens, shares_left, validator_left, IsUnbonded}
 use Rattle.stk_keep.specs.Steps.{◌>>=◌}
 use Rattle.stk_keep.specs.World.{View, Hook, Told, gives, exceeds, World, hooked, removed, noted, over_view}
 use Rattle.stk_rules.specs.Answers.{Leaves}
@@ -96,7 +96,7 @@ fewer_other : (x : Bool) (new old t out : ℕ) → out ≤ t → new + cond (if 
 fewer_other true new old t out p e = omega (arith, e)
 fewer_other false new old t out p e = omega (arith, p, e)
 
-module _ (height : ℕ) (s : Staked) (h : IsSoundAt height s) (v : Validator) (f : validator_of s v.operator ≡ Some v) (who : List ℕ) (held part : ℕ) (e : shares_of s who v.operator ≡ Some held) (few : part ≤ held) where
+module _ (height : ℕ) (s : Staked) (h : IsSoundAt height s) (v : Validator) (f : validator_at s v.operator ≡ Some v) (who : List ℕ) (held part : ℕ) (e : delegation s who v.operator ≡ Some held) (few : part ≤ held) where
   abbrev b : Bool
   b = falls_below_minimum v who (held - part)
 
@@ -104,22 +104,22 @@ module _ (height : ℕ) (s : Staked) (h : IsSoundAt height s) (v : Validator) (f
   less = less_of v b part
 
   abbrev s3 : Staked
-  s3 = with_validator less (state_left height s h v f who held part e few b)
+  s3 = put_validator less (state_left height s h v f who held part e few b)
 
   most_part : part ≤ v.shares
   most_part = let within = held_few height s h v f who held part e few b in omega (arith, few, within)
 
-  now_at : (c : Bool) (o : List ℕ) → cond (same_addr o v.operator) (Some less) (validator_of (jailed_if c v s) o) ≡ cond (same_addr o v.operator) (Some less) (validator_of s o)
-  now_at true o = ap (cond (same_addr o v.operator) (Some less)) (found-put s (record v { jailed = true }) o) ∙ same_twice (same_addr o v.operator) less (record v { jailed = true }) (validator_of s o)
+  now_at : (c : Bool) (o : List ℕ) → cond (same_addr o v.operator) (Some less) (validator_at (jailed_if c v s) o) ≡ cond (same_addr o v.operator) (Some less) (validator_at s o)
+  now_at true o = ap (cond (same_addr o v.operator) (Some less)) (found-put s (record v { jailed = true }) o) ∙ same_twice (same_addr o v.operator) less (record v { jailed = true }) (validator_at s o)
   now_at false o = refl
 
-  third : (o : List ℕ) → validator_of s3 o ≡ cond (same_addr o v.operator) (Some less) (validator_of s o)
+  third : (o : List ℕ) → validator_at s3 o ≡ cond (same_addr o v.operator) (Some less) (validator_at s o)
   third o = found-put (state_left height s h v f who held part e few b) less o ∙ now_at b o
 
   ascend3 : IsStrictlySortedBy addr_cmp (keys_of s3.validators)
   ascend3 = (sound_less height s h v f who held part e few b).validators_ascend
 
-  fourth : (g : Bool) (o : List ℕ) → validator_of (state_gone g v.operator s3) o ≡ cond g (cond (same_addr o v.operator) None (cond (same_addr o v.operator) (Some less) (validator_of s o))) (cond (same_addr o v.operator) (Some less) (validator_of s o))
+  fourth : (g : Bool) (o : List ℕ) → validator_at (state_gone g v.operator s3) o ≡ cond g (cond (same_addr o v.operator) None (cond (same_addr o v.operator) (Some less) (validator_at s o))) (cond (same_addr o v.operator) (Some less) (validator_at s o))
   fourth true o = found-taken s3 v.operator o ascend3 ∙ ap (cond (same_addr o v.operator) None) (third o)
   fourth false o = third o
 
@@ -137,7 +137,7 @@ module _ (height : ℕ) (s : Staked) (h : IsSoundAt height s) (v : Validator) (f
   swapped false true = refl
   swapped false false = refl
 
-  gone_shares : (g : Bool) (w o : List ℕ) → shares_of (state_gone g v.operator s3) w o ≡ (if same_addr v.operator o && same_addr who w then shares_left held part else shares_of s w o)
+  gone_shares : (g : Bool) (w o : List ℕ) → delegation (state_gone g v.operator s3) w o ≡ (if same_addr v.operator o && same_addr who w then shares_left held part else delegation s w o)
   gone_shares g w o =
       ap (λ ds. at pair_cmp ds (o, w)) (same_ds g)
       ∙ at-number s.delegations (v.operator, who) (o, w) (held - part) h.delegations_ascend
@@ -161,8 +161,8 @@ module _ (height : ℕ) (s : Staked) (h : IsSoundAt height s) (v : Validator) (f
       let zero : cond (test v.status) less.tokens 0 ≡ 0 = no_tokens (test v.status) less.tokens (all_gone v.tokens v.shares part most_part (is_zero (v.shares - part) (second (is_unbonded v.status) ((v.shares - part) == 0) q))) in
       omega (arith, left, zero)
     where
-      itself : cond (same_addr v.operator v.operator) (Some less) (validator_of s v.operator) ≡ Some less
-      itself = ap (λ z. cond z (Some less) (validator_of s v.operator)) (same_itself v.operator)
+      itself : cond (same_addr v.operator v.operator) (Some less) (validator_at s v.operator) ≡ Some less
+      itself = ap (λ z. cond z (Some less) (validator_at s v.operator)) (same_itself v.operator)
 
       second : (x y : Bool) → (x && y) ≡ true → y ≡ true
       second true true r = refl
@@ -182,7 +182,7 @@ module _ (height : ℕ) (s : Staked) (h : IsSoundAt height s) (v : Validator) (f
     shares = e;
     own = λ r. and_true (same_addr who v.operator) (not v.jailed) _ r;
     within = within;
-    validators = λ o. fourth (is_gone less) o ∙ one_way (same_addr o v.operator) (same_addr v.operator o) (is_gone less) (Some less) (validator_left v part out b) (validator_of s o) (same_back o v.operator) (left_of out q);
+    validators = λ o. fourth (is_gone less) o ∙ one_way (same_addr o v.operator) (same_addr v.operator o) (is_gone less) (Some less) (validator_left v part out b) (validator_at s o) (same_back o v.operator) (left_of out q);
     delegations = gone_shares (is_gone less);
     bonded = ap (λ n. n + (if is_bonded v.status then out else 0)) (gone_tokens is_bonded (is_gone less) refl)
         ∙ fewer (is_bonded v.status) _ (bonded_tokens s) v.tokens out within (third_tokens is_bonded ∙ ap (λ n. bonded_tokens s + cond (is_bonded v.status) (v.tokens - n) 0) (sym q));

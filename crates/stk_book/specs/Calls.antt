@@ -10,7 +10,7 @@ use Rattle.stk_keep.specs.declared.messages.EditValidator.{EditValidator}
 use Rattle.stk_keep.specs.declared.refusal.Refusal.{Refusal}
 use Rattle.stk_keep.specs.declared.refusal.Refusal.TheVariants.{NonPositive, CommissionRange, MinSelfNotPositive, SelfBelowMinimum, CommissionBelowMinimum}
 use Rattle.stk_keep.specs.Holdings.{balance_of}
-use Rattle.stk_keep.specs.Staked.{Staked, validator_of, with_validator, bonded_tokens, other_tokens, is_bonded}
+use Rattle.stk_keep.specs.Staked.{Staked, validator_at, put_validator, bonded_tokens, other_tokens, is_bonded}
 use Rattle.stk_keep.specs.Log.{Log}
 use Rattle.stk_keep.specs.Steps.{◌>>=◌, ◌>>◌, stop_if}
 use Rattle.stk_keep.specs.World.{View, World, noted}
@@ -67,15 +67,15 @@ edited_over m s v = edited m v.ctx.time v.ctx.params.min_commission_rate s >>= �
 -- with this validator in the place of the old one, where there is one
 abbrev pub with_if : Option Validator → Staked → Staked
 with_if None s = s
-with_if (Some v) s = with_validator v s
+with_if (Some v) s = put_validator v s
 
 -- with a validator that is changed so
 abbrev pub changed_at : (Validator → Validator) → List ℕ → Staked → Staked
-changed_at f operator s = with_if (option_map f (validator_of s operator)) s
+changed_at f operator s = with_if (option_map f (validator_at s operator)) s
 
 -- with a validator jailed, if so
 abbrev pub jailed_if : Bool → Validator → Staked → Staked
-jailed_if falls v s = if falls then with_validator (record v { jailed = true }) s else s
+jailed_if falls v s = if falls then put_validator (record v { jailed = true }) s else s
 
 -- with this told, if so
 abbrev pub jail_noted : Bool → Validator → View → View

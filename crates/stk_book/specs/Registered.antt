@@ -9,7 +9,7 @@ use Rattle.stk_table.specs.Tabled.{Tabled}
 use Rattle.stk_keep.specs.declared.entities.Validator.{Validator}
 use Rattle.stk_keep.specs.Entries.{at}
 use Rattle.stk_keep.specs.Orders.{pair_cmp}
-use Rattle.stk_keep.specs.Staked.{Staked, validator_of}
+use Rattle.stk_keep.specs.Staked.{Staked, validator_at}
 
 -- validators by operator, delegations by operator and delegator, and operators by consensus address
 abbrev pub Validators : Type 0
@@ -131,5 +131,5 @@ registered validators delegations spent power_reduction = record {
 -- a validator stands under this one's operator, with its consensus address
 pub record Stands (v : Validator) (s : Staked) : Type 0 where
   pub old : Validator
-  pub found : validator_of s v.operator ≡ Some old
+  pub found : validator_at s v.operator ≡ Some old
   pub cons : old.cons ≡ v.cons

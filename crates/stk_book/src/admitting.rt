@@ -3,7 +3,7 @@
 ghost use Rattle.std.specs.Prelude.{◌≡◌, None, true, OnOk, IsErr};
 ghost use Rattle.stk_keep.specs.Ground.{seen, CanBeUndone};
 ghost use Rattle.stk_keep.specs.Hooks.{Stands};
-ghost use Rattle.stk_keep.specs.Staked.{validator_of, validator_by_cons, lists_of, bonded_tokens, other_tokens, HoldsStake};
+ghost use Rattle.stk_keep.specs.Staked.{validator_at, validator_by_cons, lists_of, bonded_tokens, other_tokens, HoldsStake};
 ghost use Rattle.stk_rules.specs.Answers.{Leaves};
 ghost use Rattle.stk_rules.specs.Validators.{new_validator, stored};
 ghost use Rattle.stk_book.specs.Registered.{behind};
@@ -29,7 +29,7 @@ impl Staking {
         m: &CreateValidator,
         steps: &mut Steps<L>,
     ) -> Result<(), HookFault>
-        requires new { validator_of self.old.staked m.now.validator ≡ None }
+        requires new { validator_at self.old.staked m.now.validator ≡ None }
         requires new_cons { validator_by_cons self.old.staked m.now.cons ≡ None }
         requires rates { HasRates m.now }
         requires sound { IsSoundStake self.old.staked }

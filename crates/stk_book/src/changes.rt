@@ -8,7 +8,7 @@ ghost use Rattle.stk_keep.specs.declared.faults.HookFault.TheVariants.{NoMemory}
 ghost use Rattle.stk_keep.specs.Ground.{seen, CanBeUndone};
 ghost use Rattle.stk_keep.specs.Hooks.{Stand, Stands, Keeps};
 ghost use Rattle.stk_keep.specs.Log.{Log};
-ghost use Rattle.stk_keep.specs.Staked.{validator_of, lists_of, is_unbonded};
+ghost use Rattle.stk_keep.specs.Staked.{validator_at, lists_of, is_unbonded};
 ghost use Rattle.stk_rules.specs.Answers.{Leaves};
 ghost use Rattle.stk_rules.specs.Unbonding.{validator_removed};
 ghost use Rattle.stk_book.specs.Registered.{behind};
@@ -28,7 +28,7 @@ impl Staking {
         operator: &Addr,
         steps: &mut Steps<L>,
     ) -> Result<(), HookFault>
-        requires known { IsSome (validator_of self.old.staked operator.now) }
+        requires known { IsSome (validator_at self.old.staked operator.now) }
         requires sound { IsSoundStake self.old.staked }
         ensures jailed { OnOk result (self.new.staked ≡ changed_at (λ v. record v { jailed = true }) operator.now self.old.staked) }
         ensures told { OnOk result (facts.new ≡ facts.old ++ fact.Jailed operator.now ∷ []) }
@@ -59,7 +59,7 @@ impl Staking {
         operator: &Addr,
         steps: &mut Steps<L>,
     ) -> Result<(), HookFault>
-        requires known { IsSome (validator_of self.old.staked operator.now) }
+        requires known { IsSome (validator_at self.old.staked operator.now) }
         requires sound { IsSoundStake self.old.staked }
         ensures cleared { OnOk result (self.new.staked ≡ changed_at (λ v. record v { jailed = false }) operator.now self.old.staked) }
         ensures told { OnOk result (facts.new ≡ facts.old ++ fact.Unjailed operator.now ∷ []) }
@@ -94,7 +94,7 @@ impl Staking {
         time: Moment,
         steps: &mut Steps<L>,
     ) -> Result<(), HookFault>
-        requires known { IsSome (validator_of self.old.staked operator.now) }
+        requires known { IsSome (validator_at self.old.staked operator.now) }
         requires sound { IsSoundStake self.old.staked }
         ensures changed { OnOk result (self.new.staked ≡ changed_at (λ v. record v { status = status; unbonding_height = height; unbonding_time = time }) operator.now self.old.staked) }
         ensures told { OnOk result (facts.new ≡ facts.old ++ fact.Changed operator.now status ∷ []) }
@@ -128,7 +128,7 @@ impl Staking {
         amount: u128,
         steps: &mut Steps<L>,
     ) -> Result<(), HookFault>
-        requires known { (v : Validator) × ((validator_of self.old.staked operator.now ≡ Some v) × (amount ≤ v.tokens)) }
+        requires known { (v : Validator) × ((validator_at self.old.staked operator.now ≡ Some v) × (amount ≤ v.tokens)) }
         requires sound { IsSoundStake self.old.staked }
         ensures burned { OnOk result (self.new.staked ≡ changed_at (λ v. record v { tokens = v.tokens - amount }) operator.now self.old.staked) }
         ensures sound { OnOk result (IsSoundStake self.new.staked) }
@@ -158,11 +158,11 @@ impl Staking {
         operator: &Addr,
         steps: &mut Steps<L>,
     ) -> Result<(), HookFault>
-        requires known { (v : Validator) × ((validator_of self.old.staked operator.now ≡ Some v) × (v.shares ≡ 0) × (is_unbonded v.status ≡ true)) }
+        requires known { (v : Validator) × ((validator_at self.old.staked operator.now ≡ Some v) × (v.shares ≡ 0) × (is_unbonded v.status ≡ true)) }
         requires sound { IsSoundStake self.old.staked }
         requires stand { Stands (H.holds hooks.old) H.tells (seen B.holdings g.old) (lists_of self.old.staked) }
 
-        ensures told { (h : H.Held) → H.holds hooks.old h → (v : Validator) → validator_of self.old.staked operator.now ≡ Some v
+        ensures told { (h : H.Held) → H.holds hooks.old h → (v : Validator) → validator_at self.old.staked operator.now ≡ Some v
             → Leaves (validator_removed H.tells.told v (over self.old.staked h (seen B.holdings g.old))) self.new.staked (H.holds hooks.new) (seen B.holdings g.new) result }
         ensures sure { (h : H.Held) → H.holds hooks.old h → Stand H.tells h (seen B.holdings g.old) (lists_of self.old.staked) → H.tells.sure h ≡ true → IfErr result (λ fault. fault ≡ NoMemory) }
         ensures sound { OnOk result (IsSoundStake self.new.staked) }
@@ -192,7 +192,7 @@ impl Staking {
         v: &Validator,
         steps: &mut Steps<L>,
     ) -> Result<(), HookFault>
-        requires stands { validator_of self.old.staked v.now.operator ≡ Some v.now }
+        requires stands { validator_at self.old.staked v.now.operator ≡ Some v.now }
         requires empty { v.now.shares ≡ 0 }
         requires sound { IsSoundStake self.old.staked }
         requires stand { Stands (H.holds hooks.old) H.tells (seen B.holdings g.old) (lists_of self.old.staked) }

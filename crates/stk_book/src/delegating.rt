@@ -6,7 +6,7 @@ ghost use Rattle.stk_keep.specs.Answers.{Answers, AnswersAs};
 ghost use Rattle.stk_keep.specs.Ground.{seen, CanBeUndone};
 ghost use Rattle.stk_keep.specs.Hooks.{Stands, MayCall};
 ghost use Rattle.stk_keep.specs.Log.{Log};
-ghost use Rattle.stk_keep.specs.Staked.{validator_of, lists_of, bonded_tokens, other_tokens, HoldsStake};
+ghost use Rattle.stk_keep.specs.Staked.{validator_at, lists_of, bonded_tokens, other_tokens, HoldsStake};
 ghost use Rattle.stk_rules.specs.Delegating.{shares_given, hook_before, delegated};
 ghost use Rattle.stk_rules.specs.Stakes.{refusal_of_shares};
 ghost use Rattle.stk_book.specs.Registered.{behind};
@@ -42,14 +42,14 @@ impl Staking {
         origin: Origin,
         steps: &mut Steps<L>,
     ) -> Result<Dec, Stop>
-        requires known { IsSome (validator_of self.old.staked operator.now) }
+        requires known { IsSome (validator_at self.old.staked operator.now) }
         requires some { 0 < amount }
         requires sound { IsSoundStake self.old.staked }
         requires stand { Stands (H.holds hooks.old) H.tells (seen B.holdings g.old) (lists_of self.old.staked) }
         requires accounts { HoldsStake (seen B.holdings g.old) (bonded_tokens self.old.staked) (other_tokens self.old.staked) }
         requires origin { HasOrigin (origin_of origin) amount self.old.staked (seen B.holdings g.old) }
 
-        ensures told { (h : H.Held) → H.holds hooks.old h → (v : Validator) → validator_of self.old.staked operator.now ≡ Some v
+        ensures told { (h : H.Held) → H.holds hooks.old h → (v : Validator) → validator_at self.old.staked operator.now ≡ Some v
             → AnswersAs (delegated H.tells.told v who.now amount (origin_of origin) (over self.old.staked h (seen B.holdings g.old))) self.new.staked (H.holds hooks.new) (seen B.holdings g.new) result }
         ensures sound { OnOk result (IsSoundStake self.new.staked) }
         ensures stand { OnOk result (Stands (H.holds hooks.new) H.tells (seen B.holdings g.new) (lists_of self.new.staked)) }
@@ -81,7 +81,7 @@ impl Staking {
         origin: Origin,
         steps: &mut Steps<L>,
     ) -> Result<Dec, Stop>
-        requires stands { validator_of self.old.staked v.now.operator ≡ Some v.now }
+        requires stands { validator_at self.old.staked v.now.operator ≡ Some v.now }
         requires some { 0 < amount }
         requires sound { IsSoundStake self.old.staked }
         requires stand { Stands (H.holds hooks.old) H.tells (seen B.holdings g.old) (lists_of self.old.staked) }

@@ -7,8 +7,8 @@ ghost use Rattle.stk_table.specs.Tabled.{entry_above};
 ghost use Rattle.stk_keep.specs.declared.entities.Validator.{Validator};
 ghost use Rattle.stk_keep.specs.Entries.{without};
 ghost use Rattle.stk_keep.specs.Orders.{pair_cmp};
-ghost use Rattle.stk_keep.specs.Staked.{validator_of, validator_by_cons, shares_of, with_validator};
-ghost use Rattle.stk_rules.specs.Stakes.{without_validator, with_shares, without_shares};
+ghost use Rattle.stk_keep.specs.Staked.{validator_at, validator_by_cons, delegation, put_validator};
+ghost use Rattle.stk_rules.specs.Stakes.{without_validator, put_delegation, without_shares};
 ghost use Rattle.stk_book.specs.Registered.{new_register, holding, spent_now, operator_by_cons, Stands};
 
 use crate::index::{put_both, take_both};
@@ -89,7 +89,7 @@ impl Staking {
     pub(crate) fn known(&self)
         ensures validators { IsStrictlySortedBy addr_cmp (keys_of self.now.staked.validators) }
         ensures delegations { IsStrictlySortedBy pair_cmp (keys_of self.now.staked.delegations) }
-        ensures operators { (o : List ℕ) (v : Validator) → validator_of self.now.staked o ≡ Some v → v.operator ≡ o }
+        ensures operators { (o : List ℕ) (v : Validator) → validator_at self.now.staked o ≡ Some v → v.operator ≡ o }
     {
         let _ = self.validators.len();
         let _delegations = self.delegations.len();
@@ -97,7 +97,7 @@ impl Staking {
 
     /// The validator of an operator.
     pub(crate) fn at<L: Ledger>(&self, operator: &Addr, steps: &mut Steps<L>) -> Option<&Validator>
-        ensures value { option_copied result ≡ validator_of self.now.staked operator.now }
+        ensures value { option_copied result ≡ validator_at self.now.staked operator.now }
         ensures cost { steps.new ≡ steps.old + 1 }
     {
         self.validators.get(operator, steps)
@@ -127,7 +127,7 @@ impl Staking {
         operator: &Addr,
         steps: &mut Steps<L>,
     ) -> Option<Dec>
-        ensures value { result ≡ shares_of self.now.staked who.now operator.now }
+        ensures value { result ≡ delegation self.now.staked who.now operator.now }
         ensures cost { steps.new ≡ steps.old + 1 }
     {
         match self.delegations.get(&(*operator, *who), steps) {
@@ -143,7 +143,7 @@ impl Staking {
         steps: &mut Steps<L>,
     ) -> Result<(), TableFault>
         requires stands { Stands v.now self.old.staked }
-        ensures ok { OnOk result (self.new ≡ holding (with_validator v.now self.old.staked) self.old) }
+        ensures ok { OnOk result (self.new ≡ holding (put_validator v.now self.old.staked) self.old) }
         ensures err { OnErr result (self.new ≡ spent_now self.old) }
         ensures spent { self.old.spent ≡ true → IsErr result }
         ensures cost { steps.new ≤ steps.old + 1 }
@@ -168,8 +168,8 @@ impl Staking {
         v: &Validator,
         steps: &mut Steps<L>,
     ) -> Result<(), TableFault>
-        requires new { validator_of self.old.staked v.now.operator ≡ None }
-        ensures ok { OnOk result (self.new ≡ holding (with_validator v.now self.old.staked) self.old) }
+        requires new { validator_at self.old.staked v.now.operator ≡ None }
+        ensures ok { OnOk result (self.new ≡ holding (put_validator v.now self.old.staked) self.old) }
         ensures err { OnErr result (self.new ≡ spent_now self.old) }
         ensures spent { self.old.spent ≡ true → IsErr result }
     {
@@ -191,7 +191,7 @@ impl Staking {
         v: &Validator,
         steps: &mut Steps<L>,
     ) -> Result<(), TableFault>
-        requires stands { validator_of self.old.staked v.now.operator ≡ Some v.now }
+        requires stands { validator_at self.old.staked v.now.operator ≡ Some v.now }
         requires alone { operator_by_cons (without addr_cmp self.old.staked.validators v.now.operator) v.now.cons ≡ None }
         ensures ok { OnOk result (self.new ≡ holding (without_validator v.now.operator self.old.staked) self.old) }
         ensures err { OnErr result (self.new ≡ spent_now self.old) }
@@ -217,7 +217,7 @@ impl Staking {
         shares: Dec,
         steps: &mut Steps<L>,
     ) -> Result<(), TableFault>
-        ensures ok { OnOk result (self.new ≡ holding (with_shares who.now operator.now shares self.old.staked) self.old) }
+        ensures ok { OnOk result (self.new ≡ holding (put_delegation who.now operator.now shares self.old.staked) self.old) }
         ensures err { OnErr result (self.new ≡ spent_now self.old) }
         ensures spent { self.old.spent ≡ true → IsErr result }
     {

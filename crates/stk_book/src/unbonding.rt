@@ -8,7 +8,7 @@ ghost use Rattle.stk_keep.specs.Hooks.{Stand, Stands, MayCall, Keeps};
 ghost use Rattle.stk_keep.specs.Log.{Log};
 ghost use Rattle.stk_keep.specs.Orders.{same_addr};
 ghost use Rattle.stk_keep.specs.World.{modified};
-ghost use Rattle.stk_keep.specs.Staked.{Staked, validator_of, shares_of, lists_of, HasShares, IsUnbonded};
+ghost use Rattle.stk_keep.specs.Staked.{Staked, validator_at, delegation, lists_of, HasShares, IsUnbonded};
 ghost use Rattle.stk_rules.specs.Answers.{Leaves};
 ghost use Rattle.stk_rules.specs.Unbonding.{shares_unbonded, unbonded_shares, falls_below_minimum, left_standing, removed_if_empty};
 ghost use Rattle.stk_book.specs.Registered.{behind, holding, Behind};
@@ -112,8 +112,8 @@ impl Staking {
         part: Dec,
         steps: &mut Steps<L>,
     ) -> Result<u128, HookFault>
-        requires stands { validator_of self.old.staked v.now.operator ≡ Some v.now }
-        requires holds { shares_of self.old.staked who.now v.now.operator ≡ Some held }
+        requires stands { validator_at self.old.staked v.now.operator ≡ Some v.now }
+        requires holds { delegation self.old.staked who.now v.now.operator ≡ Some held }
         requires part { part ≤ held }
         requires sound { IsSoundStake self.old.staked }
         requires stand { Stands (H.holds hooks.old) H.tells (seen B.holdings g.old) (lists_of self.old.staked) }
@@ -163,7 +163,7 @@ impl Staking {
         left: Dec,
         steps: &mut Steps<L>,
     ) -> Result<Validator, HookFault>
-        requires stands { validator_of self.old.staked v.now.operator ≡ Some v.now }
+        requires stands { validator_at self.old.staked v.now.operator ≡ Some v.now }
         requires tokens { v.now.tokens ≤ 10 ^ 18 }
         requires some { 0 < v.now.shares }
         requires left { left ≤ v.now.shares }
@@ -230,7 +230,7 @@ impl Staking {
         v: &Validator,
         steps: &mut Steps<L>,
     ) -> Result<(), HookFault>
-        requires stands { validator_of self.old.staked v.now.operator ≡ Some v.now }
+        requires stands { validator_at self.old.staked v.now.operator ≡ Some v.now }
         requires sound { IsSoundStake self.old.staked }
         requires stand { Stands (H.holds hooks.old) H.tells (seen B.holdings g.old) (lists_of self.old.staked) }
         ensures told { (h : H.Held) → H.holds hooks.old h → (log : Log) → Leaves (removed_if_empty H.tells.told v.now (behind_log log self.old.staked h (seen B.holdings g.old))) self.new.staked (H.holds hooks.new) (seen B.holdings g.new) result }

@@ -7,7 +7,7 @@ use Rattle.stk_keep.specs.declared.entities.Validator.{Validator}
 use Rattle.stk_types.specs.declared.account.Account.TheVariants as account
 use Rattle.stk_types.specs.declared.account.Module.TheVariants as holder
 use Rattle.stk_keep.specs.Hooks.{Keeps}
-use Rattle.stk_keep.specs.Staked.{Staked, validator_of, with_validator, tokens_where, is_bonded, bonded_tokens, other_tokens, IsUnbonded}
+use Rattle.stk_keep.specs.Staked.{Staked, validator_at, put_validator, tokens_where, is_bonded, bonded_tokens, other_tokens, IsUnbonded}
 use Rattle.stk_keep.specs.World.{View}
 use Rattle.stk_keep.specs.Ground.{AreInRange, IsInOrder, end_of_blocks}
 use Rattle.stk_keep.specs.Holdings.{IsBacked, balance_of}
@@ -26,14 +26,14 @@ fewer_counted true t n = omega arith
 fewer_counted false t n = omega arith
 
 -- what is owed doesn't grow where a validator's tokens are burnt
-owed-burnt : (test : BondStatus → Bool) (height : ℕ) (s : Staked) (v : Validator) (n : ℕ) → IsSoundAt height s → validator_of s v.operator ≡ Some v
-    → tokens_where test (with_validator (burnt n v) s).validators ≤ tokens_where test s.validators
+owed-burnt : (test : BondStatus → Bool) (height : ℕ) (s : Staked) (v : Validator) (n : ℕ) → IsSoundAt height s → validator_at s v.operator ≡ Some v
+    → tokens_where test (put_validator (burnt n v) s).validators ≤ tokens_where test s.validators
 owed-burnt test height s v n h f =
     let put = tokens-put test v.operator v (burnt n v) s.validators h.validators_ascend f in
     let less = fewer_counted (test v.status) v.tokens n in
     omega (arith, put, less)
 
-fit_with : (s s2 : Staked) (v : Validator) (n : ℕ) (g : View) → IsFit s g → validator_of s v.operator ≡ Some v → s2 ≡ with_validator (burnt n v) s → IsSoundStake s2 → IsFit s2 g
+fit_with : (s s2 : Staked) (v : Validator) (n : ℕ) (g : View) → IsFit s g → validator_at s v.operator ≡ Some v → s2 ≡ put_validator (burnt n v) s → IsSoundStake s2 → IsFit s2 g
 fit_with s s2 v n g fit f e sound =
     let h = to_points fit.sound.0 s fit.sound.1 in
     let bonded : bonded_tokens s2 ≤ bonded_tokens s = subst (λ x. bonded_tokens x ≤ bonded_tokens s) (sym e) (owed-burnt is_bonded fit.sound.0 s v n h f) in
@@ -47,10 +47,10 @@ fit_with s s2 v n g fit f e sound =
     }
 
 -- tokens were burnt
-pub fit-burnt : (s s2 : Staked) (operator : List ℕ) (v : Validator) (n : ℕ) (g : View) → IsFit s g → validator_of s operator ≡ Some v → s2 ≡ changed_at (burnt n) operator s → IsSoundStake s2 → IsFit s2 g
+pub fit-burnt : (s s2 : Staked) (operator : List ℕ) (v : Validator) (n : ℕ) (g : View) → IsFit s g → validator_at s operator ≡ Some v → s2 ≡ changed_at (burnt n) operator s → IsSoundStake s2 → IsFit s2 g
 fit-burnt s s2 operator v n g fit found e sound =
     let own : v.operator ≡ operator = (to_points fit.sound.0 s fit.sound.1).operators operator v found in
-    fit_with s s2 v n g fit (ap (validator_of s) own ∙ found) (e ∙ ap (λ o. with_if (option_map (burnt n) o) s) found) sound
+    fit_with s s2 v n g fit (ap (validator_at s) own ∙ found) (e ∙ ap (λ o. with_if (option_map (burnt n) o) s) found) sound
 
 within : (new part old held held2 : ℕ) → new + part ≡ old → old ≤ held → held2 ≡ held → new ≤ held2
 within new part old held held2 e l h = omega (arith, e, l, h)

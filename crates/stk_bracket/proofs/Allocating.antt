@@ -20,7 +20,7 @@ use Rattle.stk_keep.specs.Entries.{at}
 use Rattle.stk_keep.specs.Holdings.{coins_of}
 use Rattle.stk_keep.specs.Log.{Log}
 use Rattle.stk_keep.specs.Orders.{pair_cmp, same_addr}
-use Rattle.stk_keep.specs.Staked.{Staked, validator_of, shares_of}
+use Rattle.stk_keep.specs.Staked.{Staked, validator_at, delegation}
 use Rattle.stk_keep.specs.Steps.{◌>>=◌}
 use Rattle.stk_keep.specs.World.{View, sent}
 use Rattle.stk_rules.proofs.EntryLemmas.{to_all}
@@ -55,10 +55,10 @@ start_early : (w : State) (k : List ℕ × List ℕ) (info : StartingInfo) → I
 start_early w k info sound e =
     let s : Staked = w.mine.staked in
     let starts : List ((List ℕ × List ℕ) × StartingInfo) = w.hooks.0.rewards.starts in
-    let held : (n : ℕ) × (shares_of s k.1 k.0 ≡ Some n) = some_of (shares_of s k.1 k.0) (sym (sound.stands.starts k.1 k.0) ∙ ap is_some e) in
+    let held : (n : ℕ) × (delegation s k.1 k.0 ≡ Some n) = some_of (delegation s k.1 k.0) (sym (sound.stands.starts k.1 k.0) ∙ ap is_some e) in
     let place : (i : ℕ) × (q : List ℕ × List ℕ) × (slice_get s.delegations i ≡ Some (q, held.0)) × (is_at (pair_cmp k) q ≡ true) = place_from_lookup (is_at (pair_cmp k)) s.delegations held.0 held.1 in
-    let exists : IsSome (validator_of s place.1.0) = all_at (λ x. IsSome (validator_of s x.0.0)) place.0 (place.1, held.0) s.delegations place.2 (recursion_from_All (λ x. IsSome (validator_of s x.0.0)) s.delegations sound.staked.existing) in
-    let there : is_some (validator_of s k.0) ≡ true = ap (λ o. is_some (validator_of s o)) (pair_is k place.1 place.3).0 ∙ is_there (validator_of s place.1.0) exists in
+    let exists : IsSome (validator_at s place.1.0) = all_at (λ x. IsSome (validator_at s x.0.0)) place.0 (place.1, held.0) s.delegations place.2 (recursion_from_All (λ x. IsSome (validator_at s x.0.0)) s.delegations sound.staked.existing) in
+    let there : is_some (validator_at s k.0) ≡ true = ap (λ o. is_some (validator_at s o)) (pair_is k place.1 place.3).0 ∙ is_there (validator_at s place.1.0) exists in
     let periods : (p : Periods) × (at addr_cmp w.hooks.0.rewards.periods k.0 ≡ Some p) = some_of (at addr_cmp w.hooks.0.rewards.periods k.0) (sound.stands.periods k.0 ∙ there) in
     let entry : (i : ℕ) × (q : List ℕ) × (slice_get w.hooks.0.rewards.periods i ≡ Some (q, periods.0)) × (is_at (addr_cmp k.0) q ≡ true) = place_from_lookup (is_at (addr_cmp k.0)) w.hooks.0.rewards.periods periods.0 periods.1 in
     let own : PeriodsAreSound w.view.ctx.height (starts_of w.hooks.0.rewards entry.1) periods.0 =

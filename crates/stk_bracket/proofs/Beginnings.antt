@@ -17,7 +17,7 @@ use Rattle.stk_keep.specs.declared.refusal.Refusal.TheVariants.{NoValidator, NoD
 use Rattle.stk_keep.specs.Log.{Log, LogEntry}
 use Rattle.stk_keep.specs.Log as log
 use Rattle.stk_keep.specs.Orders.{pair_cmp, same_addr}
-use Rattle.stk_keep.specs.Staked.{validator_of, shares_of}
+use Rattle.stk_keep.specs.Staked.{validator_at, delegation}
 use Rattle.stk_keep.specs.Steps.{◌>>=◌, or_stop, stopping}
 use Rattle.stk_keep.specs.World.{View}
 use Rattle.stk_rules.specs.Chain.{State, with_shared}
@@ -62,7 +62,7 @@ other_put w v u who info apart =
     (put_outside pair_cmp (λ k. same_addr k.0 u.operator) (v.operator, who) info w.hooks.0.rewards.starts apart
     (λ k h. let pair : (v.operator ≡ k.0) × (who ≡ k.1) = pair_is (v.operator, who) k (ap is_eq h) in ap (λ o. same_addr o u.operator) (sym pair.0) ∙ apart))
 
-pub begun_account : (d : List ℕ) (w : State) (v : Validator) (who : List ℕ) (shares : ℕ) → shares_of w.mine.staked who v.operator ≡ Some shares
+pub begun_account : (d : List ℕ) (w : State) (v : Validator) (who : List ℕ) (shares : ℕ) → delegation w.mine.staked who v.operator ≡ Some shares
     → (g : IsPutInto (starts_in w.mine.staked w.hooks.0.rewards v.operator) (starts_in w.mine.staked (with_start who v.operator (info_of w v shares) w.hooks.0.rewards) v.operator) (start_with w v who (info_of w v shares)))
     → account_in d (state_begun w v who shares) v ≡ account_after d (account_in d w v) (deed.beginning g.place who shares)
 begun_account d w v who shares held g =
@@ -94,10 +94,10 @@ pub record MayBegin (d : List ℕ) (w : State) (v : Validator) (who : List ℕ) 
   pub within : counted_shares (account_in d w v) + shares ≤ v.shares
   pub apart : AllByRecursion (λ s. who ≢ s.who) (starts_in w.mine.staked w.hooks.0.rewards v.operator)
 
-pub begun_reached : (d : List ℕ) (w : State) (v u : Validator) (who : List ℕ) (shares : ℕ) → validator_of w.mine.staked v.operator ≡ Some v → shares_of w.mine.staked who v.operator ≡ Some shares
-    → MayBegin d w v who shares → AreReached w → validator_of w.mine.staked u.operator ≡ Some u → (b : Bool) → same_addr u.operator v.operator ≡ b → IsReached d (account_in d (state_begun w v who shares) u)
+pub begun_reached : (d : List ℕ) (w : State) (v u : Validator) (who : List ℕ) (shares : ℕ) → validator_at w.mine.staked v.operator ≡ Some v → delegation w.mine.staked who v.operator ≡ Some shares
+    → MayBegin d w v who shares → AreReached w → validator_at w.mine.staked u.operator ≡ Some u → (b : Bool) → same_addr u.operator v.operator ≡ b → IsReached d (account_in d (state_begun w v who shares) u)
 begun_reached d w v u who shares found held may reached there true is =
-    let one : u ≡ v = same_some u v (validator_of w.mine.staked u.operator) (validator_of w.mine.staked v.operator) there found (ap (λ o. validator_of w.mine.staked o) (addr_is u.operator v.operator is)) in
+    let one : u ≡ v = same_some u v (validator_at w.mine.staked u.operator) (validator_at w.mine.staked v.operator) there found (ap (λ o. validator_at w.mine.staked o) (addr_is u.operator v.operator is)) in
     let g : IsPutInto (starts_in w.mine.staked w.hooks.0.rewards v.operator) (starts_in w.mine.staked (with_start who v.operator (info_of w v shares) w.hooks.0.rewards) v.operator) (start_with w v who (info_of w v shares)) =
     own_put w v who (info_of w v shares) may.apart in
     subst (λ x. IsReached d (account_in d (state_begun w v who shares) x)) (sym one)
@@ -112,8 +112,8 @@ begun_reached d w v u who shares found held may reached there false is =
 
 -- ---- behind a withdrawal a start may be made
 
-pub may_begin : (d : List ℕ) (w : State) (v : Validator) (who : List ℕ) (shares : ℕ) (y : Money × Shared × View × Log) → IsReady w v.operator → validator_of w.mine.staked v.operator ≡ Some v
-    → shares_of w.mine.staked who v.operator ≡ Some shares → IsWithdrawn v who shares w.hooks.0 w.view y → AreReached w → MayBegin d (state_behind w y) v who shares
+pub may_begin : (d : List ℕ) (w : State) (v : Validator) (who : List ℕ) (shares : ℕ) (y : Money × Shared × View × Log) → IsReady w v.operator → validator_at w.mine.staked v.operator ≡ Some v
+    → delegation w.mine.staked who v.operator ≡ Some shares → IsWithdrawn v who shares w.hooks.0 w.view y → AreReached w → MayBegin d (state_behind w y) v who shares
 may_begin d w v who shares y ready found held k reached =
     let z : ℕ × Shared × View × Log = k.first in
     let i : IsEnded d v w.hooks.0 w.view z = end_is d w v z ready k.ends in
@@ -158,8 +158,8 @@ joined_state w v who shares y =
     let s : Shared × View × Log = started v who shares y.1 y.2 in
     ap (λ l. let out : State = record { mine = w.mine; hooks = (s.0, w.hooks.1); view = s.1; log = l } in out) (append_assoc w.log y.3 s.2)
 
-renewal_reached : (w : State) (v : Validator) (who : List ℕ) (shares : ℕ) (x : Money × Shared × View × Log) → IsReady w v.operator → validator_of w.mine.staked v.operator ≡ Some v
-    → shares_of w.mine.staked who v.operator ≡ Some shares → reward_renewed v who shares w.hooks.0 w.view ≡ Ok x → AreReached w → AreReached (with_shared x.1 x.2 x.3 w)
+renewal_reached : (w : State) (v : Validator) (who : List ℕ) (shares : ℕ) (x : Money × Shared × View × Log) → IsReady w v.operator → validator_at w.mine.staked v.operator ≡ Some v
+    → delegation w.mine.staked who v.operator ≡ Some shares → reward_renewed v who shares w.hooks.0 w.view ≡ Ok x → AreReached w → AreReached (with_shared x.1 x.2 x.3 w)
 renewal_reached w v who shares x ready found held e reached =
     let parts : (y : Money × Shared × View × Log) × (reward_withdrawn v who shares w.hooks.0 w.view ≡ Ok y)
     × ((y.0, (started v who shares y.1 y.2).0, (started v who shares y.1 y.2).1, y.3 ++ (started v who shares y.1 y.2).2) ≡ x) = renewed_is v who shares w.hooks.0 w.view x e in
@@ -179,7 +179,7 @@ went_on f (Ok x) a h = cc
 went_on f (Err x) a h = absurd cc
 
 -- a validator stands under its own operator
-pub under_own : (w : State) (operator : List ℕ) (v : Validator) → IsSound w → validator_of w.mine.staked operator ≡ Some v → operator ≡ v.operator
+pub under_own : (w : State) (operator : List ℕ) (v : Validator) → IsSound w → validator_at w.mine.staked operator ≡ Some v → operator ≡ v.operator
 under_own w operator v sound found =
     let place : (i : ℕ) × (k : List ℕ) × (slice_get w.mine.staked.validators i ≡ Some (k, v)) × (is_at (addr_cmp operator) k ≡ true) = place_from_lookup (is_at (addr_cmp operator)) w.mine.staked.validators v found in
     let own : v.operator ≡ place.1 = all_at (λ e. e.1.operator ≡ e.0) place.0 (place.1, v) w.mine.staked.validators place.2 (recursion_from_All (λ e. e.1.operator ≡ e.0) w.mine.staked.validators sound.staked.operators) in
@@ -187,16 +187,16 @@ under_own w operator v sound found =
 
 taken_reached : (w : State) (who operator : List ℕ) (x : Money × Shared × View × Log) → IsSound w → reward_taken w.mine.staked who operator w.hooks.0 w.view ≡ Ok x → AreReached w → AreReached (with_shared x.1 x.2 x.3 w)
 taken_reached w who operator x sound e reached =
-    let one : (v : Validator) × (or_stop (validator_of w.mine.staked operator) NoValidator ≡ Ok v)
-    × ((or_stop (shares_of w.mine.staked who operator) NoDelegation >>= λ shares. stopping Overflow (reward_renewed v who shares w.hooks.0 w.view)) ≡ Ok x) =
-    step_parts (or_stop (validator_of w.mine.staked operator) NoValidator) (λ v. or_stop (shares_of w.mine.staked who operator) NoDelegation >>= λ shares. stopping Overflow (reward_renewed v who shares w.hooks.0 w.view)) x e in
+    let one : (v : Validator) × (or_stop (validator_at w.mine.staked operator) NoValidator ≡ Ok v)
+    × ((or_stop (delegation w.mine.staked who operator) NoDelegation >>= λ shares. stopping Overflow (reward_renewed v who shares w.hooks.0 w.view)) ≡ Ok x) =
+    step_parts (or_stop (validator_at w.mine.staked operator) NoValidator) (λ v. or_stop (delegation w.mine.staked who operator) NoDelegation >>= λ shares. stopping Overflow (reward_renewed v who shares w.hooks.0 w.view)) x e in
     let v : Validator = one.0 in
-    let two : (shares : ℕ) × (or_stop (shares_of w.mine.staked who operator) NoDelegation ≡ Ok shares) × (stopping Overflow (reward_renewed v who shares w.hooks.0 w.view) ≡ Ok x) =
-    step_parts (or_stop (shares_of w.mine.staked who operator) NoDelegation) (λ shares. stopping Overflow (reward_renewed v who shares w.hooks.0 w.view)) x one.2 in
-    let found : validator_of w.mine.staked operator ≡ Some v = found_is (validator_of w.mine.staked operator) NoValidator v one.1 in
-    let held : shares_of w.mine.staked who operator ≡ Some two.0 = found_is (shares_of w.mine.staked who operator) NoDelegation two.0 two.1 in
+    let two : (shares : ℕ) × (or_stop (delegation w.mine.staked who operator) NoDelegation ≡ Ok shares) × (stopping Overflow (reward_renewed v who shares w.hooks.0 w.view) ≡ Ok x) =
+    step_parts (or_stop (delegation w.mine.staked who operator) NoDelegation) (λ shares. stopping Overflow (reward_renewed v who shares w.hooks.0 w.view)) x one.2 in
+    let found : validator_at w.mine.staked operator ≡ Some v = found_is (validator_at w.mine.staked operator) NoValidator v one.1 in
+    let held : delegation w.mine.staked who operator ≡ Some two.0 = found_is (delegation w.mine.staked who operator) NoDelegation two.0 two.1 in
     let own : operator ≡ v.operator = under_own w operator v sound found in
-    renewal_reached w v who two.0 x (ready_in w v.operator sound) (ap (λ o. validator_of w.mine.staked o) (sym own) ∙ found) (ap (λ o. shares_of w.mine.staked who o) (sym own) ∙ held)
+    renewal_reached w v who two.0 x (ready_in w v.operator sound) (ap (λ o. validator_at w.mine.staked o) (sym own) ∙ found) (ap (λ o. delegation w.mine.staked who o) (sym own) ∙ held)
     (went_on Overflow (reward_renewed v who two.0 w.hooks.0 w.view) x two.2) reached
 
 pub if_ok : {A E : Type 0} (P : A → Type 0) (r : Result A E) → ((a : A) → r ≡ Ok a → P a) → IfOk r P

@@ -9,12 +9,12 @@ use Rattle.stk_types.specs.declared.status.BondStatus.TheVariants.{Bonded, Unbon
 use Rattle.stk_types.specs.Orders.{addr_cmp}
 use Rattle.stk_keep.specs.declared.entities.Validator.{Validator}
 use Rattle.stk_keep.specs.Orders.{same_addr}
-use Rattle.stk_keep.specs.Staked.{Staked, validator_of, with_validator, is_bonded}
+use Rattle.stk_keep.specs.Staked.{Staked, validator_at, put_validator, is_bonded}
 use Rattle.stk_keep.specs.Steps.{◌>>=◌, each}
 use Rattle.stk_keep.specs.World.{View, World, bonded, call, over_view}
 use Rattle.stk_rules.proofs.EntryLemmas.{to_all}
 use Rattle.stk_rules.proofs.OrderLemmas.{addr_total}
-use Rattle.stk_rules.specs.BondedSet.{stands_before, placed, in_order, joining_of, leaving_of, tokens_of, difference_moved, is_in_bonded_set, joined_set, left_set, set_updated}
+use Rattle.stk_rules.specs.BondedSet.{stands_before, placed, by_power, joining_of, leaving_of, tokens_of, difference_moved, is_in_bonded_set, joined_set, left_set, set_updated}
 use Rattle.stk_rules.specs.Chain.{Hooks, State, chain_told, staked_in, with_staked, set_step}
 use Rattle.stk_rules.specs.Sound.{IsSound}
 use Rattle.stk_rules.specs.Stakes.{changed}
@@ -32,11 +32,11 @@ use Rattle.stk_bracket.proofs.Quiet.{same_ok, viewed_reached}
 -- ---- what stood before still stands, in tokens and shares
 
 abbrev pub IsKnown : State → Validator → Type 0
-IsKnown w v = validator_of w.mine.staked v.operator ≡ Some v
+IsKnown w v = validator_at w.mine.staked v.operator ≡ Some v
 
 record StillStands (w x : State) (u : Validator) : Type 0 where
   now : Validator
-  found : validator_of x.mine.staked u.operator ≡ Some now
+  found : validator_at x.mine.staked u.operator ≡ Some now
   same : StandsAs u now
 
 record Standing (w x : State) : Type 0 where
@@ -48,10 +48,10 @@ stands_itself w reached = record { reached = reached; kept = λ u known. record 
 
 kept_by : (w x : State) (v new u : Validator) → IsKnown w v → StandsAs new v → Standing w x → IsKnown w u → (b : Bool) → same_addr u.operator new.operator ≡ b → StillStands w (state_with x new) u
 kept_by w x v new u there alike k known true is =
-    let one : u ≡ v = same_some u v (validator_of w.mine.staked u.operator) (validator_of w.mine.staked v.operator) known there (ap (λ o. validator_of w.mine.staked o) (addr_is u.operator new.operator is ∙ alike.operator)) in
+    let one : u ≡ v = same_some u v (validator_at w.mine.staked u.operator) (validator_at w.mine.staked v.operator) known there (ap (λ o. validator_at w.mine.staked o) (addr_is u.operator new.operator is ∙ alike.operator)) in
     record {
       now = new;
-      found = ap (λ o. validator_of (with_validator new x.mine.staked) o) (addr_is u.operator new.operator is) ∙ put_there new.operator new x.mine.staked.validators;
+      found = ap (λ o. validator_at (put_validator new x.mine.staked) o) (addr_is u.operator new.operator is) ∙ put_there new.operator new x.mine.staked.validators;
       same = record { operator = ap (λ y. y.operator) one ∙ sym alike.operator; tokens = ap (λ y. y.tokens) one ∙ sym alike.tokens; shares = ap (λ y. y.shares) one ∙ sym alike.shares };
     }
 kept_by w x v new u there alike k known false is =
@@ -62,7 +62,7 @@ kept_by w x v new u there alike k known false is =
 restands : (w x : State) (v new : Validator) → IsKnown w v → StandsAs new v → Standing w x → Standing w (state_with x new)
 restands w x v new there alike k =
     let old : StillStands w x v = k.kept v there in
-    let own : validator_of x.mine.staked old.now.operator ≡ Some old.now = ap (λ o. validator_of x.mine.staked o) (sym old.same.operator) ∙ old.found in
+    let own : validator_at x.mine.staked old.now.operator ≡ Some old.now = ap (λ o. validator_at x.mine.staked o) (sym old.same.operator) ∙ old.found in
     record {
       reached = standing_reached x new old.now (stands_through new v old.now alike old.same) own k.reached;
       kept = λ u known. kept_by w x v new u there alike k known (same_addr u.operator new.operator) refl;
@@ -125,14 +125,14 @@ placed_all reduction Q v (u ∷ us) q h = placed_step (stands_before reduction u
     placed_step true r = (h.0, r)
     placed_step false r = (q, h)
 
-ordered_all : (reduction : ℕ) (Q : Validator → Type 0) (vs : List Validator) → AllByRecursion Q vs → AllByRecursion Q (in_order reduction vs)
+ordered_all : (reduction : ℕ) (Q : Validator → Type 0) (vs : List Validator) → AllByRecursion Q vs → AllByRecursion Q (by_power reduction vs)
 ordered_all reduction Q [] h = tt
-ordered_all reduction Q (v ∷ vs) h = placed_all reduction Q v (in_order reduction vs) h.0 (ordered_all reduction Q vs h.1)
+ordered_all reduction Q (v ∷ vs) h = placed_all reduction Q v (by_power reduction vs) h.0 (ordered_all reduction Q vs h.1)
 
 pub all_known : (w : State) → IsSound w → AllByRecursion (IsKnown w) (values_of w.mine.staked.validators)
 all_known w sound =
     let vs : List (List ℕ × Validator) = w.mine.staked.validators in
-    values_all (IsKnown w) vs (recursion_from_All (λ e. IsKnown w e.1) vs (to_all addr_cmp addr_total (λ e. IsKnown w e.1) vs sound.staked.validators_ascend (λ o v e. ap (validator_of w.mine.staked) (sym (under_own w o v sound e)) ∙ e)))
+    values_all (IsKnown w) vs (recursion_from_All (λ e. IsKnown w e.1) vs (to_all addr_cmp addr_total (λ e. IsKnown w e.1) vs sound.staked.validators_ascend (λ o v e. ap (validator_at w.mine.staked) (sym (under_own w o v sound e)) ∙ e)))
 
 -- ---- the step
 

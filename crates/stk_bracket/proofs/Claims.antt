@@ -25,7 +25,7 @@ use Rattle.stk_keep.specs.Items.{no_purse}
 use Rattle.stk_keep.specs.Log.{Log}
 use Rattle.stk_keep.specs.Log as log
 use Rattle.stk_keep.specs.Orders.{pair_cmp, same_addr}
-use Rattle.stk_keep.specs.Staked.{Staked, validator_of, shares_of}
+use Rattle.stk_keep.specs.Staked.{Staked, validator_at, delegation}
 use Rattle.stk_keep.specs.Steps.{◌>>=◌, ◌>>◌, stop_if}
 use Rattle.stk_keep.specs.World.{View, noted}
 use Rattle.stk_rules.specs.Amounts.{over_facts}
@@ -135,7 +135,7 @@ pub record IsReady (w : State) (operator : List ℕ) : Type 0 where
   pub current : IsMoney (purse_of w.hooks.0.purses operator).current
   pub outstanding : IsMoney (purse_of w.hooks.0.purses operator).outstanding
   pub lists : AreLists (periods_of w.hooks.0.rewards operator)
-  pub starts : (who : List ℕ) → is_some (start_of w.hooks.0.rewards who operator) ≡ is_some (shares_of w.mine.staked who operator)
+  pub starts : (who : List ℕ) → is_some (start_of w.hooks.0.rewards who operator) ≡ is_some (delegation w.mine.staked who operator)
 
 pub ready_in : (w : State) (operator : List ℕ) → IsSound w → IsReady w operator
 ready_in w operator sound = record {
@@ -280,7 +280,7 @@ ended_is d val s v z current outstanding lists e =
 
 -- the start of a delegation, in the account
 abbrev pub start_with : State → Validator → List ℕ → StartingInfo → Start
-start_with w v who info = record { who = who; shares = unwrap_or (shares_of w.mine.staked who v.operator) 0; info = info }
+start_with w v who info = record { who = who; shares = unwrap_or (delegation w.mine.staked who v.operator) 0; info = info }
 
 pub own_start : (w : State) (v : Validator) (who : List ℕ) (info : StartingInfo) (P : Start → Type 0) → start_of w.hooks.0.rewards who v.operator ≡ Some info
     → AllByRecursion P (starts_in w.mine.staked w.hooks.0.rewards v.operator) → P (start_with w v who info)
@@ -376,8 +376,8 @@ claim_parts w v who shares full l e =
     same_pair : (x y : Money × Log) → Path (Result (Money × Log) Over) (Ok x) (Ok y) → x ≡ y
     same_pair x y h = cc
 
-claim_bracketed : (w : State) → IsSound w → AreReached w → (d who : List ℕ) (v : Validator) (shares : ℕ) → validator_of w.mine.staked v.operator ≡ Some v
-    → shares_of w.mine.staked who v.operator ≡ Some shares → ClaimIsBracketed d w who v shares
+claim_bracketed : (w : State) → IsSound w → AreReached w → (d who : List ℕ) (v : Validator) (shares : ℕ) → validator_at w.mine.staked v.operator ≡ Some v
+    → delegation w.mine.staked who v.operator ≡ Some shares → ClaimIsBracketed d w who v shares
 claim_bracketed w sound reached d who v shares found held full l claim =
     let parts : (z : ℕ × Shared × View × Log) × (ended v w.hooks.0 w.view ≡ Ok z)
     × (reward_at (start_of z.1.rewards who v.operator) (periods_of z.1.rewards v.operator) z.0 z.2.ctx.height (value_even_of v.tokens v.shares shares) ≡ Ok full)
@@ -402,7 +402,7 @@ reached_is_bracketed = λ w sound reached d who v shares found held. claim_brack
 -- ---- the shortfall
 
 infos_of : (s : Staked) (operator : List ℕ) (es : List ((List ℕ × List ℕ) × StartingInfo))
-    → map (λ t. t.info) (map (λ e. let out : Start = record { who = e.0.1; shares = unwrap_or (shares_of s e.0.1 operator) 0; info = e.1 } in out) es) ≡ map (λ e. e.1) es
+    → map (λ t. t.info) (map (λ e. let out : Start = record { who = e.0.1; shares = unwrap_or (delegation s e.0.1 operator) 0; info = e.1 } in out) es) ≡ map (λ e. e.1) es
 infos_of s operator [] = refl
 infos_of s operator (e ∷ es) = ap (λ xs. e.1 ∷ xs) (infos_of s operator es)
 

@@ -14,7 +14,7 @@ use Rattle.stk_rules.specs.Ideal.{is_left}
 use Rattle.stk_rules.specs.Laws.{exact_claim, claims_of}
 use Rattle.stk_rules.specs.Periods.{Periods, ratio_at, last_ended, event_recorded, stretches_of, unlimited_stretches_of, falls_after, slashed_stake}
 use Rattle.stk_rules.specs.Slashing.{slash_fraction}
-use Rattle.stk_bracket.specs.Account.{Start, Account, Deed, IsNextRatio, IsFitting, counted_shares, new_account, account_after, period_closed, burned, start_made, paid_in, reward_now, product_cut, ratio_in, earned_in, increment_of, lost_of}
+use Rattle.stk_bracket.specs.Account.{Start, Account, Deed, IsNextRatio, IsFitting, counted_shares, new_account, account_after, period_closed, account_slashed, start_made, payment_of, reward_now, product_cut, ratio_in, earned_in, increment_of, lost_of}
 use Rattle.stk_bracket.specs.Account as deed
 use Rattle.stk_bracket.specs.Laws.{CoversClaims, IsCutWithin, overclaim}
 use Rattle.stk_bracket.proofs.Rounding.{one, floor_low}
@@ -185,9 +185,9 @@ covers_ended d a increment ratio next g k =
     (covers_ends (book_in d a) k)
 
 covers_burned : (d : List ℕ) (a : Account) (burn : ℕ) → 0 < a.tokens → a.tokens ≤ 10 ^ 18 → burn ≤ a.tokens → 0 < a.periods.current
-    → AllByRecursion (λ s. (s.info.height ≤ a.height) × (s.info.period < last_ended a.periods)) a.starts → Covers (book_in d a) → Covers (book_in d (burned burn a))
+    → AllByRecursion (λ s. (s.info.height ≤ a.height) × (s.info.period < last_ended a.periods)) a.starts → Covers (book_in d a) → Covers (book_in d (account_slashed burn a))
 covers_burned d a burn some few less some_period early k =
-    let b : Account = burned burn a in
+    let b : Account = account_slashed burn a in
     let f : ℕ = slash_fraction burn a.tokens in
     let hs : List Holder = holders d a in
     covers_same b (ratio_in d a.periods (last_ended a.periods)) (ratio_in d a.periods (last_ended a.periods)) (count_where is_left b.history) (count_where is_left a.history) (holders d b) (map (slashed (recorded_fraction burn a.tokens)) hs)
@@ -200,7 +200,7 @@ covers_burned d a burn some few less some_period early k =
     (covers_slashes (book_in d a) burn some few less k)
 
 covers_slash : (d : List ℕ) (a : Account) (burn : ℕ) (increment ratio : Money) → IsNextRatio d a increment ratio → 0 < a.tokens → a.tokens ≤ 10 ^ 18 → burn ≤ a.tokens → Good d a
-    → Covers (book_in d a) → Covers (book_in d (burned burn (period_closed increment ratio a)))
+    → Covers (book_in d a) → Covers (book_in d (account_slashed burn (period_closed increment ratio a)))
 covers_slash d a burn increment ratio next some few less g k =
     covers_burned d (period_closed increment ratio a) burn some few less (omega arith)
     (all_map (Follows d a) (λ s. (s.info.height ≤ a.height) × (s.info.period < a.periods.current + 1 - 1)) (λ s f. (f.height, omega (arith, f.early))) a.starts g.follows)
@@ -234,7 +234,7 @@ covers_payment d a place fit k = paid (some_at place a.starts fit)
         covers_same b (ratio_in d a.periods (last_ended a.periods)) (ratio_in d a.periods (last_ended a.periods)) (count_where is_left a.history) (count_where is_left a.history) (holders d b) (remove hs place)
         refl refl (map_remove (holder_of d a.periods) place a.starts)
         (covers_stops (book_in d a) place (reward_now d a s) (holder_of d a.periods s) (map_get (holder_of d a.periods) place s a.starts is) (reward_within d a s) k) in
-        subst (λ o. Covers (book_in d (record a { outstanding = a.outstanding - paid_in d a o; starts = remove a.starts place }))) (sym is) all
+        subst (λ o. Covers (book_in d (record a { outstanding = a.outstanding - payment_of d a o; starts = remove a.starts place }))) (sym is) all
 
 pub covers_after : (d : List ℕ) (a : Account) (act : Deed) → IsFitting d a act → Good d a → Covers (book_in d a) → Covers (book_in d (account_after d a act))
 covers_after d a (deed.block height) fit g k = k

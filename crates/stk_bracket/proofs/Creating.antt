@@ -17,7 +17,7 @@ use Rattle.stk_keep.specs.Items.{no_purse}
 use Rattle.stk_keep.specs.Log.{Log}
 use Rattle.stk_keep.specs.Log as log
 use Rattle.stk_keep.specs.Orders.{pair_cmp, same_addr}
-use Rattle.stk_keep.specs.Staked.{Staked, validator_of, validator_by_cons, shares_of, with_validator}
+use Rattle.stk_keep.specs.Staked.{Staked, validator_at, validator_by_cons, delegation, put_validator}
 use Rattle.stk_keep.specs.Steps.{◌>>=◌, ◌>>◌, stop_if, stopping}
 use Rattle.stk_keep.specs.World.{World}
 use Rattle.stk_rules.proofs.OrderLemmas.{pair_found, same_itself}
@@ -45,20 +45,20 @@ use Rattle.stk_bracket.proofs.Growing.{not_stopped, apart_back, delegated_reache
 -- ---- where no validator stands
 
 -- nobody has shares of it
-nobody_has : (w : State) (who operator : List ℕ) → IsSound w → validator_of w.mine.staked operator ≡ None → shares_of w.mine.staked who operator ≡ None
-nobody_has w who operator sound none = by (shares_of w.mine.staked who operator) refl
+nobody_has : (w : State) (who operator : List ℕ) → IsSound w → validator_at w.mine.staked operator ≡ None → delegation w.mine.staked who operator ≡ None
+nobody_has w who operator sound none = by (delegation w.mine.staked who operator) refl
   where
     nothing : (o : Option Validator) → o ≡ None → IsSome o → ⊥
     nothing None e h = cc
     nothing (Some x) e h = cc
 
-    by : (o : Option ℕ) → shares_of w.mine.staked who operator ≡ o → o ≡ None
+    by : (o : Option ℕ) → delegation w.mine.staked who operator ≡ o → o ≡ None
     by None e = refl
     by (Some n) e =
         let place : (i : ℕ) × (k : List ℕ × List ℕ) × (slice_get w.mine.staked.delegations i ≡ Some (k, n)) × (is_at (pair_cmp (operator, who)) k ≡ true) = place_from_lookup (is_at (pair_cmp (operator, who))) w.mine.staked.delegations n e in
-        let there : IsSome (validator_of w.mine.staked place.1.0) =
-        all_at (λ x. IsSome (validator_of w.mine.staked x.0.0)) place.0 (place.1, n) w.mine.staked.delegations place.2 (recursion_from_All (λ x. IsSome (validator_of w.mine.staked x.0.0)) w.mine.staked.delegations sound.staked.existing) in
-        absurd (nothing (validator_of w.mine.staked place.1.0) (ap (validator_of w.mine.staked) (sym (pair_is (operator, who) place.1 place.3).0) ∙ none) there)
+        let there : IsSome (validator_at w.mine.staked place.1.0) =
+        all_at (λ x. IsSome (validator_at w.mine.staked x.0.0)) place.0 (place.1, n) w.mine.staked.delegations place.2 (recursion_from_All (λ x. IsSome (validator_at w.mine.staked x.0.0)) w.mine.staked.delegations sound.staked.existing) in
+        absurd (nothing (validator_at w.mine.staked place.1.0) (ap (validator_at w.mine.staked) (sym (pair_is (operator, who) place.1 place.3).0) ∙ none) there)
 
 pair_own : (o x : List ℕ) → is_at (pair_cmp (o, x)) (o, x) ≡ true
 pair_own o x = pair_found o o x x ∙ (λ i. same_itself o i && same_itself x i)
@@ -85,9 +85,9 @@ no_starts op (e ∷ es) none =
 -- ---- the new validator
 
 abbrev state_made : State → Validator → State
-state_made w v = record { mine = record w.mine { staked = with_validator v w.mine.staked }; hooks = (records_made v w.hooks.0, w.hooks.1); view = w.view; log = w.log ++ (v.operator, log.made) ∷ [] }
+state_made w v = record { mine = record w.mine { staked = put_validator v w.mine.staked }; hooks = (records_made v w.hooks.0, w.hooks.1); view = w.view; log = w.log ++ (v.operator, log.made) ∷ [] }
 
-made_account : (d : List ℕ) (w : State) (m : CreateValidator) → IsSound w → validator_of w.mine.staked m.validator ≡ None
+made_account : (d : List ℕ) (w : State) (m : CreateValidator) → IsSound w → validator_at w.mine.staked m.validator ≡ None
     → account_in d (state_made w (new_validator m w.view.ctx.time)) (new_validator m w.view.ctx.time) ≡ new_account w.view.ctx.height
 made_account d w m sound none =
     let v : Validator = new_validator m w.view.ctx.time in
@@ -101,7 +101,7 @@ made_account d w m sound none =
     (ap (λ o. amount_of (unwrap_or o no_purse).commission d) (put_there op no_purse w.hooks.0.purses.purses))
     (ap (λ o. amount_of (unwrap_or o no_purse).outstanding d) (put_there op no_purse w.hooks.0.purses.purses))
     (ap (λ o. unwrap_or o initial_records) (put_there op initial_records w.hooks.0.rewards.periods))
-    (ap (map (λ e. let s : Start = record { who = e.0.1; shares = unwrap_or (shares_of (with_validator v w.mine.staked) e.0.1 op) 0; info = e.1 } in s)) nobody)
+    (ap (map (λ e. let s : Start = record { who = e.0.1; shares = unwrap_or (delegation (put_validator v w.mine.staked) e.0.1 op) 0; info = e.1 } in s)) nobody)
     (history_behind op w.log log.made [])
 
 made_other : (d : List ℕ) (w : State) (v u : Validator) → same_addr u.operator v.operator ≡ false → account_in d (state_made w v) u ≡ account_in d w u
@@ -118,12 +118,12 @@ made_other d w v u apart =
     refl
     (history_elsewhere op v.operator w.log log.made [] (apart_back op v.operator apart))
 
-made_at : (d : List ℕ) (w : State) (m : CreateValidator) (u : Validator) → IsSound w → validator_of w.mine.staked m.validator ≡ None → AreReached w
-    → validator_of (with_validator (new_validator m w.view.ctx.time) w.mine.staked) u.operator ≡ Some u → (b : Bool) → same_addr u.operator m.validator ≡ b → IsReached d (account_in d (state_made w (new_validator m w.view.ctx.time)) u)
+made_at : (d : List ℕ) (w : State) (m : CreateValidator) (u : Validator) → IsSound w → validator_at w.mine.staked m.validator ≡ None → AreReached w
+    → validator_at (put_validator (new_validator m w.view.ctx.time) w.mine.staked) u.operator ≡ Some u → (b : Bool) → same_addr u.operator m.validator ≡ b → IsReached d (account_in d (state_made w (new_validator m w.view.ctx.time)) u)
 made_at d w m u sound none reached there true is =
     let v : Validator = new_validator m w.view.ctx.time in
-    let t : Staked = with_validator v w.mine.staked in
-    let one : u ≡ v = same_some u v (validator_of t u.operator) (validator_of t m.validator) there (put_there m.validator v w.mine.staked.validators) (ap (λ o. validator_of t o) (addr_is u.operator m.validator is)) in
+    let t : Staked = put_validator v w.mine.staked in
+    let one : u ≡ v = same_some u v (validator_at t u.operator) (validator_at t m.validator) there (put_there m.validator v w.mine.staked.validators) (ap (λ o. validator_at t o) (addr_is u.operator m.validator is)) in
     subst (λ y. IsReached d (account_in d (state_made w v) y)) (sym one) (subst (λ a. IsReached d a) (sym (made_account d w m sound none)) (new_is_reached d w.view.ctx.height))
 made_at d w m u sound none reached there false is =
     let v : Validator = new_validator m w.view.ctx.time in
@@ -151,7 +151,7 @@ create_reached m w new sound e reached =
     let r8 : Result Created Refusal = stopping Overflow (stored chain_told v s) >>= last in
     let r7 : Result Created Refusal = stop_if (is_wrong m.amount w.view) WrongDenom >> r8 in
     let r6 : Result Created Refusal = stop_if (is_some (validator_by_cons w.mine.staked m.cons)) ConsKeyExists >> r7 in
-    let r5 : Result Created Refusal = stop_if (is_some (validator_of w.mine.staked m.validator)) ValidatorExists >> r6 in
+    let r5 : Result Created Refusal = stop_if (is_some (validator_at w.mine.staked m.validator)) ValidatorExists >> r6 in
     let r4 : Result Created Refusal = stop_if (nat_lt m.rate w.view.ctx.params.min_commission_rate) CommissionBelowMinimum >> r5 in
     let r3 : Result Created Refusal = stop_if (nat_lt m.amount.amount m.min_self_delegation) SelfBelowMinimum >> r4 in
     let r2 : Result Created Refusal = stop_if (m.min_self_delegation == 0) MinSelfNotPositive >> r3 in
@@ -162,15 +162,15 @@ create_reached m w new sound e reached =
     (passed (m.min_self_delegation == 0) MinSelfNotPositive r3 one.0
     (passed (are_out_of_range m) CommissionRange r2 one.0
     (passed (m.amount.amount == 0) NonPositive r1 one.0 one.1)))) in
-    let none : validator_of w.mine.staked m.validator ≡ None = none_of (validator_of w.mine.staked m.validator) (not_stopped (is_some (validator_of w.mine.staked m.validator)) ValidatorExists r6 one.0 five) in
+    let none : validator_at w.mine.staked m.validator ≡ None = none_of (validator_at w.mine.staked m.validator) (not_stopped (is_some (validator_at w.mine.staked m.validator)) ValidatorExists r6 one.0 five) in
     let eight : r8 ≡ Ok one.0 =
     passed (is_wrong m.amount w.view) WrongDenom r8 one.0
     (passed (is_some (validator_by_cons w.mine.staked m.cons)) ConsKeyExists r7 one.0
-    (passed (is_some (validator_of w.mine.staked m.validator)) ValidatorExists r6 one.0 five)) in
+    (passed (is_some (validator_at w.mine.staked m.validator)) ValidatorExists r6 one.0 five)) in
     let x : State = state_made w v in
     let two : (y : ℕ × World Staked Hooks) × (delegated chain_told v m.validator m.amount.amount wallet (staked_in x) ≡ Ok y) × (Path (Result Created Refusal) (Ok (tt, y.1)) (Ok one.0)) =
     step_parts (delegated chain_told v m.validator m.amount.amount wallet (staked_in x)) (λ y. Ok (tt, y.1)) one.0 eight in
-    let found : validator_of x.mine.staked m.validator ≡ Some v = put_there m.validator v w.mine.staked.validators in
+    let found : validator_at x.mine.staked m.validator ≡ Some v = put_there m.validator v w.mine.staked.validators in
     let made : AreReached x = λ d u there. made_at d w m u sound none reached there (same_addr u.operator m.validator) refl in
     let after : AreReached (with_staked x.mine two.0.1) = delegated_reached x v m.validator m.amount.amount wallet two.0 found (λ z told. opened x v m.validator z (made_ready w v sound) found told made) two.1 in
     subst AreReached (same_ok (with_staked w.mine one.0.1) new one.2) (subst (λ y. AreReached (with_staked w.mine y.1)) (same_ok (tt, two.0.1) one.0 two.2) after)

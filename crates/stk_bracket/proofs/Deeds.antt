@@ -5,7 +5,7 @@ use Rattle.stk_coins.specs.Coins.{Money}
 use Rattle.stk_keep.specs.declared.entities.SlashEvent.{SlashEvent}
 use Rattle.stk_rules.specs.Periods.{last_ended}
 use Rattle.stk_rules.specs.Slashing.{slash_fraction}
-use Rattle.stk_bracket.specs.Account.{Start, Account, Deed, IsNextRatio, IsFitting, counted_shares, new_account, account_after, period_closed, burned, start_made, paid_in}
+use Rattle.stk_bracket.specs.Account.{Start, Account, Deed, IsNextRatio, IsFitting, counted_shares, new_account, account_after, period_closed, account_slashed, start_made, payment_of}
 use Rattle.stk_bracket.specs.Account as deed
 use Rattle.stk_bracket.proofs.Lists.{all_map, all_map_two, all_insert, all_remove, all_behind, all_within}
 use Rattle.stk_bracket.proofs.Following.{Follows, block_follows, allocated, allocation_follows, end_follows, slash_follows, issue_follows, left, removal_follows, begun, other_follows, own_follows, paid_follows}
@@ -24,18 +24,18 @@ good_ended d a increment ratio next g = record {
 
 -- a slash is of an account whose period has just ended, so each start is of an earlier one
 good_burned : (d : List ℕ) (a : Account) (burn : ℕ) → 0 < a.tokens → a.tokens ≤ 10 ^ 18 → burn ≤ a.tokens → a.current ≡ 0
-    → AllByRecursion (λ s. s.info.period < last_ended a.periods) a.starts → Good d a → Good d (burned burn a)
+    → AllByRecursion (λ s. s.info.period < last_ended a.periods) a.starts → Good d a → Good d (account_slashed burn a)
 good_burned d a burn some few less none early g =
     let e : SlashEvent = record { height = a.height; period = last_ended a.periods; fraction = slash_fraction burn a.tokens } in
     let some_period : 0 < a.periods.current = g.some_period in record {
       some_period = some_period;
       past = all_behind (λ e. e.period < a.periods.current) a.periods.events e g.past (omega arith);
-      follows = all_map_two (Follows d a) (λ s. s.info.period < last_ended a.periods) (Follows d (burned burn a))
+      follows = all_map_two (Follows d a) (λ s. s.info.period < last_ended a.periods) (Follows d (account_slashed burn a))
           (λ s k h. slash_follows d a burn s some few less none some_period h k) a.starts g.follows early;
     }
 
 good_slash : (d : List ℕ) (a : Account) (burn : ℕ) (increment ratio : Money) → IsNextRatio d a increment ratio → 0 < a.tokens → a.tokens ≤ 10 ^ 18 → burn ≤ a.tokens → Good d a
-    → Good d (burned burn (period_closed increment ratio a))
+    → Good d (account_slashed burn (period_closed increment ratio a))
 good_slash d a burn increment ratio next some few less g =
     good_burned d (period_closed increment ratio a) burn some few less refl
     (all_map (Follows d a) (λ s. s.info.period < a.periods.current + 1 - 1) (λ s k. omega (arith, k.early)) a.starts g.follows)
@@ -83,7 +83,7 @@ good_after d a (deed.beginning place who shares) fit g = record {
       (all_map_two (Follows d a) (λ s. who ≢ s.who) (Follows d (begun a place who shares)) (λ s k h. other_follows d a place who shares s h k) a.starts g.follows fit.4);
 }
 good_after d a (deed.payment place) fit g =
-    good_starts d a a.commission (a.outstanding - paid_in d a (slice_get a.starts place)) (remove a.starts place) (all_remove (Follows d a) place a.starts g.follows) g
+    good_starts d a a.commission (a.outstanding - payment_of d a (slice_get a.starts place)) (remove a.starts place) (all_remove (Follows d a) place a.starts g.follows) g
 good_after d a (deed.commission_payment amount) fit g = good_starts d a (a.commission - amount) (a.outstanding - amount) a.starts g.follows g
 
 pub good_new : (d : List ℕ) (height : ℕ) → Good d (new_account height)

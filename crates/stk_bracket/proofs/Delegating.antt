@@ -8,7 +8,7 @@ use Rattle.stk_keep.specs.declared.entities.UnbondingEntry.{UnbondingEntry}
 use Rattle.stk_keep.specs.declared.entities.Validator.{Validator}
 use Rattle.stk_keep.specs.declared.refusal.Refusal.{Refusal}
 use Rattle.stk_keep.specs.declared.refusal.Refusal.TheVariants.{WrongDenom, NonPositive, NoValidator, RateInvalid, Jailed, NoEntry, CancelTooMuch}
-use Rattle.stk_keep.specs.Staked.{Staked, validator_of}
+use Rattle.stk_keep.specs.Staked.{Staked, validator_at}
 use Rattle.stk_keep.specs.Steps.{◌>>=◌, ◌>>◌, stop_if, or_stop}
 use Rattle.stk_keep.specs.World.{View, World}
 use Rattle.stk_rules.specs.Chain.{Hooks, State, chain_told, staked_in, with_staked}
@@ -29,19 +29,19 @@ use Rattle.stk_bracket.proofs.Growing.{delegated_reached}
 
 -- ---- delegating
 
-from_sound : (w : State) (v : Validator) (who operator : List ℕ) (amount : ℕ) (origin : Origin) (x : ℕ × World Staked Hooks) → IsSound w → or_stop (validator_of w.mine.staked operator) NoValidator ≡ Ok v
+from_sound : (w : State) (v : Validator) (who operator : List ℕ) (amount : ℕ) (origin : Origin) (x : ℕ × World Staked Hooks) → IsSound w → or_stop (validator_at w.mine.staked operator) NoValidator ≡ Ok v
     → delegated chain_told v who amount origin (staked_in w) ≡ Ok x → AreReached w → AreReached (with_staked w.mine x.1)
 from_sound w v who operator amount origin x sound is e reached =
-    let found : validator_of w.mine.staked v.operator ≡ Some v = found_own w operator v sound is in
+    let found : validator_at w.mine.staked v.operator ≡ Some v = found_own w operator v sound is in
     delegated_reached w v who amount origin x found (λ z told. opened w v who z (ready_in w v.operator sound) found told reached) e
 
 delegate_reached : (who operator : List ℕ) (coin : Coin) (w new : State) → IsSound w → delegate who operator coin w ≡ Ok new → ReachedStays w new
 delegate_reached who operator coin w new sound e reached =
     let one : (x : ℕ × World Staked Hooks) × (delegated_by chain_told who operator coin (staked_in w) ≡ Ok x) × (Path (Result State Refusal) (Ok (with_staked w.mine x.1)) (Ok new)) =
     step_parts (delegated_by chain_told who operator coin (staked_in w)) (λ x. Ok (with_staked w.mine x.1)) new e in
-    let rest : Result (ℕ × World Staked Hooks) Refusal = or_stop (validator_of w.mine.staked operator) NoValidator >>= λ v. stop_if (is_wrong coin w.view) WrongDenom >> delegated chain_told v who coin.amount wallet (staked_in w) in
-    let two : (v : Validator) × (or_stop (validator_of w.mine.staked operator) NoValidator ≡ Ok v) × ((stop_if (is_wrong coin w.view) WrongDenom >> delegated chain_told v who coin.amount wallet (staked_in w)) ≡ Ok one.0) =
-    step_parts (or_stop (validator_of w.mine.staked operator) NoValidator) (λ v. stop_if (is_wrong coin w.view) WrongDenom >> delegated chain_told v who coin.amount wallet (staked_in w)) one.0 (passed (coin.amount == 0) NonPositive rest one.0 one.1) in
+    let rest : Result (ℕ × World Staked Hooks) Refusal = or_stop (validator_at w.mine.staked operator) NoValidator >>= λ v. stop_if (is_wrong coin w.view) WrongDenom >> delegated chain_told v who coin.amount wallet (staked_in w) in
+    let two : (v : Validator) × (or_stop (validator_at w.mine.staked operator) NoValidator ≡ Ok v) × ((stop_if (is_wrong coin w.view) WrongDenom >> delegated chain_told v who coin.amount wallet (staked_in w)) ≡ Ok one.0) =
+    step_parts (or_stop (validator_at w.mine.staked operator) NoValidator) (λ v. stop_if (is_wrong coin w.view) WrongDenom >> delegated chain_told v who coin.amount wallet (staked_in w)) one.0 (passed (coin.amount == 0) NonPositive rest one.0 one.1) in
     subst AreReached (same_ok (with_staked w.mine one.0.1) new one.2)
     (from_sound w two.0 who operator coin.amount wallet one.0 sound two.1 (passed (is_wrong coin w.view) WrongDenom (delegated chain_told two.0 who coin.amount wallet (staked_in w)) one.0 two.2) reached)
 
@@ -60,9 +60,9 @@ cancel_reached who operator coin height w new sound e reached =
     let end : Validator → Result Cancelled Refusal = λ v. delegated chain_told v who coin.amount (pool Unbonded) (staked_in w) >>= λ y. Ok (tt, less, y.1) in
     let with_entry : Validator → Result Cancelled Refusal = λ v. or_stop (find (can_be_cancelled height w.view.ctx.time) entries) NoEntry >>= λ a. stop_if (nat_lt a.balance coin.amount) CancelTooMuch >> end v in
     let with_val : Validator → Result Cancelled Refusal = λ v. stop_if (has_invalid_rate v.tokens v.shares) RateInvalid >> (stop_if v.jailed Jailed >> with_entry v) in
-    let rest : Result Cancelled Refusal = or_stop (validator_of w.mine.staked operator) NoValidator >>= with_val in
-    let two : (v : Validator) × (or_stop (validator_of w.mine.staked operator) NoValidator ≡ Ok v) × (with_val v ≡ Ok one.0) =
-    step_parts (or_stop (validator_of w.mine.staked operator) NoValidator) with_val one.0
+    let rest : Result Cancelled Refusal = or_stop (validator_at w.mine.staked operator) NoValidator >>= with_val in
+    let two : (v : Validator) × (or_stop (validator_at w.mine.staked operator) NoValidator ≡ Ok v) × (with_val v ≡ Ok one.0) =
+    step_parts (or_stop (validator_at w.mine.staked operator) NoValidator) with_val one.0
     (passed (is_wrong coin w.view) WrongDenom rest one.0 (passed (coin.amount == 0) NonPositive (stop_if (is_wrong coin w.view) WrongDenom >> rest) one.0 one.1)) in
     let v : Validator = two.0 in
     let three : (a : UnbondingEntry) × (or_stop (find (can_be_cancelled height w.view.ctx.time) entries) NoEntry ≡ Ok a) × ((stop_if (nat_lt a.balance coin.amount) CancelTooMuch >> end v) ≡ Ok one.0) =

@@ -10,7 +10,7 @@ use Rattle.stk_keep.specs.declared.facts.Fact.TheVariants as fact
 use Rattle.stk_keep.specs.declared.refusal.Refusal.{Refusal}
 use Rattle.stk_keep.specs.declared.refusal.Refusal.TheVariants.{NoValidator, NoSelfDelegation, SelfBelowMinimum, NotJailed, CommissionTooSoon, CommissionAboveMax, CommissionStep, CommissionBelowMinimum, MinSelfNotRaised}
 use Rattle.stk_keep.specs.Orders.{same_addr}
-use Rattle.stk_keep.specs.Staked.{Staked, validator_of, shares_of, with_validator}
+use Rattle.stk_keep.specs.Staked.{Staked, validator_at, delegation, put_validator}
 use Rattle.stk_keep.specs.Steps.{◌>>=◌, ◌>>◌, stop_if, or_stop}
 use Rattle.stk_keep.specs.World.{View, over_view, over_mine, noted}
 use Rattle.stk_rules.specs.Amounts.{seconds}
@@ -54,19 +54,19 @@ same_standing d w v old s =
     ap (λ o. account_at d w o v.tokens v.shares) s.operator ∙ ap (λ n. account_at d w old.operator n v.shares) s.tokens ∙ ap (λ n. account_at d w old.operator old.tokens n) s.shares
 
 abbrev pub state_with : State → Validator → State
-state_with w v = over_mine (λ c. record c { staked = with_validator v w.mine.staked }) w
+state_with w v = over_mine (λ c. record c { staked = put_validator v w.mine.staked }) w
 
-standing_then : (w : State) (v old : Validator) → StandsAs v old → validator_of w.mine.staked old.operator ≡ Some old → AreReached w
-    → (d : List ℕ) (u : Validator) → validator_of (with_validator v w.mine.staked) u.operator ≡ Some u → (b : Bool) → same_addr u.operator v.operator ≡ b → IsReached d (account_in d (state_with w v) u)
+standing_then : (w : State) (v old : Validator) → StandsAs v old → validator_at w.mine.staked old.operator ≡ Some old → AreReached w
+    → (d : List ℕ) (u : Validator) → validator_at (put_validator v w.mine.staked) u.operator ≡ Some u → (b : Bool) → same_addr u.operator v.operator ≡ b → IsReached d (account_in d (state_with w v) u)
 standing_then w v old s found reached d u there true is =
     let own : u.operator ≡ v.operator = addr_is u.operator v.operator is in
-    let one : u ≡ v = same_some u v (validator_of (with_validator v w.mine.staked) u.operator) (validator_of (with_validator v w.mine.staked) v.operator) there (put_there v.operator v w.mine.staked.validators)
-    (ap (λ o. validator_of (with_validator v w.mine.staked) o) own) in
+    let one : u ≡ v = same_some u v (validator_at (put_validator v w.mine.staked) u.operator) (validator_at (put_validator v w.mine.staked) v.operator) there (put_there v.operator v w.mine.staked.validators)
+    (ap (λ o. validator_at (put_validator v w.mine.staked) o) own) in
     subst (λ x. IsReached d (account_in d (state_with w v) x)) (sym one) (subst (λ a. IsReached d a) (sym (same_standing d w v old s)) (reached d old found))
 standing_then w v old s found reached d u there false is =
     reached d u (sym (put_elsewhere v.operator u.operator v w.mine.staked.validators is) ∙ there)
 
-pub standing_reached : (w : State) (v old : Validator) → StandsAs v old → validator_of w.mine.staked old.operator ≡ Some old → ReachedStays w (state_with w v)
+pub standing_reached : (w : State) (v old : Validator) → StandsAs v old → validator_at w.mine.staked old.operator ≡ Some old → ReachedStays w (state_with w v)
 standing_reached w v old s found reached d u there = standing_then w v old s found reached d u there (same_addr u.operator v.operator) refl
 
 -- ---- an edit
@@ -103,10 +103,10 @@ pub stands_through : (a b c : Validator) → StandsAs a b → StandsAs b c → S
 stands_through a b c s t = record { operator = s.operator ∙ t.operator; tokens = s.tokens ∙ t.tokens; shares = s.shares ∙ t.shares }
 
 -- a validator that is found stands under its own operator
-pub found_own : (w : State) (operator : List ℕ) (v : Validator) → IsSound w → or_stop (validator_of w.mine.staked operator) NoValidator ≡ Ok v → validator_of w.mine.staked v.operator ≡ Some v
+pub found_own : (w : State) (operator : List ℕ) (v : Validator) → IsSound w → or_stop (validator_at w.mine.staked operator) NoValidator ≡ Ok v → validator_at w.mine.staked v.operator ≡ Some v
 found_own w operator v sound e =
-    let found : validator_of w.mine.staked operator ≡ Some v = found_is (validator_of w.mine.staked operator) NoValidator v e in
-    ap (λ o. validator_of w.mine.staked o) (sym (under_own w operator v sound found)) ∙ found
+    let found : validator_at w.mine.staked operator ≡ Some v = found_is (validator_at w.mine.staked operator) NoValidator v e in
+    ap (λ o. validator_at w.mine.staked o) (sym (under_own w operator v sound found)) ∙ found
 
 edit_reached : (m : EditValidator) (w new : State) → IsSound w → edit_validator m w ≡ Ok new → ReachedStays w new
 edit_reached m w new sound e =
@@ -115,22 +115,22 @@ edit_reached m w new sound e =
     let s : Staked = w.mine.staked in
     let one : (t : Staked) × (edited m time minimum s ≡ Ok t) × (Path (Result State Refusal) (Ok (over_mine (λ c. record c { staked = t }) w)) (Ok new)) =
     step_parts (edited m time minimum s) (λ t. Ok (over_mine (λ c. record c { staked = t }) w)) new e in
-    let went : (or_stop (validator_of s m.validator) NoValidator >>= λ v. rate_edited m.rate time minimum v >>= λ rated. minimum_edited m.min_self_delegation rated >>= λ set. Ok (with_validator set s)) ≡ Ok one.0 =
-    next_step (edit_formed m) (or_stop (validator_of s m.validator) NoValidator >>= λ v. rate_edited m.rate time minimum v >>= λ rated. minimum_edited m.min_self_delegation rated >>= λ set. Ok (with_validator set s)) one.0 one.1 in
-    let two : (v : Validator) × (or_stop (validator_of s m.validator) NoValidator ≡ Ok v) × ((rate_edited m.rate time minimum v >>= λ rated. minimum_edited m.min_self_delegation rated >>= λ set. Ok (with_validator set s)) ≡ Ok one.0) =
-    step_parts (or_stop (validator_of s m.validator) NoValidator) (λ v. rate_edited m.rate time minimum v >>= λ rated. minimum_edited m.min_self_delegation rated >>= λ set. Ok (with_validator set s)) one.0 went in
-    let three : (rated : Validator) × (rate_edited m.rate time minimum two.0 ≡ Ok rated) × ((minimum_edited m.min_self_delegation rated >>= λ set. Ok (with_validator set s)) ≡ Ok one.0) =
-    step_parts (rate_edited m.rate time minimum two.0) (λ rated. minimum_edited m.min_self_delegation rated >>= λ set. Ok (with_validator set s)) one.0 two.2 in
-    let four : (set : Validator) × (minimum_edited m.min_self_delegation three.0 ≡ Ok set) × (Path (Result Staked Refusal) (Ok (with_validator set s)) (Ok one.0)) =
-    step_parts (minimum_edited m.min_self_delegation three.0) (λ set. Ok (with_validator set s)) one.0 three.2 in
+    let went : (or_stop (validator_at s m.validator) NoValidator >>= λ v. rate_edited m.rate time minimum v >>= λ rated. minimum_edited m.min_self_delegation rated >>= λ set. Ok (put_validator set s)) ≡ Ok one.0 =
+    next_step (edit_formed m) (or_stop (validator_at s m.validator) NoValidator >>= λ v. rate_edited m.rate time minimum v >>= λ rated. minimum_edited m.min_self_delegation rated >>= λ set. Ok (put_validator set s)) one.0 one.1 in
+    let two : (v : Validator) × (or_stop (validator_at s m.validator) NoValidator ≡ Ok v) × ((rate_edited m.rate time minimum v >>= λ rated. minimum_edited m.min_self_delegation rated >>= λ set. Ok (put_validator set s)) ≡ Ok one.0) =
+    step_parts (or_stop (validator_at s m.validator) NoValidator) (λ v. rate_edited m.rate time minimum v >>= λ rated. minimum_edited m.min_self_delegation rated >>= λ set. Ok (put_validator set s)) one.0 went in
+    let three : (rated : Validator) × (rate_edited m.rate time minimum two.0 ≡ Ok rated) × ((minimum_edited m.min_self_delegation rated >>= λ set. Ok (put_validator set s)) ≡ Ok one.0) =
+    step_parts (rate_edited m.rate time minimum two.0) (λ rated. minimum_edited m.min_self_delegation rated >>= λ set. Ok (put_validator set s)) one.0 two.2 in
+    let four : (set : Validator) × (minimum_edited m.min_self_delegation three.0 ≡ Ok set) × (Path (Result Staked Refusal) (Ok (put_validator set s)) (Ok one.0)) =
+    step_parts (minimum_edited m.min_self_delegation three.0) (λ set. Ok (put_validator set s)) one.0 three.2 in
     let stands : StandsAs four.0 two.0 = stands_through four.0 three.0 two.0 (minimum_stands m.min_self_delegation three.0 four.0 four.1) (rate_stands m.rate time minimum two.0 three.0 three.1) in
     subst (ReachedStays w) (same_ok (over_mine (λ c. record c { staked = one.0 }) w) new one.2)
-    (subst (λ t. ReachedStays w (over_mine (λ c. record c { staked = t }) w)) (same_ok (with_validator four.0 s) one.0 four.2) (standing_reached w four.0 two.0 stands (found_own w m.validator two.0 sound two.1)))
+    (subst (λ t. ReachedStays w (over_mine (λ c. record c { staked = t }) w)) (same_ok (put_validator four.0 s) one.0 four.2) (standing_reached w four.0 two.0 stands (found_own w m.validator two.0 sound two.1)))
 
 -- ---- out of jail
 
 abbrev freed : List ℕ → State → Validator → ⊤ × Staked × View
-freed operator w v = (tt, with_validator (record v { jailed = false }) w.mine.staked, noted (fact.Unjailed operator) w.view)
+freed operator w v = (tt, put_validator (record v { jailed = false }) w.mine.staked, noted (fact.Unjailed operator) w.view)
 
 abbrev freed_state : List ℕ → State → Validator → State
 freed_state operator w v = over_view (λ x. noted (fact.Unjailed operator) w.view) (state_with w (record v { jailed = false }))
@@ -140,15 +140,15 @@ unjail_reached operator w new sound e =
     let s : Staked = w.mine.staked in
     let one : (x : ⊤ × Staked × View) × (unjailed operator w.hooks.1 s w.view ≡ Ok x) × (Path (Result State Refusal) (Ok (over_view (λ y. x.2) (over_mine (λ c. record c { staked = x.1 }) w))) (Ok new)) =
     step_parts (unjailed operator w.hooks.1 s w.view) (λ x. Ok (over_view (λ y. x.2) (over_mine (λ c. record c { staked = x.1 }) w))) new e in
-    let two : (v : Validator) × (or_stop (validator_of s operator) NoValidator ≡ Ok v)
-    × ((or_stop (shares_of s operator operator) NoSelfDelegation >>= λ held. stop_if (nat_lt (trunc_of (value_even_of v.tokens v.shares held)) v.min_self) SelfBelowMinimum >> (stop_if (not v.jailed) NotJailed >> (may_leave w.view.ctx.time (signing_of w.hooks.1 v.cons) >> Ok (freed operator w v)))) ≡ Ok one.0) =
-    step_parts (or_stop (validator_of s operator) NoValidator)
-    (λ v. or_stop (shares_of s operator operator) NoSelfDelegation >>= λ held. stop_if (nat_lt (trunc_of (value_even_of v.tokens v.shares held)) v.min_self) SelfBelowMinimum >> (stop_if (not v.jailed) NotJailed >> (may_leave w.view.ctx.time (signing_of w.hooks.1 v.cons) >> Ok (freed operator w v)))) one.0 one.1 in
+    let two : (v : Validator) × (or_stop (validator_at s operator) NoValidator ≡ Ok v)
+    × ((or_stop (delegation s operator operator) NoSelfDelegation >>= λ held. stop_if (nat_lt (trunc_of (value_even_of v.tokens v.shares held)) v.min_self) SelfBelowMinimum >> (stop_if (not v.jailed) NotJailed >> (may_leave w.view.ctx.time (signing_of w.hooks.1 v.cons) >> Ok (freed operator w v)))) ≡ Ok one.0) =
+    step_parts (or_stop (validator_at s operator) NoValidator)
+    (λ v. or_stop (delegation s operator operator) NoSelfDelegation >>= λ held. stop_if (nat_lt (trunc_of (value_even_of v.tokens v.shares held)) v.min_self) SelfBelowMinimum >> (stop_if (not v.jailed) NotJailed >> (may_leave w.view.ctx.time (signing_of w.hooks.1 v.cons) >> Ok (freed operator w v)))) one.0 one.1 in
     let v : Validator = two.0 in
     let last : Result (⊤ × Staked × View) Refusal = Ok (freed operator w v) in
-    let three : (held : ℕ) × (or_stop (shares_of s operator operator) NoSelfDelegation ≡ Ok held)
+    let three : (held : ℕ) × (or_stop (delegation s operator operator) NoSelfDelegation ≡ Ok held)
     × ((stop_if (nat_lt (trunc_of (value_even_of v.tokens v.shares held)) v.min_self) SelfBelowMinimum >> (stop_if (not v.jailed) NotJailed >> (may_leave w.view.ctx.time (signing_of w.hooks.1 v.cons) >> last))) ≡ Ok one.0) =
-    step_parts (or_stop (shares_of s operator operator) NoSelfDelegation)
+    step_parts (or_stop (delegation s operator operator) NoSelfDelegation)
     (λ held. stop_if (nat_lt (trunc_of (value_even_of v.tokens v.shares held)) v.min_self) SelfBelowMinimum >> (stop_if (not v.jailed) NotJailed >> (may_leave w.view.ctx.time (signing_of w.hooks.1 v.cons) >> last))) one.0 two.2 in
     let went : last ≡ Ok one.0 =
     next_step (may_leave w.view.ctx.time (signing_of w.hooks.1 v.cons)) last one.0

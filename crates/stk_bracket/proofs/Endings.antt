@@ -13,7 +13,7 @@ use Rattle.stk_keep.specs.Items.{no_purse}
 use Rattle.stk_keep.specs.Log.{Log, LogEntry}
 use Rattle.stk_keep.specs.Log as log
 use Rattle.stk_keep.specs.Orders.{same_addr}
-use Rattle.stk_keep.specs.Staked.{validator_of, shares_of}
+use Rattle.stk_keep.specs.Staked.{validator_at, delegation}
 use Rattle.stk_keep.specs.World.{View}
 use Rattle.stk_rules.specs.Chain.{State, with_shared}
 use Rattle.stk_rules.specs.Distribution.{Shared, ended}
@@ -117,11 +117,11 @@ closed_reached_at d w v z k reached =
 pub end_is : (d : List ℕ) (w : State) (v : Validator) (z : ℕ × Shared × View × Log) → IsReady w v.operator → ended v w.hooks.0 w.view ≡ Ok z → IsEnded d v w.hooks.0 w.view z
 end_is d w v z ready e = ended_is d v w.hooks.0 w.view z ready.current ready.outstanding ready.lists e
 
-reached_then : (d : List ℕ) (w : State) (v u : Validator) (z : ℕ × Shared × View × Log) → IsReady w v.operator → validator_of w.mine.staked v.operator ≡ Some v → ended v w.hooks.0 w.view ≡ Ok z → AreReached w
-    → validator_of w.mine.staked u.operator ≡ Some u → (b : Bool) → same_addr u.operator v.operator ≡ b → IsReached d (account_in d (state_then w z) u)
+reached_then : (d : List ℕ) (w : State) (v u : Validator) (z : ℕ × Shared × View × Log) → IsReady w v.operator → validator_at w.mine.staked v.operator ≡ Some v → ended v w.hooks.0 w.view ≡ Ok z → AreReached w
+    → validator_at w.mine.staked u.operator ≡ Some u → (b : Bool) → same_addr u.operator v.operator ≡ b → IsReached d (account_in d (state_then w z) u)
 reached_then d w v u z ready found e reached there true is =
     let op : u.operator ≡ v.operator = addr_is u.operator v.operator is in
-    let one : u ≡ v = same_some u v (validator_of w.mine.staked u.operator) (validator_of w.mine.staked v.operator) there found (ap (λ o. validator_of w.mine.staked o) op) in
+    let one : u ≡ v = same_some u v (validator_at w.mine.staked u.operator) (validator_at w.mine.staked v.operator) there found (ap (λ o. validator_at w.mine.staked o) op) in
     let k : IsEnded d v w.hooks.0 w.view z = end_is d w v z ready e in
     subst (λ x. IsReached d (account_in d (state_then w z) x)) (sym one)
     (subst (λ a. IsReached d a) (sym (closed_is d w v z k)) (closed_reached_at d w v z k (reached d v found)))
@@ -133,7 +133,7 @@ reached_then d w v u z ready found e reached there false is =
     true_not_false : true ≡ false → ⊥
     true_not_false h = cc
 
-pub ended_reached : (w : State) (v : Validator) (z : ℕ × Shared × View × Log) → IsReady w v.operator → validator_of w.mine.staked v.operator ≡ Some v → ended v w.hooks.0 w.view ≡ Ok z → AreReached w → AreReached (state_then w z)
+pub ended_reached : (w : State) (v : Validator) (z : ℕ × Shared × View × Log) → IsReady w v.operator → validator_at w.mine.staked v.operator ≡ Some v → ended v w.hooks.0 w.view ≡ Ok z → AreReached w → AreReached (state_then w z)
 ended_reached w v z ready found e reached d u there = reached_then d w v u z ready found e reached there (same_addr u.operator v.operator) refl
 
 pub end_keeps_reached : EndKeepsReached
@@ -141,8 +141,8 @@ end_keeps_reached = λ w v period s view more sound found e reached. ended_reach
 
 -- ---- what an exhausted outstanding record cuts
 
-claim_cut : (w : State) → IsSound w → AreReached w → (d who : List ℕ) (v : Validator) (shares : ℕ) → validator_of w.mine.staked v.operator ≡ Some v
-    → shares_of w.mine.staked who v.operator ≡ Some shares → IsClaimCutWithin d w who v shares
+claim_cut : (w : State) → IsSound w → AreReached w → (d who : List ℕ) (v : Validator) (shares : ℕ) → validator_at w.mine.staked v.operator ≡ Some v
+    → delegation w.mine.staked who v.operator ≡ Some shares → IsClaimCutWithin d w who v shares
 claim_cut w sound reached d who v shares found held full l more period s view claim end =
     let z : ℕ × Shared × View × Log = (period, s, view, more) in
     let parts : (y : ℕ × Shared × View × Log) × (ended v w.hooks.0 w.view ≡ Ok y)

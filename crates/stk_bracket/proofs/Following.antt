@@ -19,7 +19,7 @@ use Rattle.stk_keep.specs.Orders.{same_addr}
 use Rattle.stk_rules.specs.Ideal.{Span, Ideal, Brackets, span_with, span_of, ideal_start, ideal_after, ideal_over, ideal_of}
 use Rattle.stk_rules.specs.Periods.{Periods, ratio_at, last_ended, event_recorded, stretches_of, slashed_stake}
 use Rattle.stk_rules.specs.Slashing.{slash_fraction}
-use Rattle.stk_bracket.specs.Account.{Start, Account, product_cut, ratio_in, earned_in, increment_of, IsNextRatio, period_closed, burned, start_made, reward_now}
+use Rattle.stk_bracket.specs.Account.{Start, Account, product_cut, ratio_in, earned_in, increment_of, IsNextRatio, period_closed, account_slashed, start_made, reward_now}
 use Rattle.stk_bracket.proofs.Rounding.{one, floor_low, value_even_high}
 use Rattle.stk_bracket.proofs.Steps.{issue_value, leave_value, leave_fall}
 use Rattle.stk_bracket.proofs.Exact.{Reckoned, stretch_paid, reckoned_reward, Exact, exact_start, exact_allocated, exact_slashed}
@@ -188,7 +188,7 @@ agrees_slashed d p height fraction s r some late early g =
     })
 
 pub slash_follows : (d : List ℕ) (a : Account) (burn : ℕ) (s : Start) → 0 < a.tokens → a.tokens ≤ one → burn ≤ a.tokens → a.current ≡ 0 → 0 < a.periods.current → s.info.period < last_ended a.periods
-    → Follows d a s → Follows d (burned burn a) s
+    → Follows d a s → Follows d (account_slashed burn a) s
 slash_follows d a burn s some few less none some_period early k = let n : ℕ = k.span.first.numerator in let x : ℕ = k.span.first.denominator in
     let f : ℕ = slash_fraction burn a.tokens in
     let entry : LogEntry = log.slashed burn a.tokens f in record {

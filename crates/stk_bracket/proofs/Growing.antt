@@ -14,7 +14,7 @@ use Rattle.stk_keep.specs.declared.refusal.Refusal.TheVariants.{InsufficientFund
 use Rattle.stk_keep.specs.Holdings.{is_short}
 use Rattle.stk_keep.specs.Log.{Log}
 use Rattle.stk_keep.specs.Orders.{pair_cmp, same_addr}
-use Rattle.stk_keep.specs.Staked.{Staked, validator_of, shares_of, with_validator}
+use Rattle.stk_keep.specs.Staked.{Staked, validator_at, delegation, put_validator}
 use Rattle.stk_keep.specs.Steps.{◌>>=◌, ◌>>◌, stop_if, stopping}
 use Rattle.stk_keep.specs.World.{View, Told, gives, World, call, modified, sent, over_view, over_mine}
 use Rattle.stk_rules.proofs.EntryLemmas.{at-put}
@@ -24,7 +24,7 @@ use Rattle.stk_rules.specs.Chain.{Hooks, State, chain_told, staked_in, with_stak
 use Rattle.stk_rules.specs.Delegating.{Origin, wallet, pool, shares_given, paid_in, hook_before, delegated}
 use Rattle.stk_rules.specs.Distribution.{Shared, distribution_told, started}
 use Rattle.stk_rules.specs.Periods.{Rewards}
-use Rattle.stk_rules.specs.Stakes.{with_shares, pool_of, refusal_of_shares}
+use Rattle.stk_rules.specs.Stakes.{put_delegation, pool_of, refusal_of_shares}
 use Rattle.stk_bracket.specs.Account.{Start, Account, IsReached, counted_shares, account_after}
 use Rattle.stk_bracket.specs.Account as deed
 use Rattle.stk_bracket.specs.States.{starts_in, account_in, AreReached}
@@ -41,7 +41,7 @@ use Rattle.stk_bracket.proofs.Hooked.{hook_gave, call_parts, same_told, IsOpen, 
 
 -- no other delegation than this one changed
 pub record OthersStay (s t : Staked) (who op : List ℕ) : Type 0 where
-  pub stay : (x o : List ℕ) → (same_addr op o && same_addr who x) ≡ false → shares_of t x o ≡ shares_of s x o
+  pub stay : (x o : List ℕ) → (same_addr op o && same_addr who x) ≡ false → delegation t x o ≡ delegation s x o
 
 both_false : (a b : Bool) → b ≡ false → (a && b) ≡ false
 both_false true b h = h
@@ -63,16 +63,16 @@ map_alike f g same (x ∷ xs) = ap (λ y. y ∷ map g xs) (same x) ∙ ap (λ ys
 pub own_starts : (s t : Staked) (who op : List ℕ) (r : Rewards) → OthersStay s t who op → AllByRecursion (λ a. who ≢ a.who) (starts_in s r op) → starts_in t r op ≡ starts_in s r op
 own_starts s t who op r k apart =
     map_same (λ a. who ≢ a.who)
-    (λ e. let a : Start = record { who = e.0.1; shares = unwrap_or (shares_of s e.0.1 op) 0; info = e.1 } in a)
-    (λ e. let a : Start = record { who = e.0.1; shares = unwrap_or (shares_of t e.0.1 op) 0; info = e.1 } in a)
+    (λ e. let a : Start = record { who = e.0.1; shares = unwrap_or (delegation s e.0.1 op) 0; info = e.1 } in a)
+    (λ e. let a : Start = record { who = e.0.1; shares = unwrap_or (delegation t e.0.1 op) 0; info = e.1 } in a)
     (λ e ne. ap (λ o. let a : Start = record { who = e.0.1; shares = unwrap_or o 0; info = e.1 } in a) (k.stay e.0.1 op (both_false (same_addr op op) (same_addr who e.0.1) (other_addr who e.0.1 ne))))
     (filter (λ e. same_addr e.0.0 op) r.starts) apart
 
 pub other_starts : (s t : Staked) (who op o : List ℕ) (r : Rewards) → OthersStay s t who op → same_addr op o ≡ false → starts_in t r o ≡ starts_in s r o
 other_starts s t who op o r k apart =
     map_alike
-    (λ e. let a : Start = record { who = e.0.1; shares = unwrap_or (shares_of s e.0.1 o) 0; info = e.1 } in a)
-    (λ e. let a : Start = record { who = e.0.1; shares = unwrap_or (shares_of t e.0.1 o) 0; info = e.1 } in a)
+    (λ e. let a : Start = record { who = e.0.1; shares = unwrap_or (delegation s e.0.1 o) 0; info = e.1 } in a)
+    (λ e. let a : Start = record { who = e.0.1; shares = unwrap_or (delegation t e.0.1 o) 0; info = e.1 } in a)
     (λ e. ap (λ q. let a : Start = record { who = e.0.1; shares = unwrap_or q 0; info = e.1 } in a) (k.stay e.0.1 o (first_false (same_addr op o) (same_addr who e.0.1) apart)))
     (filter (λ e. same_addr e.0.0 o) r.starts)
 
@@ -83,27 +83,27 @@ apart_back a b is = other_addr b a (λ h. true_not_false (sym (ap (λ o. same_ad
     true_not_false : true ≡ false → ⊥
     true_not_false h = cc
 
-shares_put : (s : Staked) (who op x o : List ℕ) (n : ℕ) → shares_of (with_shares who op n s) x o ≡ cond (same_addr o op && same_addr x who) (Some n) (shares_of s x o)
-shares_put s who op x o n = at-put pair_cmp pair_total s.delegations (op, who) (o, x) n ∙ ap (λ b. cond b (Some n) (shares_of s x o)) (pair_found o op x who)
+shares_put : (s : Staked) (who op x o : List ℕ) (n : ℕ) → delegation (put_delegation who op n s) x o ≡ cond (same_addr o op && same_addr x who) (Some n) (delegation s x o)
+shares_put s who op x o n = at-put pair_cmp pair_total s.delegations (op, who) (o, x) n ∙ ap (λ b. cond b (Some n) (delegation s x o)) (pair_found o op x who)
 
 swapped : (a b c d : Bool) → (a ≡ false → c ≡ false) → (b ≡ false → d ≡ false) → (a && b) ≡ false → (c && d) ≡ false
 swapped true b c d f g h = both_false c d (g h)
 swapped false b c d f g h = first_false c d (f refl)
 
-pub put_stays : (s : Staked) (who op : List ℕ) (n : ℕ) (v : Validator) → OthersStay s (with_shares who op n (with_validator v s)) who op
+pub put_stays : (s : Staked) (who op : List ℕ) (n : ℕ) (v : Validator) → OthersStay s (put_delegation who op n (put_validator v s)) who op
 put_stays s who op n v = record {
   stay = λ x o apart.
-      shares_put s who op x o n ∙ ap (λ b. cond b (Some n) (shares_of s x o)) (swapped (same_addr op o) (same_addr who x) (same_addr o op) (same_addr x who) (apart_back op o) (apart_back who x) apart);
+      shares_put s who op x o n ∙ ap (λ b. cond b (Some n) (delegation s x o)) (swapped (same_addr op o) (same_addr who x) (same_addr o op) (same_addr x who) (apart_back op o) (apart_back who x) apart);
 }
 
-pub shares_stay : (s : Staked) (who op : List ℕ) (n : ℕ) → OthersStay s (with_shares who op n s) who op
+pub shares_stay : (s : Staked) (who op : List ℕ) (n : ℕ) → OthersStay s (put_delegation who op n s) who op
 shares_stay s who op n = record {
   stay = λ x o apart.
-      shares_put s who op x o n ∙ ap (λ b. cond b (Some n) (shares_of s x o)) (swapped (same_addr op o) (same_addr who x) (same_addr o op) (same_addr x who) (apart_back op o) (apart_back who x) apart);
+      shares_put s who op x o n ∙ ap (λ b. cond b (Some n) (delegation s x o)) (swapped (same_addr op o) (same_addr who x) (same_addr o op) (same_addr x who) (apart_back op o) (apart_back who x) apart);
 }
 
-pub own_shares : (s : Staked) (who op : List ℕ) (n : ℕ) → shares_of (with_shares who op n s) who op ≡ Some n
-own_shares s who op n = shares_put s who op who op n ∙ ap (λ b. cond b (Some n) (shares_of s who op)) (λ i. own_addr op i && own_addr who i)
+pub own_shares : (s : Staked) (who op : List ℕ) (n : ℕ) → delegation (put_delegation who op n s) who op ≡ Some n
+own_shares s who op n = shares_put s who op who op n ∙ ap (λ b. cond b (Some n) (delegation s who op)) (λ i. own_addr op i && own_addr who i)
 
 -- ---- a state over other stakes and another ground
 
@@ -124,7 +124,7 @@ abbrev pub more_of : Validator → ℕ → ℕ → Validator
 more_of v amount issued = record v { tokens = v.tokens + amount; shares = v.shares + issued }
 
 abbrev grown_stake : State → Validator → List ℕ → ℕ → ℕ → ℕ → Staked
-grown_stake w v who n amount issued = with_shares who v.operator n (with_validator (more_of v amount issued) w.mine.staked)
+grown_stake w v who n amount issued = put_delegation who v.operator n (put_validator (more_of v amount issued) w.mine.staked)
 
 issued_account : (d : List ℕ) (w : State) (v : Validator) (who : List ℕ) (n amount issued held : ℕ) (u : View) → IsOpen d w v who held → u.ctx.height ≡ w.view.ctx.height
     → account_in d (over_stake w (grown_stake w v who n amount issued) u) (more_of v amount issued) ≡ account_after d (account_in d w v) (deed.issue amount issued)
@@ -135,13 +135,13 @@ issued_account d w v who n amount issued held u k height =
     same_account (v.tokens + amount) (v.shares + issued) a.height b.height a.current b.current a.commission b.commission a.outstanding b.outstanding a.periods b.periods a.starts b.starts a.history b.history
     height refl refl refl refl (own_starts w.mine.staked t who v.operator w.hooks.0.rewards (put_stays w.mine.staked who v.operator n (more_of v amount issued)) k.apart) refl
 
-issued_at : (d : List ℕ) (w : State) (v x : Validator) (who : List ℕ) (n amount issued held : ℕ) (u : View) → validator_of w.mine.staked v.operator ≡ Some v → IsOpen d w v who held → u.ctx.height ≡ w.view.ctx.height
-    → issued_shares v.tokens v.shares amount ≡ Ok issued → AreReached w → validator_of (grown_stake w v who n amount issued) x.operator ≡ Some x → (b : Bool) → same_addr x.operator v.operator ≡ b
+issued_at : (d : List ℕ) (w : State) (v x : Validator) (who : List ℕ) (n amount issued held : ℕ) (u : View) → validator_at w.mine.staked v.operator ≡ Some v → IsOpen d w v who held → u.ctx.height ≡ w.view.ctx.height
+    → issued_shares v.tokens v.shares amount ≡ Ok issued → AreReached w → validator_at (grown_stake w v who n amount issued) x.operator ≡ Some x → (b : Bool) → same_addr x.operator v.operator ≡ b
     → IsReached d (account_in d (over_stake w (grown_stake w v who n amount issued) u) x)
 issued_at d w v x who n amount issued held u found k height is reached there true same =
     let t : Staked = grown_stake w v who n amount issued in
     let g : Validator = more_of v amount issued in
-    let one : x ≡ g = same_some x g (validator_of t x.operator) (validator_of t v.operator) there (put_there v.operator g w.mine.staked.validators) (ap (λ o. validator_of t o) (addr_is x.operator v.operator same)) in
+    let one : x ≡ g = same_some x g (validator_at t x.operator) (validator_at t v.operator) there (put_there v.operator g w.mine.staked.validators) (ap (λ o. validator_at t o) (addr_is x.operator v.operator same)) in
     subst (λ y. IsReached d (account_in d (over_stake w t u) y)) (sym one)
     (subst (λ a. IsReached d a) (sym (issued_account d w v who n amount issued held u k height))
     (deeds_lead_on d (account_in d w v) (deed.issue amount issued ∷ []) (reached d v found) ((k.none, is), tt)))
@@ -150,7 +150,7 @@ issued_at d w v x who n amount issued held u found k height is reached there fal
     (reached d x (sym (put_elsewhere v.operator x.operator (more_of v amount issued) w.mine.staked.validators same) ∙ there))
 
 -- tokens and shares came to the validator, and a start is made of them
-grown_reached : (w : State) (v : Validator) (who : List ℕ) (amount issued held : ℕ) (u : View) → validator_of w.mine.staked v.operator ≡ Some v → ((d : List ℕ) → IsOpen d w v who held) → u.ctx.height ≡ w.view.ctx.height
+grown_reached : (w : State) (v : Validator) (who : List ℕ) (amount issued held : ℕ) (u : View) → validator_at w.mine.staked v.operator ≡ Some v → ((d : List ℕ) → IsOpen d w v who held) → u.ctx.height ≡ w.view.ctx.height
     → issued_shares v.tokens v.shares amount ≡ Ok issued → 0 < issued → AreReached w
     → AreReached (state_begun (over_stake w (grown_stake w v who (held + issued) amount issued) u) (more_of v amount issued) who (held + issued))
 grown_reached w v who amount issued held u found k height is some reached =
@@ -160,7 +160,7 @@ grown_reached w v who amount issued held u found k height is some reached =
     let x : State = over_stake w t u in
     let issued_all : AreReached x = λ d y there. issued_at d w v y who n amount issued held u found (k d) height is reached there (same_addr y.operator v.operator) refl in
     λ d y there.
-    begun_reached d x g y who n (put_there v.operator g w.mine.staked.validators) (own_shares (with_validator g w.mine.staked) who v.operator n)
+    begun_reached d x g y who n (put_there v.operator g w.mine.staked.validators) (own_shares (put_validator g w.mine.staked) who v.operator n)
     (let a : account_in d x g ≡ account_after d (account_in d w v) (deed.issue amount issued) = issued_account d w v who n amount issued held u (k d) height in
     let counted : counted_shares (account_in d x g) ≡ counted_shares (account_in d w v) = ap counted_shares a in
     let room : counted_shares (account_in d w v) + held ≤ v.shares = (k d).within in
@@ -205,7 +205,7 @@ paid_height (pool from) who status amount v u e = by (module_number (pool_of fro
 
 -- what the hook before a delegation leaves, where it leaves something
 abbrev pub Opens : State → Validator → List ℕ → Type 0
-Opens w v who = (z : Shared × View × Log) → distribution_told w.hooks.0 (hook_before v who (shares_of w.mine.staked who v.operator)) w.view ≡ gives z.0 z.1 z.2 → HasOpened w v who z
+Opens w v who = (z : Shared × View × Log) → distribution_told w.hooks.0 (hook_before v who (delegation w.mine.staked who v.operator)) w.view ≡ gives z.0 z.1 z.2 → HasOpened w v who z
 
 told_is : (s t : Shared × View × Log) → Path (Told Shared) (gives s.0 s.1 s.2) (gives t.0 t.1 t.2) → s ≡ t
 told_is s t h = let parts : (s.0 ≡ t.0) × (s.1 ≡ t.1) × (s.2 ≡ t.2) = same_told s.0 t.0 s.1 t.1 s.2 t.2 h in λ i. (parts.0 i, parts.1 i, parts.2 i)
@@ -218,18 +218,18 @@ start_told v who shares w y e =
 
 -- the world in which tokens and shares have come
 abbrev more_world : World Staked Hooks → Validator → List ℕ → ℕ → ℕ → ℕ → View → World Staked Hooks
-more_world w1 v who amount issued held u = over_view (λ y. u) (over_mine (λ s. with_shares who v.operator (held + issued) (with_validator (more_of v amount issued) s)) w1)
+more_world w1 v who amount issued held u = over_view (λ y. u) (over_mine (λ s. put_delegation who v.operator (held + issued) (put_validator (more_of v amount issued) s)) w1)
 
 -- what is done behind the hook
 abbrev behind_hook : Validator → List ℕ → ℕ → Origin → ℕ → ℕ → World Staked Hooks → Result (ℕ × World Staked Hooks) Refusal
 behind_hook v who amount origin issued held w1 =
     paid_in origin who v.status amount w1.view >>= λ u. stopping Overflow (call chain_told (modified (more_of v amount issued) who (held + issued)) (more_world w1 v who amount issued held u)) >>= λ w3. Ok (issued, w3)
 
-behind_reached : (w : State) (v : Validator) (who : List ℕ) (amount issued : ℕ) (origin : Origin) (z : Shared × View × Log) (x : ℕ × World Staked Hooks) → validator_of w.mine.staked v.operator ≡ Some v → HasOpened w v who z
-    → (issued_shares v.tokens v.shares amount ≡ Ok issued) × (0 < issued) → behind_hook v who amount origin issued (unwrap_or (shares_of w.mine.staked who v.operator) 0) (hook_gave (staked_in w) z) ≡ Ok x
+behind_reached : (w : State) (v : Validator) (who : List ℕ) (amount issued : ℕ) (origin : Origin) (z : Shared × View × Log) (x : ℕ × World Staked Hooks) → validator_at w.mine.staked v.operator ≡ Some v → HasOpened w v who z
+    → (issued_shares v.tokens v.shares amount ≡ Ok issued) × (0 < issued) → behind_hook v who amount origin issued (unwrap_or (delegation w.mine.staked who v.operator) 0) (hook_gave (staked_in w) z) ≡ Ok x
     → AreReached (with_staked w.mine x.1)
 behind_reached w v who amount issued origin z x found k given e =
-    let h : ℕ = unwrap_or (shares_of w.mine.staked who v.operator) 0 in
+    let h : ℕ = unwrap_or (delegation w.mine.staked who v.operator) 0 in
     let w1 : World Staked Hooks = hook_gave (staked_in w) z in
     let g : Validator = more_of v amount issued in
     let one : (u : View) × (paid_in origin who v.status amount z.1 ≡ Ok u) × ((stopping Overflow (call chain_told (modified g who (h + issued)) (more_world w1 v who amount issued h u)) >>= λ w3. Ok (issued, w3)) ≡ Ok x) =
@@ -242,10 +242,10 @@ behind_reached w v who amount issued origin z x found k given e =
     subst (λ y. AreReached (with_staked w.mine y)) is
     (grown_reached (state_told w z) v who amount issued h one.0 found k.ready (paid_height origin who v.status amount z.1 one.0 one.1) given.0 given.1 k.reached)
 
-pub delegated_reached : (w : State) (v : Validator) (who : List ℕ) (amount : ℕ) (origin : Origin) (x : ℕ × World Staked Hooks) → validator_of w.mine.staked v.operator ≡ Some v → Opens w v who
+pub delegated_reached : (w : State) (v : Validator) (who : List ℕ) (amount : ℕ) (origin : Origin) (x : ℕ × World Staked Hooks) → validator_at w.mine.staked v.operator ≡ Some v → Opens w v who
     → delegated chain_told v who amount origin (staked_in w) ≡ Ok x → AreReached (with_staked w.mine x.1)
 delegated_reached w v who amount origin x found opens e =
-    let held : Option ℕ = shares_of w.mine.staked who v.operator in
+    let held : Option ℕ = delegation w.mine.staked who v.operator in
     let before : Result (World Staked Hooks) Refusal = stopping Overflow (call chain_told (hook_before v who held) (staked_in w)) in
     let one : (issued : ℕ) × (shares_given v amount ≡ Ok issued) × ((before >>= λ w1. behind_hook v who amount origin issued (unwrap_or held 0) w1) ≡ Ok x) =
     step_parts (shares_given v amount) (λ issued. before >>= λ w1. behind_hook v who amount origin issued (unwrap_or held 0) w1) x e in

@@ -11,7 +11,7 @@ use Rattle.stk_keep.specs.declared.entities.Validator.{Validator}
 use Rattle.stk_keep.specs.Log.{Log}
 use Rattle.stk_keep.specs.Orders.{pair_cmp, same_addr}
 use Rattle.stk_keep.specs.Pair.{and_then, given_with}
-use Rattle.stk_keep.specs.Staked.{Staked, validator_of, shares_of}
+use Rattle.stk_keep.specs.Staked.{Staked, validator_at, delegation}
 use Rattle.stk_keep.specs.World.{View, Hook, Told, gives, exceeds, World, hooked, call}
 use Rattle.stk_rules.proofs.OrderLemmas.{pair_found, same_itself}
 use Rattle.stk_rules.specs.Chain.{Hooks, State, chain_told, with_shared}
@@ -74,7 +74,7 @@ state_told w z = with_shared z.0 z.1 z.2 w
 -- so it is behind the hook before it
 pub record HasOpened (w : State) (v : Validator) (who : List ℕ) (z : Shared × View × Log) : Type 0 where
   pub reached : AreReached (state_told w z)
-  pub ready : (d : List ℕ) → IsOpen d (state_told w z) v who (unwrap_or (shares_of w.mine.staked who v.operator) 0)
+  pub ready : (d : List ℕ) → IsOpen d (state_told w z) v who (unwrap_or (delegation w.mine.staked who v.operator) 0)
   pub height : z.1.ctx.height ≡ w.view.ctx.height
 
 pub none_of : {X : Type 0} (o : Option X) → is_some o ≡ false → o ≡ None
@@ -82,7 +82,7 @@ none_of None e = refl
 none_of (Some x) e = absurd cc
 
 abbrev start_in : Staked → List ℕ → (List ℕ × List ℕ) × StartingInfo → Start
-start_in s op e = record { who = e.0.1; shares = unwrap_or (shares_of s e.0.1 op) 0; info = e.1 }
+start_in s op e = record { who = e.0.1; shares = unwrap_or (delegation s e.0.1 op) 0; info = e.1 }
 
 pair_own : (o x : List ℕ) → is_at (pair_cmp (o, x)) (o, x) ≡ true
 pair_own o x = pair_found o o x x ∙ (λ i. same_itself o i && same_itself x i)
@@ -110,7 +110,7 @@ nobody_started s who op (e ∷ es) none =
     (nobody_first s who op e (lookup (is_at (pair_cmp (op, who))) es) (map (start_in s op) (filter (λ e. same_addr e.0.0 op) es)) (same_addr e.0.0 op) (is_at (pair_cmp (op, who)) e.0) refl refl none (λ h. nobody_started s who op es h))
 
 -- a new delegation
-opened_new : (w : State) (v : Validator) (who : List ℕ) (z : Shared × View × Log) (p : ℕ) → IsReady w v.operator → validator_of w.mine.staked v.operator ≡ Some v → shares_of w.mine.staked who v.operator ≡ None
+opened_new : (w : State) (v : Validator) (who : List ℕ) (z : Shared × View × Log) (p : ℕ) → IsReady w v.operator → validator_at w.mine.staked v.operator ≡ Some v → delegation w.mine.staked who v.operator ≡ None
     → ended v w.hooks.0 w.view ≡ Ok (p, z.0, z.1, z.2) → AreReached w → HasOpened w v who z
 opened_new w v who z p ready found held e reached =
     let after : AreReached (state_told w z) = ended_reached w v (p, z.0, z.1, z.2) ready found e reached in
@@ -121,7 +121,7 @@ opened_new w v who z p ready found held e reached =
       ready = λ d. (
           let i : IsEnded d v w.hooks.0 w.view (p, z.0, z.1, z.2) = end_is d w v (p, z.0, z.1, z.2) ready e in
           let counted : counted_shares (account_in d (state_told w z) v) ≤ v.shares = reached_counted d (account_in d (state_told w z) v) (after d v found) in
-          let none : unwrap_or (shares_of w.mine.staked who v.operator) 0 ≡ 0 = ap (λ o. unwrap_or o 0) held in
+          let none : unwrap_or (delegation w.mine.staked who v.operator) 0 ≡ 0 = ap (λ o. unwrap_or o 0) held in
           record {
             none = ap (λ x. x.current) (closed_is d w v (p, z.0, z.1, z.2) i);
             within = omega (arith, counted, none);
@@ -131,12 +131,12 @@ opened_new w v who z p ready found held e reached =
     }
 
 -- one that has shares
-opened_old : (w : State) (v : Validator) (who : List ℕ) (shares : ℕ) (z : Shared × View × Log) (coins : Money) → IsReady w v.operator → validator_of w.mine.staked v.operator ≡ Some v → shares_of w.mine.staked who v.operator ≡ Some shares
+opened_old : (w : State) (v : Validator) (who : List ℕ) (shares : ℕ) (z : Shared × View × Log) (coins : Money) → IsReady w v.operator → validator_at w.mine.staked v.operator ≡ Some v → delegation w.mine.staked who v.operator ≡ Some shares
     → reward_withdrawn v who shares w.hooks.0 w.view ≡ Ok (coins, z.0, z.1, z.2) → AreReached w → HasOpened w v who z
 opened_old w v who shares z coins ready found held e reached =
     let k : IsWithdrawn v who shares w.hooks.0 w.view (coins, z.0, z.1, z.2) = withdrawn_is v who shares w.hooks.0 w.view (coins, z.0, z.1, z.2) e in
     let i0 : IsEnded [] v w.hooks.0 w.view k.first = end_is [] w v k.first ready k.ends in
-    let own : unwrap_or (shares_of w.mine.staked who v.operator) 0 ≡ shares = ap (λ o. unwrap_or o 0) held in
+    let own : unwrap_or (delegation w.mine.staked who v.operator) 0 ≡ shares = ap (λ o. unwrap_or o 0) held in
     record {
       reached = withdrawn_reached w v who shares (coins, z.0, z.1, z.2) ready found held e reached;
       ready = λ d. (
@@ -146,11 +146,11 @@ opened_old w v who shares z coins ready found held e reached =
       height = k.height ∙ i0.height;
     }
 
-pub opened : (w : State) (v : Validator) (who : List ℕ) (z : Shared × View × Log) → IsReady w v.operator → validator_of w.mine.staked v.operator ≡ Some v
-    → distribution_told w.hooks.0 (hook_before v who (shares_of w.mine.staked who v.operator)) w.view ≡ gives z.0 z.1 z.2 → AreReached w → HasOpened w v who z
-opened w v who z ready found e reached = by (shares_of w.mine.staked who v.operator) refl e
+pub opened : (w : State) (v : Validator) (who : List ℕ) (z : Shared × View × Log) → IsReady w v.operator → validator_at w.mine.staked v.operator ≡ Some v
+    → distribution_told w.hooks.0 (hook_before v who (delegation w.mine.staked who v.operator)) w.view ≡ gives z.0 z.1 z.2 → AreReached w → HasOpened w v who z
+opened w v who z ready found e reached = by (delegation w.mine.staked who v.operator) refl e
   where
-    by : (o : Option ℕ) → shares_of w.mine.staked who v.operator ≡ o → distribution_told w.hooks.0 (hook_before v who o) w.view ≡ gives z.0 z.1 z.2 → HasOpened w v who z
+    by : (o : Option ℕ) → delegation w.mine.staked who v.operator ≡ o → distribution_told w.hooks.0 (hook_before v who o) w.view ≡ gives z.0 z.1 z.2 → HasOpened w v who z
     by None held h = let end : (p : ℕ) × (ended v w.hooks.0 w.view ≡ Ok (p, z.0, z.1, z.2)) = answer_of (ended v w.hooks.0 w.view) z h in opened_new w v who z end.0 ready found held end.1 reached
     by (Some shares) held h =
         let end : (coins : Money) × (reward_withdrawn v who shares w.hooks.0 w.view ≡ Ok (coins, z.0, z.1, z.2)) = answer_of (reward_withdrawn v who shares w.hooks.0 w.view) z h in

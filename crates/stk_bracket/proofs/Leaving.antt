@@ -17,7 +17,7 @@ use Rattle.stk_keep.specs.Items.{no_purse}
 use Rattle.stk_keep.specs.Log.{Log, LogEntry}
 use Rattle.stk_keep.specs.Log as log
 use Rattle.stk_keep.specs.Orders.{pair_cmp, same_addr}
-use Rattle.stk_keep.specs.Staked.{Staked, validator_of, shares_of, with_validator, is_unbonded}
+use Rattle.stk_keep.specs.Staked.{Staked, validator_at, delegation, put_validator, is_unbonded}
 use Rattle.stk_keep.specs.Steps.{◌>>=◌}
 use Rattle.stk_keep.specs.World.{View, Told, gives, World, call, modifying, modified, noted, over_view, over_mine, logged}
 use Rattle.stk_keep.specs.World as hook
@@ -29,7 +29,7 @@ use Rattle.stk_rules.specs.Distribution.{Shared, distribution_told, records_remo
 use Rattle.stk_rules.specs.Ideal.{history_of}
 use Rattle.stk_rules.specs.Periods.{initial_records, periods_of, without_periods}
 use Rattle.stk_rules.specs.Purses.{Purses, purse_of, closed, pool_joined, pooled_told, due_at_last}
-use Rattle.stk_rules.specs.Stakes.{with_shares, without_shares, without_validator}
+use Rattle.stk_rules.specs.Stakes.{put_delegation, without_shares, without_validator}
 use Rattle.stk_rules.specs.Unbonding.{removed_if_empty, validator_removed}
 use Rattle.stk_bracket.specs.Account.{Start, Account, IsReached, counted_shares, account_after, start_made}
 use Rattle.stk_bracket.specs.Account as deed
@@ -86,7 +86,7 @@ sum_insert s (suc k) (x ∷ ss) = omega (arith, sum_more x.shares (map (λ t. t.
 
 -- a state from which a part of the shares may leave
 pub record MayLeave (x : State) (v : Validator) (part : ℕ) : Type 0 where
-  found : validator_of x.mine.staked v.operator ≡ Some v
+  found : validator_at x.mine.staked v.operator ≡ Some v
   reached : AreReached x
   none : (d : List ℕ) → (account_in d x v).current ≡ 0
   room : (d : List ℕ) → counted_shares (account_in d x v) + part ≤ v.shares
@@ -99,16 +99,16 @@ restaked_account d x v who held t stays k =
     same_account v.tokens v.shares a.height b.height a.current b.current a.commission b.commission a.outstanding b.outstanding a.periods b.periods a.starts b.starts a.history b.history
     refl refl refl refl refl (own_starts x.mine.staked t who v.operator x.hooks.0.rewards stays k.apart) refl
 
-restaked_at : (d : List ℕ) (x : State) (v u : Validator) (who : List ℕ) (held : ℕ) (t : Staked) → validator_of x.mine.staked v.operator ≡ Some v → OthersStay x.mine.staked t who v.operator → IsOpen d x v who held → AreReached x
-    → validator_of x.mine.staked u.operator ≡ Some u → (b : Bool) → same_addr u.operator v.operator ≡ b → IsReached d (account_in d (over_stake x t x.view) u)
+restaked_at : (d : List ℕ) (x : State) (v u : Validator) (who : List ℕ) (held : ℕ) (t : Staked) → validator_at x.mine.staked v.operator ≡ Some v → OthersStay x.mine.staked t who v.operator → IsOpen d x v who held → AreReached x
+    → validator_at x.mine.staked u.operator ≡ Some u → (b : Bool) → same_addr u.operator v.operator ≡ b → IsReached d (account_in d (over_stake x t x.view) u)
 restaked_at d x v u who held t found stays k reached there true is =
-    let one : u ≡ v = same_some u v (validator_of x.mine.staked u.operator) (validator_of x.mine.staked v.operator) there found (ap (λ o. validator_of x.mine.staked o) (addr_is u.operator v.operator is)) in
+    let one : u ≡ v = same_some u v (validator_at x.mine.staked u.operator) (validator_at x.mine.staked v.operator) there found (ap (λ o. validator_at x.mine.staked o) (addr_is u.operator v.operator is)) in
     subst (λ y. IsReached d (account_in d (over_stake x t x.view) y)) (sym one) (subst (λ a. IsReached d a) (sym (restaked_account d x v who held t stays k)) (reached d v found))
 restaked_at d x v u who held t found stays k reached there false is =
     subst (λ a. IsReached d a) (sym (other_stands d x t x.view who v.operator u stays refl (apart_back u.operator v.operator is))) (reached d u there)
 
 -- no share is left
-pub none_left : (x : State) (v : Validator) (who : List ℕ) (held part : ℕ) → validator_of x.mine.staked v.operator ≡ Some v → ((d : List ℕ) → IsOpen d x v who held) → part ≤ held → AreReached x
+pub none_left : (x : State) (v : Validator) (who : List ℕ) (held part : ℕ) → validator_at x.mine.staked v.operator ≡ Some v → ((d : List ℕ) → IsOpen d x v who held) → part ≤ held → AreReached x
     → MayLeave (over_stake x (without_shares who v.operator x.mine.staked) x.view) v part
 none_left x v who held part found k within reached =
     let t : Staked = without_shares who v.operator x.mine.staked in
@@ -124,15 +124,15 @@ none_left x v who held part found k within reached =
     }
 
 -- some are
-pub some_left : (x : State) (v : Validator) (who : List ℕ) (held part left : ℕ) → validator_of x.mine.staked v.operator ≡ Some v → ((d : List ℕ) → IsOpen d x v who held) → left + part ≤ held → 0 < left → AreReached x
-    → MayLeave (state_begun (over_stake x (with_shares who v.operator left x.mine.staked) x.view) v who left) v part
+pub some_left : (x : State) (v : Validator) (who : List ℕ) (held part left : ℕ) → validator_at x.mine.staked v.operator ≡ Some v → ((d : List ℕ) → IsOpen d x v who held) → left + part ≤ held → 0 < left → AreReached x
+    → MayLeave (state_begun (over_stake x (put_delegation who v.operator left x.mine.staked) x.view) v who left) v part
 some_left x v who held part left found k within some reached =
     let op : List ℕ = v.operator in
     let s : Staked = x.mine.staked in
-    let t : Staked = with_shares who op left s in
+    let t : Staked = put_delegation who op left s in
     let y : State = over_stake x t x.view in
     let stays : OthersStay s t who op = shares_stay s who op left in
-    let has : shares_of t who op ≡ Some left = own_shares s who op left in
+    let has : delegation t who op ≡ Some left = own_shares s who op left in
     let before : AreReached y = λ d u there. restaked_at d x v u who held t found stays (k d) reached there (same_addr u.operator op) refl in
     let apart : (d : List ℕ) → AllByRecursion (λ a. who ≢ a.who) (starts_in t x.hooks.0.rewards op) =
     λ d. subst (λ ss. AllByRecursion (λ a. who ≢ a.who) ss) (sym (own_starts s t who op x.hooks.0.rewards stays (k d).apart)) (k d).apart in
@@ -160,7 +160,7 @@ abbrev pub less_of : Validator → Bool → ℕ → Validator
 less_of v j part = record v { jailed = j; tokens = v.tokens - amount_out v.tokens v.shares part; shares = v.shares - part }
 
 abbrev pub state_less : State → Validator → Bool → ℕ → State
-state_less x v j part = record { mine = record x.mine { staked = with_validator (less_of v j part) x.mine.staked }; hooks = x.hooks; view = x.view; log = x.log ++ (v.operator, log.left) ∷ [] }
+state_less x v j part = record { mine = record x.mine { staked = put_validator (less_of v j part) x.mine.staked }; hooks = x.hooks; view = x.view; log = x.log ++ (v.operator, log.left) ∷ [] }
 
 less_account : (d : List ℕ) (x : State) (v : Validator) (j : Bool) (part : ℕ) → account_in d (state_less x v j part) (less_of v j part) ≡ account_after d (account_in d x v) (deed.removal part)
 less_account d x v j part =
@@ -176,11 +176,11 @@ less_other d x v u j part apart =
     same_account u.tokens u.shares a.height b.height a.current b.current a.commission b.commission a.outstanding b.outstanding a.periods b.periods a.starts b.starts a.history b.history
     refl refl refl refl refl refl (history_elsewhere u.operator v.operator x.log log.left [] apart)
 
-less_at : (d : List ℕ) (x : State) (v u : Validator) (j : Bool) (part : ℕ) → MayLeave x v part → 0 < v.shares → validator_of (with_validator (less_of v j part) x.mine.staked) u.operator ≡ Some u → (b : Bool) → same_addr u.operator v.operator ≡ b
+less_at : (d : List ℕ) (x : State) (v u : Validator) (j : Bool) (part : ℕ) → MayLeave x v part → 0 < v.shares → validator_at (put_validator (less_of v j part) x.mine.staked) u.operator ≡ Some u → (b : Bool) → same_addr u.operator v.operator ≡ b
     → IsReached d (account_in d (state_less x v j part) u)
 less_at d x v u j part k some there true is =
-    let t : Staked = with_validator (less_of v j part) x.mine.staked in
-    let one : u ≡ less_of v j part = same_some u (less_of v j part) (validator_of t u.operator) (validator_of t v.operator) there (put_there v.operator (less_of v j part) x.mine.staked.validators) (ap (λ o. validator_of t o) (addr_is u.operator v.operator is)) in
+    let t : Staked = put_validator (less_of v j part) x.mine.staked in
+    let one : u ≡ less_of v j part = same_some u (less_of v j part) (validator_at t u.operator) (validator_at t v.operator) there (put_there v.operator (less_of v j part) x.mine.staked.validators) (ap (λ o. validator_at t o) (addr_is u.operator v.operator is)) in
     subst (λ y. IsReached d (account_in d (state_less x v j part) y)) (sym one)
     (subst (λ a. IsReached d a) (sym (less_account d x v j part)) (deeds_lead_on d (account_in d x v) (deed.removal part ∷ []) (k.reached d v k.found) ((k.none d, some, k.room d), tt)))
 less_at d x v u j part k some there false is =
@@ -259,9 +259,9 @@ gone_account d x op z u v k height apart =
     (ap (λ l. history_of q (x.log ++ l) []) k.logged ∙ ap (λ l. history_of q l []) (append-nil x.log))
 
 gone_at : (d : List ℕ) (x : State) (op : List ℕ) (z : Shared × View × Log) (u : View) (v : Validator) → RecordsGo x.hooks.0 x.view op z → u.ctx.height ≡ z.1.ctx.height → IsStrictlySortedBy addr_cmp (keys_of x.mine.staked.validators)
-    → AreReached x → validator_of (without_validator op x.mine.staked) v.operator ≡ Some v → (b : Bool) → same_addr v.operator op ≡ b → IsReached d (account_in d (state_gone x op z u) v)
+    → AreReached x → validator_at (without_validator op x.mine.staked) v.operator ≡ Some v → (b : Bool) → same_addr v.operator op ≡ b → IsReached d (account_in d (state_gone x op z u) v)
 gone_at d x op z u v k height ascend reached there true is =
-    absurd (none_some v (sym (at-taken addr_cmp addr_total x.mine.staked.validators op v.operator ascend ∙ ap (λ b. cond b None (validator_of x.mine.staked v.operator)) is) ∙ there))
+    absurd (none_some v (sym (at-taken addr_cmp addr_total x.mine.staked.validators op v.operator ascend ∙ ap (λ b. cond b None (validator_at x.mine.staked v.operator)) is) ∙ there))
   where
     none_some : (y : Validator) → Path (Option Validator) None (Some y) → ⊥
     none_some y h = cc

@@ -15,7 +15,7 @@ use Rattle.stk_keep.specs.declared.entities.Validator.{Validator}
 use Rattle.stk_keep.specs.declared.facts.Fact.TheVariants as fact
 use Rattle.stk_keep.specs.Log.{Log}
 use Rattle.stk_keep.specs.Orders.{same_addr}
-use Rattle.stk_keep.specs.Staked.{Staked, validator_of, with_validator, is_unbonded}
+use Rattle.stk_keep.specs.Staked.{Staked, validator_at, put_validator, is_unbonded}
 use Rattle.stk_keep.specs.Steps.{each}
 use Rattle.stk_keep.specs.World.{View, World, Told, gives, call, noted, over_view, over_mine}
 use Rattle.stk_keep.specs.World as hook
@@ -95,14 +95,14 @@ emptied_mine x v y e = by_empty (is_unbonded v.status && (v.shares == 0)) e
         let told : (z : Shared × View × Log) × (distribution_told x.hooks.0 (hook.removed v) x.view ≡ gives z.0 z.1 z.2) × (hook_gave w z ≡ one.0) = call_parts (hook.removed v) w one.0 (λ u. refl) one.1 in
         (true, ap (λ t. t.mine) (sym (same_ok (over_view (noted (fact.Removed v.operator)) one.0) y one.2)) ∙ ap (λ t. t.mine) (sym told.2))
 
-known_kept : (s : Staked) (op : List ℕ) (vs : List Validator) → AllByRecursion (λ u. same_addr op u.operator ≡ false) vs → AllByRecursion (λ u. validator_of s u.operator ≡ Some u) vs → (b : Bool)
-    → AllByRecursion (λ u. validator_of (if b then without_validator op s else s) u.operator ≡ Some u) vs
+known_kept : (s : Staked) (op : List ℕ) (vs : List Validator) → AllByRecursion (λ u. same_addr op u.operator ≡ false) vs → AllByRecursion (λ u. validator_at s u.operator ≡ Some u) vs → (b : Bool)
+    → AllByRecursion (λ u. validator_at (if b then without_validator op s else s) u.operator ≡ Some u) vs
 known_kept s op vs apart known false = known
 known_kept s op [] apart known true = tt
 known_kept s op (u ∷ vs) apart known true = (addr_taken op u.operator s.validators (apart_back op u.operator apart.0) ∙ known.0, known_kept s op vs apart.1 known.1 true)
 
-known_put : (s : Staked) (new : Validator) (vs : List Validator) → AllByRecursion (λ u. same_addr new.operator u.operator ≡ false) vs → AllByRecursion (λ u. validator_of s u.operator ≡ Some u) vs
-    → AllByRecursion (λ u. validator_of (with_validator new s) u.operator ≡ Some u) vs
+known_put : (s : Staked) (new : Validator) (vs : List Validator) → AllByRecursion (λ u. same_addr new.operator u.operator ≡ false) vs → AllByRecursion (λ u. validator_at s u.operator ≡ Some u) vs
+    → AllByRecursion (λ u. validator_at (put_validator new s) u.operator ≡ Some u) vs
 known_put s new [] apart known = tt
 known_put s new (u ∷ vs) apart known = (put_elsewhere new.operator u.operator new s.validators (apart_back new.operator u.operator apart.0) ∙ known.0, known_put s new vs apart.1 known.1)
 
@@ -119,11 +119,11 @@ unbonded_left w v vs y z apart k e =
     let c : State = with_staked w.mine (changed v Unbonded y) in
     let reached : AreReached c = λ d u there. now d u there in
     let ascend : IsStrictlySortedBy addr_cmp (keys_of c.mine.staked.validators) = ascend-put addr_cmp addr_total y.mine.validators v.operator new k.ascend in
-    let known : AllByRecursion (λ u. validator_of c.mine.staked u.operator ≡ Some u) vs = known_put y.mine new vs apart k.known.1 in
+    let known : AllByRecursion (λ u. validator_at c.mine.staked u.operator ≡ Some u) vs = known_put y.mine new vs apart k.known.1 in
     let m : (b : Bool) × (z.mine ≡ (if b then without_validator v.operator c.mine.staked else c.mine.staked)) = emptied_mine c new z e in record {
       reached = emptied_reached c new z ascend reached e;
       ascend = subst (λ s. IsStrictlySortedBy addr_cmp (keys_of s.validators)) (sym m.1) (ascend_kept c.mine.staked v.operator ascend m.0);
-      known = subst (λ s. AllByRecursion (λ u. validator_of s u.operator ≡ Some u) vs) (sym m.1) (known_kept c.mine.staked v.operator vs apart known m.0);
+      known = subst (λ s. AllByRecursion (λ u. validator_at s u.operator ≡ Some u) vs) (sym m.1) (known_kept c.mine.staked v.operator vs apart known m.0);
     }
 
 matured_left : (w : State) (v : Validator) (vs : List Validator) (y z : World Staked Hooks) → AllByRecursion (λ u. same_addr v.operator u.operator ≡ false) vs → AreLeft (with_staked w.mine y) (v ∷ vs)

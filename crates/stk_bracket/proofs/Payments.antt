@@ -17,7 +17,7 @@ use Rattle.stk_keep.specs.Entries.{at, with}
 use Rattle.stk_keep.specs.Items.{no_purse}
 use Rattle.stk_keep.specs.Log.{Log}
 use Rattle.stk_keep.specs.Orders.{pair_cmp, same_addr}
-use Rattle.stk_keep.specs.Staked.{validator_of, shares_of}
+use Rattle.stk_keep.specs.Staked.{validator_at, delegation}
 use Rattle.stk_keep.specs.Steps.{◌>>=◌}
 use Rattle.stk_keep.specs.World.{View, noted}
 use Rattle.stk_rules.specs.Amounts.{over_facts}
@@ -26,7 +26,7 @@ use Rattle.stk_rules.specs.Distribution.{Shared, ended, reward_due, reward_withd
 use Rattle.stk_rules.specs.Ideal.{history_of}
 use Rattle.stk_rules.specs.Periods.{Rewards, periods_of, start_of, without_start, reward_at}
 use Rattle.stk_rules.specs.Purses.{Purses, purse_of, with_purse, pool_joined, paid_out, pooled_told}
-use Rattle.stk_bracket.specs.Account.{Start, Account, IsReached, reward_now, paid_in, account_after}
+use Rattle.stk_bracket.specs.Account.{Start, Account, IsReached, reward_now, payment_of, account_after}
 use Rattle.stk_bracket.specs.Account as deed
 use Rattle.stk_bracket.specs.States.{starts_in, account_in, AreReached, WithdrawalKeepsReached}
 use Rattle.stk_bracket.proofs.Following.{own_addr, other_addr}
@@ -155,7 +155,7 @@ other_kept w v u who r apart =
 
 -- the validator of the delegation: its account loses the start, and what is paid
 pub paid_account : (d : List ℕ) (w : State) (v : Validator) (who : List ℕ) (shares : ℕ) (info : StartingInfo) (y : Money × Shared × View × Log) (k : IsWithdrawn v who shares w.hooks.0 w.view y)
-    → IsReady w v.operator → validator_of w.mine.staked v.operator ≡ Some v → shares_of w.mine.staked who v.operator ≡ Some shares → start_of w.hooks.0.rewards who v.operator ≡ Some info
+    → IsReady w v.operator → validator_at w.mine.staked v.operator ≡ Some v → delegation w.mine.staked who v.operator ≡ Some shares → start_of w.hooks.0.rewards who v.operator ≡ Some info
     → (i : IsEnded d v w.hooks.0 w.view k.first)
     → (g : IsGoneFrom (starts_in w.mine.staked k.first.1.rewards v.operator) (starts_in w.mine.staked (without_start who v.operator k.first.1.rewards) v.operator) (start_with w v who info))
     → account_in d (state_behind w y) v ≡ account_after d (account_in d (state_then w k.first) v) (deed.payment g.place)
@@ -176,8 +176,8 @@ paid_account d w v who shares info y k ready found held is i g =
     let reward : amount_of k.full d ≡ reward_now d b (start_with w v who info) =
     full.1 ∙ ap (λ x. reward_now d x (record { who = who; shares = shares; info = info })) (sym before)
     ∙ ap (λ o. reward_now d b (record { who = who; shares = unwrap_or o 0; info = info })) (sym held) in
-    let leaves : min (amount_of k.full d) b.outstanding ≡ paid_in d b (slice_get b.starts g.place) = ap (λ n. min n b.outstanding) reward ∙ ap (λ o. paid_in d b o) (sym g.was) in
-    same_account v.tokens v.shares a.height b.height a.current b.current a.commission b.commission a.outstanding (b.outstanding - paid_in d b (slice_get b.starts g.place)) a.periods b.periods a.starts (remove b.starts g.place) a.history b.history
+    let leaves : min (amount_of k.full d) b.outstanding ≡ payment_of d b (slice_get b.starts g.place) = ap (λ n. min n b.outstanding) reward ∙ ap (λ o. payment_of d b o) (sym g.was) in
+    same_account v.tokens v.shares a.height b.height a.current b.current a.commission b.commission a.outstanding (b.outstanding - payment_of d b (slice_get b.starts g.place)) a.periods b.periods a.starts (remove b.starts g.place) a.history b.history
     k.height
     (ap (λ q. amount_of q.current d) purse ∙ ap (λ m. amount_of m d) less.current)
     (ap (λ q. amount_of q.commission d) purse ∙ ap (λ m. amount_of m d) less.commission)
@@ -207,13 +207,13 @@ other_account d w v u who shares y k full money apart apart' =
     (ap (λ r. starts_in w.mine.staked r op) k.rewards ∙ other_kept w v u who z.1.rewards apart')
     (ap (λ m. history_of op (w.log ++ m) []) k.logged)
 
-reached_behind : (d : List ℕ) (w : State) (v u : Validator) (who : List ℕ) (shares : ℕ) (y : Money × Shared × View × Log) → IsReady w v.operator → validator_of w.mine.staked v.operator ≡ Some v
-    → shares_of w.mine.staked who v.operator ≡ Some shares → IsWithdrawn v who shares w.hooks.0 w.view y → AreReached w
-    → validator_of w.mine.staked u.operator ≡ Some u → (b : Bool) → same_addr u.operator v.operator ≡ b → IsReached d (account_in d (state_behind w y) u)
+reached_behind : (d : List ℕ) (w : State) (v u : Validator) (who : List ℕ) (shares : ℕ) (y : Money × Shared × View × Log) → IsReady w v.operator → validator_at w.mine.staked v.operator ≡ Some v
+    → delegation w.mine.staked who v.operator ≡ Some shares → IsWithdrawn v who shares w.hooks.0 w.view y → AreReached w
+    → validator_at w.mine.staked u.operator ≡ Some u → (b : Bool) → same_addr u.operator v.operator ≡ b → IsReached d (account_in d (state_behind w y) u)
 reached_behind d w v u who shares y ready found held k reached there true is =
     let z : ℕ × Shared × View × Log = k.first in
     let i : IsEnded d v w.hooks.0 w.view z = end_is d w v z ready k.ends in
-    let one : u ≡ v = same_some u v (validator_of w.mine.staked u.operator) (validator_of w.mine.staked v.operator) there found (ap (λ o. validator_of w.mine.staked o) (addr_is u.operator v.operator is)) in
+    let one : u ≡ v = same_some u v (validator_at w.mine.staked u.operator) (validator_at w.mine.staked v.operator) there found (ap (λ o. validator_at w.mine.staked o) (addr_is u.operator v.operator is)) in
     let some : (info : StartingInfo) × (start_of w.hooks.0.rewards who v.operator ≡ Some info) =
     some_of (start_of w.hooks.0.rewards who v.operator) (ready.starts who ∙ ap is_some held) in
     let still : start_of z.1.rewards who v.operator ≡ Some some.0 = ap (λ r. start_of r who v.operator) i.rewards ∙ some.1 in
@@ -238,7 +238,7 @@ reached_behind d w v u who shares y ready found held k reached there false is =
     true_not_false : true ≡ false → ⊥
     true_not_false h = cc
 
-pub withdrawn_reached : (w : State) (v : Validator) (who : List ℕ) (shares : ℕ) (y : Money × Shared × View × Log) → IsReady w v.operator → validator_of w.mine.staked v.operator ≡ Some v → shares_of w.mine.staked who v.operator ≡ Some shares
+pub withdrawn_reached : (w : State) (v : Validator) (who : List ℕ) (shares : ℕ) (y : Money × Shared × View × Log) → IsReady w v.operator → validator_at w.mine.staked v.operator ≡ Some v → delegation w.mine.staked who v.operator ≡ Some shares
     → reward_withdrawn v who shares w.hooks.0 w.view ≡ Ok y → AreReached w → AreReached (state_behind w y)
 withdrawn_reached w v who shares y ready found held e reached d u there =
     reached_behind d w v u who shares y ready found held (withdrawn_is v who shares w.hooks.0 w.view y e) reached there (same_addr u.operator v.operator) refl

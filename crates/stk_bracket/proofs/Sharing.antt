@@ -32,7 +32,7 @@ use Rattle.stk_keep.specs.Items.{no_purse}
 use Rattle.stk_keep.specs.Log.{Log, LogEntry}
 use Rattle.stk_keep.specs.Log as log
 use Rattle.stk_keep.specs.Orders.{same_addr}
-use Rattle.stk_keep.specs.Staked.{Staked, validator_of, validator_by_cons}
+use Rattle.stk_keep.specs.Staked.{Staked, validator_at, validator_by_cons}
 use Rattle.stk_keep.specs.Steps.{◌>>=◌}
 use Rattle.stk_rules.specs.Allocation.{share_given, shares_allocated}
 use Rattle.stk_rules.specs.Amounts.{is_empty}
@@ -81,7 +81,7 @@ looked_up (e ∷ es) (suc i) k v s h =
 
 -- what stands of it
 record IsVoter (w : State) (v : Validator) : Type 0 where
-  found : validator_of w.mine.staked v.operator ≡ Some v
+  found : validator_at w.mine.staked v.operator ≡ Some v
   rate : v.commission.rate ≤ 10 ^ 18
 
 voter_is : (w : State) (cons : List ℕ) (v : Validator) → IsSound w → validator_by_cons w.mine.staked cons ≡ Some v → IsVoter w v
@@ -92,7 +92,7 @@ voter_is w cons v sound h =
     let rates : v.commission.rate ≤ 10 ^ 18 =
     all_at (λ e. e.1.commission.rate ≤ 10 ^ 18) p.0 (p.1, v) es p.2
     (recursion_from_All (λ e. e.1.commission.rate ≤ 10 ^ 18) es (λ k e h. omega (arith, (sound.staked.validators k e h).rate, (sound.staked.validators k e h).max_rate))) in
-    record { found = ap (λ o. validator_of w.mine.staked o) own ∙ looked_up es p.0 p.1 v sound.staked.validators_ascend p.2; rate = rates }
+    record { found = ap (λ o. validator_at w.mine.staked o) own ∙ looked_up es p.0 p.1 v sound.staked.validators_ascend p.2; rate = rates }
 
 -- ---- a share that joins a purse
 
@@ -209,10 +209,10 @@ given_other d w p l v u x apart apart' =
 
 given_reached : (w : State) (p : Purses) (l : Log) (v : Validator) (share : Money) (x : Money × Purse) → NoneStartedHere w → IsMoney share → IsVoter w v → Shares w p l
     → share_joined share v.commission.rate (purse_of p v.operator) ≡ Ok x
-    → (d : List ℕ) (u : Validator) → validator_of w.mine.staked u.operator ≡ Some u → (b : Bool) → same_addr u.operator v.operator ≡ b → IsReached d (account_in d (state_given w p l v x) u)
+    → (d : List ℕ) (u : Validator) → validator_at w.mine.staked u.operator ≡ Some u → (b : Bool) → same_addr u.operator v.operator ≡ b → IsReached d (account_in d (state_given w p l v x) u)
 given_reached w p l v share x none m voter k e d u there true is =
     let j : IsJoined d share (purse_of p v.operator) x = joined_is d share v.commission.rate (purse_of p v.operator) x m voter.rate (k.sound v.operator) e in
-    let one : u ≡ v = same_some u v (validator_of w.mine.staked u.operator) (validator_of w.mine.staked v.operator) there voter.found (ap (λ o. validator_of w.mine.staked o) (addr_is u.operator v.operator is)) in
+    let one : u ≡ v = same_some u v (validator_at w.mine.staked u.operator) (validator_at w.mine.staked v.operator) there voter.found (ap (λ o. validator_at w.mine.staked o) (addr_is u.operator v.operator is)) in
     let b : Account = account_in d (state_shared w p l) v in
     let fit : AllByRecursion (λ s. s.info.height < b.height) b.starts =
     none_here w v w.view.ctx.height w.hooks.0.rewards.starts (recursion_from_All (λ e. e.1.height < w.view.ctx.height) w.hooks.0.rewards.starts none) in

@@ -22,7 +22,7 @@ use Rattle.stk_keep.specs.declared.refusal.Refusal.TheVariants.{WrongDenom, NonP
 use Rattle.stk_keep.specs.Log.{Log}
 use Rattle.stk_keep.specs.Log as log
 use Rattle.stk_keep.specs.Orders.{pair_cmp, same_addr}
-use Rattle.stk_keep.specs.Staked.{Staked, validator_of, shares_of, with_validator, is_bonded}
+use Rattle.stk_keep.specs.Staked.{Staked, validator_at, delegation, put_validator, is_bonded}
 use Rattle.stk_keep.specs.Steps.{◌>>=◌, ◌>>◌, stop_if, or_stop, stopping}
 use Rattle.stk_keep.specs.World.{View, gives, World, call, modifying, modified, sent, noted, over_view, over_mine, logged}
 use Rattle.stk_rules.proofs.EntryLemmas.{ascend-put}
@@ -33,8 +33,8 @@ use Rattle.stk_rules.specs.Delegating.{is_wrong, hook_before}
 use Rattle.stk_rules.specs.Distribution.{Shared, distribution_told}
 use Rattle.stk_rules.specs.Effects.{undelegate}
 use Rattle.stk_rules.specs.Sound.{IsSound}
-use Rattle.stk_rules.specs.Stakes.{with_shares, without_shares}
-use Rattle.stk_rules.specs.Unbonding.{shares_to_unbond, jailed, falls_below_minimum, left_standing, unbonded_shares, removed_if_empty}
+use Rattle.stk_rules.specs.Stakes.{put_delegation, without_shares}
+use Rattle.stk_rules.specs.Unbonding.{shares_to_unbond, put_in_jail, falls_below_minimum, left_standing, unbonded_shares, removed_if_empty}
 use Rattle.stk_rules.specs.Unbondings.{UnbondingLists, entries_of, with_entries, grown, completion, undelegated}
 use Rattle.stk_bracket.specs.Account.{IsReached, counted_shares}
 use Rattle.stk_bracket.specs.States.{account_in, AreReached, ReachedStays}
@@ -60,7 +60,7 @@ record LeftStanding (x : State) (v : Validator) (part : ℕ) (y : World Staked H
   is : staked_in state ≡ y
   validators : state.mine.staked.validators ≡ x.mine.staked.validators
 
-left_is : (x : State) (v : Validator) (j : Bool) (who : List ℕ) (held part : ℕ) (y : World Staked Hooks) → validator_of x.mine.staked v.operator ≡ Some v → ((d : List ℕ) → IsOpen d x v who held) → part ≤ held → AreReached x
+left_is : (x : State) (v : Validator) (j : Bool) (who : List ℕ) (held part : ℕ) (y : World Staked Hooks) → validator_at x.mine.staked v.operator ≡ Some v → ((d : List ℕ) → IsOpen d x v who held) → part ≤ held → AreReached x
     → left_standing chain_told (record v { jailed = j }) who (held - part) (staked_in x) ≡ Ok y → LeftStanding x v part y
 left_is x v j who held part y found k within reached e = by (held - part == 0) refl e
   where
@@ -71,7 +71,7 @@ left_is x v j who held part y found k within reached e = by (held - part == 0) r
     positive n h = grind (arith, nat_tests)
 
     by : (b : Bool) → (left == 0) ≡ b
-        → (if b then Ok (over_mine (without_shares who v.operator) (staked_in x)) else call chain_told (modified (record v { jailed = j }) who left) (over_mine (with_shares who v.operator left) (staked_in x))) ≡ Ok y
+        → (if b then Ok (over_mine (without_shares who v.operator) (staked_in x)) else call chain_told (modified (record v { jailed = j }) who left) (over_mine (put_delegation who v.operator left) (staked_in x))) ≡ Ok y
         → LeftStanding x v part y
     by true is h = record {
       state = over_stake x (without_shares who v.operator x.mine.staked) x.view;
@@ -80,19 +80,19 @@ left_is x v j who held part y found k within reached e = by (held - part == 0) r
       validators = refl;
     }
     by false is h = record {
-      state = state_begun (over_stake x (with_shares who v.operator left x.mine.staked) x.view) v who left;
+      state = state_begun (over_stake x (put_delegation who v.operator left x.mine.staked) x.view) v who left;
       may = some_left x v who held part left found k (omega (arith, within)) (positive left is) reached;
-      is = start_told (record v { jailed = j }) who left (over_mine (with_shares who v.operator left) (staked_in x)) y h;
+      is = start_told (record v { jailed = j }) who left (over_mine (put_delegation who v.operator left) (staked_in x)) y h;
       validators = refl;
     }
 
 abbrev left_then : Validator → Bool → ℕ → World Staked Hooks → Result (ℕ × World Staked Hooks) Over
-left_then v j part w2 = removed_if_empty chain_told (less_of v j part) (logged v.operator log.left (over_mine (with_validator (less_of v j part)) w2)) >>= λ w3. Ok (amount_out v.tokens v.shares part, w3)
+left_then v j part w2 = removed_if_empty chain_told (less_of v j part) (logged v.operator log.left (over_mine (put_validator (less_of v j part)) w2)) >>= λ w3. Ok (amount_out v.tokens v.shares part, w3)
 
 abbrev leaving : Validator → Bool → List ℕ → ℕ → ℕ → World Staked Hooks → Result (ℕ × World Staked Hooks) Over
 leaving v j who held part w1 = left_standing chain_told (record v { jailed = j }) who (held - part) w1 >>= λ w2. left_then v j part w2
 
-leaving_reached : (x : State) (v : Validator) (j : Bool) (who : List ℕ) (held part : ℕ) (y : ℕ × World Staked Hooks) → validator_of x.mine.staked v.operator ≡ Some v → ((d : List ℕ) → IsOpen d x v who held) → 0 < held → part ≤ held
+leaving_reached : (x : State) (v : Validator) (j : Bool) (who : List ℕ) (held part : ℕ) (y : ℕ × World Staked Hooks) → validator_at x.mine.staked v.operator ≡ Some v → ((d : List ℕ) → IsOpen d x v who held) → 0 < held → part ≤ held
     → IsStrictlySortedBy addr_cmp (keys_of x.mine.staked.validators) → AreReached x → leaving v j who held part (staked_in x) ≡ Ok y → AreReached (with_staked x.mine y.1)
 leaving_reached x v j who held part y found k some within ascend reached e =
     let one : (w2 : World Staked Hooks) × (left_standing chain_told (record v { jailed = j }) who (held - part) (staked_in x) ≡ Ok w2) × (left_then v j part w2 ≡ Ok y) =
@@ -117,12 +117,12 @@ leaving_reached x v j who held part y found k some within ascend reached e =
 
 -- ---- jailing
 
-jailed_at : (x : State) (v u : Validator) → AreReached x → validator_of x.mine.staked v.operator ≡ Some v → (d : List ℕ) → validator_of (with_validator (record v { jailed = true }) x.mine.staked) u.operator ≡ Some u → (b : Bool)
-    → same_addr u.operator v.operator ≡ b → IsReached d (account_in d (over_stake x (with_validator (record v { jailed = true }) x.mine.staked) (noted (fact.Jailed v.operator) x.view)) u)
+jailed_at : (x : State) (v u : Validator) → AreReached x → validator_at x.mine.staked v.operator ≡ Some v → (d : List ℕ) → validator_at (put_validator (record v { jailed = true }) x.mine.staked) u.operator ≡ Some u → (b : Bool)
+    → same_addr u.operator v.operator ≡ b → IsReached d (account_in d (over_stake x (put_validator (record v { jailed = true }) x.mine.staked) (noted (fact.Jailed v.operator) x.view)) u)
 jailed_at x v u reached found d there true is =
-    let t : Staked = with_validator (record v { jailed = true }) x.mine.staked in
+    let t : Staked = put_validator (record v { jailed = true }) x.mine.staked in
     let now : Validator = record v { jailed = true } in
-    let one : u ≡ now = same_some u now (validator_of t u.operator) (validator_of t v.operator) there (put_there v.operator now x.mine.staked.validators) (ap (λ o. validator_of t o) (addr_is u.operator v.operator is)) in
+    let one : u ≡ now = same_some u now (validator_at t u.operator) (validator_at t v.operator) there (put_there v.operator now x.mine.staked.validators) (ap (λ o. validator_at t o) (addr_is u.operator v.operator is)) in
     subst (λ y. IsReached d (account_in d (over_stake x t (noted (fact.Jailed v.operator) x.view)) y)) (sym one) (reached d v found)
 jailed_at x v u reached found d there false is = reached d u (sym (put_elsewhere v.operator u.operator (record v { jailed = true }) x.mine.staked.validators is) ∙ there)
 
@@ -130,20 +130,20 @@ jailed_at x v u reached found d there false is = reached d u (sym (put_elsewhere
 abbrev pub OpensOld : State → Validator → List ℕ → ℕ → Type 0
 OpensOld w v who held = (z : Shared × View × Log) → distribution_told w.hooks.0 (modifying v who held) w.view ≡ gives z.0 z.1 z.2 → HasOpened w v who z
 
-by_falls : (x : State) (v : Validator) (who : List ℕ) (held part : ℕ) (y : ℕ × World Staked Hooks) → validator_of x.mine.staked v.operator ≡ Some v → ((d : List ℕ) → IsOpen d x v who held) → 0 < held → part ≤ held
-    → IsStrictlySortedBy addr_cmp (keys_of x.mine.staked.validators) → AreReached x → (b : Bool) → leaving v (v.jailed || b) who held part (if b then jailed v (staked_in x) else staked_in x) ≡ Ok y → AreReached (with_staked x.mine y.1)
+by_falls : (x : State) (v : Validator) (who : List ℕ) (held part : ℕ) (y : ℕ × World Staked Hooks) → validator_at x.mine.staked v.operator ≡ Some v → ((d : List ℕ) → IsOpen d x v who held) → 0 < held → part ≤ held
+    → IsStrictlySortedBy addr_cmp (keys_of x.mine.staked.validators) → AreReached x → (b : Bool) → leaving v (v.jailed || b) who held part (if b then put_in_jail v (staked_in x) else staked_in x) ≡ Ok y → AreReached (with_staked x.mine y.1)
 by_falls x v who held part y found k some within ascend reached true e =
     let now : Validator = record v { jailed = true } in
-    leaving_reached (over_stake x (with_validator now x.mine.staked) (noted (fact.Jailed v.operator) x.view)) now (v.jailed || true) who held part y (put_there v.operator now x.mine.staked.validators)
+    leaving_reached (over_stake x (put_validator now x.mine.staked) (noted (fact.Jailed v.operator) x.view)) now (v.jailed || true) who held part y (put_there v.operator now x.mine.staked.validators)
     (λ d. record { none = (k d).none; within = (k d).within; apart = (k d).apart }) some within (ascend-put addr_cmp addr_total x.mine.staked.validators v.operator now ascend)
     (λ d u there. jailed_at x v u reached found d there (same_addr u.operator v.operator) refl) e
 by_falls x v who held part y found k some within ascend reached false e = leaving_reached x v (v.jailed || false) who held part y found k some within ascend reached e
 
-pub unbonded_reached : (w : State) (v : Validator) (who : List ℕ) (held part : ℕ) (y : ℕ × World Staked Hooks) → validator_of w.mine.staked v.operator ≡ Some v → shares_of w.mine.staked who v.operator ≡ Some held → 0 < held → part ≤ held
+pub unbonded_reached : (w : State) (v : Validator) (who : List ℕ) (held part : ℕ) (y : ℕ × World Staked Hooks) → validator_at w.mine.staked v.operator ≡ Some v → delegation w.mine.staked who v.operator ≡ Some held → 0 < held → part ≤ held
     → IsStrictlySortedBy addr_cmp (keys_of w.mine.staked.validators) → OpensOld w v who held → unbonded_shares chain_told v who held part (staked_in w) ≡ Ok y → AreReached (with_staked w.mine y.1)
 unbonded_reached w v who held part y found has some within ascend opens e =
     let falls : Bool = falls_below_minimum v who (held - part) in
-    let rest : World Staked Hooks → Result (ℕ × World Staked Hooks) Over = λ w1. leaving v (v.jailed || falls) who held part (if falls then jailed v w1 else w1) in
+    let rest : World Staked Hooks → Result (ℕ × World Staked Hooks) Over = λ w1. leaving v (v.jailed || falls) who held part (if falls then put_in_jail v w1 else w1) in
     let one : (w1 : World Staked Hooks) × (call chain_told (modifying v who held) (staked_in w) ≡ Ok w1) × (rest w1 ≡ Ok y) = step_parts (call chain_told (modifying v who held) (staked_in w)) rest y e in
     let told : (z : Shared × View × Log) × (distribution_told w.hooks.0 (modifying v who held) w.view ≡ gives z.0 z.1 z.2) × (hook_gave (staked_in w) z ≡ one.0) = call_parts (modifying v who held) (staked_in w) one.0 (λ u. refl) one.1 in
     let k : HasOpened w v who told.0 = opens told.0 told.1 in
@@ -168,18 +168,18 @@ within_held held v amount x e =
     at_most a n h = grind (arith, nat_tests)
 
 -- a delegation has shares
-pub has_some : (w : State) (who operator : List ℕ) (held : ℕ) → IsSound w → shares_of w.mine.staked who operator ≡ Some held → 0 < held
+pub has_some : (w : State) (who operator : List ℕ) (held : ℕ) → IsSound w → delegation w.mine.staked who operator ≡ Some held → 0 < held
 has_some w who operator held sound has =
     let place : (i : ℕ) × (k : List ℕ × List ℕ) × (slice_get w.mine.staked.delegations i ≡ Some (k, held)) × (is_at (pair_cmp (operator, who)) k ≡ true) = place_from_lookup (is_at (pair_cmp (operator, who))) w.mine.staked.delegations held has in
     all_at (λ e. 0 < e.1) place.0 (place.1, held) w.mine.staked.delegations place.2 (recursion_from_All (λ e. 0 < e.1) w.mine.staked.delegations sound.staked.positive)
 
 -- from a sound state
-pub from_sound : (w : State) (v : Validator) (who operator : List ℕ) (held part : ℕ) (y : ℕ × World Staked Hooks) → IsSound w → or_stop (validator_of w.mine.staked operator) NoValidator ≡ Ok v
-    → shares_of w.mine.staked who operator ≡ Some held → part ≤ held → unbonded_shares chain_told v who held part (staked_in w) ≡ Ok y → AreReached w → AreReached (with_staked w.mine y.1)
+pub from_sound : (w : State) (v : Validator) (who operator : List ℕ) (held part : ℕ) (y : ℕ × World Staked Hooks) → IsSound w → or_stop (validator_at w.mine.staked operator) NoValidator ≡ Ok v
+    → delegation w.mine.staked who operator ≡ Some held → part ≤ held → unbonded_shares chain_told v who held part (staked_in w) ≡ Ok y → AreReached w → AreReached (with_staked w.mine y.1)
 from_sound w v who operator held part y sound is has within e reached =
-    let found : validator_of w.mine.staked v.operator ≡ Some v = found_own w operator v sound is in
-    let own : operator ≡ v.operator = under_own w operator v sound (found_is (validator_of w.mine.staked operator) NoValidator v is) in
-    let has_own : shares_of w.mine.staked who v.operator ≡ Some held = ap (λ o. shares_of w.mine.staked who o) (sym own) ∙ has in
+    let found : validator_at w.mine.staked v.operator ≡ Some v = found_own w operator v sound is in
+    let own : operator ≡ v.operator = under_own w operator v sound (found_is (validator_at w.mine.staked operator) NoValidator v is) in
+    let has_own : delegation w.mine.staked who v.operator ≡ Some held = ap (λ o. delegation w.mine.staked who o) (sym own) ∙ has in
     unbonded_reached w v who held part y found has_own (has_some w who operator held sound has) within sound.staked.validators_ascend
     (λ z told. opened w v who z (ready_in w v.operator sound) found (ap (λ o. distribution_told w.hooks.0 (hook_before v who o) w.view) has_own ∙ told) reached) e
 
@@ -205,17 +205,17 @@ undelegate_reached who operator coin w new sound e reached =
     let end : Validator → ℕ × World Staked Hooks → Undelegated = λ v y. (completion w.view.ctx, with_entries who operator (grown w.view.ctx.height (completion w.view.ctx) y.0 entries) u, moved_out w v y.0 y.1) in
     let unbond : Validator → ℕ × ℕ → Result Undelegated Refusal = λ v p. stopping Overflow (unbonded_shares chain_told v who p.0 p.1 (staked_in w)) >>= λ y. Ok (end v y) in
     let judged : Validator → ℕ × ℕ → Result Undelegated Refusal = λ v p. stop_if (is_wrong coin w.view) WrongDenom >> (stop_if (nat_le w.view.ctx.params.max_entries (length entries)) UnbondingsFull >> unbond v p) in
-    let with_val : Validator → Result Undelegated Refusal = λ v. shares_to_unbond (shares_of w.mine.staked who operator) v coin.amount >>= λ p. judged v p in
-    let two : (v : Validator) × (or_stop (validator_of w.mine.staked operator) NoValidator ≡ Ok v) × (with_val v ≡ Ok one.0) =
-    step_parts (or_stop (validator_of w.mine.staked operator) NoValidator) with_val one.0 (passed (coin.amount == 0) NonPositive (or_stop (validator_of w.mine.staked operator) NoValidator >>= with_val) one.0 one.1) in
+    let with_val : Validator → Result Undelegated Refusal = λ v. shares_to_unbond (delegation w.mine.staked who operator) v coin.amount >>= λ p. judged v p in
+    let two : (v : Validator) × (or_stop (validator_at w.mine.staked operator) NoValidator ≡ Ok v) × (with_val v ≡ Ok one.0) =
+    step_parts (or_stop (validator_at w.mine.staked operator) NoValidator) with_val one.0 (passed (coin.amount == 0) NonPositive (or_stop (validator_at w.mine.staked operator) NoValidator >>= with_val) one.0 one.1) in
     let v : Validator = two.0 in
-    let three : (p : ℕ × ℕ) × (shares_to_unbond (shares_of w.mine.staked who operator) v coin.amount ≡ Ok p) × (judged v p ≡ Ok one.0) =
-    step_parts (shares_to_unbond (shares_of w.mine.staked who operator) v coin.amount) (judged v) one.0 two.2 in
+    let three : (p : ℕ × ℕ) × (shares_to_unbond (delegation w.mine.staked who operator) v coin.amount ≡ Ok p) × (judged v p ≡ Ok one.0) =
+    step_parts (shares_to_unbond (delegation w.mine.staked who operator) v coin.amount) (judged v) one.0 two.2 in
     let p : ℕ × ℕ = three.0 in
     let four : (y : ℕ × World Staked Hooks) × (stopping Overflow (unbonded_shares chain_told v who p.0 p.1 (staked_in w)) ≡ Ok y) × (Path (Result Undelegated Refusal) (Ok (end v y)) (Ok one.0)) =
     step_parts (stopping Overflow (unbonded_shares chain_told v who p.0 p.1 (staked_in w))) (λ y. Ok (end v y)) one.0
     (passed (nat_le w.view.ctx.params.max_entries (length entries)) UnbondingsFull (unbond v p) one.0 (passed (is_wrong coin w.view) WrongDenom (stop_if (nat_le w.view.ctx.params.max_entries (length entries)) UnbondingsFull >> unbond v p) one.0 three.2)) in
-    let held : (shares_of w.mine.staked who operator ≡ Some p.0) × (p.1 ≤ p.0) = within_held (shares_of w.mine.staked who operator) v coin.amount p three.1 in
+    let held : (delegation w.mine.staked who operator ≡ Some p.0) × (p.1 ≤ p.0) = within_held (delegation w.mine.staked who operator) v coin.amount p three.1 in
     let after : AreReached (with_staked w.mine four.0.1) =
     from_sound w v who operator p.0 p.1 four.0 sound two.1 held.0 held.1 (went_on Overflow (unbonded_shares chain_told v who p.0 p.1 (staked_in w)) four.0 four.1) reached in
     subst AreReached (same_ok (with_staked (record w.mine { unbondings = one.0.1 }) one.0.2) new one.2)

@@ -115,8 +115,8 @@ period_closed increment ratio a = record a {
 }
 
 -- a slash is recorded at the period that just ended, and burns (`updateValidatorSlashFraction`, `RemoveValidatorTokens`)
-abbrev pub burned : ℕ → Account → Account
-burned burn a = let fraction = slash_fraction burn a.tokens in record a {
+abbrev pub account_slashed : ℕ → Account → Account
+account_slashed burn a = let fraction = slash_fraction burn a.tokens in record a {
   tokens = a.tokens - burn;
   periods = event_recorded a.height fraction a.periods;
   history = a.history ++ log.slashed burn a.tokens fraction ∷ [];
@@ -131,9 +131,9 @@ start_made a who shares = record {
 }
 
 -- what leaves with a payment: the reward, as far as what is outstanding goes (`withdrawDelegationRewards`)
-abbrev pub paid_in : List ℕ → Account → Option Start → ℕ
-paid_in d a None = 0
-paid_in d a (Some s) = min (reward_now d a s) a.outstanding
+abbrev pub payment_of : List ℕ → Account → Option Start → ℕ
+payment_of d a None = 0
+payment_of d a (Some s) = min (reward_now d a s) a.outstanding
 
 -- what a deed makes of a validator, in a denomination
 abbrev pub account_after : List ℕ → Account → Deed → Account
@@ -145,7 +145,7 @@ account_after d a (allocation commission rest) = record a {
   history = a.history ++ log.allocated rest a.tokens ∷ [];
 }
 account_after d a (ending increment ratio) = period_closed increment ratio a
-account_after d a (slash burn increment ratio) = burned burn (period_closed increment ratio a)
+account_after d a (slash burn increment ratio) = account_slashed burn (period_closed increment ratio a)
 account_after d a (issue amount issued) = record a { tokens = a.tokens + amount; shares = a.shares + issued }
 account_after d a (removal part) = record a {
   tokens = a.tokens - amount_out a.tokens a.shares part;
@@ -157,7 +157,7 @@ account_after d a (beginning place who shares) = record a {
   history = a.history ++ log.started who shares a.tokens a.shares (value_cut_of a.tokens a.shares shares) ∷ [];
 }
 account_after d a (payment place) = record a {
-  outstanding = a.outstanding - paid_in d a (slice_get a.starts place);
+  outstanding = a.outstanding - payment_of d a (slice_get a.starts place);
   starts = remove a.starts place;
 }
 account_after d a (commission_payment amount) = record a { commission = a.commission - amount; outstanding = a.outstanding - amount }

@@ -11,39 +11,39 @@ use Rattle.stk_rules.specs.Sound.{IsSound}
 use Rattle.stk_keep.specs.declared.messages.CreateValidator.{CreateValidator}
 use Rattle.stk_rules.specs.Chain.{State, allocation_step, set_step, maturing_step, unbondings_step, redelegations_step}
 use Rattle.stk_rules.specs.Effects.{create_validator, delegate, undelegate, cancel_unbonding}
-use Rattle.stk_rules.specs.Laws.{Keeps, next_block}
+use Rattle.stk_rules.specs.Laws.{KeptByStep, next_block}
 use Rattle.stk_bracket.specs.States.{ReachedStays, NoneStartedHere}
 
 -- delegating keeps accounts reached
 abbrev pub DelegatingKeepsReached : Type 0
-DelegatingKeepsReached = (who operator : List ℕ) (coin : Coin) → Keeps ReachedStays (delegate who operator coin)
+DelegatingKeepsReached = (who operator : List ℕ) (coin : Coin) → KeptByStep ReachedStays (delegate who operator coin)
 
 -- and so does cancelling an unbonding
 abbrev pub CancellingKeepsReached : Type 0
-CancellingKeepsReached = (who operator : List ℕ) (coin : Coin) (height : ℕ) → Keeps ReachedStays (cancel_unbonding who operator coin height)
+CancellingKeepsReached = (who operator : List ℕ) (coin : Coin) (height : ℕ) → KeptByStep ReachedStays (cancel_unbonding who operator coin height)
 
 -- and so does creating a validator, whose operator delegates to it
 abbrev pub CreatingKeepsReached : Type 0
-CreatingKeepsReached = (m : CreateValidator) → Keeps ReachedStays (create_validator m)
+CreatingKeepsReached = (m : CreateValidator) → KeptByStep ReachedStays (create_validator m)
 
 -- and so does undelegating
 abbrev pub UndelegatingKeepsReached : Type 0
-UndelegatingKeepsReached = (who operator : List ℕ) (coin : Coin) → Keeps ReachedStays (undelegate who operator coin)
+UndelegatingKeepsReached = (who operator : List ℕ) (coin : Coin) → KeptByStep ReachedStays (undelegate who operator coin)
 
 -- and so do the mature entries of a block: unbondings that are paid, and redelegations that go
 abbrev pub UnbondingsStepKeepsReached : Type 0
-UnbondingsStepKeepsReached = Keeps ReachedStays unbondings_step
+UnbondingsStepKeepsReached = KeptByStep ReachedStays unbondings_step
 
 abbrev pub RedelegationsStepKeepsReached : Type 0
-RedelegationsStepKeepsReached = Keeps ReachedStays redelegations_step
+RedelegationsStepKeepsReached = KeptByStep ReachedStays redelegations_step
 
 -- and so does making the bonded set anew
 abbrev pub BondedSetKeepsReached : Type 0
-BondedSetKeepsReached = Keeps ReachedStays set_step
+BondedSetKeepsReached = KeptByStep ReachedStays set_step
 
 -- and so do validators whose unbonding is mature
 abbrev pub MaturingKeepsReached : Type 0
-MaturingKeepsReached = Keeps ReachedStays maturing_step
+MaturingKeepsReached = KeptByStep ReachedStays maturing_step
 
 -- In the block after a sound state no start is of its height, before anything is done.
 abbrev pub NoneStartedInNext : Type 0

@@ -8,14 +8,14 @@ use Rattle.stk_keep.specs.declared.messages.EditValidator.{EditValidator}
 use Rattle.stk_keep.specs.declared.messages.Vote.{Vote}
 use Rattle.stk_keep.specs.Log.{Log}
 use Rattle.stk_keep.specs.Orders.{same_addr}
-use Rattle.stk_keep.specs.Staked.{Staked, validator_of, shares_of}
+use Rattle.stk_keep.specs.Staked.{Staked, validator_at, delegation}
 use Rattle.stk_keep.specs.World.{View}
 use Rattle.stk_rules.specs.Allocation.{shares_allocated}
 use Rattle.stk_rules.specs.Chain.{State, with_shared, shared_in}
 use Rattle.stk_rules.specs.Distribution.{Shared, ended, reward_withdrawn}
 use Rattle.stk_rules.specs.Effects.{send, edit_validator, unjail, withdraw_reward, withdraw_commission, set_withdraw_address, fund_community_pool, community_pool_spend, fee_paid}
 use Rattle.stk_rules.specs.Ideal.{history_of, claimed, overclaim_of}
-use Rattle.stk_rules.specs.Laws.{Keeps, IsBracketed, HasShortfallWithin, next_block}
+use Rattle.stk_rules.specs.Laws.{KeptByStep, IsBracketed, HasShortfallWithin, next_block}
 use Rattle.stk_rules.specs.Periods.{Rewards, periods_of, ratio_at}
 use Rattle.stk_rules.specs.Purses.{Purses, purse_of}
 use Rattle.stk_rules.specs.Sound.{IsSound}
@@ -24,7 +24,7 @@ use Rattle.stk_bracket.specs.Account.{Start, Account, IsReached}
 -- the starts of an operator's delegations, each with the delegation's shares
 abbrev pub starts_in : Staked → Rewards → List ℕ → List Start
 starts_in s r operator =
-    map (λ e. record { who = e.0.1; shares = unwrap_or (shares_of s e.0.1 operator) 0; info = e.1 })
+    map (λ e. record { who = e.0.1; shares = unwrap_or (delegation s e.0.1 operator) 0; info = e.1 })
     (filter (λ e. same_addr e.0.0 operator) r.starts)
 
 -- the account of a validator in a state, in a denomination
@@ -43,7 +43,7 @@ account_in d w v = let purse = purse_of (shared_in w).purses v.operator in recor
 
 -- fitting deeds lead to the account of each validator, in each denomination
 abbrev pub AreReached : State → Type 0
-AreReached w = (d : List ℕ) (v : Validator) → validator_of w.mine.staked v.operator ≡ Some v → IsReached d (account_in d w v)
+AreReached w = (d : List ℕ) (v : Validator) → validator_at w.mine.staked v.operator ≡ Some v → IsReached d (account_in d w v)
 
 -- In a sound state whose accounts are reached, each delegation's claim is bracketed, as the rules state it.
 abbrev pub ReachedIsBracketed : Type 0
@@ -52,7 +52,7 @@ ReachedIsBracketed = (w : State) → IsSound w → AreReached w → IsBracketed 
 -- In a state whose accounts are reached, what is outstanding for each validator covers all claims, but for the overclaim.
 abbrev pub ReachedHasShortfallWithin : Type 0
 ReachedHasShortfallWithin =
-    (w : State) → AreReached w → (d : List ℕ) (v : Validator) → validator_of w.mine.staked v.operator ≡ Some v → HasShortfallWithin d w v
+    (w : State) → AreReached w → (d : List ℕ) (v : Validator) → validator_at w.mine.staked v.operator ≡ Some v → HasShortfallWithin d w v
 
 -- What an exhausted outstanding record cuts from the reward of a delegation, once the period has ended, is at most the
 -- overclaim.
@@ -66,8 +66,8 @@ IsClaimCutWithin d w who v shares =
 -- so it is in a sound state whose accounts are reached
 abbrev pub ReachedIsCutWithin : Type 0
 ReachedIsCutWithin =
-    (w : State) → IsSound w → AreReached w → (d who : List ℕ) (v : Validator) (shares : ℕ) → validator_of w.mine.staked v.operator ≡ Some v
-    → shares_of w.mine.staked who v.operator ≡ Some shares → IsClaimCutWithin d w who v shares
+    (w : State) → IsSound w → AreReached w → (d who : List ℕ) (v : Validator) (shares : ℕ) → validator_at w.mine.staked v.operator ≡ Some v
+    → delegation w.mine.staked who v.operator ≡ Some shares → IsClaimCutWithin d w who v shares
 
 -- ---- steps
 
@@ -78,14 +78,14 @@ NextBlockKeepsReached = (w : State) (height time : ℕ) → w.view.ctx.height < 
 -- and so does the end of a validator's period
 abbrev pub EndKeepsReached : Type 0
 EndKeepsReached =
-    (w : State) (v : Validator) (period : ℕ) (s : Shared) (view : View) (more : Log) → IsSound w → validator_of w.mine.staked v.operator ≡ Some v
+    (w : State) (v : Validator) (period : ℕ) (s : Shared) (view : View) (more : Log) → IsSound w → validator_at w.mine.staked v.operator ≡ Some v
     → ended v (shared_in w) w.view ≡ Ok (period, s, view, more) → AreReached w → AreReached (with_shared s view more w)
 
 -- and so does withdrawing a delegation's reward
 abbrev pub WithdrawalKeepsReached : Type 0
 WithdrawalKeepsReached =
     (w : State) (v : Validator) (who : List ℕ) (shares : ℕ) (coins : Money) (s : Shared) (view : View) (more : Log) → IsSound w
-    → validator_of w.mine.staked v.operator ≡ Some v → shares_of w.mine.staked who v.operator ≡ Some shares
+    → validator_at w.mine.staked v.operator ≡ Some v → delegation w.mine.staked who v.operator ≡ Some shares
     → reward_withdrawn v who shares (shared_in w) w.view ≡ Ok (coins, s, view, more) → AreReached w → AreReached (with_shared s view more w)
 
 -- accounts that are reached stay so
@@ -94,21 +94,21 @@ ReachedStays old new = AreReached old → AreReached new
 
 -- so they do in each message that withdraws a reward
 abbrev pub RewardMessagesKeepReached : Type 0
-RewardMessagesKeepReached = (who operator : List ℕ) → Keeps ReachedStays (withdraw_reward who operator)
+RewardMessagesKeepReached = (who operator : List ℕ) → KeptByStep ReachedStays (withdraw_reward who operator)
 
 -- and in each message that moves coins, names a payee, funds or spends from the pool, or withdraws commission
 pub record QuietMessagesKeepReached : Type 0 where
-  pub fees : (payer : List ℕ) (fee : Money) → Keeps ReachedStays (fee_paid payer fee)
-  pub sends : (from : List ℕ) (to : account.Account) (coins : Money) → Keeps ReachedStays (send from to coins)
-  pub payees : (who : List ℕ) (to : account.Account) → Keeps ReachedStays (set_withdraw_address who to)
-  pub funds : (who : List ℕ) (coins : Money) → Keeps ReachedStays (fund_community_pool who coins)
-  pub spends : (authority : List ℕ) (to : account.Account) (coins : Money) → Keeps ReachedStays (community_pool_spend authority to coins)
-  pub commissions : (operator : List ℕ) → Keeps ReachedStays (withdraw_commission operator)
+  pub fees : (payer : List ℕ) (fee : Money) → KeptByStep ReachedStays (fee_paid payer fee)
+  pub sends : (from : List ℕ) (to : account.Account) (coins : Money) → KeptByStep ReachedStays (send from to coins)
+  pub payees : (who : List ℕ) (to : account.Account) → KeptByStep ReachedStays (set_withdraw_address who to)
+  pub funds : (who : List ℕ) (coins : Money) → KeptByStep ReachedStays (fund_community_pool who coins)
+  pub spends : (authority : List ℕ) (to : account.Account) (coins : Money) → KeptByStep ReachedStays (community_pool_spend authority to coins)
+  pub commissions : (operator : List ℕ) → KeptByStep ReachedStays (withdraw_commission operator)
 
 -- and in each message that edits a validator or frees it from jail
 pub record StandingMessagesKeepReached : Type 0 where
-  pub edits : (m : EditValidator) → Keeps ReachedStays (edit_validator m)
-  pub unjails : (operator : List ℕ) → Keeps ReachedStays (unjail operator)
+  pub edits : (m : EditValidator) → KeptByStep ReachedStays (edit_validator m)
+  pub unjails : (operator : List ℕ) → KeptByStep ReachedStays (unjail operator)
 
 -- no start is of this height, as where a block begins
 abbrev pub NoneStartedHere : State → Type 0

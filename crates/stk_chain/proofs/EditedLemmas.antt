@@ -6,7 +6,7 @@ use Rattle.stk_keep.specs.declared.entities.Validator.{Validator}
 use Rattle.stk_keep.specs.declared.messages.EditValidator.{EditValidator}
 use Rattle.stk_keep.specs.declared.refusal.Refusal.{Refusal}
 use Rattle.stk_keep.specs.declared.refusal.Refusal.TheVariants.{NoValidator, CommissionTooSoon, CommissionAboveMax, CommissionStep, CommissionBelowMinimum, MinSelfNotRaised, SelfBelowMinimum}
-use Rattle.stk_keep.specs.Staked.{Staked, validator_of, with_validator, tokens_where, bonded_tokens, other_tokens, is_bonded}
+use Rattle.stk_keep.specs.Staked.{Staked, validator_at, put_validator, tokens_where, bonded_tokens, other_tokens, is_bonded}
 use Rattle.stk_keep.specs.Steps.{◌>>=◌, ◌>>◌, stop_if, or_stop}
 use Rattle.stk_rules.specs.Amounts.{seconds}
 use Rattle.stk_rules.specs.Validators.{edit_formed, rate_edited, minimum_edited, edited}
@@ -54,33 +54,33 @@ cancelled : (a b m n : ℕ) → a + m ≡ b + n → n ≡ m → a ≡ b
 cancelled a b m n e f = omega arith
 
 module _ (m : EditValidator) (time minimum : ℕ) (s : Staked) (sound : IsSoundStake s) where
-  owed : (test : BondStatus → Bool) (v w : Validator) → validator_of s m.validator ≡ Some v → IsAlike v w → tokens_where test (with_validator w s).validators ≡ tokens_where test s.validators
+  owed : (test : BondStatus → Bool) (v w : Validator) → validator_at s m.validator ≡ Some v → IsAlike v w → tokens_where test (put_validator w s).validators ≡ tokens_where test s.validators
   owed test v w f a =
       let points = to_points sound.0 s sound.1 in
       let own : w.operator ≡ m.validator = a.operator ∙ points.operators m.validator v f in
-      cancelled (tokens_where test (with_validator w s).validators) (tokens_where test s.validators) (cond (test v.status) v.tokens 0) (cond (test w.status) w.tokens 0)
-      (tokens-put test w.operator v w s.validators points.validators_ascend (ap (validator_of s) own ∙ f))
+      cancelled (tokens_where test (put_validator w s).validators) (tokens_where test s.validators) (cond (test v.status) v.tokens 0) (cond (test w.status) w.tokens 0)
+      (tokens-put test w.operator v w s.validators points.validators_ascend (ap (validator_at s) own ∙ f))
       (λ i. cond (test (a.status i)) (a.tokens i) 0)
 
-  put : (v w : Validator) → validator_of s m.validator ≡ Some v → IsAlike v w → OwesSame s (Ok (with_validator w s))
+  put : (v w : Validator) → validator_at s m.validator ≡ Some v → IsAlike v w → OwesSame s (Ok (put_validator w s))
   put v w f a = (owed is_bonded v w f a, owed (λ status. cond (is_bonded status) false true) v w f a)
 
-  with_least : (v rated : Validator) → validator_of s m.validator ≡ Some v → IsAlike v rated → (r : Result Validator Refusal) → Alike rated r → OwesSame s (r >>= λ w. Ok (with_validator w s))
+  with_least : (v rated : Validator) → validator_at s m.validator ≡ Some v → IsAlike v rated → (r : Result Validator Refusal) → Alike rated r → OwesSame s (r >>= λ w. Ok (put_validator w s))
   with_least v rated f a (Ok w) b = put v w f (record { operator = b.operator ∙ a.operator; status = b.status ∙ a.status; tokens = b.tokens ∙ a.tokens })
   with_least v rated f a (Err why) b = tt
 
-  with_rate : (v : Validator) → validator_of s m.validator ≡ Some v → (r : Result Validator Refusal) → Alike v r → OwesSame s (r >>= λ rated. minimum_edited m.min_self_delegation rated >>= λ w. Ok (with_validator w s))
+  with_rate : (v : Validator) → validator_at s m.validator ≡ Some v → (r : Result Validator Refusal) → Alike v r → OwesSame s (r >>= λ rated. minimum_edited m.min_self_delegation rated >>= λ w. Ok (put_validator w s))
   with_rate v f (Ok rated) a = with_least v rated f a (minimum_edited m.min_self_delegation rated) (least_alike m.min_self_delegation rated)
   with_rate v f (Err why) a = tt
 
-  of_found : (o : Option Validator) → validator_of s m.validator ≡ o
-      → OwesSame s (or_stop o NoValidator >>= λ v. rate_edited m.rate time minimum v >>= λ rated. minimum_edited m.min_self_delegation rated >>= λ w. Ok (with_validator w s))
+  of_found : (o : Option Validator) → validator_at s m.validator ≡ o
+      → OwesSame s (or_stop o NoValidator >>= λ v. rate_edited m.rate time minimum v >>= λ rated. minimum_edited m.min_self_delegation rated >>= λ w. Ok (put_validator w s))
   of_found None f = tt
   of_found (Some v) f = with_rate v f (rate_edited m.rate time minimum v) (rate_alike m.rate time minimum v)
 
   of_formed : (r : Result ⊤ Refusal)
-      → OwesSame s (r >> (or_stop (validator_of s m.validator) NoValidator >>= λ v. rate_edited m.rate time minimum v >>= λ rated. minimum_edited m.min_self_delegation rated >>= λ w. Ok (with_validator w s)))
-  of_formed (Ok x) = of_found (validator_of s m.validator) refl
+      → OwesSame s (r >> (or_stop (validator_at s m.validator) NoValidator >>= λ v. rate_edited m.rate time minimum v >>= λ rated. minimum_edited m.min_self_delegation rated >>= λ w. Ok (put_validator w s)))
+  of_formed (Ok x) = of_found (validator_at s m.validator) refl
   of_formed (Err why) = tt
 
   pub edited_owes_same : OwesSame s (edited m time minimum s)

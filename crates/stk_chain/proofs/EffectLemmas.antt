@@ -17,7 +17,7 @@ use Rattle.stk_keep.specs.declared.refusal.Refusal.TheVariants.{NonPositive, NoV
 use Rattle.stk_keep.specs.Answers.{AnswersAs}
 use Rattle.stk_keep.specs.Holdings.{Holdings}
 use Rattle.stk_keep.specs.NoHooks.{nothing_told}
-use Rattle.stk_keep.specs.Staked.{Staked, validator_of}
+use Rattle.stk_keep.specs.Staked.{Staked, validator_at}
 use Rattle.stk_keep.specs.Steps.{◌>>=◌, ◌>>◌, stop_if, or_stop}
 use Rattle.stk_keep.specs.World.{View, World, over_mine}
 use Rattle.stk_bank.specs.Sending.{Transfers}
@@ -70,12 +70,12 @@ edited_ends m s s2 v v2 r h = by (edited m v.ctx.time v.ctx.params.min_commissio
 
 module _ (who operator : List ℕ) (coin : Coin) (s : Staked) (v : View) where
   -- the message by its three tests
-  by_tests : (none wrong : Bool) (found : Option Validator) → (coin.amount == 0) ≡ none → validator_of s operator ≡ found → is_wrong coin v ≡ wrong
+  by_tests : (none wrong : Bool) (found : Option Validator) → (coin.amount == 0) ≡ none → validator_at s operator ≡ found → is_wrong coin v ≡ wrong
       → delegate_unhooked who operator coin (stake_over s v) ≡ (stop_if none NonPositive
       >> (or_stop found NoValidator >>= λ x. stop_if wrong WrongDenom >> as_state (delegated nothing_told.told x who coin.amount wallet (over s tt v))))
   by_tests none wrong found a f w =
       delegate_steps who operator coin s v
-      ∙ ap (λ b. stop_if b NonPositive >> (or_stop (validator_of s operator) NoValidator >>= λ x. stop_if (is_wrong coin v) WrongDenom >> as_state (delegated nothing_told.told x who coin.amount wallet (over s tt v)))) a
+      ∙ ap (λ b. stop_if b NonPositive >> (or_stop (validator_at s operator) NoValidator >>= λ x. stop_if (is_wrong coin v) WrongDenom >> as_state (delegated nothing_told.told x who coin.amount wallet (over s tt v)))) a
       ∙ ap (λ o. stop_if none NonPositive >> (or_stop o NoValidator >>= λ x. stop_if (is_wrong coin v) WrongDenom >> as_state (delegated nothing_told.told x who coin.amount wallet (over s tt v)))) f
       ∙ ap (λ b. stop_if none NonPositive >> (or_stop found NoValidator >>= λ x. stop_if b WrongDenom >> as_state (delegated nothing_told.told x who coin.amount wallet (over s tt v)))) w
 
@@ -83,20 +83,20 @@ module _ (who operator : List ℕ) (coin : Coin) (s : Staked) (v : View) where
   is_something e = grind (arith, nat_tests)
 
   -- a delegation that passed the tests
-  passed : (P : Result State Refusal → Type 0) → coin.amount ≢ 0 → IsSome (validator_of s operator) → is_wrong coin v ≡ false
-      → ((x : Validator) → validator_of s operator ≡ Some x → P (as_state (delegated nothing_told.told x who coin.amount wallet (over s tt v)))) → P (delegate_unhooked who operator coin (stake_over s v))
-  passed P n known w h = by (validator_of s operator) refl known
+  passed : (P : Result State Refusal → Type 0) → coin.amount ≢ 0 → IsSome (validator_at s operator) → is_wrong coin v ≡ false
+      → ((x : Validator) → validator_at s operator ≡ Some x → P (as_state (delegated nothing_told.told x who coin.amount wallet (over s tt v)))) → P (delegate_unhooked who operator coin (stake_over s v))
+  passed P n known w h = by (validator_at s operator) refl known
     where
-      by : (o : Option Validator) → validator_of s operator ≡ o → IsSome o → P (delegate_unhooked who operator coin (stake_over s v))
+      by : (o : Option Validator) → validator_at s operator ≡ o → IsSome o → P (delegate_unhooked who operator coin (stake_over s v))
       by None f k = absurd cc
       by (Some x) f k = subst P (sym (by_tests false false (Some x) (is_something n) f w)) (h x f)
 
   -- and was carried out
-  pub delegated_ok : (s2 : Staked) (v2 : View) (issued : ℕ) → coin.amount ≢ 0 → IsSome (validator_of s operator) → is_wrong coin v ≡ false
-      → ((x : Validator) → validator_of s operator ≡ Some x → AnswersAs (delegated nothing_told.told x who coin.amount wallet (over s tt v)) s2 (λ x. Unit {0}) v2 (Ok issued)) → MessageEnds (delegate_unhooked who operator coin (stake_over s v)) (stake_over s2 v2) (Ok tt)
+  pub delegated_ok : (s2 : Staked) (v2 : View) (issued : ℕ) → coin.amount ≢ 0 → IsSome (validator_at s operator) → is_wrong coin v ≡ false
+      → ((x : Validator) → validator_at s operator ≡ Some x → AnswersAs (delegated nothing_told.told x who coin.amount wallet (over s tt v)) s2 (λ x. Unit {0}) v2 (Ok issued)) → MessageEnds (delegate_unhooked who operator coin (stake_over s v)) (stake_over s2 v2) (Ok tt)
   delegated_ok s2 v2 issued n known w h = passed (λ d. MessageEnds d (stake_over s2 v2) (Ok tt)) n known w (λ x f. ends_ok (delegated nothing_told.told x who coin.amount wallet (over s tt v)) s2 v2 issued (h x f))
 
   -- or then stopped
-  pub delegated_err : (s2 : Staked) (v2 : View) (why : Stop) → coin.amount ≢ 0 → IsSome (validator_of s operator) → is_wrong coin v ≡ false
-      → ((x : Validator) → validator_of s operator ≡ Some x → AnswersAs (delegated nothing_told.told x who coin.amount wallet (over s tt v)) s2 (λ x. Unit {0}) v2 (Err why)) → MessageEnds (delegate_unhooked who operator coin (stake_over s v)) (stake_over s2 v2) (Err why)
+  pub delegated_err : (s2 : Staked) (v2 : View) (why : Stop) → coin.amount ≢ 0 → IsSome (validator_at s operator) → is_wrong coin v ≡ false
+      → ((x : Validator) → validator_at s operator ≡ Some x → AnswersAs (delegated nothing_told.told x who coin.amount wallet (over s tt v)) s2 (λ x. Unit {0}) v2 (Err why)) → MessageEnds (delegate_unhooked who operator coin (stake_over s v)) (stake_over s2 v2) (Err why)
   delegated_err s2 v2 why n known w h = passed (λ d. MessageEnds d (stake_over s2 v2) (Err why)) n known w (λ x f. ends_err (delegated nothing_told.told x who coin.amount wallet (over s tt v)) s2 v2 why (h x f))

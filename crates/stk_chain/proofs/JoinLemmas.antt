@@ -1,7 +1,7 @@
 -- Validators of a genesis that join one after the other, and delegations that are added.
 use Rattle.std.proofs.Common.{◌≡◌, ◌∙◌, ℕ, ◌+◌, ◌<◌, List, [], ◌∷◌, drop, length, get_or, None, Result, Ok, refl, sym, ap, subst}
 use Rattle.stk_keep.specs.declared.refusal.Refusal.{Refusal}
-use Rattle.stk_keep.specs.Staked.{Staked, validator_of, validator_by_cons, with_validator}
+use Rattle.stk_keep.specs.Staked.{Staked, validator_at, validator_by_cons, put_validator}
 use Rattle.stk_keep.specs.Steps.{◌>>=◌, each}
 use Rattle.stk_keep.specs.World.{World}
 use Rattle.stk_rules.specs.Chain.{State, Hooks, staked_in}
@@ -48,7 +48,7 @@ module _ (g : Genesis) (place : ℕ) (first : State) (m : Modules) (v : GenesisV
   here : Enters g.params v (drop (place + 1) g.validators) m.staking.staked (ground_of m)
   here = one_enters g.params v (drop (place + 1) g.validators) m.staking.staked (ground_of m) (subst (λ l. IsEntering g.params l m.staking.staked) (next g.validators place v lt is) so.coming)
 
-  pub operator_free : validator_of m.staking.staked v.operator ≡ None
+  pub operator_free : validator_at m.staking.staked v.operator ≡ None
   operator_free = here.new
 
   pub address_free : validator_by_cons m.staking.staked v.cons ≡ None
@@ -57,8 +57,8 @@ module _ (g : Genesis) (place : ℕ) (first : State) (m : Modules) (v : GenesisV
   pub entered_next : (m2 : Modules) → validator_added no_hook v (staked_in (stands m)) ≡ Ok (staked_in (stands m2)) → AreAtRest m2 → EnteredSoFar g (place + 1) first m2
   entered_next m2 added r =
       let joined = entrant (ground_of m) v in
-      let same : staked_in (stands m2) ≡ over idle (with_validator joined m.staking.staked) (ground_of m)
-      = same_ok (validator_added no_hook v (staked_in (stands m))) (staked_in (stands m2)) (over idle (with_validator joined m.staking.staked) (ground_of m)) added (validator_added_is idle v m.staking.staked (ground_of m)) in
+      let same : staked_in (stands m2) ≡ over idle (put_validator joined m.staking.staked) (ground_of m)
+      = same_ok (validator_added no_hook v (staked_in (stands m))) (staked_in (stands m2)) (over idle (put_validator joined m.staking.staked) (ground_of m)) added (validator_added_is idle v m.staking.staked (ground_of m)) in
       record {
         at_rest = r;
         ground = ap (λ (w : World Staked Hooks). w.view) same ∙ so.ground;

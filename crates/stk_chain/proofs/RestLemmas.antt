@@ -13,7 +13,7 @@ use Rattle.stk_keep.specs.Answers.{AnswersAs}
 use Rattle.stk_keep.specs.Ground.{IsInOrder}
 use Rattle.stk_keep.specs.Hooks.{Stands}
 use Rattle.stk_keep.specs.NoHooks.{nothing_told}
-use Rattle.stk_keep.specs.Staked.{Staked, validator_of, with_validator, lists_of, bonded_tokens, other_tokens, HoldsStake}
+use Rattle.stk_keep.specs.Staked.{Staked, validator_at, put_validator, lists_of, bonded_tokens, other_tokens, HoldsStake}
 use Rattle.stk_keep.specs.Steps.{◌>>=◌, each}
 use Rattle.stk_keep.specs.World.{View, World}
 use Rattle.stk_rules.specs.Answers.{Leaves, StopsForMemory}
@@ -107,13 +107,13 @@ module _ (v : GenesisValidator) (bond : List ℕ) (time : ℕ) (s : Staked) (u :
   abbrev pub AdmittedAs : Staked → View → Result ⊤ HookFault → Type 0
   AdmittedAs s2 u2 r = Leaves (stored nothing_told.told (new_validator (creation_of bond v) time) (over tt s u)) s2 (λ x. Unit {0}) u2 r
 
-  admitted_is : (s2 : Staked) (u2 : View) (r : Result ⊤ HookFault) → AdmittedAs s2 u2 r → Leaves (Ok (over nothing (with_validator (new_validator (creation_of bond v) time) s) u)) s2 (λ x. Unit {0}) u2 r
+  admitted_is : (s2 : Staked) (u2 : View) (r : Result ⊤ HookFault) → AdmittedAs s2 u2 r → Leaves (Ok (over nothing (put_validator (new_validator (creation_of bond v) time) s) u)) s2 (λ x. Unit {0}) u2 r
   admitted_is s2 u2 r a = subst (λ (w : Result (World Staked (Unit {0})) Over). Leaves w s2 (λ x. Unit {0}) u2 r) (stored_is (new_validator (creation_of bond v) time) s u) a
 
   pub admitted_view : (s2 : Staked) (u2 : View) → AdmittedAs s2 u2 (Ok tt) → u2 ≡ u
   admitted_view s2 u2 a = (admitted_is s2 u2 (Ok tt) a).2
 
-  pub admitted_stake : (s2 : Staked) (u2 : View) → AdmittedAs s2 u2 (Ok tt) → s2 ≡ with_validator (new_validator (creation_of bond v) time) s
+  pub admitted_stake : (s2 : Staked) (u2 : View) → AdmittedAs s2 u2 (Ok tt) → s2 ≡ put_validator (new_validator (creation_of bond v) time) s
   admitted_stake s2 u2 a = (admitted_is s2 u2 (Ok tt) a).0
 
 -- the machine adds it so
@@ -135,7 +135,7 @@ module _ (d : GenesisDelegation) (later : List GenesisDelegation) (m : Modules) 
 
   -- what delegating answers and leaves
   abbrev pub DelegatedAs : Staked → View → Result ℕ Stop → Type 0
-  DelegatedAs s2 u2 r = (v : Validator) → validator_of m.staking.staked d.validator ≡ Some v → AnswersAs (delegated nothing_told.told v d.delegator d.amount (pool Unbonded) (over tt m.staking.staked (ground_of m))) s2 (λ x. Unit {0}) u2 r
+  DelegatedAs s2 u2 r = (v : Validator) → validator_at m.staking.staked d.validator ≡ Some v → AnswersAs (delegated nothing_told.told v d.delegator d.amount (pool Unbonded) (over tt m.staking.staked (ground_of m))) s2 (λ x. Unit {0}) u2 r
 
   delegated_is : (s2 : Staked) (u2 : View) (r : Result ℕ Stop) → DelegatedAs s2 u2 r → AnswersAs (Ok (10 ^ 18 * d.amount, over nothing one.left (ground_of m))) s2 (λ x. Unit {0}) u2 r
   delegated_is s2 u2 r a = subst (λ (w : Result (ℕ × World Staked (Unit {0})) Refusal). AnswersAs w s2 (λ x. Unit {0}) u2 r) one.delegated_to (a one.validator one.found)

@@ -17,7 +17,7 @@ use Rattle.stk_keep.specs.Holdings.{Holdings}
 use Rattle.stk_bank.specs.Given.{coin_given, coins_given, all_given, held_by as given_by, given_of, IsBounded}
 use Rattle.stk_msgs.specs.declared.genesis.Genesis.{Genesis}
 use Rattle.stk_msgs.specs.declared.genesis.GenesisAccount.{GenesisAccount}
-use Rattle.stk_machine.specs.Genesis.{with_coins, balances_with, coins_joined, supplies_with, held_by}
+use Rattle.stk_machine.specs.Genesis.{with_coins, balances_with, coins_joined, supplies_with, held_at_start}
 use Rattle.stk_machine.specs.GenesisConditions.{start_condition, accounts_at_start, delegated_coins}
 use Rattle.stk_machine.proofs.Kept.{amount_within}
 use Rattle.stk_machine.proofs.StartLemmas.{may_start}
@@ -39,7 +39,7 @@ given_all [] h = refl
 given_all (a ∷ accounts) h = ap (all_given (map pair_of accounts)) (given_coins a.address a.coins h) ∙ given_all accounts (record { balances = with_coins a.address a.coins h.balances; supplies = coins_joined a.coins h.supplies })
 
 -- a bank that gives each account its coins holds what the genesis says
-pub given_is_held : (accounts : List GenesisAccount) → given_by (map pair_of accounts) ≡ held_by accounts
+pub given_is_held : (accounts : List GenesisAccount) → given_by (map pair_of accounts) ≡ held_at_start accounts
 given_is_held accounts = given_all accounts (record { balances = []; supplies = [] })
 
 -- ---- how much is given

@@ -3,7 +3,7 @@
 
 ghost use Rattle.std.specs.Prelude.{◌≡◌, ◌<◌, ◌∷◌, List, None, Ok, IfOk, IfErr, OnOk};
 ghost use Rattle.stk_keep.specs.Holdings.{IsBacked};
-ghost use Rattle.stk_keep.specs.Staked.{validator_of, validator_by_cons};
+ghost use Rattle.stk_keep.specs.Staked.{validator_at, validator_by_cons};
 ghost use Rattle.stk_keep.specs.Steps.{each};
 ghost use Rattle.stk_rules.specs.Answers.{StopsForMemory};
 ghost use Rattle.stk_rules.specs.Chain.{staked_in};
@@ -11,7 +11,7 @@ ghost use Rattle.stk_bank.specs.Booked.{holding, new_book};
 ghost use Rattle.stk_book.specs.Calls.{HasRates};
 ghost use Rattle.stk_msgs.specs.declared.genesis.GenesisDelegation.{GenesisDelegation};
 ghost use Rattle.stk_machine.specs.Built.{built_start, no_hook, IsStarting};
-ghost use Rattle.stk_machine.specs.Genesis.{held_by};
+ghost use Rattle.stk_machine.specs.Genesis.{held_at_start};
 ghost use Rattle.stk_machine.specs.GenesisConditions.{start_condition, accounts_at_start, creation_of};
 ghost use Rattle.stk_machine.specs.GenesisState.{ground_at_start, empty_over, validator_added, delegation_added};
 ghost use Rattle.stk_chain.specs.Chained.{stands, AreAtRest};
@@ -71,7 +71,7 @@ fn start_book<L: Ledger>(
     steps: &mut Steps<L>,
 ) -> Result<Book, ChainFault>
     requires starts { start_condition genesis.now ≡ None }
-    ensures book { IfOk result (λ book. book ≡ holding (held_by (accounts_at_start genesis.now)) new_book) }
+    ensures book { IfOk result (λ book. book ≡ holding (held_at_start (accounts_at_start genesis.now)) new_book) }
     ensures backed { IfOk result (λ book. IsBacked book.holdings) }
     ensures fault { IfErr result (λ fault. fault ≡ ChainFault.NoMemory) }
 {
@@ -161,7 +161,7 @@ impl Modules {
         v: &GenesisValidator,
         steps: &mut Steps<L>,
     ) -> Result<(), ChainFault>
-        requires new { validator_of self.old.staking.staked v.now.operator ≡ None }
+        requires new { validator_at self.old.staking.staked v.now.operator ≡ None }
         requires new_cons { validator_by_cons self.old.staking.staked v.now.cons ≡ None }
         requires rates { HasRates (creation_of self.old.ground.ctx.params.bond_denom v.now) }
         requires rest { AreAtRest self.old }

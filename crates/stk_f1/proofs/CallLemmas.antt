@@ -14,7 +14,7 @@ use Rattle.stk_keep.specs.Orders.{pair_cmp, same_addr}
 use Rattle.stk_rules.specs.Amounts.{count_where}
 use Rattle.stk_rules.specs.Periods.{Periods, Rewards, periods_of, start_of, starts_of, with_periods, with_start, without_start, ratio_at, last_ended, event_recorded, references_of}
 use Rattle.stk_f1.specs.Kept.{Kept, period_cmp, event_cmp, current_of, record_of, info_of, event_at, events_of}
-use Rattle.stk_f1.specs.Stands.{Keeps, IsKept, history_of, started_at, references_in, references_at, if_some}
+use Rattle.stk_f1.specs.Stands.{KeepsRewards, IsKept, history_of, started_at, references_in, references_at, if_some}
 use Rattle.stk_f1.specs.Steps.{running, started_kept, slashed_kept, stopped_kept}
 use Rattle.stk_f1.proofs.RecordLemmas.{counted}
 use Rattle.stk_f1.proofs.TallyLemmas.{count-most, filter-most}
@@ -64,10 +64,10 @@ count-few k o n kept starts events h found = by (at addr_cmp kept.0.periods o) r
         omega (arith, le)
 
 -- the start of a delegation
-pub start-answers : (k k2 : Kept) (r : Rewards) (o who : List ℕ) (stake height period : ℕ) → Keeps k r → is_some (current_of k o) ≡ true
+pub start-answers : (k k2 : Kept) (r : Rewards) (o who : List ℕ) (stake height period : ℕ) → KeepsRewards k r → is_some (current_of k o) ≡ true
     → IsStrictlySortedBy period_cmp (keys_of k.historical) → info_of k who o ≡ None → 1 ≤ running k o → period ≡ running k o - 1
     → k2 ≡ started_kept who o (record { period = period; stake = stake; height = height }) k
-    → Keeps k2 (with_start who o (started_at (periods_of r o) stake height) r)
+    → KeepsRewards k2 (with_start who o (started_at (periods_of r o) stake height) r)
 start-answers k k2 r o who stake height period h is sorted new above at_period left =
     let there = periods-there k r o h is in
     let p : Periods = there.0 in
@@ -75,21 +75,21 @@ start-answers k k2 r o who stake height period h is sorted new above at_period l
     let info : StartingInfo = record { period = period; stake = stake; height = height } in
     let stands = start-stands k r o who p h there.1 sorted info (omega (arith, above, at_period, running)) (ap (λ es. at pair_cmp es (o, who)) (sym h.starts) ∙ new) in
     let same : period ≡ last_ended (periods_of r o) = at_period ∙ ap (λ c. c - 1) running ∙ sym (ap last_ended (periods-is k r o p h there.1)) in
-    subst (λ n. Keeps k2 (with_start who o (record { period = n; stake = stake; height = height }) r)) same
-    (subst (λ x. Keeps x (with_start who o info r)) (sym left) stands)
+    subst (λ n. KeepsRewards k2 (with_start who o (record { period = n; stake = stake; height = height }) r)) same
+    (subst (λ x. KeepsRewards x (with_start who o info r)) (sym left) stands)
 
 -- the last ended period, as it is told
-pub last-is : (k : Kept) (r : Rewards) (o : List ℕ) (period : ℕ) → Keeps k r → is_some (current_of k o) ≡ true → period ≡ running k o - 1 → period ≡ last_ended (periods_of r o)
+pub last-is : (k : Kept) (r : Rewards) (o : List ℕ) (period : ℕ) → KeepsRewards k r → is_some (current_of k o) ≡ true → period ≡ running k o - 1 → period ≡ last_ended (periods_of r o)
 last-is k r o period h is at_period =
     let there = periods-there k r o h is in
     at_period ∙ ap (λ c. c - 1) (running-is k r o there.0 h there.1) ∙ sym (ap last_ended (periods-is k r o there.0 h there.1))
 
 -- a slash that is recorded
-pub slash-answers : (k k2 : Kept) (r : Rewards) (o : List ℕ) (height period fraction : ℕ) → Keeps k r → is_some (current_of k o) ≡ true
+pub slash-answers : (k k2 : Kept) (r : Rewards) (o : List ℕ) (height period fraction : ℕ) → KeepsRewards k r → is_some (current_of k o) ≡ true
     → IsStrictlySortedBy period_cmp (keys_of k.historical) → IsStrictlySortedBy event_cmp (keys_of k.events)
     → period + 1 ≡ running k o → All (λ e. e.period ≢ period) (events_of k o) → All (λ e. e.height ≤ height) (events_of k o) → fraction ≤ 10 ^ 18
     → k2 ≡ slashed_kept o (record { height = height; period = period; fraction = fraction }) k
-    → Keeps k2 (with_periods o (event_recorded height fraction (periods_of r o)) r)
+    → KeepsRewards k2 (with_periods o (event_recorded height fraction (periods_of r o)) r)
 slash-answers k k2 r o height period fraction h is records slashes last free heights part left =
     let there = periods-there k r o h is in
     let p : Periods = there.0 in
@@ -97,26 +97,26 @@ slash-answers k k2 r o height period fraction h is records slashes last free hei
     let e : SlashEvent = record { height = height; period = period; fraction = fraction } in
     let stands = slash-stands k r o p h there.1 records slashes e (last ∙ running) free heights part in
     let same : period ≡ last_ended p = omega (arith, last, running) in
-    subst (λ x. Keeps k2 (with_periods o (event_recorded height fraction x) r)) (sym (periods-is k r o p h there.1))
-    (subst (λ n. Keeps k2 (with_periods o (record p { events = p.events ++ record { height = height; period = n; fraction = fraction } ∷ [] }) r)) same
-    (subst (λ x. Keeps x (with_periods o (record p { events = p.events ++ e ∷ [] }) r)) (sym left) stands))
+    subst (λ x. KeepsRewards k2 (with_periods o (event_recorded height fraction x) r)) (sym (periods-is k r o p h there.1))
+    (subst (λ n. KeepsRewards k2 (with_periods o (record p { events = p.events ++ record { height = height; period = n; fraction = fraction } ∷ [] }) r)) same
+    (subst (λ x. KeepsRewards x (with_periods o (record p { events = p.events ++ e ∷ [] }) r)) (sym left) stands))
 
 started_there : {A : Type 0} (x : Option A) → is_some x ≡ true → (a : A) × (x ≡ Some a)
 started_there None e = cc
 started_there (Some a) e = (a, refl)
 
 -- the end of a delegation's rewards
-pub stop-answers : (k k2 : Kept) (r : Rewards) (o who : List ℕ) (info : StartingInfo) → Keeps k r
+pub stop-answers : (k k2 : Kept) (r : Rewards) (o who : List ℕ) (info : StartingInfo) → KeepsRewards k r
     → IsStrictlySortedBy period_cmp (keys_of k.historical) → info_of k who o ≡ Some info
-    → k2 ≡ stopped_kept who o (Some info) k → Keeps k2 (without_start who o r)
+    → k2 ≡ stopped_kept who o (Some info) k → KeepsRewards k2 (without_start who o r)
 stop-answers k k2 r o who info h sorted there left =
     let started : start_of r who o ≡ Some info = ap (λ es. at pair_cmp es (o, who)) (sym h.starts) ∙ there in
     let has : is_some (at addr_cmp r.periods o) ≡ true = h.sound.started o who (ap is_some started) in
     let p = started_there (at addr_cmp r.periods o) has in
-    subst (λ x. Keeps x (without_start who o r)) (sym left) (stop-stands k r o who p.0 h p.1 sorted info started)
+    subst (λ x. KeepsRewards x (without_start who o r)) (sym left) (stop-stands k r o who p.0 h p.1 sorted info started)
 
 -- how many refer to a period
-pub count-answers : (k : Kept) (r : Rewards) (o : List ℕ) (n : ℕ) → Keeps k r → option_map (λ (d : Historical). d.count) (record_of k o n) ≡ if_some (references_at r o n)
+pub count-answers : (k : Kept) (r : Rewards) (o : List ℕ) (n : ℕ) → KeepsRewards k r → option_map (λ (d : Historical). d.count) (record_of k o n) ≡ if_some (references_at r o n)
 count-answers k r o n h = ap (option_map (λ (d : Historical). d.count)) (h.historical o n) ∙ by (at addr_cmp r.periods o)
   where
     by : (x : Option Periods) → option_map (λ (d : Historical). d.count) (history_of x (starts_of r o) n) ≡ if_some (references_in x (starts_of r o) n)

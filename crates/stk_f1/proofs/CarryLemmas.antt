@@ -9,7 +9,7 @@ use Rattle.stk_keep.specs.Orders.{pair_cmp, same_addr}
 use Rattle.stk_table.proofs.CallerLemmas.{value_at-insert_entry, sorted-insert_entry}
 use Rattle.stk_rules.specs.Periods.{Periods, Rewards, initial_records, periods_of, start_of, starts_of, with_periods, ratio_at, references_of}
 use Rattle.stk_f1.specs.Kept.{Kept, current_of, record_of, events_of}
-use Rattle.stk_f1.specs.Stands.{AreSound, IsSound, Keeps, history_of}
+use Rattle.stk_f1.specs.Stands.{AreSound, IsSound, KeepsRewards, history_of}
 use Rattle.stk_f1.proofs.RecordLemmas.{counted}
 use Rattle.stk_f1.proofs.OrderLemmas.{addr_total, same_is, same_itself}
 
@@ -42,7 +42,7 @@ pub record PeriodsChange (k k2 : Kept) (r : Rewards) (o : List ℕ) (p : Periods
   pub other_events : (q : List ℕ) → same_addr q o ≡ false → events_of k2 q ≡ events_of k q
   pub sound : AreSound p (starts_of r o)
 
-module _ (k k2 : Kept) (r : Rewards) (o : List ℕ) (p : Periods) (h : Keeps k r) (c : PeriodsChange k k2 r o p) where
+module _ (k k2 : Kept) (r : Rewards) (o : List ℕ) (p : Periods) (h : KeepsRewards k r) (c : PeriodsChange k k2 r o p) where
   sound-with : IsSound (with_periods o p r)
   sound-with = record {
     operators_ascend = sorted-insert_entry addr_total o p r.periods h.sound.operators_ascend;
@@ -55,7 +55,7 @@ module _ (k k2 : Kept) (r : Rewards) (o : List ℕ) (p : Periods) (h : Keeps k r
         (λ q apart who e. ap is_some (periods-other r o q p apart) ∙ h.sound.started q who e);
   }
 
-  pub carry-periods : Keeps k2 (with_periods o p r)
+  pub carry-periods : KeepsRewards k2 (with_periods o p r)
   carry-periods = record {
     current = each-operator (λ q. current_of k2 q ≡ option_map (λ x. x.current) (at addr_cmp (with_periods o p r).periods q)) o
         (c.current ∙ sym (ap (option_map (λ x. x.current)) (periods-own r o p)))
@@ -84,7 +84,7 @@ pub record StartsChange (k k2 : Kept) (r r2 : Rewards) (o : List ℕ) (p : Perio
   pub events : k2.events ≡ k.events
   pub sound : AreSound p (starts_of r2 o)
 
-pub carry-starts : (k k2 : Kept) (r r2 : Rewards) (o : List ℕ) (p : Periods) → Keeps k r → StartsChange k k2 r r2 o p → Keeps k2 r2
+pub carry-starts : (k k2 : Kept) (r r2 : Rewards) (o : List ℕ) (p : Periods) → KeepsRewards k r → StartsChange k k2 r r2 o p → KeepsRewards k2 r2
 carry-starts k k2 r r2 o p h c = record {
   current = λ q. ap (λ es. at addr_cmp es q) c.current ∙ h.current q ∙ ap (λ es. option_map (λ x. x.current) (at addr_cmp es q)) (sym c.periods);
   historical = each-operator (λ q. (n : ℕ) → record_of k2 q n ≡ history_of (at addr_cmp r2.periods q) (starts_of r2 q) n) o

@@ -10,7 +10,7 @@ use Rattle.stk_keep.specs.Orders.{pair_cmp, same_addr}
 use Rattle.stk_table.proofs.CallerLemmas.{value_at-remove_entry, sorted-remove_entry}
 use Rattle.stk_rules.specs.Periods.{Periods, Rewards, initial_records, periods_of, start_of, starts_of, without_periods}
 use Rattle.stk_f1.specs.Kept.{Kept, period_cmp, current_of, record_of, info_of, event_at, events_of, others, without_operator}
-use Rattle.stk_f1.specs.Stands.{AreSound, Keeps, history_of}
+use Rattle.stk_f1.specs.Stands.{AreSound, KeepsRewards, history_of}
 use Rattle.stk_f1.proofs.OrderLemmas.{addr_total, same_is, same_itself, period_found}
 use Rattle.stk_f1.proofs.CarryLemmas.{each-operator}
 
@@ -76,7 +76,7 @@ first_same : (a b : Bool) → (a && b) ≡ true → a ≡ true
 first_same true b h = refl
 first_same false b h = cc
 
-module _ (k : Kept) (r : Rewards) (o : List ℕ) (h : Keeps k r) (is : is_some (current_of k o) ≡ true) (current : IsStrictlySortedBy addr_cmp (keys_of k.current)) (none : (who : List ℕ) → info_of k who o ≡ None) where
+module _ (k : Kept) (r : Rewards) (o : List ℕ) (h : KeepsRewards k r) (is : is_some (current_of k o) ≡ true) (current : IsStrictlySortedBy addr_cmp (keys_of k.current)) (none : (who : List ℕ) → info_of k who o ≡ None) where
   own_periods : at addr_cmp (without_periods o r).periods o ≡ None
   own_periods = value_at-remove_entry addr_total r.periods o o h.sound.operators_ascend ∙ ap (λ b. cond b None (at addr_cmp r.periods o)) (same_itself o)
 
@@ -91,7 +91,7 @@ module _ (k : Kept) (r : Rewards) (o : List ℕ) (h : Keeps k r) (is : is_some (
   no_start who t = not_some (start_of r who o) (ap (λ es. at pair_cmp es (o, who)) (sym h.starts) ∙ none who) t
 
   -- the records of the operator are gone, and the others' stay
-  pub clear-stands : Keeps (without_operator o k) (without_periods o r)
+  pub clear-stands : KeepsRewards (without_operator o k) (without_periods o r)
   clear-stands = record {
     current = each-operator (λ q. current_of (without_operator o k) q ≡ option_map (λ p. p.current) (at addr_cmp (without_periods o r).periods q)) o
         (value_at-remove_entry addr_total k.current o o current ∙ ap (λ b. cond b None (current_of k o)) (same_itself o) ∙ sym (ap (option_map (λ p. p.current)) own_periods))

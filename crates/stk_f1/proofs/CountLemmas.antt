@@ -8,11 +8,11 @@ use Rattle.stk_keep.specs.Entries.{at}
 use Rattle.stk_keep.specs.Orders.{same_addr}
 use Rattle.stk_rules.specs.Periods.{Periods, Rewards, starts_of, ratio_at, references_of}
 use Rattle.stk_f1.specs.Kept.{Kept, period_cmp, record_of}
-use Rattle.stk_f1.specs.Stands.{Keeps}
+use Rattle.stk_f1.specs.Stands.{KeepsRewards}
 use Rattle.stk_f1.proofs.RecordLemmas.{counted}
 use Rattle.stk_f1.proofs.FoundLemmas.{found-own, found-other, record-is}
 
-module _ (k : Kept) (r : Rewards) (o : List ℕ) (p : Periods) (h : Keeps k r) (e : at addr_cmp r.periods o ≡ Some p) where
+module _ (k : Kept) (r : Rewards) (o : List ℕ) (p : Periods) (h : KeepsRewards k r) (e : at addr_cmp r.periods o ≡ Some p) where
   abbrev refs : ℕ → ℕ
   refs n = references_of p (starts_of r o) n
 

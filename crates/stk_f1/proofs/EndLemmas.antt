@@ -13,7 +13,7 @@ use Rattle.stk_keep.specs.Orders.{same_addr}
 use Rattle.stk_table.proofs.CallerLemmas.{sorted-insert_entry}
 use Rattle.stk_rules.specs.Periods.{Periods, Rewards, initial_records, starts_of, with_periods, ratio_at, references_of}
 use Rattle.stk_f1.specs.Kept.{Kept, period_cmp, record_of, events_of, with_record, with_current, released}
-use Rattle.stk_f1.specs.Stands.{AreSound, Keeps}
+use Rattle.stk_f1.specs.Stands.{AreSound, KeepsRewards}
 use Rattle.stk_f1.specs.Steps.{ended_kept}
 use Rattle.stk_f1.proofs.OrderLemmas.{period_total}
 use Rattle.stk_f1.proofs.RecordLemmas.{counted, record-with, record-released, recounted-starts, recounted-events, recounted-current}
@@ -134,7 +134,7 @@ module _ (p : Periods) (starts : List StartingInfo) (ratio : Money) (sound : Are
           let up = sound.rise a b le denom in
           omega (arith, one, two, up)
 
-module _ (k : Kept) (r : Rewards) (o : List ℕ) (p : Periods) (h : Keeps k r) (is : at addr_cmp r.periods o ≡ Some p) (sorted : IsStrictlySortedBy period_cmp (keys_of k.historical)) (ratio : Money) where
+module _ (k : Kept) (r : Rewards) (o : List ℕ) (p : Periods) (h : KeepsRewards k r) (is : at addr_cmp r.periods o ≡ Some p) (sorted : IsStrictlySortedBy period_cmp (keys_of k.historical)) (ratio : Money) where
   old : AreSound p (starts_of r o)
   old = sound-is k r o p h is
 
@@ -193,7 +193,7 @@ module _ (k : Kept) (r : Rewards) (o : List ℕ) (p : Periods) (h : Keeps k r) (
       ∙ (λ i. cond (found-other o q (p.current - 1) m apart i) (counted (ratio_at p.ratios (p.current - 1)) (references_of p (starts_of r o) (p.current - 1) - 1)) (record_of put q m))
       ∙ put-record q m ∙ (λ i. cond (found-other o q p.current m apart i) (counted ratio 1) (record_of k q m))
 
-  ended-change : p.current ≢ 10 ^ 18 → IsGrown p ratio → Keeps (with_current o (p.current + 1) gone) (with_periods o (ended_with p ratio) r)
+  ended-change : p.current ≢ 10 ^ 18 → IsGrown p ratio → KeepsRewards (with_current o (p.current + 1) gone) (with_periods o (ended_with p ratio) r)
   ended-change below grown = carry-periods k (with_current o (p.current + 1) gone) r o (ended_with p ratio) h (record {
     current = current-own gone o (p.current + 1);
     other_current = λ q apart. current-other gone o q (p.current + 1) apart ∙ ap (λ es. at addr_cmp es q) (recounted-current (record_of put o (p.current - 1)) (λ c. c - 1) o (p.current - 1) put);
@@ -206,5 +206,5 @@ module _ (k : Kept) (r : Rewards) (o : List ℕ) (p : Periods) (h : Keeps k r) (
   })
 
   -- the period of the operator has ended with this ratio
-  pub end-stands : p.current ≢ 10 ^ 18 → IsGrown p ratio → Keeps (ended_kept ratio o k) (with_periods o (ended_with p ratio) r)
-  end-stands below grown = subst (λ c. Keeps (with_current o (c + 1) (released o (c - 1) (with_record o c ratio 1 k))) (with_periods o (ended_with p ratio) r)) (sym (running-is k r o p h is)) (ended-change below grown)
+  pub end-stands : p.current ≢ 10 ^ 18 → IsGrown p ratio → KeepsRewards (ended_kept ratio o k) (with_periods o (ended_with p ratio) r)
+  end-stands below grown = subst (λ c. KeepsRewards (with_current o (c + 1) (released o (c - 1) (with_record o c ratio 1 k))) (with_periods o (ended_with p ratio) r)) (sym (running-is k r o p h is)) (ended-change below grown)

@@ -11,7 +11,7 @@ use Rattle.stk_table.proofs.CallerLemmas.{value_at-insert_entry}
 use Rattle.stk_rules.specs.Amounts.{count_where}
 use Rattle.stk_rules.specs.Periods.{Periods, Rewards, initial_records, periods_of, start_of, starts_of, ratio_at, references_of}
 use Rattle.stk_f1.specs.Kept.{Kept, period_cmp, current_of, record_of, with_current}
-use Rattle.stk_f1.specs.Stands.{AreSound, IsSound, Keeps, history_of}
+use Rattle.stk_f1.specs.Stands.{AreSound, IsSound, KeepsRewards, history_of}
 use Rattle.stk_f1.specs.Steps.{running}
 use Rattle.stk_f1.proofs.RecordLemmas.{counted}
 use Rattle.stk_f1.proofs.OrderLemmas.{addr_total, same_is, same_itself, period_found, pair_found}
@@ -21,10 +21,10 @@ there f None y e h = let none : is_some (option_map f None) ≡ true = ap is_som
 there f (Some a) y e h = (a, refl)
 
 -- an operator whose period runs has periods
-pub periods-there : (k : Kept) (r : Rewards) (o : List ℕ) → Keeps k r → is_some (current_of k o) ≡ true → (p : Periods) × (at addr_cmp r.periods o ≡ Some p)
+pub periods-there : (k : Kept) (r : Rewards) (o : List ℕ) → KeepsRewards k r → is_some (current_of k o) ≡ true → (p : Periods) × (at addr_cmp r.periods o ≡ Some p)
 periods-there k r o h is = there (λ p. p.current) (at addr_cmp r.periods o) (current_of k o) (h.current o) is
 
-module _ (k : Kept) (r : Rewards) (o : List ℕ) (p : Periods) (h : Keeps k r) (e : at addr_cmp r.periods o ≡ Some p) where
+module _ (k : Kept) (r : Rewards) (o : List ℕ) (p : Periods) (h : KeepsRewards k r) (e : at addr_cmp r.periods o ≡ Some p) where
   pub running-is : running k o ≡ p.current
   running-is = ap (λ c. unwrap_or c 0) (h.current o ∙ ap (option_map (λ x. x.current)) e)
 
@@ -129,7 +129,7 @@ pub none-started : (r : Rewards) (o : List ℕ) → IsSound r → at addr_cmp r.
 none-started r o s e who = none_of (start_of r who o) (λ is. not_there (at addr_cmp r.periods o) e (s.started o who is))
 
 -- an operator of which no period runs has no periods
-pub no-periods : (k : Kept) (r : Rewards) (o : List ℕ) → Keeps k r → current_of k o ≡ None → at addr_cmp r.periods o ≡ None
+pub no-periods : (k : Kept) (r : Rewards) (o : List ℕ) → KeepsRewards k r → current_of k o ≡ None → at addr_cmp r.periods o ≡ None
 no-periods k r o h e = by (at addr_cmp r.periods o) (sym (h.current o) ∙ e)
   where
     by : (x : Option Periods) → option_map (λ p. p.current) x ≡ None → x ≡ None

@@ -16,7 +16,7 @@ use Rattle.stk_f1.specs.Answers.{Gives, IsExcessOf}
 use Rattle.stk_f1.specs.Earning.{kept_reward, CanEarn}
 use Rattle.stk_f1.specs.Kept.{Kept, current_of, record_of, info_of}
 use Rattle.stk_rules.specs.Periods.{Periods, Rewards, periods_of, start_of, ratio_at, last_ended, earned, stretches_of, reward_of, reward_at, reward_after}
-use Rattle.stk_f1.specs.Stands.{Keeps, IsKept}
+use Rattle.stk_f1.specs.Stands.{KeepsRewards, IsKept}
 use Rattle.stk_f1.specs.Steps.{running, next_ratio}
 use Rattle.stk_f1.proofs.FoundLemmas.{periods-there, periods-is, running-is}
 use Rattle.stk_f1.proofs.RatioLemmas.{last-record, next-grown, next-ended, ended-err}
@@ -41,15 +41,15 @@ there_is None e = cc
 there_is (Some a) e = (a, refl)
 
 -- an operator of which a delegation is started has periods
-started-periods : (r : Rewards) (o who : List ℕ) (s : StartingInfo) (k : Kept) → Keeps k r → start_of r who o ≡ Some s → (p : Periods) × (at addr_cmp r.periods o ≡ Some p)
+started-periods : (r : Rewards) (o who : List ℕ) (s : StartingInfo) (k : Kept) → KeepsRewards k r → start_of r who o ≡ Some s → (p : Periods) × (at addr_cmp r.periods o ≡ Some p)
 started-periods r o who s k h start = there_is (at addr_cmp r.periods o) (h.sound.started o who (ap is_some start))
 
-start-is : (k : Kept) (r : Rewards) (o who : List ℕ) (s : StartingInfo) → Keeps k r → info_of k who o ≡ Some s → start_of r who o ≡ Some s
+start-is : (k : Kept) (r : Rewards) (o who : List ℕ) (s : StartingInfo) → KeepsRewards k r → info_of k who o ≡ Some s → start_of r who o ≡ Some s
 start-is k r o who s h info = ap (λ es. at pair_cmp es (o, who)) (sym h.starts) ∙ info
 
 -- ---- up to the last ended period
 
-ratio_now : (k : Kept) (r : Rewards) (o : List ℕ) (p : Periods) (ending : ℕ) (x : Historical) → Keeps k r → at addr_cmp r.periods o ≡ Some p → ending + 1 ≡ running k o → record_of k o ending ≡ Some x
+ratio_now : (k : Kept) (r : Rewards) (o : List ℕ) (p : Periods) (ending : ℕ) (x : Historical) → KeepsRewards k r → at addr_cmp r.periods o ≡ Some p → ending + 1 ≡ running k o → record_of k o ending ≡ Some x
     → ratio_at p.ratios ending ≡ x.ratio
 ratio_now k r o p ending x h is last found =
     let same : running k o - 1 ≡ ending = omega (arith, last) in
@@ -66,7 +66,7 @@ can-reward k o who s ending x kept info last found =
     subst (λ m. CanEarn k o s ending m) (ratio_now k kept.0 o there.0 ending x kept.1 there.1 last found)
     (can-now k kept.0 o who there.0 s kept.1 there.1 start ending run)
 
-pub reward-gives : (k : Kept) (r : Rewards) (o who : List ℕ) (s : StartingInfo) (ending height value : ℕ) (x : Historical) (result : Result Money HookFault) → Keeps k r → info_of k who o ≡ Some s
+pub reward-gives : (k : Kept) (r : Rewards) (o who : List ℕ) (s : StartingInfo) (ending height value : ℕ) (x : Historical) (result : Result Money HookFault) → KeepsRewards k r → info_of k who o ≡ Some s
     → ending + 1 ≡ running k o → record_of k o ending ≡ Some x → s.height ≢ height
     → IfOk result (λ m. kept_reward k o s ending x.ratio value ≡ Ok m) → IfErr result (IsExcessOf (kept_reward k o s ending x.ratio value))
     → Gives (reward_at (start_of r who o) (periods_of r o) ending height value) result
@@ -92,7 +92,7 @@ can-reward-after k o who s increment ratio kept info coins next =
     (there.0.current, can-after k kept.0 o who there.0 s kept.1 there.1 start ratio (next-grown k kept.0 o there.0 kept.1 there.1 increment ratio coins next))
 
 -- what is answered of a start at another height
-pub after-gives : (k : Kept) (r : Rewards) (o who : List ℕ) (s : StartingInfo) (increment ratio : Money) (height value : ℕ) (result : Result Money HookFault) → Keeps k r → info_of k who o ≡ Some s
+pub after-gives : (k : Kept) (r : Rewards) (o who : List ℕ) (s : StartingInfo) (increment ratio : Money) (height value : ℕ) (result : Result Money HookFault) → KeepsRewards k r → info_of k who o ≡ Some s
     → IsMoney increment → next_ratio increment o k ≡ Ok ratio → s.height ≢ height
     → ((ending : ℕ) → CanEarn k o s ending ratio → IfOk result (λ m. kept_reward k o s ending ratio value ≡ Ok m)) → ((ending : ℕ) → CanEarn k o s ending ratio → IfErr result (IsExcessOf (kept_reward k o s ending ratio value)))
     → Gives (reward_after (start_of r who o) (periods_of r o) increment height value) result
@@ -112,7 +112,7 @@ after-gives k r o who s increment ratio height value result h info coins next ot
     subst (λ d. Gives d result) (sym due) (gives (kept_reward k o s p.current ratio value) result (ok p.current can) (err p.current can))
 
 -- of a start at this height
-pub after-nothing : (k : Kept) (r : Rewards) (o who : List ℕ) (s : StartingInfo) (increment ratio : Money) (height value : ℕ) (result : Money) → Keeps k r → info_of k who o ≡ Some s
+pub after-nothing : (k : Kept) (r : Rewards) (o who : List ℕ) (s : StartingInfo) (increment ratio : Money) (height value : ℕ) (result : Money) → KeepsRewards k r → info_of k who o ≡ Some s
     → next_ratio increment o k ≡ Ok ratio → s.height ≡ height → result ≡ []
     → Gives (reward_after (start_of r who o) (periods_of r o) increment height value) (Ok result)
 after-nothing k r o who s increment ratio height value result h info next same none =
@@ -126,7 +126,7 @@ after-nothing k r o who s increment ratio height value result h info next same n
     subst (λ d. Gives d (Ok result)) (sym due) none
 
 -- where the period can't end
-pub after-excess : (k : Kept) (r : Rewards) (o who : List ℕ) (increment : Money) (height value : ℕ) (fault : HookFault) → Keeps k r → is_some (current_of k o) ≡ true → IsExcessOf (next_ratio increment o k) fault
+pub after-excess : (k : Kept) (r : Rewards) (o who : List ℕ) (increment : Money) (height value : ℕ) (fault : HookFault) → KeepsRewards k r → is_some (current_of k o) ≡ true → IsExcessOf (next_ratio increment o k) fault
     → Gives (reward_after (start_of r who o) (periods_of r o) increment height value) (Err fault)
 after-excess k r o who increment height value (hook.Over over) h is excess =
     let there = periods-there k r o h is in

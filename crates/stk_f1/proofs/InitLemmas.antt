@@ -11,7 +11,7 @@ use Rattle.stk_keep.specs.declared.entities.SlashEvent.{SlashEvent}
 use Rattle.stk_keep.specs.Entries.{at}
 use Rattle.stk_rules.specs.Periods.{Periods, Rewards, initial_records, starts_of, with_periods, ratio_at, references_of}
 use Rattle.stk_f1.specs.Kept.{Kept, period_cmp, no_records, current_of, record_of, with_record}
-use Rattle.stk_f1.specs.Stands.{AreSound, Keeps, no_rewards, history_of}
+use Rattle.stk_f1.specs.Stands.{AreSound, KeepsRewards, no_rewards, history_of}
 use Rattle.stk_f1.specs.Steps.{made_kept}
 use Rattle.stk_f1.proofs.CarryLemmas.{carry-periods}
 use Rattle.stk_f1.proofs.FoundLemmas.{found-own, found-other, current-own, current-other, no-starts, no-periods, none-started}
@@ -29,7 +29,7 @@ unfolding IsStrictlySortedBy
 no_coins = record { sorted = tt; positive = All-nil (λ (d : List ℕ × ℕ). 0 < d.1); below = All-nil (λ (d : List ℕ × ℕ). d.1 < 10 ^ 38) }
 
 -- no records stand for no rewards
-pub none-kept : Keeps no_records no_rewards
+pub none-kept : KeepsRewards no_records no_rewards
 unfolding IsStrictlySortedBy
 none-kept = record {
   current = λ o. refl;
@@ -68,7 +68,7 @@ initial-sound = record {
   rise = λ a b le denom. let x : amount_of (ratio_at initial_records.ratios a) denom ≡ 0 = ap (λ m. amount_of m denom) (first_ratio a) in omega (arith, x);
 }
 
-module _ (k : Kept) (r : Rewards) (o : List ℕ) (s : IsStrictlySortedBy period_cmp (keys_of k.historical)) (h : Keeps k r) (new : current_of k o ≡ None) where
+module _ (k : Kept) (r : Rewards) (o : List ℕ) (s : IsStrictlySortedBy period_cmp (keys_of k.historical)) (h : KeepsRewards k r) (new : current_of k o ≡ None) where
   none : at addr_cmp r.periods o ≡ None
   none = no-periods k r o h new
 
@@ -84,7 +84,7 @@ module _ (k : Kept) (r : Rewards) (o : List ℕ) (s : IsStrictlySortedBy period_
           let some : 1 ≤ n = grind (arith, nat_tests) in
           h.historical o n ∙ ap (λ p. history_of p (starts_of r o) n) none ∙ ap (counted (ratio_at initial_records.ratios n)) (sym (initial-references n some))
 
-  pub init-stands : Keeps (made_kept o k) (with_periods o initial_records r)
+  pub init-stands : KeepsRewards (made_kept o k) (with_periods o initial_records r)
   init-stands = carry-periods k (made_kept o k) r o initial_records h (record {
     current = current-own (with_record o 0 [] 1 k) o 1;
     other_current = λ q apart. current-other (with_record o 0 [] 1 k) o q 1 apart;

@@ -20,7 +20,7 @@ use Rattle.stk_keep.specs.Steps.{◌>>=◌, ◌>>◌, stop_if}
 use Rattle.stk_f1.specs.Answers.{Ends, IsExcessOf}
 use Rattle.stk_rules.specs.Periods.{Periods, Rewards, periods_of, starts_of, ratio_at, period_ended, references_of}
 use Rattle.stk_f1.specs.Kept.{Kept, period_cmp, current_of, record_of}
-use Rattle.stk_f1.specs.Stands.{AreSound, Keeps, IsKept}
+use Rattle.stk_f1.specs.Stands.{AreSound, KeepsRewards, IsKept}
 use Rattle.stk_f1.specs.Steps.{running, ratio_in, next_ratio, ended_kept}
 use Rattle.stk_f1.proofs.RecordLemmas.{counted-some}
 use Rattle.stk_f1.proofs.FoundLemmas.{periods-there, periods-is, running-is, record-is, sound-is, last-referred}
@@ -60,7 +60,7 @@ limited-err b p (Err e) over h = ap (λ x. stopped x) h
 test_is : (a b : ℕ) → (a == b) ≡ false → a ≢ b
 test_is a b h e = grind (arith, nat_tests)
 
-module _ (k : Kept) (r : Rewards) (o : List ℕ) (p : Periods) (h : Keeps k r) (is : at addr_cmp r.periods o ≡ Some p) where
+module _ (k : Kept) (r : Rewards) (o : List ℕ) (p : Periods) (h : KeepsRewards k r) (is : at addr_cmp r.periods o ≡ Some p) where
   old : AreSound p (starts_of r o)
   old = sound-is k r o p h is
 
@@ -129,7 +129,7 @@ running-below k o kept is =
     omega (arith, e, sound.bounded)
 
 pub end-answers : (k k2 : Kept) (r : Rewards) (o : List ℕ) (increment ratio : Money) (facts facts2 : List Fact) (period : ℕ)
-    → Keeps k r → is_some (current_of k o) ≡ true → IsStrictlySortedBy period_cmp (keys_of k.historical) → IsMoney increment → next_ratio increment o k ≡ Ok ratio
+    → KeepsRewards k r → is_some (current_of k o) ≡ true → IsStrictlySortedBy period_cmp (keys_of k.historical) → IsMoney increment → next_ratio increment o k ≡ Ok ratio
     → period ≡ running k o → k2 ≡ ended_kept ratio o k → facts2 ≡ facts ++ Period o period ratio ∷ []
     → Ends o r facts (period_ended increment (periods_of r o)) k2 facts2 (Ok period)
 end-answers k k2 r o increment ratio facts facts2 period h is sorted coins next at_period left told =
@@ -142,7 +142,7 @@ end-answers k k2 r o increment ratio facts facts2 period h is sorted coins next 
     (subst (λ f. Ends o r facts (period_ended increment (periods_of r o)) (ended_kept ratio o k) f (Ok p.current)) (sym t) due)) told
 
 pub end-faults : (k k2 : Kept) (r : Rewards) (o : List ℕ) (increment : Money) (facts facts2 : List Fact) (fault : HookFault)
-    → Keeps k r → is_some (current_of k o) ≡ true → IsExcessOf (next_ratio increment o k) fault
+    → KeepsRewards k r → is_some (current_of k o) ≡ true → IsExcessOf (next_ratio increment o k) fault
     → Ends o r facts (period_ended increment (periods_of r o)) k2 facts2 (Err fault)
 end-faults k k2 r o increment facts facts2 (hook.Over over) h is excess =
     let there = periods-there k r o h is in

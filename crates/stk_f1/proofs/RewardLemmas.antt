@@ -15,7 +15,7 @@ use Rattle.stk_rules.specs.Amounts.{count_where}
 use Rattle.stk_f1.specs.Earning.{ratios_with, kept_reward, CanEarn}
 use Rattle.stk_f1.specs.Kept.{Kept, record_of, events_of}
 use Rattle.stk_rules.specs.Periods.{Periods, Rewards, start_of, starts_of, ratio_at, references_of, Stretch, slashed_stake, stretches, stretches_of, falls_after, earned}
-use Rattle.stk_f1.specs.Stands.{AreSound, Keeps}
+use Rattle.stk_f1.specs.Stands.{AreSound, KeepsRewards}
 use Rattle.stk_f1.proofs.OrderLemmas.{same_itself}
 use Rattle.stk_f1.proofs.TallyLemmas.{tally, tally-some}
 use Rattle.stk_f1.proofs.EventLemmas.{pairs-respect}
@@ -68,7 +68,7 @@ events-count (x ∷ xs) =
     (All-weaker (λ (e : SlashEvent). 1 ≤ count_where (λ (d : SlashEvent). d.period == e.period) xs) (λ (e : SlashEvent). 1 ≤ count_where (λ (d : SlashEvent). d.period == e.period) (x ∷ xs))
     (λ e le. omega (arith, le, one_more (λ d. d.period == e.period) x xs)) xs (events-count xs))
 
-module _ (k : Kept) (r : Rewards) (o who : List ℕ) (p : Periods) (s : StartingInfo) (h : Keeps k r) (is : at addr_cmp r.periods o ≡ Some p) (start : start_of r who o ≡ Some s) where
+module _ (k : Kept) (r : Rewards) (o who : List ℕ) (p : Periods) (s : StartingInfo) (h : KeepsRewards k r) (is : at addr_cmp r.periods o ≡ Some p) (start : start_of r who o ≡ Some s) where
   old : AreSound p (starts_of r o)
   old = sound-is k r o p h is
 

@@ -12,7 +12,7 @@ use Rattle.stk_keep.specs.Orders.{same_addr}
 use Rattle.stk_rules.specs.Amounts.{count_where}
 use Rattle.stk_rules.specs.Periods.{Periods, Rewards, initial_records, starts_of, with_periods, ratio_at, references_of}
 use Rattle.stk_f1.specs.Kept.{Kept, period_cmp, event_cmp, record_of, events_of, with_event}
-use Rattle.stk_f1.specs.Stands.{AreSound, Keeps}
+use Rattle.stk_f1.specs.Stands.{AreSound, KeepsRewards}
 use Rattle.stk_f1.specs.Steps.{slashed_kept}
 use Rattle.stk_f1.proofs.OrderLemmas.{same_is, same_itself}
 use Rattle.stk_f1.proofs.TallyLemmas.{count-last}
@@ -39,7 +39,7 @@ both_all e (x ∷ es) h p =
     (All-head (λ (d : SlashEvent). d.height ≤ e.height) x es h, All-head (λ (d : SlashEvent). d.period < e.period) x es p)
     (both_all e es (All-tail (λ (d : SlashEvent). d.height ≤ e.height) x es h) (All-tail (λ (d : SlashEvent). d.period < e.period) x es p))
 
-module _ (k : Kept) (r : Rewards) (o : List ℕ) (p : Periods) (h : Keeps k r) (is : at addr_cmp r.periods o ≡ Some p)
+module _ (k : Kept) (r : Rewards) (o : List ℕ) (p : Periods) (h : KeepsRewards k r) (is : at addr_cmp r.periods o ≡ Some p)
     (records : IsStrictlySortedBy period_cmp (keys_of k.historical)) (slashes : IsStrictlySortedBy event_cmp (keys_of k.events))
     (e : SlashEvent) (last : e.period + 1 ≡ p.current) (free : All (λ d. d.period ≢ e.period) (events_of k o)) (heights : All (λ d. d.height ≤ e.height) (events_of k o)) (part : e.fraction ≤ 10 ^ 18) where
   old : AreSound p (starts_of r o)
@@ -65,7 +65,7 @@ module _ (k : Kept) (r : Rewards) (o : List ℕ) (p : Periods) (h : Keeps k r) (
   more : (m : ℕ) → references_of (with_last p e) (starts_of r o) m ≡ refs m + cond (e.period == m) 1 0
   more m = references-event p (starts_of r o) e m
 
-  pub slash-stands : Keeps (slashed_kept o e k) (with_periods o (with_last p e) r)
+  pub slash-stands : KeepsRewards (slashed_kept o e k) (with_periods o (with_last p e) r)
   slash-stands =
       let k1 : Kept = with_event o e k in
       carry-periods k (slashed_kept o e k) r o (with_last p e) h (record {

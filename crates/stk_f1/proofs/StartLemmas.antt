@@ -11,7 +11,7 @@ use Rattle.stk_keep.specs.Orders.{pair_cmp, same_addr}
 use Rattle.stk_table.proofs.CallerLemmas.{value_at-insert_entry, value_at-remove_entry, sorted-insert_entry, sorted-remove_entry}
 use Rattle.stk_rules.specs.Periods.{Periods, Rewards, start_of, starts_of, with_start, without_start, ratio_at, references_of}
 use Rattle.stk_f1.specs.Kept.{Kept, period_cmp, record_of, with_info, without_info}
-use Rattle.stk_f1.specs.Stands.{AreSound, Keeps}
+use Rattle.stk_f1.specs.Stands.{AreSound, KeepsRewards}
 use Rattle.stk_f1.specs.Steps.{started_kept, stopped_kept}
 use Rattle.stk_f1.proofs.OrderLemmas.{pair_total, same_is, same_itself, pair_found}
 use Rattle.stk_f1.proofs.TallyLemmas.{passing-put, passing-removed, tally, one, tally-put, tally-removed}
@@ -56,7 +56,7 @@ references-fewer r o who s p n old =
     let own : one pair_cmp (λ key. same_addr key.0 o) (λ x. x.period == n) (o, who) s ≡ cond (s.period == n) 1 0 = ap (λ b. cond b (cond (s.period == n) 1 0) 0) (same_itself o) in
     omega (arith, gone, own)
 
-module _ (k : Kept) (r : Rewards) (o who : List ℕ) (p : Periods) (h : Keeps k r) (e : at addr_cmp r.periods o ≡ Some p) (sorted : IsStrictlySortedBy period_cmp (keys_of k.historical)) (s : StartingInfo) where
+module _ (k : Kept) (r : Rewards) (o who : List ℕ) (p : Periods) (h : KeepsRewards k r) (e : at addr_cmp r.periods o ≡ Some p) (sorted : IsStrictlySortedBy period_cmp (keys_of k.historical)) (s : StartingInfo) where
   old : AreSound p (starts_of r o)
   old = sound-is k r o p h e
 
@@ -64,7 +64,7 @@ module _ (k : Kept) (r : Rewards) (o who : List ℕ) (p : Periods) (h : Keeps k 
   refs n = references_of p (starts_of r o) n
 
   -- a start behind the last ended period
-  pub start-stands : s.period + 1 ≡ p.current → start_of r who o ≡ None → Keeps (started_kept who o s k) (with_start who o s r)
+  pub start-stands : s.period + 1 ≡ p.current → start_of r who o ≡ None → KeepsRewards (started_kept who o s k) (with_start who o s r)
   start-stands last new =
       let n = s.period in
       let k1 : Kept = with_info who o s k in
@@ -97,7 +97,7 @@ module _ (k : Kept) (r : Rewards) (o who : List ℕ) (p : Periods) (h : Keeps k 
       })
 
   -- the end of a start that stands
-  pub stop-stands : start_of r who o ≡ Some s → Keeps (stopped_kept who o (Some s) k) (without_start who o r)
+  pub stop-stands : start_of r who o ≡ Some s → KeepsRewards (stopped_kept who o (Some s) k) (without_start who o r)
   stop-stands there =
       let k1 : Kept = without_info who o k in
       let fewer : (m : ℕ) → refs m ≡ references_of p (starts_of (without_start who o r) o) m + cond (s.period == m) 1 0 = λ m. references-fewer r o who s p m there in

@@ -10,7 +10,7 @@ use Rattle.stk_keep.specs.declared.faults.HookFault.{HookFault}
 use Rattle.stk_keep.specs.declared.faults.HookFault.TheVariants as hook
 use Rattle.stk_rules.specs.Periods.{Periods, Rewards, with_periods, last_ended}
 use Rattle.stk_f1.specs.Kept.{Kept}
-use Rattle.stk_f1.specs.Stands.{Keeps}
+use Rattle.stk_f1.specs.Stands.{KeepsRewards}
 
 -- What a call answers that gives what a rule gives: that, or its excess; or memory is wanting.
 abbrev pub Gives : {A : Type 0} → Result A Over → Result A HookFault → Type 0
@@ -25,7 +25,7 @@ Gives (Err due) (Err hook.NoMemory) = ⊤
 -- its ratio are told.
 abbrev pub Ends : List ℕ → Rewards → List Fact → Result (Money × Periods) Over → Kept → List Fact → Result ℕ HookFault → Type 0
 Ends operator r facts (Ok due) k facts2 (Ok period) =
-    (period ≡ last_ended due.1) × Keeps k (with_periods operator due.1 r) × (facts2 ≡ facts ++ Period operator period due.0 ∷ [])
+    (period ≡ last_ended due.1) × KeepsRewards k (with_periods operator due.1 r) × (facts2 ≡ facts ++ Period operator period due.0 ∷ [])
 Ends operator r facts (Ok due) k facts2 (Err (hook.Over over)) = ⊥
 Ends operator r facts (Ok due) k facts2 (Err hook.NoMemory) = ⊤
 Ends operator r facts (Err due) k facts2 (Ok period) = ⊥

@@ -41,7 +41,7 @@ history_of (Some p) starts period = history_kept p starts period
 -- The records that are kept stand for plain ones: the period that runs is the same; of the ended periods exactly those
 -- have a record to which something refers, with the ratio and the number of references; starts and slash events are
 -- the same.
-pub record Keeps (k : Kept) (r : Rewards) : Type 0 where
+pub record KeepsRewards (k : Kept) (r : Rewards) : Type 0 where
   pub current : (operator : List ℕ) → current_of k operator ≡ option_map (λ p. p.current) (at addr_cmp r.periods operator)
   pub historical : (operator : List ℕ) (period : ℕ) → record_of k operator period ≡ history_of (at addr_cmp r.periods operator) (starts_of r operator) period
   pub starts : k.starts ≡ r.starts
@@ -50,7 +50,7 @@ pub record Keeps (k : Kept) (r : Rewards) : Type 0 where
 
 -- records are sound where they stand for sound plain ones
 abbrev pub IsKept : Kept → Type 0
-IsKept k = (r : Rewards) × Keeps k r
+IsKept k = (r : Rewards) × KeepsRewards k r
 
 -- nothing is rewarded
 abbrev pub no_rewards : Rewards

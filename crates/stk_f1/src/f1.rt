@@ -6,7 +6,7 @@ ghost use Rattle.stk_f1.specs.Answers.{Ends, Gives};
 ghost use Rattle.stk_f1.specs.Earning.{events_since};
 ghost use Rattle.stk_f1.specs.Kept.{behind, current_of, info_of, events_of, new_records};
 ghost use Rattle.stk_rules.specs.Periods.{Rewards, initial_records, period_ended, periods_of, last_ended, event_recorded, start_of, reward_at, reward_after, with_periods, without_periods, with_start, without_start};
-ghost use Rattle.stk_f1.specs.Stands.{Keeps, IsKept, no_rewards, started_at, references_at, if_some};
+ghost use Rattle.stk_f1.specs.Stands.{KeepsRewards, IsKept, no_rewards, started_at, references_at, if_some};
 ghost use Rattle.stk_f1.specs.Steps.{running};
 
 use crate::mark::TablesMark;
@@ -46,7 +46,7 @@ impl F1 {
     /// No records, which stand for no rewards. Takes no memory.
     pub fn new(alloc: Global) -> F1
         ensures new { result ≡ new_records }
-        ensures kept { Keeps result.kept no_rewards }
+        ensures kept { KeepsRewards result.kept no_rewards }
     {
         F1 {
             tables: Tables::new(alloc),
@@ -64,7 +64,7 @@ impl F1 {
     ) -> Result<(), HookFault>
         requires kept { IsKept self.old.kept }
         requires new { current_of self.old.kept operator.now ≡ None }
-        ensures made { (r : Rewards) → Keeps self.old.kept r → OnOk result (Keeps self.new.kept (with_periods operator.now initial_records r)) }
+        ensures made { (r : Rewards) → KeepsRewards self.old.kept r → OnOk result (KeepsRewards self.new.kept (with_periods operator.now initial_records r)) }
         ensures fault { IfErr result (λ fault. fault ≡ NoMemory) }
         ensures behind { behind self.new ≡ behind self.old }
         ensures spent { self.old.spent ≡ true → self.new.spent ≡ true }
@@ -92,7 +92,7 @@ impl F1 {
     ) -> Result<u64, HookFault>
         requires kept { IsKept self.old.kept }
         requires initialised { is_some (current_of self.old.kept operator.now) ≡ true }
-        ensures ended { (r : Rewards) → Keeps self.old.kept r
+        ensures ended { (r : Rewards) → KeepsRewards self.old.kept r
             → Ends operator.now r facts.old (period_ended increment.now (periods_of r operator.now)) self.new.kept facts.new result }
         ensures untold { OnErr result (facts.new ≡ facts.old) }
         ensures behind { behind self.new ≡ behind self.old }
@@ -132,9 +132,9 @@ impl F1 {
         requires kept { IsKept self.old.kept }
         requires initialised { is_some (current_of self.old.kept operator.now) ≡ true }
         requires new { info_of self.old.kept who.now operator.now ≡ None }
-        ensures started { (r : Rewards) → Keeps self.old.kept r
-            → OnOk result (Keeps self.new.kept (with_start who.now operator.now (started_at (periods_of r operator.now) stake height) r)) }
-        ensures told { (r : Rewards) → Keeps self.old.kept r
+        ensures started { (r : Rewards) → KeepsRewards self.old.kept r
+            → OnOk result (KeepsRewards self.new.kept (with_start who.now operator.now (started_at (periods_of r operator.now) stake height) r)) }
+        ensures told { (r : Rewards) → KeepsRewards self.old.kept r
             → OnOk result (facts.new ≡ facts.old ++ fact.Started who.now operator.now (last_ended (periods_of r operator.now)) stake ∷ []) }
         ensures fault { IfErr result (λ fault. fault ≡ NoMemory) }
         ensures untold { OnErr result (facts.new ≡ facts.old) }
@@ -179,8 +179,8 @@ impl F1 {
         requires free { All (λ e. e.period ≢ period) (events_of self.old.kept operator.now) }
         requires heights { All (λ e. e.height ≤ height) (events_of self.old.kept operator.now) }
         requires part { fraction ≤ 10 ^ 18 }
-        ensures recorded { (r : Rewards) → Keeps self.old.kept r
-            → OnOk result (Keeps self.new.kept (with_periods operator.now (event_recorded height fraction (periods_of r operator.now)) r)) }
+        ensures recorded { (r : Rewards) → KeepsRewards self.old.kept r
+            → OnOk result (KeepsRewards self.new.kept (with_periods operator.now (event_recorded height fraction (periods_of r operator.now)) r)) }
         ensures fault { IfErr result (λ fault. fault ≡ NoMemory) }
         ensures behind { behind self.new ≡ behind self.old }
         ensures spent { self.old.spent ≡ true → self.new.spent ≡ true }
@@ -209,7 +209,7 @@ impl F1 {
     ) -> Result<(), HookFault>
         requires kept { IsKept self.old.kept }
         requires started { is_some (info_of self.old.kept who.now operator.now) ≡ true }
-        ensures stopped { (r : Rewards) → Keeps self.old.kept r → OnOk result (Keeps self.new.kept (without_start who.now operator.now r)) }
+        ensures stopped { (r : Rewards) → KeepsRewards self.old.kept r → OnOk result (KeepsRewards self.new.kept (without_start who.now operator.now r)) }
         ensures fault { IfErr result (λ fault. fault ≡ NoMemory) }
         ensures behind { behind self.new ≡ behind self.old }
         ensures spent { self.old.spent ≡ true → self.new.spent ≡ true }
@@ -233,8 +233,8 @@ impl F1 {
         requires kept { IsKept self.old.kept }
         requires initialised { is_some (current_of self.old.kept operator.now) ≡ true }
         requires none { (who : List ℕ) → info_of self.old.kept who operator.now ≡ None }
-        ensures cleared { (r : Rewards) → Keeps self.old.kept r
-            → OnOk result (Keeps self.new.kept (without_periods operator.now r)) }
+        ensures cleared { (r : Rewards) → KeepsRewards self.old.kept r
+            → OnOk result (KeepsRewards self.new.kept (without_periods operator.now r)) }
         ensures fault { IfErr result (λ fault. fault ≡ NoMemory) }
         ensures behind { behind self.new ≡ behind self.old }
         ensures spent { self.old.spent ≡ true → self.new.spent ≡ true }
@@ -254,7 +254,7 @@ impl F1 {
         period: u64,
         steps: &mut Steps<L>,
     ) -> Option<u128>
-        ensures count { (r : Rewards) → Keeps self.now.kept r → result ≡ if_some (references_at r operator.now period) }
+        ensures count { (r : Rewards) → KeepsRewards self.now.kept r → result ≡ if_some (references_at r operator.now period) }
         ensures cost { steps.new ≤ steps.old + 1 }
     {
         match self.tables.record(operator, period, steps) {
@@ -285,7 +285,7 @@ impl F1 {
         requires kept { IsKept self.now.kept }
         requires started { is_some (info_of self.now.kept who.now operator.now) ≡ true }
         requires last { ending + 1 ≡ running self.now.kept operator.now }
-        ensures reward { (r : Rewards) → Keeps self.now.kept r
+        ensures reward { (r : Rewards) → KeepsRewards self.now.kept r
             → Gives (reward_at (start_of r who.now operator.now) (periods_of r operator.now) ending height value) result }
         ensures cost { (s : StartingInfo) → info_of self.now.kept who.now operator.now ≡ Some s
             → steps.new ≤ steps.old + (2 * length (events_since s.height (events_of self.now.kept operator.now)) + 4) }
@@ -317,7 +317,7 @@ impl F1 {
         requires kept { IsKept self.now.kept }
         requires initialised { is_some (current_of self.now.kept operator.now) ≡ true }
         requires started { is_some (info_of self.now.kept who.now operator.now) ≡ true }
-        ensures reward { (r : Rewards) → Keeps self.now.kept r
+        ensures reward { (r : Rewards) → KeepsRewards self.now.kept r
             → Gives (reward_after (start_of r who.now operator.now) (periods_of r operator.now) increment.now height value) result }
         ensures cost { (s : StartingInfo) → info_of self.now.kept who.now operator.now ≡ Some s
             → steps.new ≤ steps.old + (2 * length (events_since s.height (events_of self.now.kept operator.now)) + 5) }

@@ -19,7 +19,7 @@ use Rattle.stk_keep.specs.Holdings.{IsBacked}
 use Rattle.stk_keep.specs.Items.{no_purse}
 use Rattle.stk_keep.specs.Log as log
 use Rattle.stk_keep.specs.Orders.{pair_cmp}
-use Rattle.stk_keep.specs.Staked.{Staked, validator_of, lists_of}
+use Rattle.stk_keep.specs.Staked.{Staked, validator_at, lists_of}
 use Rattle.stk_keep.specs.World.{View}
 use Rattle.stk_keep.proofs.HoldingLemmas.{backed-moved}
 use Rattle.stk_rules.specs.Chain.{State}
@@ -29,7 +29,7 @@ use Rattle.stk_rules.specs.Owed.{HoldsWhatIsOwed}
 use Rattle.stk_rules.specs.Periods.{Periods, starts_of, ratio_at}
 use Rattle.stk_rules.specs.Sound.{delegated_shares, ValidatorIsSound, StakedIsSound, UnbondingsAreSound, RedelegationsAreSound, PurseIsSound, PursesAreSound, StartIsSound, PeriodsAreSound, RewardsAreSound, StandsFor, SigningIsSound, WindowIsSound, AreRecorded, AreAtMost, denominations_of, IsSound}
 use Rattle.stk_rules.specs.Window.{Signing, signing_of}
-use Rattle.stk_machine.specs.Genesis.{held_by}
+use Rattle.stk_machine.specs.Genesis.{held_at_start}
 use Rattle.stk_machine.specs.GenesisConditions.{accounts_at_start}
 use Rattle.stk_machine.specs.GenesisState.{chain_started}
 use Rattle.stk_histories.specs.SoundRows.{one_validator, SoundnessIsMet}
@@ -158,7 +158,7 @@ some_coins = record {
 
 small_backed : IsBacked ground_then.bank
 small_backed =
-    backed-moved (coins 3000000) (held_by (accounts_at_start one_validator)) (account.Module holder.NotBonded) (account.Module holder.Bonded)
+    backed-moved (coins 3000000) (held_at_start (accounts_at_start one_validator)) (account.Module holder.NotBonded) (account.Module holder.Bonded)
     (held_backed (accounts_at_start one_validator) refl) some_coins refl
 
 small_ground : IsInOrder ground_then
@@ -196,7 +196,7 @@ stakes_sound = record {
   cons = λ u v a b same. sym (only operator u a) ∙ only operator v b;
   shares = one_of (λ e. e.1.shares ≡ delegated_shares stakes e.0) (addr 1, operator) refl;
   positive = two_of (λ e. 0 < e.1) first_stake second_stake (below 0 (1000000 * 10 ^ 18) refl) (below 0 (2000000 * 10 ^ 18) refl);
-  existing = two_of (λ e. IsSome (validator_of stakes e.0.0)) first_stake second_stake refl refl;
+  existing = two_of (λ e. IsSome (validator_at stakes e.0.0)) first_stake second_stake refl refl;
 }
 
 small_owed : HoldsWhatIsOwed small

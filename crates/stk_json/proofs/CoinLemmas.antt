@@ -15,7 +15,7 @@ use Rattle.stk_coins.specs.declared.coin.Coin.{Coin}
 use Rattle.stk_msgs.specs.declared.faults.LineFault.{LineFault}
 use Rattle.stk_json.specs.Reading.{or_fault}
 use Rattle.stk_json.specs.Members.{amount_of, spelled_by, member_at, denom_at, amount_at, only_named}
-use Rattle.stk_json.specs.Nested.{each, list_at}
+use Rattle.stk_json.specs.Nested.{each_element, list_at}
 use Rattle.stk_json.specs.Coin.{coin_of}
 use Rattle.stk_json.proofs.ReadingLemmas.{are_digits_model}
 
@@ -63,13 +63,13 @@ coin_below d =
     step Below IsBelow (amount_at 33 (codes "amount") d) _ (amount_below 33 (codes "amount") d) (λ amount h.
     step (λ _. ⊤) IsBelow (only_named (codes "denom" ∷ codes "amount" ∷ []) d) _ (any _) (λ _ _. h)))
 
-each_all : {A : Type 0} (P : A → Type 0) (form : Data → Result A LineFault) → ((d : Data) → IfOk (form d) P) → (ds : Items) → IfOk (each form ds) (All P)
+each_all : {A : Type 0} (P : A → Type 0) (form : Data → Result A LineFault) → ((d : Data) → IfOk (form d) P) → (ds : Items) → IfOk (each_element form ds) (All P)
 each_all P form h no_items = search rules
 each_all P form h (item d ds) =
-    step P (All P) (form d) _ (h d) (λ x here. step (All P) (All P) (each form ds) _ (each_all P form h ds) (λ xs rest. All-cons P x xs here rest))
+    step P (All P) (form d) _ (h d) (λ x here. step (All P) (All P) (each_element form ds) _ (each_all P form h ds) (λ xs rest. All-cons P x xs here rest))
 
 list_below : (number : ℕ) (name : List ℕ) (d : Data) → IfOk (list_at coin_of number name d) (All IsBelow)
-list_below number name d = step (λ _. ⊤) (All IsBelow) (member_at as_array number name d) (each coin_of) (any _) (λ ds _. each_all IsBelow coin_of coin_below ds)
+list_below number name d = step (λ _. ⊤) (All IsBelow) (member_at as_array number name d) (each_element coin_of) (any _) (λ ds _. each_all IsBelow coin_of coin_below ds)
 
 at : {A : Type 0} (P : A → Type 0) (r : Result A LineFault) (x : A) → r ≡ Ok x → IfOk r P → P x
 at P (Ok y) x e h =

@@ -22,8 +22,8 @@ abbrev pub as_count : Data → Option ℕ
 as_count d = option_and_then as_u64 (as_number d)
 
 -- a whole number below 2^63, written with digits alone
-abbrev pub number_of : Data → Option ℕ
-number_of d = option_and_then (λ n. if nat_lt n (2 ^ 63) then Some n else None) (as_count d)
+abbrev pub number_in : Data → Option ℕ
+number_in d = option_and_then (λ n. if nat_lt n (2 ^ 63) then Some n else None) (as_count d)
 
 -- the whole amount that 1 to 38 digits spell
 abbrev pub amount_of : List ℕ → Option ℕ
@@ -54,7 +54,7 @@ optional_at form number name d = form_if_there form number (get name d)
 
 -- a whole number
 abbrev pub number_at : ℕ → List ℕ → Data → Result ℕ LineFault
-number_at = member_at number_of
+number_at = member_at number_in
 
 -- a string of 1 to 38 digits
 abbrev pub amount_at : ℕ → List ℕ → Data → Result ℕ LineFault

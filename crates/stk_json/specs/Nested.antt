@@ -17,10 +17,10 @@ abbrev pub with_front : {A : Type 0} → List A → Result (List A) LineFault �
 with_front front reading = reading >>= λ rest. Ok (front ++ rest)
 
 -- every element, in order, each walked in full
-abbrev pub each : {A : Type 0} → (Data → Result A LineFault) → Items → Result (List A) LineFault
-each form no_items = Ok []
-each form (item d ds) = form d >>= λ x. with_front (x ∷ []) (each form ds)
+abbrev pub each_element : {A : Type 0} → (Data → Result A LineFault) → Items → Result (List A) LineFault
+each_element form no_items = Ok []
+each_element form (item d ds) = form d >>= λ x. with_front (x ∷ []) (each_element form ds)
 
 -- the member of this name, which has to be a list, and its elements
 abbrev pub list_at : {A : Type 0} → (Data → Result A LineFault) → ℕ → List ℕ → Data → Result (List A) LineFault
-list_at form number name d = member_at as_array number name d >>= each form
+list_at form number name d = member_at as_array number name d >>= each_element form

@@ -3,7 +3,7 @@ use Rattle.std.specs.Prelude.{ℕ, List, [], ◌∷◌, codes}
 use Rattle.serde_json.specs.Data.{Data, string}
 use Rattle.stk_keep.specs.declared.refusal.Refusal.{Refusal}
 use Rattle.stk_keep.specs.declared.refusal.Refusal.TheVariants as refusal
-use Rattle.stk_keep.specs.Refusals.{number_of}
+use Rattle.stk_keep.specs.Refusals.{refusal_number}
 use Rattle.stk_msgs.specs.declared.report.Outcome.{Outcome}
 use Rattle.stk_msgs.specs.declared.report.Outcome.TheVariants.{Accepted, FeeUnpaid, Refused}
 use Rattle.stk_json.specs.Line.{told_at}
@@ -34,8 +34,8 @@ refused_members place message number ms =
 abbrev pub outcome_members : ℕ → Outcome → List (List ℕ × Data)
 outcome_members place Accepted = (codes "tx", count_data place) ∷ []
 outcome_members place FeeUnpaid =
-    (codes "tx", count_data place) ∷ (codes "number", count_data (number_of refusal.FeeUnpaid)) ∷ []
-outcome_members place (Refused message reason) = refused_members place message (number_of reason) (reason_members reason)
+    (codes "tx", count_data place) ∷ (codes "number", count_data (refusal_number refusal.FeeUnpaid)) ∷ []
+outcome_members place (Refused message reason) = refused_members place message (refusal_number reason) (reason_members reason)
 
 -- how the transaction at a place of the block ended
 abbrev pub outcome_data : ℕ → ℕ → Outcome → Data

@@ -7,7 +7,7 @@ use Rattle.serde_json.specs.Data.{Data, Members, boolean, no_members, member, st
 use Rattle.serde_json.specs.Written.{outline}
 use Rattle.stk_types.specs.declared.account.Account.TheVariants as account
 use Rattle.stk_coins.specs.Coins.{Money}
-use Rattle.stk_keep.specs.Refusals.{number_of}
+use Rattle.stk_keep.specs.Refusals.{refusal_number}
 use Rattle.stk_json.specs.declared.told.Told.{Told}
 use Rattle.stk_json.specs.declared.told.Told.TheVariants as told
 use Rattle.stk_json.specs.Values.{account_data, address_data, coins_data, cons_data, count_data, dec_coins_data, decimal_data, moment_data, over_name, status_name, whole_data}
@@ -20,7 +20,7 @@ coins_seen coins = map (λ c. (c.0.now, c.1)) coins
 abbrev pub told_data : Told → Data
 told_data (told.Word word) = string word.now
 told_data (told.Count n) = count_data n
-told_data (told.Number refusal) = count_data (number_of refusal)
+told_data (told.Number refusal) = count_data (refusal_number refusal)
 told_data (told.Flag b) = boolean b
 told_data (told.Amount n) = whole_data n
 told_data (told.Decimal n) = decimal_data n

@@ -24,9 +24,9 @@ pub trait Scalar: Copy {
 
 /// A whole number below 2^63, written with digits alone.
 impl Scalar for u64 {
-    ghost use Rattle.stk_json.specs.Members.{number_of};
+    ghost use Rattle.stk_json.specs.Members.{number_in};
 
-    ghost form = { number_of };
+    ghost form = { number_in };
 
     fn from_tree<N: Tree>(tree: &N) -> Option<u64> {
         match tree.as_count() {

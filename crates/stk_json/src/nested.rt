@@ -3,7 +3,7 @@ ghost use Rattle.std.specs.Prelude.{◌≡◌, Result};
 ghost use Rattle.serde_json.specs.Data.{Data};
 ghost use Rattle.stk_msgs.specs.declared.faults.LineFault.{LineFault};
 ghost use Rattle.stk_json.specs.Reading.{Gives};
-ghost use Rattle.stk_json.specs.Nested.{object_at, each, list_at};
+ghost use Rattle.stk_json.specs.Nested.{object_at, each_element, list_at};
 
 use crate::tree::Tree;
 use std::alloc::Global;
@@ -35,7 +35,7 @@ pub fn object_at<T: FromTree, N: Tree>(
 
 /// Every element.
 fn each<T: FromTree, N: Tree>(alloc: Global, elements: N::Elements) -> Result<Vec<T>, LineFault>
-    ensures { Gives (λ values. values.items) result (each T.form (N.left elements)) }
+    ensures { Gives (λ values. values.items) result (each_element T.form (N.left elements)) }
 {
     let mut elements = elements;
     let mut values = Vec::new(alloc);

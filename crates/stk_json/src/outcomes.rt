@@ -1,6 +1,6 @@
 //! The lines of how transactions ended. Members stand in ascending order of their names.
 ghost use Rattle.std.specs.Prelude.{◌≡◌, ◌++◌, [], codes, IfErr, OnOk};
-ghost use Rattle.stk_keep.specs.Refusals.{number_of};
+ghost use Rattle.stk_keep.specs.Refusals.{refusal_number};
 ghost use Rattle.stk_json.specs.Line.{line_of, told_at};
 ghost use Rattle.stk_json.specs.Outcomes.{outcome_data, refused_members};
 
@@ -49,7 +49,7 @@ fn refused(
     reason: Refusal,
 ) -> Result<(), LineFault>
     ensures ok { OnOk result (out.new.items ≡ out.old.items ++ line_of
-        (told_at height (codes "refused") (refused_members place message (number_of reason) []))) }
+        (told_at height (codes "refused") (refused_members place message (refusal_number reason) []))) }
     ensures fault { IfErr result (λ fault. fault ≡ LineFault.NoMemory) }
 {
     let members = [

@@ -21,24 +21,24 @@ pub record Staked : Type 0 where
   pub delegations : List ((List ℕ × List ℕ) × ℕ)
 
 -- the validator of an operator
-abbrev pub validator_of : Staked → List ℕ → Option Validator
-validator_of s operator = at addr_cmp s.validators operator
+abbrev pub validator_at : Staked → List ℕ → Option Validator
+validator_at s operator = at addr_cmp s.validators operator
 
 -- the validator of a consensus address
 abbrev pub validator_by_cons : Staked → List ℕ → Option Validator
 validator_by_cons s cons = find (λ v. is_eq (cons_cmp v.cons cons)) (values_of s.validators)
 
 -- the shares of a delegation
-abbrev pub shares_of : Staked → List ℕ → List ℕ → Option ℕ
-shares_of s who operator = at pair_cmp s.delegations (operator, who)
+abbrev pub delegation : Staked → List ℕ → List ℕ → Option ℕ
+delegation s who operator = at pair_cmp s.delegations (operator, who)
 
 -- the validators with this one
-abbrev pub with_validator : Validator → Staked → Staked
-with_validator v s = record s { validators = with addr_cmp s.validators v.operator v }
+abbrev pub put_validator : Validator → Staked → Staked
+put_validator v s = record s { validators = with addr_cmp s.validators v.operator v }
 
 -- the operators and the started pairs for which hooks are to stand
 abbrev pub lists_of : Staked → Lists
-lists_of s = record { operators = λ o. is_some (validator_of s o); started = λ w o. is_some (shares_of s w o) }
+lists_of s = record { operators = λ o. is_some (validator_at s o); started = λ w o. is_some (delegation s w o) }
 
 abbrev pub is_bonded : BondStatus → Bool
 is_bonded Bonded = true
@@ -80,8 +80,8 @@ pub record StakeFalls (old new : View) (bonded other bonded2 other2 : ℕ) : Typ
 
 -- Every validator that was not unbonded still stands, with its consensus address and status.
 abbrev pub StillStand : Staked → Staked → Type 0
-StillStand old new = (operator : List ℕ) (v : Validator) → validator_of old operator ≡ Some v → is_unbonded v.status ≡ false
-    → (v2 : Validator) × ((validator_of new operator ≡ Some v2) × (v2.cons ≡ v.cons) × (v2.status ≡ v.status))
+StillStand old new = (operator : List ℕ) (v : Validator) → validator_at old operator ≡ Some v → is_unbonded v.status ≡ false
+    → (v2 : Validator) × ((validator_at new operator ≡ Some v2) × (v2.cons ≡ v.cons) × (v2.status ≡ v.status))
 
 -- The same of those that are looked up by consensus address.
 abbrev pub StillStandByCons : Staked → Staked → Type 0
@@ -94,7 +94,7 @@ but_jailed v = record v { jailed = false }
 
 -- Under each operator stands who stood there, in all but whether it is jailed.
 abbrev pub SameButJailed : Staked → Staked → Type 0
-SameButJailed old new = (operator : List ℕ) → option_map but_jailed (validator_of new operator) ≡ option_map but_jailed (validator_of old operator)
+SameButJailed old new = (operator : List ℕ) → option_map but_jailed (validator_at new operator) ≡ option_map but_jailed (validator_at old operator)
 
 -- The same of those that are looked up by consensus address.
 abbrev pub SameButJailedByCons : Staked → Staked → Type 0
@@ -102,7 +102,7 @@ SameButJailedByCons old new = (cons : List ℕ) → option_map but_jailed (valid
 
 -- the delegation exists and has the shares
 abbrev pub HasShares : Staked → List ℕ → List ℕ → ℕ → Type 0
-HasShares s who operator shares = (held : ℕ) × ((shares_of s who operator ≡ Some held) × (shares ≤ held))
+HasShares s who operator shares = (held : ℕ) × ((delegation s who operator ≡ Some held) × (shares ≤ held))
 
 -- what is left of a delegation
 abbrev pub shares_left : ℕ → ℕ → Option ℕ
@@ -121,15 +121,15 @@ pub record IsUnbonded (who operator : List ℕ) (part out : ℕ) (old new : Stak
   pub v : Validator
   pub held : ℕ
   pub falls : Bool
-  pub validator : validator_of old operator ≡ Some v
-  pub shares : shares_of old who operator ≡ Some held
+  pub validator : validator_at old operator ≡ Some v
+  pub shares : delegation old who operator ≡ Some held
   pub own : falls ≡ true → same_addr who operator ≡ true
   pub within : out ≤ v.tokens
-  pub validators : (o : List ℕ) → validator_of new o ≡ (if same_addr operator o then validator_left v part out falls else validator_of old o)
-  pub delegations : (w o : List ℕ) → shares_of new w o ≡ (if same_addr operator o && same_addr who w then shares_left held part else shares_of old w o)
+  pub validators : (o : List ℕ) → validator_at new o ≡ (if same_addr operator o then validator_left v part out falls else validator_at old o)
+  pub delegations : (w o : List ℕ) → delegation new w o ≡ (if same_addr operator o && same_addr who w then shares_left held part else delegation old w o)
   pub bonded : bonded_tokens new + (if is_bonded v.status then out else 0) ≡ bonded_tokens old
   pub other : other_tokens new + (if is_bonded v.status then 0 else out) ≡ other_tokens old
 
 -- The validator of a consensus address was jailed, and nothing else changed.
 abbrev pub IsJailed : List ℕ → Staked → Staked → Type 0
-IsJailed cons old new = (v : Validator) × ((validator_by_cons old cons ≡ Some v) × (new ≡ with_validator (record v { jailed = true }) old))
+IsJailed cons old new = (v : Validator) × ((validator_by_cons old cons ≡ Some v) × (new ≡ put_validator (record v { jailed = true }) old))

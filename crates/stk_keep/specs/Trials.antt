@@ -4,7 +4,7 @@ use Rattle.stk_types.specs.Orders.{cons_cmp}
 use Rattle.stk_keep.specs.declared.entities.SigningInfo.{SigningInfo}
 use Rattle.stk_keep.specs.declared.entities.Validator.{Validator}
 use Rattle.stk_keep.specs.Entries.{at, with}
-use Rattle.stk_keep.specs.Staked.{Staked, validator_by_cons, with_validator}
+use Rattle.stk_keep.specs.Staked.{Staked, validator_by_cons, put_validator}
 
 -- one validator, and one delegation to it
 abbrev pub staked_once : Validator → List ℕ → ℕ → Staked
@@ -13,7 +13,7 @@ staked_once v who shares = record { validators = (v.operator, v) ∷ []; delegat
 -- with this validator jailed, where there is one
 abbrev pub jailed : Option Validator → Staked → Staked
 jailed None s = s
-jailed (Some v) s = with_validator (record v { jailed = true }) s
+jailed (Some v) s = put_validator (record v { jailed = true }) s
 
 -- with the validator of a consensus address jailed
 abbrev pub jailed_by_cons : List ℕ → Staked → Staked

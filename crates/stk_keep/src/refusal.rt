@@ -1,5 +1,5 @@
 ghost use Rattle.std.specs.Prelude.{◌≡◌};
-ghost use Rattle.stk_keep.specs.Refusals.{number_of};
+ghost use Rattle.stk_keep.specs.Refusals.{refusal_number};
 
 use stk_dec::Over;
 use stk_types::Moment;
@@ -90,7 +90,7 @@ pub enum Refusal {
 impl Refusal {
     /// The number by which printed lines name it.
     pub fn number(&self) -> u8
-        ensures { result ≡ number_of self.now }
+        ensures { result ≡ refusal_number self.now }
     {
         match self {
             Refusal::InsufficientFunds => 1,

@@ -4,7 +4,7 @@ ghost use Rattle.stk_dec.specs.declared.over.Over.{Over};
 ghost use Rattle.stk_keep.specs.Answers.{Follows};
 ghost use Rattle.stk_keep.specs.Ground.{seen, CanBeUndone};
 ghost use Rattle.stk_keep.specs.Hooks.{Stand, Stands, Keeps};
-ghost use Rattle.stk_keep.specs.Staked.{Staked, validator_of, validator_by_cons, shares_of, lists_of, HasShares, IsUnbonded};
+ghost use Rattle.stk_keep.specs.Staked.{Staked, validator_at, validator_by_cons, delegation, lists_of, HasShares, IsUnbonded};
 ghost use Rattle.stk_keep.specs.World.{View, Hook, Told, World};
 
 use crate::bank::{Bank, Ground};
@@ -23,7 +23,7 @@ pub trait ValidatorView {
 
     /// The validator of an operator, or None exactly where there is none.
     fn validator<L: Ledger>(&self, operator: &Addr, steps: &mut Steps<L>) -> Option<&Validator>
-        ensures value { option_copied result ≡ validator_of (staked self.now) operator.now }
+        ensures value { option_copied result ≡ validator_at (staked self.now) operator.now }
         ensures cost { steps.new ≤ steps.old + 1 };
 
     /// The validator of a consensus address, or None exactly where there is none.
@@ -58,7 +58,7 @@ pub trait Unbonder: ValidatorView {
 
     /// The shares of a delegation, or None exactly where there is none.
     fn shares_of<L: Ledger>(&self, who: &Addr, operator: &Addr, steps: &mut Steps<L>) -> Option<Dec>
-        ensures { result ≡ shares_of (stake (held self.now)) who.now operator.now };
+        ensures { result ≡ delegation (stake (held self.now)) who.now operator.now };
 
     /// Takes shares out of a delegation, and answers the tokens that go out with them, in units of the bond
     /// denomination. The coins stay where they are. `Over` comes exactly where a hook exceeds.

@@ -19,7 +19,7 @@ use Rattle.stk_keep.specs.declared.refusal.Refusal.TheVariants.{InsufficientFund
 use Rattle.stk_keep.specs.Ground.{end_of_blocks}
 use Rattle.stk_keep.specs.Holdings.{is_short}
 use Rattle.stk_keep.specs.NoHooks.{nothing_told}
-use Rattle.stk_keep.specs.Staked.{Staked, validator_of, validator_by_cons, with_validator}
+use Rattle.stk_keep.specs.Staked.{Staked, validator_at, validator_by_cons, put_validator}
 use Rattle.stk_keep.specs.Steps.{◌>>=◌, ◌>>◌, stop_if, or_stop, stopping}
 use Rattle.stk_keep.specs.World.{View, World, sent, over_view}
 use Rattle.stk_msgs.specs.declared.block.Block.{Block}
@@ -59,13 +59,13 @@ pub record KeptBySteps (P : Staked → View → Type 0) : Type 0 where
   pub sends : (s : Staked) (v : View) (from to : List ℕ) (coins : Money) → P s v → IsMoney coins → is_short v.bank (account.User from) coins ≡ false
       → P s (sent (account.User from) (account.User to) coins v)
   -- a validator without tokens
-  pub creates : (s : Staked) (v : View) (m : CreateValidator) → P s v → are_out_of_range m ≡ false → validator_of s m.validator ≡ None → validator_by_cons s m.cons ≡ None
-      → P (with_validator (new_validator m v.ctx.time) s) v
+  pub creates : (s : Staked) (v : View) (m : CreateValidator) → P s v → are_out_of_range m ≡ false → validator_at s m.validator ≡ None → validator_by_cons s m.cons ≡ None
+      → P (put_validator (new_validator m v.ctx.time) s) v
   -- an edit
-  pub edits : (s : Staked) (v : View) (operator : List ℕ) (x : Validator) (rate updated minimum : ℕ) → P s v → validator_of s operator ≡ Some x
-      → (rate ≡ x.commission.rate) ⊎ (rate ≤ x.commission.max_rate) → P (with_validator (edited_to x rate updated minimum) s) v
+  pub edits : (s : Staked) (v : View) (operator : List ℕ) (x : Validator) (rate updated minimum : ℕ) → P s v → validator_at s operator ≡ Some x
+      → (rate ≡ x.commission.rate) ⊎ (rate ≤ x.commission.max_rate) → P (put_validator (edited_to x rate updated minimum) s) v
   -- a delegation from a wallet
-  pub delegates : (s : Staked) (v : View) (operator : List ℕ) (x : Validator) (who : List ℕ) (amount issued : ℕ) → P s v → validator_of s operator ≡ Some x → 0 < amount
+  pub delegates : (s : Staked) (v : View) (operator : List ℕ) (x : Validator) (who : List ℕ) (amount issued : ℕ) → P s v → validator_at s operator ≡ Some x → 0 < amount
       → shares_given x amount ≡ Ok issued → is_short v.bank (account.User who) (bond_coins v amount) ≡ false
       → P (grown_stake x who amount issued s) (sent (account.User who) (account.Module (pool_of x.status)) (bond_coins v amount) v)
   -- other facts, and the next block
@@ -188,7 +188,7 @@ module _ (P : Staked → View → Type 0) where
         by true = tt
         by false = tt
 
-    delegated_kept : (s : Staked) (v : View) (operator : List ℕ) (x : Validator) (who : List ℕ) (amount : ℕ) → P s v → validator_of s operator ≡ Some x → 0 < amount
+    delegated_kept : (s : Staked) (v : View) (operator : List ℕ) (x : Validator) (who : List ℕ) (amount : ℕ) → P s v → validator_at s operator ≡ Some x → 0 < amount
         → StakeKept (delegated nothing_told.told x who amount wallet (over tt s v))
     delegated_kept s v operator x who amount p f some = by (shares_given x amount) refl (is_short v.bank (account.User who) (bond_coins v amount)) refl
       where
@@ -199,9 +199,9 @@ module _ (P : Staked → View → Type 0) where
         by (Ok issued) e false g = k.delegates s v operator x who amount issued p f some e g
 
     delegate_kept : (s : Staked) (v : View) (who operator : List ℕ) (coin : Coin) → P s v → StakeKept (delegated_by nothing_told.told who operator coin (over tt s v))
-    delegate_kept s v who operator coin p = by (coin.amount == 0) refl (validator_of s operator) refl (is_wrong coin v)
+    delegate_kept s v who operator coin p = by (coin.amount == 0) refl (validator_at s operator) refl (is_wrong coin v)
       where
-        by : (none : Bool) → (coin.amount == 0) ≡ none → (found : Option Validator) → validator_of s operator ≡ found → (wrong : Bool)
+        by : (none : Bool) → (coin.amount == 0) ≡ none → (found : Option Validator) → validator_at s operator ≡ found → (wrong : Bool)
             → StakeKept (stop_if none NonPositive >> (or_stop found NoValidator >>= λ x. stop_if wrong WrongDenom >> delegated nothing_told.told x who coin.amount wallet (over tt s v)))
         by true e found f wrong = tt
         by false e None f wrong = tt
@@ -211,21 +211,21 @@ module _ (P : Staked → View → Type 0) where
     create_kept : (s : Staked) (v : View) (m : CreateValidator) → P s v → StakeKept (created nothing_told.told m (over tt s v))
     create_kept s v m p =
         by (m.amount.amount == 0) refl (are_out_of_range m) refl (m.min_self_delegation == 0) (nat_lt m.amount.amount m.min_self_delegation)
-        (nat_lt m.rate v.ctx.params.min_commission_rate) (is_some (validator_of s m.validator)) refl (is_some (validator_by_cons s m.cons)) refl (is_wrong m.amount v)
+        (nat_lt m.rate v.ctx.params.min_commission_rate) (is_some (validator_at s m.validator)) refl (is_some (validator_by_cons s m.cons)) refl (is_wrong m.amount v)
       where
-        last : (m.amount.amount == 0) ≡ false → are_out_of_range m ≡ false → is_some (validator_of s m.validator) ≡ false → is_some (validator_by_cons s m.cons) ≡ false
-            → StakeKept {A = ⊤} (delegated nothing_told.told (new_validator m v.ctx.time) m.validator m.amount.amount wallet (over tt (with_validator (new_validator m v.ctx.time) s) v) >>= λ p. Ok (tt, p.1))
+        last : (m.amount.amount == 0) ≡ false → are_out_of_range m ≡ false → is_some (validator_at s m.validator) ≡ false → is_some (validator_by_cons s m.cons) ≡ false
+            → StakeKept {A = ⊤} (delegated nothing_told.told (new_validator m v.ctx.time) m.validator m.amount.amount wallet (over tt (put_validator (new_validator m v.ctx.time) s) v) >>= λ p. Ok (tt, p.1))
         last a b f g =
             let x = new_validator m v.ctx.time in
-            kept_on (delegated nothing_told.told x m.validator m.amount.amount wallet (over tt (with_validator x s) v))
-            (delegated_kept (with_validator x s) v m.validator x m.validator m.amount.amount
-            (k.creates s v m p b (is_none (validator_of s m.validator) f) (is_none (validator_by_cons s m.cons) g))
-            (found-put s.validators m.validator m.validator x ∙ ap (λ b. cond b (Some x) (validator_of s m.validator)) ((eq_by_cmp_equiv addr_total).refl m.validator))
+            kept_on (delegated nothing_told.told x m.validator m.amount.amount wallet (over tt (put_validator x s) v))
+            (delegated_kept (put_validator x s) v m.validator x m.validator m.amount.amount
+            (k.creates s v m p b (is_none (validator_at s m.validator) f) (is_none (validator_by_cons s m.cons) g))
+            (found-put s.validators m.validator m.validator x ∙ ap (λ b. cond b (Some x) (validator_at s m.validator)) ((eq_by_cmp_equiv addr_total).refl m.validator))
             (positive m.amount.amount a))
 
-        by : (a : Bool) → (m.amount.amount == 0) ≡ a → (b : Bool) → are_out_of_range m ≡ b → (c d e f : Bool) → is_some (validator_of s m.validator) ≡ f → (g : Bool) → is_some (validator_by_cons s m.cons) ≡ g → (i : Bool)
+        by : (a : Bool) → (m.amount.amount == 0) ≡ a → (b : Bool) → are_out_of_range m ≡ b → (c d e f : Bool) → is_some (validator_at s m.validator) ≡ f → (g : Bool) → is_some (validator_by_cons s m.cons) ≡ g → (i : Bool)
             → StakeKept {A = ⊤} (stop_if a NonPositive >> (stop_if b CommissionRange >> (stop_if c MinSelfNotPositive >> (stop_if d SelfBelowMinimum >> (stop_if e CommissionBelowMinimum >> (stop_if f ValidatorExists >> (stop_if g ConsKeyExists >> (stop_if i WrongDenom
-            >> (delegated nothing_told.told (new_validator m v.ctx.time) m.validator m.amount.amount wallet (over tt (with_validator (new_validator m v.ctx.time) s) v) >>= λ p. Ok (tt, p.1))))))))))
+            >> (delegated nothing_told.told (new_validator m v.ctx.time) m.validator m.amount.amount wallet (over tt (put_validator (new_validator m v.ctx.time) s) v) >>= λ p. Ok (tt, p.1))))))))))
         by true ea b eb c d e f ef g eg i = tt
         by false ea true eb c d e f ef g eg i = tt
         by false ea false eb true d e f ef g eg i = tt
@@ -237,24 +237,24 @@ module _ (P : Staked → View → Type 0) where
         by false ea false eb false false false false ef false eg false = last ea eb ef eg
 
     edit_kept : (s : Staked) (v : View) (m : EditValidator) → P s v → KeptIf (edit_validator m (stake_over s v))
-    edit_kept s v m p = by (edit_formed m) (validator_of s m.validator) refl
+    edit_kept s v m p = by (edit_formed m) (validator_at s m.validator) refl
       where
-        set_kept : (x : Validator) → validator_of s m.validator ≡ Some x → (rate updated : ℕ) → (rate ≡ x.commission.rate) ⊎ (rate ≤ x.commission.max_rate)
-            → (set : Result Validator Refusal) → IsSet (edited_to x rate updated x.min_self) set → KeptIf ((set >>= λ z. Ok (with_validator z s)) >>= λ t. Ok (stake_over t v))
+        set_kept : (x : Validator) → validator_at s m.validator ≡ Some x → (rate updated : ℕ) → (rate ≡ x.commission.rate) ⊎ (rate ≤ x.commission.max_rate)
+            → (set : Result Validator Refusal) → IsSet (edited_to x rate updated x.min_self) set → KeptIf ((set >>= λ z. Ok (put_validator z s)) >>= λ t. Ok (stake_over t v))
         set_kept x f rate updated c (Err why) h = tt
         set_kept x f rate updated c (Ok y) h =
-            kept_here (with_validator y s) v (subst (λ (z : Validator). P (with_validator z s) v) (sym h.1) (k.edits s v m.validator x rate updated h.0 p f c))
+            kept_here (put_validator y s) v (subst (λ (z : Validator). P (put_validator z s) v) (sym h.1) (k.edits s v m.validator x rate updated h.0 p f c))
 
-        rated_kept : (x : Validator) → validator_of s m.validator ≡ Some x → (rated : Result Validator Refusal) → IsRated x rated
-            → KeptIf ((rated >>= λ y. minimum_edited m.min_self_delegation y >>= λ z. Ok (with_validator z s)) >>= λ t. Ok (stake_over t v))
+        rated_kept : (x : Validator) → validator_at s m.validator ≡ Some x → (rated : Result Validator Refusal) → IsRated x rated
+            → KeptIf ((rated >>= λ y. minimum_edited m.min_self_delegation y >>= λ z. Ok (put_validator z s)) >>= λ t. Ok (stake_over t v))
         rated_kept x f (Err why) h = tt
         rated_kept x f (Ok y) h =
             let z = edited_to x h.0 h.1 x.min_self in
-            subst (λ (u : Validator). KeptIf ((minimum_edited m.min_self_delegation u >>= λ z. Ok (with_validator z s)) >>= λ t. Ok (stake_over t v))) (sym h.3)
+            subst (λ (u : Validator). KeptIf ((minimum_edited m.min_self_delegation u >>= λ z. Ok (put_validator z s)) >>= λ t. Ok (stake_over t v))) (sym h.3)
             (set_kept x f h.0 h.1 h.2 (minimum_edited m.min_self_delegation z) (minimum_is m.min_self_delegation z))
 
-        by : (formed : Result ⊤ Refusal) (found : Option Validator) → validator_of s m.validator ≡ found
-            → KeptIf ((formed >> (or_stop found NoValidator >>= λ x. rate_edited m.rate v.ctx.time v.ctx.params.min_commission_rate x >>= λ y. minimum_edited m.min_self_delegation y >>= λ z. Ok (with_validator z s))) >>= λ t. Ok (stake_over t v))
+        by : (formed : Result ⊤ Refusal) (found : Option Validator) → validator_at s m.validator ≡ found
+            → KeptIf ((formed >> (or_stop found NoValidator >>= λ x. rate_edited m.rate v.ctx.time v.ctx.params.min_commission_rate x >>= λ y. minimum_edited m.min_self_delegation y >>= λ z. Ok (put_validator z s))) >>= λ t. Ok (stake_over t v))
         by (Err why) found f = tt
         by (Ok t) None f = tt
         by (Ok t) (Some x) f = rated_kept x f (rate_edited m.rate v.ctx.time v.ctx.params.min_commission_rate x) (rate_is m.rate v.ctx.time v.ctx.params.min_commission_rate x)

@@ -14,7 +14,7 @@ use Rattle.stk_keep.specs.declared.messages.CreateValidator.{CreateValidator}
 use Rattle.stk_keep.specs.declared.refusal.Refusal.{Refusal}
 use Rattle.stk_keep.specs.declared.refusal.Refusal.TheVariants.{InsufficientFunds, WrongDenom, NonPositive, NoValidator, ValidatorExists, ConsKeyExists, CommissionRange, CommissionBelowMinimum, MinSelfNotPositive, SelfBelowMinimum, RateInvalid, TinyDelegation, Overflow}
 use Rattle.stk_keep.specs.Holdings.{is_short}
-use Rattle.stk_keep.specs.Staked.{Staked, validator_of, validator_by_cons, with_validator}
+use Rattle.stk_keep.specs.Staked.{Staked, validator_at, validator_by_cons, put_validator}
 use Rattle.stk_keep.specs.Steps.{◌>>=◌, ◌>>◌, stop_if, or_stop, stopping}
 use Rattle.stk_keep.specs.World.{World, sent}
 use Rattle.stk_msgs.specs.declared.message.Msg.TheVariants as msg
@@ -95,7 +95,7 @@ module _ {H : Type 0} (w : World Staked H) (who : List ℕ) (n : ℕ) where
 delegates_refused : (who operator : List ℕ) (coin : Coin) (w : State) → refusal_of (delegate_unhooked who operator coin) w ≡ first_of (against_delegating who operator coin w)
 delegates_refused who operator coin w =
     mapped (delegated_by no_hook who operator coin (staked_in w)) (λ p. with_staked w.mine p.1)
-    ∙ by (validator_of w.mine.staked operator)
+    ∙ by (validator_at w.mine.staked operator)
   where
     by : (found : Option Validator)
         → refused_in (stop_if (coin.amount == 0) NonPositive >> (or_stop found NoValidator >>= λ x. stop_if (is_wrong coin w.view) WrongDenom >> delegated no_hook x who coin.amount wallet (staked_in w)))
@@ -149,14 +149,14 @@ there_step (Some b) why next rest h = refl
 creates_refused : (m : CreateValidator) (w : State) → refusal_of (create_unhooked m) w ≡ first_of (against_create m w)
 creates_refused m w =
     let x = new_validator m w.view.ctx.time in
-    let u : World Staked Hooks = record { mine = with_validator x w.mine.staked; hooks = w.hooks; view = w.view; log = w.log ++ [] } in
+    let u : World Staked Hooks = record { mine = put_validator x w.mine.staked; hooks = w.hooks; view = w.view; log = w.log ++ [] } in
     mapped (created no_hook m (staked_in w)) (λ p. with_staked w.mine p.1)
     ∙ some_step (m.amount.amount == 0) NonPositive _ _ (λ e.
     stop_step (are_out_of_range m) CommissionRange _ _
     (stop_step (m.min_self_delegation == 0) MinSelfNotPositive _ _
     (stop_step (nat_lt m.amount.amount m.min_self_delegation) SelfBelowMinimum _ _
     (stop_step (nat_lt m.rate w.view.ctx.params.min_commission_rate) CommissionBelowMinimum _ _
-    (there_step (validator_of w.mine.staked m.validator) ValidatorExists _ _
+    (there_step (validator_at w.mine.staked m.validator) ValidatorExists _ _
     (stop_step (is_some (validator_by_cons w.mine.staked m.cons)) ConsKeyExists _ _
     (stop_step (is_wrong m.amount w.view) WrongDenom _ _
     (mapped {B = ⊤ × World Staked Hooks} (delegated no_hook x m.validator m.amount.amount wallet u) (λ p. (tt, p.1))

@@ -14,7 +14,7 @@ use Rattle.stk_types.specs.Orders.{addr_cmp, cons_cmp}
 use Rattle.stk_keep.specs.declared.entities.Validator.{Validator}
 use Rattle.stk_keep.specs.declared.params.Params.{Params}
 use Rattle.stk_keep.specs.Orders.{same_addr}
-use Rattle.stk_keep.specs.Staked.{Staked, validator_of, validator_by_cons, with_validator}
+use Rattle.stk_keep.specs.Staked.{Staked, validator_at, validator_by_cons, put_validator}
 use Rattle.stk_keep.specs.World.{View}
 use Rattle.stk_msgs.specs.declared.genesis.Genesis.{Genesis}
 use Rattle.stk_msgs.specs.declared.genesis.GenesisValidator.{GenesisValidator}
@@ -27,7 +27,7 @@ use Rattle.stk_machine.proofs.StartLemmas.{may_start, entrant, no_stake}
 -- validators that are still to come: none stands, by its operator or its consensus address, none of them is there twice, and
 -- their rates are rates
 pub record IsEntering (p : Params) (todo : List GenesisValidator) (s : Staked) : Type 0 where
-  pub new : All (λ x. validator_of s x.operator ≡ None) todo
+  pub new : All (λ x. validator_at s x.operator ≡ None) todo
   pub new_cons : All (λ x. validator_by_cons s x.cons ≡ None) todo
   pub operators : has_operator_twice todo ≡ false
   pub cons : has_cons_twice todo ≡ false
@@ -66,35 +66,35 @@ none-put cons k w (x ∷ es) e f =
     by Greater a b later = pass_over cons x.1 (values_of (insert_entry addr_cmp es k w)) a later
 
 module _ (v : View) (x : GenesisValidator) (s : Staked) where
-  still_new : (todo : List GenesisValidator) → list_any (is_at (addr_cmp x.operator)) (map (λ y. y.operator) todo) ≡ false → All (λ y. validator_of s y.operator ≡ None) todo
-      → All (λ y. validator_of (with_validator (entrant v x) s) y.operator ≡ None) todo
-  still_new [] e h = All-nil (λ (y : GenesisValidator). validator_of (with_validator (entrant v x) s) y.operator ≡ None)
+  still_new : (todo : List GenesisValidator) → list_any (is_at (addr_cmp x.operator)) (map (λ y. y.operator) todo) ≡ false → All (λ y. validator_at s y.operator ≡ None) todo
+      → All (λ y. validator_at (put_validator (entrant v x) s) y.operator ≡ None) todo
+  still_new [] e h = All-nil (λ (y : GenesisValidator). validator_at (put_validator (entrant v x) s) y.operator ≡ None)
   still_new (y ∷ todo) e h =
       let parts = either_false (same_addr x.operator y.operator) (list_any (is_at (addr_cmp x.operator)) (map (λ (z : GenesisValidator). z.operator) todo)) e in
       let other : same_addr y.operator x.operator ≡ false = same_back y.operator x.operator ∙ parts.0 in
-      let none = All-head (λ (z : GenesisValidator). validator_of s z.operator ≡ None) y todo h in
-      All-cons (λ (z : GenesisValidator). validator_of (with_validator (entrant v x) s) z.operator ≡ None) y todo
-      (found-put s.validators x.operator y.operator (entrant v x) ∙ ap (λ b. cond b (Some (entrant v x)) (validator_of s y.operator)) other ∙ none)
-      (still_new todo parts.1 (All-tail (λ (z : GenesisValidator). validator_of s z.operator ≡ None) y todo h))
+      let none = All-head (λ (z : GenesisValidator). validator_at s z.operator ≡ None) y todo h in
+      All-cons (λ (z : GenesisValidator). validator_at (put_validator (entrant v x) s) z.operator ≡ None) y todo
+      (found-put s.validators x.operator y.operator (entrant v x) ∙ ap (λ b. cond b (Some (entrant v x)) (validator_at s y.operator)) other ∙ none)
+      (still_new todo parts.1 (All-tail (λ (z : GenesisValidator). validator_at s z.operator ≡ None) y todo h))
 
   still_new_cons : (todo : List GenesisValidator) → list_any (is_at (cons_cmp x.cons)) (map (λ y. y.cons) todo) ≡ false → All (λ y. validator_by_cons s y.cons ≡ None) todo
-      → All (λ y. validator_by_cons (with_validator (entrant v x) s) y.cons ≡ None) todo
-  still_new_cons [] e h = All-nil (λ (y : GenesisValidator). validator_by_cons (with_validator (entrant v x) s) y.cons ≡ None)
+      → All (λ y. validator_by_cons (put_validator (entrant v x) s) y.cons ≡ None) todo
+  still_new_cons [] e h = All-nil (λ (y : GenesisValidator). validator_by_cons (put_validator (entrant v x) s) y.cons ≡ None)
   still_new_cons (y ∷ todo) e h =
       let parts = either_false (is_at (cons_cmp x.cons) y.cons) (list_any (is_at (cons_cmp x.cons)) (map (λ (z : GenesisValidator). z.cons) todo)) e in
-      All-cons (λ (z : GenesisValidator). validator_by_cons (with_validator (entrant v x) s) z.cons ≡ None) y todo
+      All-cons (λ (z : GenesisValidator). validator_by_cons (put_validator (entrant v x) s) z.cons ≡ None) y todo
       (none-put y.cons x.operator (entrant v x) s.validators parts.0 (All-head (λ (z : GenesisValidator). validator_by_cons s z.cons ≡ None) y todo h))
       (still_new_cons todo parts.1 (All-tail (λ (z : GenesisValidator). validator_by_cons s z.cons ≡ None) y todo h))
 
 -- The first of those that are to come: it may enter, and then the others are to come.
 pub record Enters (p : Params) (x : GenesisValidator) (todo : List GenesisValidator) (s : Staked) (v : View) : Type 0 where
-  pub new : validator_of s x.operator ≡ None
+  pub new : validator_at s x.operator ≡ None
   pub new_cons : validator_by_cons s x.cons ≡ None
   pub max_rate : x.max_rate ≤ 10 ^ 18
   pub rate : x.rate ≤ x.max_rate
   pub max_change : x.max_change_rate ≤ x.max_rate
   pub least_rate : p.min_commission_rate ≤ x.rate
-  pub entering : IsEntering p todo (with_validator (entrant v x) s)
+  pub entering : IsEntering p todo (put_validator (entrant v x) s)
 
 at_most : (a b : ℕ) → nat_lt a b ≡ false → b ≤ a
 at_most a b e = grind (arith, nat_tests)
@@ -108,14 +108,14 @@ one_enters p x todo s v is =
     let operators = either_false (list_any (is_at (addr_cmp x.operator)) (map (λ (y : GenesisValidator). y.operator) todo)) (has_operator_twice todo) is.operators in
     let cons = either_false (list_any (is_at (cons_cmp x.cons)) (map (λ (y : GenesisValidator). y.cons) todo)) (has_cons_twice todo) is.cons in
     record {
-      new = All-head (λ (y : GenesisValidator). validator_of s y.operator ≡ None) x todo is.new;
+      new = All-head (λ (y : GenesisValidator). validator_at s y.operator ≡ None) x todo is.new;
       new_cons = All-head (λ (y : GenesisValidator). validator_by_cons s y.cons ≡ None) x todo is.new_cons;
       max_rate = at_most (10 ^ 18) x.max_rate two.0;
       rate = at_most x.max_rate x.rate two.1;
       max_change = at_most x.max_rate x.max_change_rate first.1;
       least_rate = at_most x.rate p.min_commission_rate both.1;
       entering = record {
-        new = still_new v x s todo operators.0 (All-tail (λ (y : GenesisValidator). validator_of s y.operator ≡ None) x todo is.new);
+        new = still_new v x s todo operators.0 (All-tail (λ (y : GenesisValidator). validator_at s y.operator ≡ None) x todo is.new);
         new_cons = still_new_cons v x s todo cons.0 (All-tail (λ (y : GenesisValidator). validator_by_cons s y.cons ≡ None) x todo is.new_cons);
         operators = operators.1;
         cons = cons.1;
@@ -133,9 +133,9 @@ entering g e = let m = may_start g e in record {
   rates = m.rates;
 }
   where
-    all_new : (todo : List GenesisValidator) → All (λ x. validator_of no_stake x.operator ≡ None) todo
-    all_new [] = All-nil (λ (x : GenesisValidator). validator_of no_stake x.operator ≡ None)
-    all_new (x ∷ todo) = All-cons (λ (y : GenesisValidator). validator_of no_stake y.operator ≡ None) x todo refl (all_new todo)
+    all_new : (todo : List GenesisValidator) → All (λ x. validator_at no_stake x.operator ≡ None) todo
+    all_new [] = All-nil (λ (x : GenesisValidator). validator_at no_stake x.operator ≡ None)
+    all_new (x ∷ todo) = All-cons (λ (y : GenesisValidator). validator_at no_stake y.operator ≡ None) x todo refl (all_new todo)
 
     all_new_cons : (todo : List GenesisValidator) → All (λ x. validator_by_cons no_stake x.cons ≡ None) todo
     all_new_cons [] = All-nil (λ (x : GenesisValidator). validator_by_cons no_stake x.cons ≡ None)

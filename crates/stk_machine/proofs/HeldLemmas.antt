@@ -20,7 +20,7 @@ use Rattle.stk_keep.specs.declared.params.Params.{Params}
 use Rattle.stk_keep.specs.Entries.{with}
 use Rattle.stk_keep.specs.Ground.{end_of_blocks}
 use Rattle.stk_keep.specs.Holdings.{Holdings, balance_of, is_short, IsBacked}
-use Rattle.stk_keep.specs.Staked.{Staked, validator_of, with_validator, tokens_where, other_tokens, is_bonded, is_unbonded, of_bond}
+use Rattle.stk_keep.specs.Staked.{Staked, validator_at, put_validator, tokens_where, other_tokens, is_bonded, is_unbonded, of_bond}
 use Rattle.stk_keep.specs.World.{View, sent}
 use Rattle.stk_keep.proofs.AmountLemmas.{moves_by_amounts}
 use Rattle.stk_keep.proofs.HoldingLemmas.{supplies-moved, backed-moved, balance-moved_elsewhere, balance-most, first_enough}
@@ -91,7 +91,7 @@ module _ (p : Params) (all : Money) where
     not_bonded = λ d. balance-moved_elsewhere coins v.bank (account.User from) to (account.Module holder.NotBonded) d h.backed.balances_ascend refl n ∙ h.not_bonded d;
   }
 
-  created_held : (s : Staked) (v : View) (x : Validator) → Held s v → validator_of s x.operator ≡ None → is_unbonded x.status ≡ true → x.tokens ≡ 0 → Held (with_validator x s) v
+  created_held : (s : Staked) (v : View) (x : Validator) → Held s v → validator_at s x.operator ≡ None → is_unbonded x.status ≡ true → x.tokens ≡ 0 → Held (put_validator x s) v
   created_held s v x h new unbonded none = record {
     params = h.params;
     time = h.time;
@@ -104,13 +104,13 @@ module _ (p : Params) (all : Money) where
     not_bonded = λ d. h.not_bonded d ∙ ap (of_bond v d) same;
   }
     where
-      same : other_tokens s ≡ other_tokens (with_validator x s)
+      same : other_tokens s ≡ other_tokens (put_validator x s)
       same =
           let joined : tokens_where others (with addr_cmp s.validators x.operator x) ≡ other_tokens s + counted others x = tokens-joined others x.operator x s.validators new in
           let own : counted others x ≡ x.tokens = other-counted x.status x.tokens unbonded in
           omega (arith, joined, own, none)
 
-  edited_held : (s : Staked) (v : View) (operator : List ℕ) (x : Validator) (rate updated minimum : ℕ) → Held s v → validator_of s operator ≡ Some x → Held (with_validator (edited_to x rate updated minimum) s) v
+  edited_held : (s : Staked) (v : View) (operator : List ℕ) (x : Validator) (rate updated minimum : ℕ) → Held s v → validator_at s operator ≡ Some x → Held (put_validator (edited_to x rate updated minimum) s) v
   edited_held s v operator x rate updated minimum h f = record {
     params = h.params;
     time = h.time;
@@ -126,23 +126,23 @@ module _ (p : Params) (all : Money) where
       unbonded : is_unbonded x.status ≡ true
       unbonded = all-found (λ (e : List ℕ × Validator). is_unbonded e.1.status ≡ true) operator x s.validators h.unbonded f
 
-      here : validator_of s x.operator ≡ Some x
-      here = ap (λ o. validator_of s o) (all-found (λ (e : List ℕ × Validator). e.1.operator ≡ e.0) operator x s.validators h.operators f) ∙ f
+      here : validator_at s x.operator ≡ Some x
+      here = ap (λ o. validator_at s o) (all-found (λ (e : List ℕ × Validator). e.1.operator ≡ e.0) operator x s.validators h.operators f) ∙ f
 
-      same : other_tokens s ≡ other_tokens (with_validator (edited_to x rate updated minimum) s)
+      same : other_tokens s ≡ other_tokens (put_validator (edited_to x rate updated minimum) s)
       same =
           let put : tokens_where others (with addr_cmp s.validators x.operator (edited_to x rate updated minimum)) + counted others x ≡ other_tokens s + counted others x
           = tokens-put others x.operator x (edited_to x rate updated minimum) s.validators h.ascend here in
           omega (arith, put)
 
-  delegated_held : (s : Staked) (v : View) (operator : List ℕ) (x : Validator) (who : List ℕ) (n issued : ℕ) → Held s v → validator_of s operator ≡ Some x
+  delegated_held : (s : Staked) (v : View) (operator : List ℕ) (x : Validator) (who : List ℕ) (n issued : ℕ) → Held s v → validator_at s operator ≡ Some x
       → is_short v.bank (account.User who) (bond_coins v n) ≡ false → Held (grown_stake x who n issued s) (sent (account.User who) (account.Module holder.NotBonded) (bond_coins v n) v)
   delegated_held s v operator x who n issued h f e =
       let bond = v.ctx.params.bond_denom in
       let coins = bond_coins v n in
       let grown : Validator = record x { tokens = x.tokens + n; shares = x.shares + issued } in
       let unbonded : is_unbonded x.status ≡ true = all-found (λ (e : List ℕ × Validator). is_unbonded e.1.status ≡ true) operator x s.validators h.unbonded f in
-      let here : validator_of s x.operator ≡ Some x = ap (λ o. validator_of s o) (all-found (λ (e : List ℕ × Validator). e.1.operator ≡ e.0) operator x s.validators h.operators f) ∙ f in
+      let here : validator_at s x.operator ≡ Some x = ap (λ o. validator_at s o) (all-found (λ (e : List ℕ × Validator). e.1.operator ≡ e.0) operator x s.validators h.operators f) ∙ f in
       let has = enough v.bank (account.User who) bond n e in
       let most = balance-most v.bank (account.User who) bond h.backed in
       let money : IsMoney coins = one-money bond n (omega (arith, has, most)) in

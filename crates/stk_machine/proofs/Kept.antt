@@ -21,7 +21,7 @@ use Rattle.stk_keep.specs.Orders.{place_cmp}
 use Rattle.stk_keep.proofs.EntryLemmas.{number-after, ascend-after, positive-after, sum-after, Respects}
 use Rattle.stk_keep.proofs.HoldingLemmas.{place_total, denom_total, of_denom}
 use Rattle.stk_msgs.specs.declared.genesis.GenesisAccount.{GenesisAccount}
-use Rattle.stk_machine.specs.Genesis.{with_coins, balances_with, coins_joined, supplies_with, held_by, has_too_much}
+use Rattle.stk_machine.specs.Genesis.{with_coins, balances_with, coins_joined, supplies_with, held_at_start, has_too_much}
 
 -- ---- what a genesis gives
 
@@ -96,7 +96,7 @@ amount_within (c ∷ cs) d e = within_by (is_at (denom_cmp d) c.0) c.1 (10 ^ 18)
     later false b h = h
 
 -- what the accounts of a genesis hold, where there is not too much, is backed
-pub held_backed : (accounts : List GenesisAccount) → has_too_much (supplies_with accounts []) ≡ false → IsBacked (held_by accounts)
+pub held_backed : (accounts : List GenesisAccount) → has_too_much (supplies_with accounts []) ≡ false → IsBacked (held_at_start accounts)
 held_backed accounts e = let x : Summed (balances_with accounts []) (supplies_with accounts []) = held_summed accounts in record {
   balances_ascend = x.balances_ascend;
   balances_positive = x.balances_positive;

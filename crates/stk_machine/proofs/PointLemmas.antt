@@ -5,18 +5,18 @@ use Rattle.std.proofs.lemmas.Bool.Decides.{nat_tests}
 use Rattle.stk_keep.specs.declared.entities.Validator.{Validator}
 use Rattle.stk_keep.specs.Entries.{with, without, with_number}
 use Rattle.stk_keep.specs.Orders.{pair_cmp}
-use Rattle.stk_keep.specs.Staked.{Staked, validator_of, shares_of, with_validator}
+use Rattle.stk_keep.specs.Staked.{Staked, validator_at, delegation, put_validator}
 use Rattle.stk_rules.specs.Sound.{ValidatorIsSound}
 use Rattle.stk_rules.proofs.SoundLemmas.{IsSoundAt, Delegations, put_with, sound-put, sound-changed}
 
-module _ (height : ℕ) (w x : Validator) (s : Staked) (h : IsSoundAt height s) (f : validator_of s w.operator ≡ Some x) (c : w.cons ≡ x.cons) (ok : ValidatorIsSound height w) where
-  pub sound-set : w.shares ≡ x.shares → IsSoundAt height (with_validator w s)
+module _ (height : ℕ) (w x : Validator) (s : Staked) (h : IsSoundAt height s) (f : validator_at s w.operator ≡ Some x) (c : w.cons ≡ x.cons) (ok : ValidatorIsSound height w) where
+  pub sound-set : w.shares ≡ x.shares → IsSoundAt height (put_validator w s)
   sound-set n = sound-put height w x s h f (record { operator = sym (h.operators w.operator x f); cons = c; shares = n; sound = ok })
 
   -- it has more shares, as one delegation
   module _ (who : List ℕ) (issued : ℕ) (some : 0 < issued) where
     abbrev held : ℕ
-    held = unwrap_or (shares_of s who w.operator) 0
+    held = unwrap_or (delegation s who w.operator) 0
 
     abbrev after : Delegations
     after = with pair_cmp s.delegations (w.operator, who) (held + issued)

@@ -18,7 +18,7 @@ use Rattle.stk_keep.specs.declared.refusal.Refusal.{Refusal}
 use Rattle.stk_keep.specs.declared.refusal.Refusal.TheVariants.{TinyDelegation, Overflow}
 use Rattle.stk_keep.specs.Entries.{at}
 use Rattle.stk_keep.specs.Orders.{same_addr}
-use Rattle.stk_keep.specs.Staked.{Staked, validator_of, validator_by_cons, with_validator, other_tokens, is_unbonded}
+use Rattle.stk_keep.specs.Staked.{Staked, validator_at, validator_by_cons, put_validator, other_tokens, is_unbonded}
 use Rattle.stk_keep.specs.Steps.{◌>>=◌, ◌>>◌, stop_if, stopping, each}
 use Rattle.stk_keep.specs.World.{View, World}
 use Rattle.stk_msgs.specs.declared.genesis.Genesis.{Genesis}
@@ -101,15 +101,15 @@ new_is_sound height m time e =
       unbonding_height = omega arith;
     }
 
-created_sound : (height : ℕ) (s : Staked) (m : CreateValidator) (time : ℕ) → IsSoundAt height s → are_out_of_range m ≡ false → validator_of s m.validator ≡ None → validator_by_cons s m.cons ≡ None
-    → IsSoundAt height (with_validator (new_validator m time) s)
+created_sound : (height : ℕ) (s : Staked) (m : CreateValidator) (time : ℕ) → IsSoundAt height s → are_out_of_range m ≡ false → validator_at s m.validator ≡ None → validator_by_cons s m.cons ≡ None
+    → IsSoundAt height (put_validator (new_validator m time) s)
 created_sound height s m time h rates new cons = sound-joined height s (new_validator m time) h new (λ p x f c. nobody_has m.cons s.validators p x cons f c) (new_is_sound height m time rates) refl
 
-edited_sound : (height : ℕ) (s : Staked) (o : List ℕ) (x : Validator) (rate updated minimum : ℕ) → IsSoundAt height s → validator_of s o ≡ Some x → (rate ≡ x.commission.rate) ⊎ (rate ≤ x.commission.max_rate)
-    → IsSoundAt height (with_validator (edited_to x rate updated minimum) s)
+edited_sound : (height : ℕ) (s : Staked) (o : List ℕ) (x : Validator) (rate updated minimum : ℕ) → IsSoundAt height s → validator_at s o ≡ Some x → (rate ≡ x.commission.rate) ⊎ (rate ≤ x.commission.max_rate)
+    → IsSoundAt height (put_validator (edited_to x rate updated minimum) s)
 edited_sound height s o x rate updated minimum h f c =
     let old = h.validators o x f in
-    sound-set height (edited_to x rate updated minimum) x s h (ap (validator_of s) (h.operators o x f) ∙ f) refl
+    sound-set height (edited_to x rate updated minimum) x s h (ap (validator_at s) (h.operators o x f) ∙ f) refl
     (record { max_rate = old.max_rate; rate = at_most_highest old.rate c; max_change = old.max_change; tokens = old.tokens; empty = old.empty; unbonding_height = old.unbonding_height })
     refl
   where
@@ -117,12 +117,12 @@ edited_sound height s o x rate updated minimum h f c =
     at_most_highest l (inl e) = omega (arith, l, e)
     at_most_highest l (inr e) = e
 
-grown_sound : (height : ℕ) (s : Staked) (o : List ℕ) (x : Validator) (who : List ℕ) (n issued : ℕ) → IsSoundAt height s → validator_of s o ≡ Some x → 0 < issued → x.tokens + n ≤ 10 ^ 18
+grown_sound : (height : ℕ) (s : Staked) (o : List ℕ) (x : Validator) (who : List ℕ) (n issued : ℕ) → IsSoundAt height s → validator_at s o ≡ Some x → 0 < issued → x.tokens + n ≤ 10 ^ 18
     → IsSoundAt height (grown_stake x who n issued s)
 grown_sound height s o x who n issued h f some most =
     let old = h.validators o x f in
     let grown : Validator = record x { tokens = x.tokens + n; shares = x.shares + issued } in
-    sound-more height grown x s h (ap (validator_of s) (h.operators o x f) ∙ f) refl
+    sound-more height grown x s h (ap (validator_at s) (h.operators o x f) ∙ f) refl
     (record { max_rate = old.max_rate; rate = old.rate; max_change = old.max_change; tokens = most; empty = λ z. absurd (not_empty x.shares z); unbonding_height = old.unbonding_height })
     who issued some refl
   where
@@ -152,11 +152,11 @@ sound_by_steps p all =
       follows = λ s v height time h due before. (k.follows s v height time h.0 due before, later v.ctx.height height s (omega (arith, due)) h.1);
     }
   where
-    no_more : (s : Staked) (v : View) (o : List ℕ) (x : Validator) (who : List ℕ) (n issued : ℕ) → IsHeld p all s v → validator_of s o ≡ Some x → other_tokens (grown_stake x who n issued s) ≤ 10 ^ 18 → x.tokens + n ≤ 10 ^ 18
+    no_more : (s : Staked) (v : View) (o : List ℕ) (x : Validator) (who : List ℕ) (n issued : ℕ) → IsHeld p all s v → validator_at s o ≡ Some x → other_tokens (grown_stake x who n issued s) ≤ 10 ^ 18 → x.tokens + n ≤ 10 ^ 18
     no_more s v o x who n issued h f l =
         let grown : Validator = record x { tokens = x.tokens + n; shares = x.shares + issued } in
         let left = grown_stake x who n issued s in
-        let here : at addr_cmp left.validators x.operator ≡ Some grown = found-put s.validators x.operator x.operator grown ∙ ap (λ b. cond b (Some grown) (validator_of s x.operator)) ((eq_by_cmp_equiv addr_total).refl x.operator) in
+        let here : at addr_cmp left.validators x.operator ≡ Some grown = found-put s.validators x.operator x.operator grown ∙ ap (λ b. cond b (Some grown) (validator_at s x.operator)) ((eq_by_cmp_equiv addr_total).refl x.operator) in
         let within : counted others grown ≤ other_tokens left = tokens-within others x.operator grown left.validators here in
         let own : counted others grown ≡ x.tokens + n = other-counted x.status (x.tokens + n) (all-found (λ (e : List ℕ × Validator). is_unbonded e.1.status ≡ true) o x s.validators h.unbonded f) in
         omega (arith, within, own, l)
@@ -171,7 +171,7 @@ entered_sound : {H : Type 0} (p : Params) (todo : List GenesisValidator) (h : H)
 entered_sound p [] h s left v is sound e = subst (IsSoundAt 0) (ok_mine s left h v e) sound
 entered_sound p (x ∷ todo) h s left v is sound e =
     let one : Enters p x todo s v = one_enters p x todo s v is in
-    entered_sound p todo h (with_validator (entrant v x) s) left v one.entering
+    entered_sound p todo h (put_validator (entrant v x) s) left v one.entering
     (sound-joined 0 s (entrant v x) sound one.new (λ o y f c. nobody_has x.cons s.validators o y one.new_cons f c)
     (record { max_rate = one.max_rate; rate = one.rate; max_change = one.max_change; tokens = omega arith; empty = λ z. refl; unbonding_height = omega arith }) refl)
     e

@@ -32,7 +32,7 @@ use Rattle.stk_keep.specs.Ground.{IsInOrder, end_of_blocks}
 use Rattle.stk_keep.specs.Holdings.{Balances, balance_of}
 use Rattle.stk_keep.specs.NoHooks.{nothing_told}
 use Rattle.stk_keep.specs.Orders.{place_cmp, same_addr}
-use Rattle.stk_keep.specs.Staked.{Staked, validator_of, with_validator, is_bonded, is_unbonded, tokens_where, other_tokens, bonded_tokens, HoldsStake}
+use Rattle.stk_keep.specs.Staked.{Staked, validator_at, put_validator, is_bonded, is_unbonded, tokens_where, other_tokens, bonded_tokens, HoldsStake}
 use Rattle.stk_keep.specs.Steps.{◌>>=◌, ◌>>◌, stop_if, or_stop, stopping, each}
 use Rattle.stk_keep.specs.World.{View, World}
 use Rattle.stk_keep.proofs.EntryLemmas.{number-after, ascend-after}
@@ -256,12 +256,12 @@ one_enters v x es h = record {
 
 -- an operator's validator is still to come, or stands
 abbrev pub is_there : List GenesisValidator → Staked → List ℕ → Bool
-is_there todo s o = validates todo o || is_some (validator_of s o)
+is_there todo s o = validates todo o || is_some (validator_at s o)
 
-still_there : (v : View) (x : GenesisValidator) (todo : List GenesisValidator) (s : Staked) (o : List ℕ) → is_there (x ∷ todo) s o ≡ true → is_there todo (with_validator (entrant v x) s) o ≡ true
+still_there : (v : View) (x : GenesisValidator) (todo : List GenesisValidator) (s : Staked) (o : List ℕ) → is_there (x ∷ todo) s o ≡ true → is_there todo (put_validator (entrant v x) s) o ≡ true
 still_there v x todo s o h =
     ap (λ r. validates todo o || is_some r) (found-put s.validators x.operator o (entrant v x))
-    ∙ by (same_addr x.operator o) (same_addr o x.operator) (validates todo o) (validator_of s o) (same_back x.operator o) h
+    ∙ by (same_addr x.operator o) (same_addr o x.operator) (validates todo o) (validator_at s o) (same_back x.operator o) h
   where
     by : (a b c : Bool) (r : Option Validator) → a ≡ b → ((a || c) || is_some r) ≡ true → (c || is_some (cond b (Some (entrant v x)) r)) ≡ true
     by true true true r e h = refl
@@ -276,12 +276,12 @@ pub record Entered {H : Type 0} (todo : List GenesisValidator) (h : H) (s : Stak
   pub gives : each (validator_added no_hook) todo (over h s v) ≡ Ok (over h left v)
   pub entered : HaveEntered left.validators
   pub delegations : left.delegations ≡ s.delegations
-  pub there : (o : List ℕ) → is_there todo s o ≡ true → IsSome (validator_of left o)
+  pub there : (o : List ℕ) → is_there todo s o ≡ true → IsSome (validator_at left o)
 
 pub all_enter : {H : Type 0} (todo : List GenesisValidator) (h : H) (s : Staked) (v : View) → HaveEntered s.validators → Entered todo h s v
 all_enter [] h s v e = record { left = s; gives = refl; entered = e; delegations = refl; there = λ o t. t }
 all_enter (x ∷ todo) h s v e =
-    let rest : Entered todo h (with_validator (entrant v x) s) v = all_enter todo h (with_validator (entrant v x) s) v (one_enters v x s.validators e) in
+    let rest : Entered todo h (put_validator (entrant v x) s) v = all_enter todo h (put_validator (entrant v x) s) v (one_enters v x s.validators e) in
     record {
       left = rest.left;
       gives = rest.gives;
@@ -333,7 +333,7 @@ begun g h e =
       gives = all.gives;
       delegations = all.delegations;
       starting = record {
-        known = All-weaker (λ (d : GenesisDelegation). validates g.validators d.validator ≡ true) (λ d. IsSome (validator_of all.left d.validator)) (λ d t. all.there d.validator (either (validates g.validators d.validator) t)) g.delegations
+        known = All-weaker (λ (d : GenesisDelegation). validates g.validators d.validator ≡ true) (λ d. IsSome (validator_at all.left d.validator)) (λ d t. all.there d.validator (either (validates g.validators d.validator) t)) g.delegations
             (all_pass (λ (d : GenesisDelegation). validates g.validators d.validator) g.delegations m.known);
         positive = all_some g.delegations m.some;
         ascend = all.entered.ascend;
@@ -407,7 +407,7 @@ delegated_is x who n issued s v e f =
     ap (λ (r : Result ℕ Refusal). r >>= λ i. paid_in (pool Unbonded) who x.status n v >>= λ u. Ok (i, over tt (grown_stake x who n i s) u)) e
     ∙ ap (λ (r : Result View Refusal). r >>= λ u. Ok (issued, over tt (grown_stake x who n issued s) u)) f
 
-added_is : {H : Type 0} (d : GenesisDelegation) (issued : ℕ) (h : H) (s left : Staked) (v : View) (x : Validator) → validator_of s d.validator ≡ Some x
+added_is : {H : Type 0} (d : GenesisDelegation) (issued : ℕ) (h : H) (s left : Staked) (v : View) (x : Validator) → validator_at s d.validator ≡ Some x
     → delegated nothing_told.told x d.delegator d.amount (pool Unbonded) (over tt s v) ≡ Ok (issued, over tt left v) → delegation_added no_hook d (over h s v) ≡ Ok (over h left v)
 added_is d issued h s left v x e f =
     delegation_added_is h d s v
@@ -422,7 +422,7 @@ amounts ds = sum (map (λ d. d.amount) ds)
 pub record Added {H : Type 0} (d : GenesisDelegation) (rest : List GenesisDelegation) (h : H) (s : Staked) (v : View) : Type 0 where
   -- the validator, which is there, takes the amount at the first rate
   pub validator : Validator
-  pub found : validator_of s d.validator ≡ Some validator
+  pub found : validator_at s d.validator ≡ Some validator
   pub operator : validator.operator ≡ d.validator
   pub some : 0 < d.amount
   pub given : shares_given validator d.amount ≡ Ok (10 ^ 18 * d.amount)
@@ -439,7 +439,7 @@ pub record Added {H : Type 0} (d : GenesisDelegation) (rest : List GenesisDelega
 
 pub one_added : {H : Type 0} (d : GenesisDelegation) (rest : List GenesisDelegation) (h : H) (s : Staked) (v : View) → IsStarting (d ∷ rest) (over h s v) → Added d rest h s v
 one_added d rest h s v is =
-    let here = some_of (validator_of s d.validator) (All-head (λ (y : GenesisDelegation). IsSome (validator_of s y.validator)) d rest is.known) in
+    let here = some_of (validator_at s d.validator) (All-head (λ (y : GenesisDelegation). IsSome (validator_at s y.validator)) d rest is.known) in
     let x = here.0 in
     let n = d.amount in
     let issued = 10 ^ 18 * n in
@@ -447,7 +447,7 @@ one_added d rest h s v is =
     let operator : x.operator ≡ d.validator = all-found (λ (e : List ℕ × Validator). e.1.operator ≡ e.0) d.validator x s.validators is.operators here.1 in
     let rate : x.shares ≡ 10 ^ 18 * x.tokens = all-found (λ (e : List ℕ × Validator). e.1.shares ≡ 10 ^ 18 * e.1.tokens) d.validator x s.validators is.rate here.1 in
     let unbonded : is_unbonded x.status ≡ true = all-found (λ (e : List ℕ × Validator). is_unbonded e.1.status ≡ true) d.validator x s.validators is.unbonded here.1 in
-    let at_operator : validator_of s x.operator ≡ Some x = ap (λ o. validator_of s o) operator ∙ here.1 in
+    let at_operator : validator_at s x.operator ≡ Some x = ap (λ o. validator_at s o) operator ∙ here.1 in
     let others : BondStatus → Bool = λ status. if is_bonded status then false else true in
     let within : counted others x ≤ other_tokens s = tokens-within others x.operator x s.validators at_operator in
     let own : counted others x ≡ x.tokens = other-counted x.status x.tokens unbonded in
@@ -473,9 +473,9 @@ one_added d rest h s v is =
       delegated_to = told;
       gives = added_is d issued h s left v x here.1 told;
       starting = record {
-        known = All-weaker (λ (y : GenesisDelegation). IsSome (validator_of s y.validator)) (λ y. IsSome (validator_of left y.validator))
-            (λ y k. subst IsSome (sym (found-put s.validators x.operator y.validator grown)) (some_after (same_addr y.validator x.operator) grown (validator_of s y.validator) k)) rest
-            (All-tail (λ (y : GenesisDelegation). IsSome (validator_of s y.validator)) d rest is.known);
+        known = All-weaker (λ (y : GenesisDelegation). IsSome (validator_at s y.validator)) (λ y. IsSome (validator_at left y.validator))
+            (λ y k. subst IsSome (sym (found-put s.validators x.operator y.validator grown)) (some_after (same_addr y.validator x.operator) grown (validator_at s y.validator) k)) rest
+            (All-tail (λ (y : GenesisDelegation). IsSome (validator_at s y.validator)) d rest is.known);
         positive = All-tail (λ (y : GenesisDelegation). 0 < y.amount) d rest is.positive;
         ascend = ascend-put addr_cmp addr_total s.validators x.operator grown is.ascend;
         operators = all-put (λ (e : List ℕ × Validator). e.1.operator ≡ e.0) x.operator grown s.validators refl is.operators;

@@ -8,7 +8,7 @@ use Rattle.stk_keep.specs.declared.messages.CreateValidator.{CreateValidator}
 use Rattle.stk_keep.specs.declared.refusal.Refusal.{Refusal}
 use Rattle.stk_keep.specs.declared.refusal.Refusal.TheVariants.{NonPositive, NoValidator, ValidatorExists, ConsKeyExists, CommissionRange, CommissionBelowMinimum, MinSelfNotPositive, SelfBelowMinimum, WrongDenom}
 use Rattle.stk_keep.specs.NoHooks.{nothing_told}
-use Rattle.stk_keep.specs.Staked.{Staked, validator_of, validator_by_cons, shares_of, with_validator}
+use Rattle.stk_keep.specs.Staked.{Staked, validator_at, validator_by_cons, delegation, put_validator}
 use Rattle.stk_keep.specs.Steps.{◌>>=◌, ◌>>◌, stop_if, or_stop}
 use Rattle.stk_keep.specs.World.{View, World}
 use Rattle.stk_msgs.specs.declared.genesis.GenesisDelegation.{GenesisDelegation}
@@ -16,7 +16,7 @@ use Rattle.stk_msgs.specs.declared.genesis.GenesisValidator.{GenesisValidator}
 use Rattle.stk_rules.specs.Chain.{Hooks, State, with_staked}
 use Rattle.stk_rules.specs.Delegating.{Origin, wallet, pool, is_wrong, shares_given, paid_in, delegated, delegated_by}
 use Rattle.stk_rules.specs.Distribution.{nothing_shared}
-use Rattle.stk_rules.specs.Stakes.{with_shares}
+use Rattle.stk_rules.specs.Stakes.{put_delegation}
 use Rattle.stk_rules.specs.Validators.{new_validator, are_out_of_range, stored, created}
 use Rattle.stk_types.specs.declared.status.BondStatus.TheVariants.{Unbonded}
 use Rattle.stk_machine.specs.Built.{no_hook, create_unhooked, delegate_unhooked, stake_over}
@@ -45,8 +45,8 @@ as_staked h (Err why) = Err why
 -- the stake after an amount was delegated
 abbrev pub grown_stake : Validator → List ℕ → ℕ → ℕ → Staked → Staked
 grown_stake x who amount issued s =
-    with_shares who x.operator (unwrap_or (shares_of s who x.operator) 0 + issued)
-    (with_validator (record x { tokens = x.tokens + amount; shares = x.shares + issued }) s)
+    put_delegation who x.operator (unwrap_or (delegation s who x.operator) 0 + issued)
+    (put_validator (record x { tokens = x.tokens + amount; shares = x.shares + issued }) s)
 
 module _ {H : Type 0} (h : H) where
   -- ---- rules
@@ -64,7 +64,7 @@ module _ {H : Type 0} (h : H) where
 
   pub delegated_by_raised : (who operator : List ℕ) (coin : Coin) (s : Staked) (v : View)
       → delegated_by no_hook who operator coin (over h s v) ≡ raised h (delegated_by nothing_told.told who operator coin (over tt s v))
-  delegated_by_raised who operator coin s v = by (coin.amount == 0) (validator_of s operator) (is_wrong coin v)
+  delegated_by_raised who operator coin s v = by (coin.amount == 0) (validator_at s operator) (is_wrong coin v)
     where
       by : (none : Bool) (found : Option Validator) (wrong : Bool)
           → (stop_if none NonPositive >> (or_stop found NoValidator >>= λ x. stop_if wrong WrongDenom >> delegated no_hook x who coin.amount wallet (over h s v)))
@@ -102,24 +102,24 @@ module _ {H : Type 0} (h : H) where
   created_raised m s v =
       let x = new_validator m v.ctx.time in
       conditions
-      (delegated no_hook x m.validator m.amount.amount wallet (over h (with_validator x s) v) >>= λ p. Ok (tt, p.1))
-      (delegated nothing_told.told x m.validator m.amount.amount wallet (over tt (with_validator x s) v) >>= λ p. Ok (tt, p.1))
-      (created_last x m.validator m.amount.amount (with_validator x s) v)
+      (delegated no_hook x m.validator m.amount.amount wallet (over h (put_validator x s) v) >>= λ p. Ok (tt, p.1))
+      (delegated nothing_told.told x m.validator m.amount.amount wallet (over tt (put_validator x s) v) >>= λ p. Ok (tt, p.1))
+      (created_last x m.validator m.amount.amount (put_validator x s) v)
       (m.amount.amount == 0) (are_out_of_range m) (m.min_self_delegation == 0) (nat_lt m.amount.amount m.min_self_delegation)
-      (nat_lt m.rate v.ctx.params.min_commission_rate) (is_some (validator_of s m.validator)) (is_some (validator_by_cons s m.cons)) (is_wrong m.amount v)
+      (nat_lt m.rate v.ctx.params.min_commission_rate) (is_some (validator_at s m.validator)) (is_some (validator_by_cons s m.cons)) (is_wrong m.amount v)
 
   -- ---- the genesis
 
   -- a validator of the genesis: what the first hook's call leaves
   pub validator_added_is : (x : GenesisValidator) (s : Staked) (v : View)
-      → validator_added no_hook x (over h s v) ≡ Ok (over h (with_validator (new_validator (creation_of v.ctx.params.bond_denom x) v.ctx.time) s) v)
+      → validator_added no_hook x (over h s v) ≡ Ok (over h (put_validator (new_validator (creation_of v.ctx.params.bond_denom x) v.ctx.time) s) v)
   validator_added_is x s v = refl
 
   -- a delegation of the genesis: the keeper's rule, from the not-bonded account
   pub delegation_added_is : (d : GenesisDelegation) (s : Staked) (v : View)
       → delegation_added no_hook d (over h s v)
-      ≡ (or_stop (validator_of s d.validator) NoValidator >>= λ x. as_staked h (delegated nothing_told.told x d.delegator d.amount (pool Unbonded) (over tt s v)))
-  delegation_added_is d s v = by (validator_of s d.validator)
+      ≡ (or_stop (validator_at s d.validator) NoValidator >>= λ x. as_staked h (delegated nothing_told.told x d.delegator d.amount (pool Unbonded) (over tt s v)))
+  delegation_added_is d s v = by (validator_at s d.validator)
     where
       done : (r : Result (ℕ × World Staked (Unit {0})) Refusal) → ◌≡◌ {A = Result (World Staked H) Refusal} (raised h r >>= λ p. Ok p.1) (as_staked h r)
       done (Ok p) = refl
@@ -134,7 +134,7 @@ module _ {H : Type 0} (h : H) where
           ∙ done (delegated nothing_told.told x d.delegator d.amount (pool Unbonded) (over tt s v))
 
 -- what NoHooks' telling leaves of a validator of the genesis
-pub stored_is : (x : Validator) (s : Staked) (v : View) → stored nothing_told.told x (over tt s v) ≡ Ok (over tt (with_validator x s) v)
+pub stored_is : (x : Validator) (s : Staked) (v : View) → stored nothing_told.told x (over tt s v) ≡ Ok (over tt (put_validator x s) v)
 stored_is x s v = refl
 
 -- ---- the messages of the built machine
@@ -161,8 +161,8 @@ delegate_is who operator coin s v =
 pub delegate_steps : (who operator : List ℕ) (coin : Coin) (s : Staked) (v : View)
     → delegate_unhooked who operator coin (stake_over s v)
     ≡ (stop_if (coin.amount == 0) NonPositive
-    >> (or_stop (validator_of s operator) NoValidator >>= λ x. stop_if (is_wrong coin v) WrongDenom >> as_state (delegated nothing_told.told x who coin.amount wallet (over tt s v))))
-delegate_steps who operator coin s v = delegate_is who operator coin s v ∙ by (coin.amount == 0) (validator_of s operator) (is_wrong coin v)
+    >> (or_stop (validator_at s operator) NoValidator >>= λ x. stop_if (is_wrong coin v) WrongDenom >> as_state (delegated nothing_told.told x who coin.amount wallet (over tt s v))))
+delegate_steps who operator coin s v = delegate_is who operator coin s v ∙ by (coin.amount == 0) (validator_at s operator) (is_wrong coin v)
   where
     by : (none : Bool) (found : Option Validator) (wrong : Bool)
         → as_state (stop_if none NonPositive >> (or_stop found NoValidator >>= λ x. stop_if wrong WrongDenom >> delegated nothing_told.told x who coin.amount wallet (over tt s v)))

@@ -12,7 +12,7 @@ use Rattle.stk_coins.specs.declared.coin.Coin.{Coin}
 use Rattle.stk_keep.specs.declared.messages.CreateValidator.{CreateValidator}
 use Rattle.stk_keep.specs.declared.refusal.Refusal.{Refusal}
 use Rattle.stk_keep.specs.Holdings.{balance_of}
-use Rattle.stk_keep.specs.Staked.{Staked, validator_of, other_tokens, is_unbonded}
+use Rattle.stk_keep.specs.Staked.{Staked, validator_at, other_tokens, is_unbonded}
 use Rattle.stk_keep.specs.Steps.{◌>>=◌, ◌>>◌}
 use Rattle.stk_keep.specs.World.{View, Hook, Told, World, gives}
 use Rattle.stk_msgs.specs.declared.block.Block.{Block}
@@ -122,7 +122,7 @@ built_report w = record (report_of w) { pending = [] }
 -- validator that stands; operators ascend, and each validator stands under its own; shares stand at their first rate; nobody
 -- is bonded; the not-bonded account holds exactly the tokens that stand and those to come, which together are at most 10^18.
 pub record IsStarting {H : Type 0} (rest : List GenesisDelegation) (w : World Staked H) : Type 0 where
-  pub known : All (λ d. IsSome (validator_of w.mine d.validator)) rest
+  pub known : All (λ d. IsSome (validator_at w.mine d.validator)) rest
   pub positive : All (λ d. 0 < d.amount) rest
   pub ascend : IsStrictlySortedBy addr_cmp (keys_of w.mine.validators)
   pub operators : All (λ e. e.1.operator ≡ e.0) w.mine.validators

@@ -34,8 +34,8 @@ supplies_with [] supplies = supplies
 supplies_with (a ∷ accounts) supplies = supplies_with accounts (coins_joined a.coins supplies)
 
 -- what the accounts hold, and how much there is of it
-abbrev pub held_by : List GenesisAccount → Holdings
-held_by accounts = record { balances = balances_with accounts []; supplies = supplies_with accounts [] }
+abbrev pub held_at_start : List GenesisAccount → Holdings
+held_at_start accounts = record { balances = balances_with accounts []; supplies = supplies_with accounts [] }
 
 -- ---- why a genesis starts nothing
 

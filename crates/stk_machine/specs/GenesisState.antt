@@ -5,7 +5,7 @@ use Rattle.stk_types.specs.declared.status.BondStatus.TheVariants.{Unbonded}
 use Rattle.stk_keep.specs.declared.facts.Fact.{Fact}
 use Rattle.stk_keep.specs.declared.refusal.Refusal.{Refusal}
 use Rattle.stk_keep.specs.declared.refusal.Refusal.TheVariants.{NoValidator, Overflow}
-use Rattle.stk_keep.specs.Staked.{Staked, validator_of}
+use Rattle.stk_keep.specs.Staked.{Staked, validator_at}
 use Rattle.stk_keep.specs.Steps.{◌>>=◌, or_stop, stopping, each}
 use Rattle.stk_keep.specs.World.{World, View, Hook, Told, over_view}
 use Rattle.stk_msgs.specs.declared.genesis.Genesis.{Genesis}
@@ -17,13 +17,13 @@ use Rattle.stk_rules.specs.Chain.{State, chain_told, staked_in, with_staked}
 use Rattle.stk_rules.specs.Delegating.{pool, delegated}
 use Rattle.stk_rules.specs.Distribution.{nothing_shared}
 use Rattle.stk_rules.specs.Validators.{new_validator, stored}
-use Rattle.stk_machine.specs.Genesis.{held_by}
+use Rattle.stk_machine.specs.Genesis.{held_at_start}
 use Rattle.stk_machine.specs.GenesisConditions.{creation_of, accounts_at_start}
 
 -- the ground before the first validator: what the accounts hold, at height 0 and the time of the genesis
 abbrev pub ground_at_start : Genesis → View
 ground_at_start g = record {
-  bank = held_by (accounts_at_start g);
+  bank = held_at_start (accounts_at_start g);
   ctx = record { height = 0; time = g.time; params = g.params };
   facts = [];
 }
@@ -47,7 +47,7 @@ module _ {H : Type 0} (told : H → Hook → View → Told H) where
   -- `BeforeDelegationCreated`, `AfterDelegationModified`).
   abbrev pub delegation_added : GenesisDelegation → World Staked H → Result (World Staked H) Refusal
   delegation_added d w = do
-    v ← or_stop (validator_of w.mine d.validator) NoValidator
+    v ← or_stop (validator_at w.mine d.validator) NoValidator
     (issued, u) ← delegated told v d.delegator d.amount (pool Unbonded) w
     Ok u
 

@@ -6,7 +6,7 @@ use Rattle.stk_keep.specs.declared.facts.Fact.{Fact}
 use Rattle.stk_keep.specs.declared.refusal.Refusal.{Refusal}
 use Rattle.stk_keep.specs.declared.refusal.Refusal.TheVariants as refused
 use Rattle.stk_keep.specs.Holdings.{supply_of}
-use Rattle.stk_keep.specs.Staked.{validator_of}
+use Rattle.stk_keep.specs.Staked.{validator_at}
 use Rattle.stk_msgs.specs.declared.block.Block.{Block}
 use Rattle.stk_msgs.specs.declared.block.Tx.{Tx}
 use Rattle.stk_msgs.specs.declared.genesis.Genesis.{Genesis}
@@ -151,9 +151,9 @@ MessagesNameConditions = (m : Msg) → MessageHasCoins m → IsRefusedBy (effect
 
 -- Stated, not proved: wherever blocks lead to, the reward that a withdrawal of a delegation would come to lies between
 -- the ideal one less the slack and the ideal one.
-abbrev pub RewardsAreBracketed : Type 0
-RewardsAreBracketed = (r : Replayed) → IsBracketed (run_in r).state
+abbrev pub ClaimsAreBracketed : Type 0
+ClaimsAreBracketed = (r : Replayed) → IsBracketed (run_in r).state
 
 -- Stated, not proved: and what is outstanding for a validator lies below all claims by at most the overclaim.
 abbrev pub ShortfallsAreBounded : Type 0
-ShortfallsAreBounded = (r : Replayed) (d : List ℕ) (v : Validator) → validator_of (run_in r).state.mine.staked v.operator ≡ Some v → HasShortfallWithin d (run_in r).state v
+ShortfallsAreBounded = (r : Replayed) (d : List ℕ) (v : Validator) → validator_at (run_in r).state.mine.staked v.operator ≡ Some v → HasShortfallWithin d (run_in r).state v

@@ -11,7 +11,7 @@ use Rattle.stk_keep.specs.declared.entities.SigningInfo.{SigningInfo}
 use Rattle.stk_keep.specs.declared.entities.Validator.{Validator}
 use Rattle.stk_keep.specs.Holdings.{Balances}
 use Rattle.stk_keep.specs.Orders.{pair_cmp}
-use Rattle.stk_keep.specs.Staked.{validator_of}
+use Rattle.stk_keep.specs.Staked.{validator_at}
 use Rattle.stk_msgs.specs.declared.report.Pending.{Pending}
 use Rattle.stk_rules.specs.Chain.{State, shared_in, window_in}
 use Rattle.stk_rules.specs.Distribution.{pending}
@@ -44,7 +44,7 @@ pending_at (Some v) who shares w = unless_over (pending v who shares (shared_in 
 -- Each delegation's pending reward, in the order of the delegations (`Querier.DelegationRewards`).
 abbrev pub pending_of : State → List Pending
 pending_of w =
-    map (λ d. record { delegator = d.0.0; operator = d.0.1; coins = pending_at (validator_of w.mine.staked d.0.1) d.0.0 d.1 w })
+    map (λ d. record { delegator = d.0.0; operator = d.0.1; coins = pending_at (validator_at w.mine.staked d.0.1) d.0.0 d.1 w })
     (by_delegator w.mine.staked.delegations)
 
 -- ---- accounts

@@ -35,7 +35,7 @@ use Rattle.stk_keep.proofs.HoldingLemmas.{balance-moved_elsewhere}
 use Rattle.stk_keep.specs.Entries.{at}
 use Rattle.stk_keep.specs.Holdings.{balance_of, coins_of, is_short}
 use Rattle.stk_keep.specs.Items.{no_purse}
-use Rattle.stk_keep.specs.Staked.{Staked, lists_of, validator_by_cons, validator_of}
+use Rattle.stk_keep.specs.Staked.{Staked, lists_of, validator_by_cons, validator_at}
 use Rattle.stk_keep.specs.declared.facts.Fact.{Fact}
 use Rattle.stk_machine.proofs.PurseLemmas.{coins-amount, coins-rise}
 use Rattle.stk_owed.proofs.Bank.{each_within, known_enough}
@@ -115,8 +115,8 @@ find_all test Q (y ∷ xs) x e h = by (test y) e (λ f. find_all test Q xs x f h
     by false f rest = rest f
 
 -- one that is found stands under its own operator
-pub found_by_cons : (height : ℕ) (s : Staked) (cons : List ℕ) (v : Validator) → IsSoundAt height s → validator_by_cons s cons ≡ Some v → validator_of s v.operator ≡ Some v
-found_by_cons height s cons v h e = find_all (λ v. is_eq (cons_cmp v.cons cons)) (λ v. validator_of s v.operator ≡ Some v) (values_of s.validators) v e (values_stand height s h)
+pub found_by_cons : (height : ℕ) (s : Staked) (cons : List ℕ) (v : Validator) → IsSoundAt height s → validator_by_cons s cons ≡ Some v → validator_at s v.operator ≡ Some v
+found_by_cons height s cons v h e = find_all (λ v. is_eq (cons_cmp v.cons cons)) (λ v. validator_at s v.operator ≡ Some v) (values_of s.validators) v e (values_stand height s h)
 
 module _ (P : List ℕ → Type 0) where
   -- ---- a share

@@ -10,12 +10,12 @@ use Rattle.stk_keep.specs.Pair.{and_then, given_with}
 use Rattle.stk_keep.specs.Steps.{◌>>=◌}
 use Rattle.stk_keep.specs.World.{View, Hook, Told, gives, exceeds, World, hooked, call, noted, over_view, over_mine, logged, modifying, modified}
 use Rattle.stk_keep.specs.World as hook
-use Rattle.stk_rules.specs.Unbonding.{jailed, falls_below_minimum, left_standing, removed_if_empty, validator_removed, unbonded_shares}
+use Rattle.stk_rules.specs.Unbonding.{put_in_jail, falls_below_minimum, left_standing, removed_if_empty, validator_removed, unbonded_shares}
 use Rattle.stk_dec.specs.declared.over.Over.{Over}
-use Rattle.stk_keep.specs.Staked.{Staked, is_unbonded, with_validator}
+use Rattle.stk_keep.specs.Staked.{Staked, is_unbonded, put_validator}
 use Rattle.stk_rules.specs.Chain.{Hooks, chain_told}
 use Rattle.stk_rules.specs.Distribution.{Shared, distribution_told}
-use Rattle.stk_rules.specs.Stakes.{with_shares, without_shares, without_validator}
+use Rattle.stk_rules.specs.Stakes.{put_delegation, without_shares, without_validator}
 use Rattle.stk_rules.specs.Window.{Window, window_told}
 use Rattle.stk_shares.specs.Shares.{amount_out}
 
@@ -64,10 +64,10 @@ module _ (i : Window) where
   left_same : (v : Validator) (who : List ℕ) (left : ℕ) (k : Log) (w : World Staked Shared) → SameWorld (left_standing chain_told v who left (raised_with i k w)) (left_standing distribution_told v who left w)
   left_same v who left k w = by (left == 0)
     where
-      by : (b : Bool) → SameWorld (if b then Ok (over_mine (without_shares who v.operator) (raised_with i k w)) else call chain_told (modified v who left) (over_mine (with_shares who v.operator left) (raised_with i k w)))
-          (if b then Ok (over_mine (without_shares who v.operator) w) else call distribution_told (modified v who left) (over_mine (with_shares who v.operator left) w))
+      by : (b : Bool) → SameWorld (if b then Ok (over_mine (without_shares who v.operator) (raised_with i k w)) else call chain_told (modified v who left) (over_mine (put_delegation who v.operator left) (raised_with i k w)))
+          (if b then Ok (over_mine (without_shares who v.operator) w) else call distribution_told (modified v who left) (over_mine (put_delegation who v.operator left) w))
       by true = (k, refl)
-      by false = call_same (modified v who left) k (over_mine (with_shares who v.operator left) w) (λ u. refl)
+      by false = call_same (modified v who left) k (over_mine (put_delegation who v.operator left) w) (λ u. refl)
 
   removed_same : (v : Validator) (k : Log) (w : World Staked Shared) → SameWorld (removed_if_empty chain_told v (raised_with i k w)) (removed_if_empty distribution_told v w)
   removed_same v k w = by (is_unbonded v.status && (v.shares == 0))
@@ -77,7 +77,7 @@ module _ (i : Window) where
           (λ x. Ok (over_view (noted (fact.Removed v.operator)) x)) (λ x. Ok (over_view (noted (fact.Removed v.operator)) x)) (call_same (hook.removed v) k (over_mine (without_validator v.operator) w) (λ u. refl)) (λ l y. (l, refl))
       by false = (k, refl)
 
-  may_be_jailed : (falls : Bool) (v : Validator) (k : Log) (w : World Staked Shared) → (if falls then jailed v (raised_with i k w) else raised_with i k w) ≡ raised_with i k (if falls then jailed v w else w)
+  may_be_jailed : (falls : Bool) (v : Validator) (k : Log) (w : World Staked Shared) → (if falls then put_in_jail v (raised_with i k w) else raised_with i k w) ≡ raised_with i k (if falls then put_in_jail v w else w)
   may_be_jailed true v k w = refl
   may_be_jailed false v k w = refl
 
@@ -88,13 +88,13 @@ module _ (i : Window) where
       let out = amount_out v.tokens v.shares part in
       let less : Validator = record now { tokens = v.tokens - out; shares = v.shares - part } in
       then_answers (call chain_told (modifying v who held) (raised_with i k w)) (call distribution_told (modifying v who held) w) _ _ (call_same (modifying v who held) k w (λ u. refl)) (λ l y.
-      subst (λ (z : World Staked Hooks). SameAnswer (left_standing chain_told now who (held - part) z >>= λ x. removed_if_empty chain_told less (logged v.operator log.left (over_mine (with_validator less) x)) >>= λ e. Ok (out, e))
-      (left_standing distribution_told now who (held - part) (if falls then jailed v y else y) >>= λ x. removed_if_empty distribution_told less (logged v.operator log.left (over_mine (with_validator less) x)) >>= λ e. Ok (out, e)))
+      subst (λ (z : World Staked Hooks). SameAnswer (left_standing chain_told now who (held - part) z >>= λ x. removed_if_empty chain_told less (logged v.operator log.left (over_mine (put_validator less) x)) >>= λ e. Ok (out, e))
+      (left_standing distribution_told now who (held - part) (if falls then put_in_jail v y else y) >>= λ x. removed_if_empty distribution_told less (logged v.operator log.left (over_mine (put_validator less) x)) >>= λ e. Ok (out, e)))
       (sym (may_be_jailed falls v l y))
-      (then_answers (left_standing chain_told now who (held - part) (raised_with i l (if falls then jailed v y else y))) (left_standing distribution_told now who (held - part) (if falls then jailed v y else y)) _ _
-      (left_same now who (held - part) l (if falls then jailed v y else y)) (λ m z.
-      then_answers (removed_if_empty chain_told less (logged v.operator log.left (over_mine (with_validator less) (raised_with i m z)))) (removed_if_empty distribution_told less (logged v.operator log.left (over_mine (with_validator less) z)))
-      (λ e. Ok (out, e)) (λ e. Ok (out, e)) (removed_same less (m ++ (v.operator, log.left) ∷ []) (logged v.operator log.left (over_mine (with_validator less) z))) (λ n a. (n, refl)))))
+      (then_answers (left_standing chain_told now who (held - part) (raised_with i l (if falls then put_in_jail v y else y))) (left_standing distribution_told now who (held - part) (if falls then put_in_jail v y else y)) _ _
+      (left_same now who (held - part) l (if falls then put_in_jail v y else y)) (λ m z.
+      then_answers (removed_if_empty chain_told less (logged v.operator log.left (over_mine (put_validator less) (raised_with i m z)))) (removed_if_empty distribution_told less (logged v.operator log.left (over_mine (put_validator less) z)))
+      (λ e. Ok (out, e)) (λ e. Ok (out, e)) (removed_same less (m ++ (v.operator, log.left) ∷ []) (logged v.operator log.left (over_mine (put_validator less) z))) (λ n a. (n, refl)))))
 
   -- what holds of the one holds of the other
   pub from_same : (r : Result (ℕ × World Staked Hooks) Over) (q : Result (ℕ × World Staked Shared) Over) (Q : ℕ × World Staked Hooks → Type 0) (R : ℕ × World Staked Shared → Type 0) → SameAnswer r q → IfOk r Q

@@ -16,14 +16,14 @@ use Rattle.stk_keep.specs.declared.params.Ctx.{Ctx}
 use Rattle.stk_keep.specs.Steps.{each}
 use Rattle.stk_keep.specs.World.{View, World, sent, over_view}
 use Rattle.stk_owed.proofs.Delegating.{others}
-use Rattle.stk_rules.specs.BondedSet.{placed, in_order, joined_set, left_set, set_updated, joining_of, leaving_of, difference_moved, is_in_bonded_set, stands_before, tokens_of}
+use Rattle.stk_rules.specs.BondedSet.{placed, by_power, joined_set, left_set, set_updated, joining_of, leaving_of, difference_moved, is_in_bonded_set, stands_before, tokens_of}
 use Rattle.std.specs.List.{AllByRecursion}
 use Rattle.std.specs.Map.{values_of}
 use Rattle.stk_keep.proofs.HoldingLemmas.{balance-most}
 use Rattle.stk_keep.specs.Entries.{at}
 use Rattle.stk_keep.specs.Holdings.{IsBacked, balance_of, is_short}
 use Rattle.stk_keep.specs.Orders.{pair_cmp, same_addr}
-use Rattle.stk_keep.specs.Staked.{Staked, bonded_tokens, is_bonded, is_unbonded, lists_of, of_bond, other_tokens, validator_of}
+use Rattle.stk_keep.specs.Staked.{Staked, bonded_tokens, is_bonded, is_unbonded, lists_of, of_bond, other_tokens, validator_at}
 use Rattle.stk_owed.proofs.Delegating.{bond_money, bond_moved, falls, has_enough, rises_to, same_sum, state_with, others}
 use Rattle.stk_owed.proofs.Lists.{all_put, filtered_all, looked_up, weaker}
 use Rattle.stk_owed.proofs.Maturing.{AllStand, AreApart, operators_are, stand_still, values_apart, values_stand}
@@ -63,13 +63,13 @@ placed_apart reduction v (u ∷ us) a h = by (stands_before reduction u v) (plac
     by true rest = (placed_all reduction (λ x. same_addr u.operator x.operator ≡ false) v us (same_back u.operator v.operator ∙ a.0) h.0, rest)
     by false rest = (a, h)
 
-ordered_all : (reduction : ℕ) (Q : Validator → Type 0) (vs : List Validator) → AllByRecursion Q vs → AllByRecursion Q (in_order reduction vs)
+ordered_all : (reduction : ℕ) (Q : Validator → Type 0) (vs : List Validator) → AllByRecursion Q vs → AllByRecursion Q (by_power reduction vs)
 ordered_all reduction Q [] h = tt
-ordered_all reduction Q (v ∷ vs) h = placed_all reduction Q v (in_order reduction vs) h.0 (ordered_all reduction Q vs h.1)
+ordered_all reduction Q (v ∷ vs) h = placed_all reduction Q v (by_power reduction vs) h.0 (ordered_all reduction Q vs h.1)
 
-ordered_apart : (reduction : ℕ) (vs : List Validator) → AreApart vs → AreApart (in_order reduction vs)
+ordered_apart : (reduction : ℕ) (vs : List Validator) → AreApart vs → AreApart (by_power reduction vs)
 ordered_apart reduction [] h = tt
-ordered_apart reduction (v ∷ vs) h = placed_apart reduction v (in_order reduction vs) (ordered_all reduction (λ u. same_addr v.operator u.operator ≡ false) vs h.0) (ordered_apart reduction vs h.1)
+ordered_apart reduction (v ∷ vs) h = placed_apart reduction v (by_power reduction vs) (ordered_all reduction (λ u. same_addr v.operator u.operator ≡ false) vs h.0) (ordered_apart reduction vs h.1)
 
 filtered_apart : (test : Validator → Bool) (vs : List Validator) → AreApart vs → AreApart (filter test vs)
 filtered_apart test [] h = tt
@@ -130,7 +130,7 @@ leaves_other false t x y up down e f g = absurd cc
 -- what the set's changes leave of all but the accounts: so many tokens count among the bonded, and so many among the others
 record HasShifted (w0 : World Staked Hooks) (up down : ℕ) (w : World Staked Hooks) : Type 0 where
   staked : IsSoundAt w0.view.ctx.height w.mine
-  operators : (o : List ℕ) → is_some (validator_of w.mine o) ≡ is_some (validator_of w0.mine o)
+  operators : (o : List ℕ) → is_some (validator_at w.mine o) ≡ is_some (validator_at w0.mine o)
   delegations : w.mine.delegations ≡ w0.mine.delegations
   shared : w.hooks.0 ≡ w0.hooks.0
   bank : w.view.bank ≡ w0.view.bank
@@ -143,12 +143,12 @@ record HasShifted (w0 : World Staked Hooks) (up down : ℕ) (w : World Staked Ho
 -- the same, and every other validator
 record HasChanged (w0 : World Staked Hooks) (up down : ℕ) (w : World Staked Hooks) (op : List ℕ) (x : World Staked Hooks) : Type 0 where
   shifted : HasShifted w0 up down x
-  others : (o : List ℕ) → same_addr op o ≡ false → validator_of x.mine o ≡ validator_of w.mine o
+  others : (o : List ℕ) → same_addr op o ≡ false → validator_at x.mine o ≡ validator_at w.mine o
 
 module _ (w0 : World Staked Hooks) (height_fits : w0.view.ctx.height < 2 ^ 63) where
   -- ---- one joins
 
-  joined_shifts : (up down : ℕ) (w : World Staked Hooks) (v : Validator) → HasShifted w0 up down w → validator_of w.mine v.operator ≡ Some v → is_bonded v.status ≡ false → IfOk (joined_set chain_told v w) (HasChanged w0 (up + v.tokens) down w v.operator)
+  joined_shifts : (up down : ℕ) (w : World Staked Hooks) (v : Validator) → HasShifted w0 up down w → validator_at w.mine v.operator ≡ Some v → is_bonded v.status ≡ false → IfOk (joined_set chain_told v w) (HasChanged w0 (up + v.tokens) down w v.operator)
   joined_shifts up down w v h found not_yet =
       let u : Validator = record v { status = Bonded } in
       let own = h.staked.validators v.operator v found in
@@ -173,23 +173,23 @@ module _ (w0 : World Staked Hooks) (height_fits : w0.view.ctx.height < 2 ^ 63) w
           bonded = joins (is_bonded v.status) v.tokens _ _ (bonded_tokens w0.mine + up) down not_yet (tokens-put is_bonded v.operator v u w.mine.validators h.staked.validators_ascend found) h.bonded ∙ regrouped (bonded_tokens w0.mine) up v.tokens;
           other = joins_other (is_bonded v.status) v.tokens _ _ up (other_tokens w0.mine + down) not_yet (tokens-put others v.operator v u w.mine.validators h.staked.validators_ascend found) h.other;
         };
-        others = λ o e. found-put w.mine u o ∙ ap (λ c. cond c (Some u) (validator_of w.mine o)) (same_back o v.operator ∙ e);
+        others = λ o e. found-put w.mine u o ∙ ap (λ c. cond c (Some u) (validator_at w.mine o)) (same_back o v.operator ∙ e);
       }
     where
       regrouped : (a b c : ℕ) → a + b + c ≡ a + (b + c)
       regrouped a b c = omega arith
 
   all_join : (vs : List Validator) (up down : ℕ) (w : World Staked Hooks) → HasShifted w0 up down w → AllStand w.mine vs → AreApart vs → AllByRecursion (λ v. is_bonded v.status ≡ false) vs
-      → IfOk (each (joined_set chain_told) vs w) (λ x. HasShifted w0 (up + tokens_of vs) down x × ((o : List ℕ) → AllByRecursion (λ v. same_addr v.operator o ≡ false) vs → validator_of x.mine o ≡ validator_of w.mine o))
+      → IfOk (each (joined_set chain_told) vs w) (λ x. HasShifted w0 (up + tokens_of vs) down x × ((o : List ℕ) → AllByRecursion (λ v. same_addr v.operator o ≡ false) vs → validator_at x.mine o ≡ validator_at w.mine o))
   all_join [] up down w h s a b = (subst (λ n. HasShifted w0 n down w) (none up) h, λ o k. refl)
     where
       none : (n : ℕ) → n ≡ n + 0
       none n = omega arith
   all_join (v ∷ vs) up down w h s a b =
       on_then {B = World Staked Hooks} (joined_set chain_told v w) (λ x. each (joined_set chain_told) vs x) (HasChanged w0 (up + v.tokens) down w v.operator)
-      (λ y. HasShifted w0 (up + tokens_of (v ∷ vs)) down y × ((o : List ℕ) → AllByRecursion (λ u. same_addr u.operator o ≡ false) (v ∷ vs) → validator_of y.mine o ≡ validator_of w.mine o)) (joined_shifts up down w v h s.0 b.0) (λ x k.
-      weaker_if (each (joined_set chain_told) vs x) (λ y. HasShifted w0 (up + v.tokens + tokens_of vs) down y × ((o : List ℕ) → AllByRecursion (λ v. same_addr v.operator o ≡ false) vs → validator_of y.mine o ≡ validator_of x.mine o))
-      (λ y. HasShifted w0 (up + tokens_of (v ∷ vs)) down y × ((o : List ℕ) → AllByRecursion (λ u. same_addr u.operator o ≡ false) (v ∷ vs) → validator_of y.mine o ≡ validator_of w.mine o))
+      (λ y. HasShifted w0 (up + tokens_of (v ∷ vs)) down y × ((o : List ℕ) → AllByRecursion (λ u. same_addr u.operator o ≡ false) (v ∷ vs) → validator_at y.mine o ≡ validator_at w.mine o)) (joined_shifts up down w v h s.0 b.0) (λ x k.
+      weaker_if (each (joined_set chain_told) vs x) (λ y. HasShifted w0 (up + v.tokens + tokens_of vs) down y × ((o : List ℕ) → AllByRecursion (λ v. same_addr v.operator o ≡ false) vs → validator_at y.mine o ≡ validator_at x.mine o))
+      (λ y. HasShifted w0 (up + tokens_of (v ∷ vs)) down y × ((o : List ℕ) → AllByRecursion (λ u. same_addr u.operator o ≡ false) (v ∷ vs) → validator_at y.mine o ≡ validator_at w.mine o))
       (all_join vs (up + v.tokens) down x k.shifted (stand_still w.mine x.mine v.operator vs k.others a.0 s.1) a.1 b.1)
       (λ y j. and_also (subst (λ n. HasShifted w0 n down y) (summed up v.tokens (tokens_of vs) (tokens_of (v ∷ vs)) (sum_by-cons (λ n. n) v.tokens (map (λ u. u.tokens) vs))) j.0) (λ o q. j.1 o q.1 ∙ k.others o q.0)))
     where
@@ -198,7 +198,7 @@ module _ (w0 : World Staked Hooks) (height_fits : w0.view.ctx.height < 2 ^ 63) w
 
   -- ---- one leaves
 
-  left_shifts : (up down : ℕ) (w : World Staked Hooks) (v : Validator) → HasShifted w0 up down w → validator_of w.mine v.operator ≡ Some v → is_bonded v.status ≡ true → IfOk (left_set chain_told v w) (HasChanged w0 up (down + v.tokens) w v.operator)
+  left_shifts : (up down : ℕ) (w : World Staked Hooks) (v : Validator) → HasShifted w0 up down w → validator_at w.mine v.operator ≡ Some v → is_bonded v.status ≡ true → IfOk (left_set chain_told v w) (HasChanged w0 up (down + v.tokens) w v.operator)
   left_shifts up down w v h found yet =
       let u : Validator = record v { unbonding_height = w.view.ctx.height; unbonding_time = completion w.view.ctx; status = Unbonding } in
       let own = h.staked.validators v.operator v found in
@@ -221,7 +221,7 @@ module _ (w0 : World Staked Hooks) (height_fits : w0.view.ctx.height < 2 ^ 63) w
           bonded = leaves_set (is_bonded v.status) v.tokens _ _ (bonded_tokens w0.mine + up) down yet (tokens-put is_bonded v.operator v u w.mine.validators h.staked.validators_ascend found) h.bonded;
           other = leaves_other (is_bonded v.status) v.tokens _ _ up (other_tokens w0.mine + down) yet (tokens-put others v.operator v u w.mine.validators h.staked.validators_ascend found) h.other ∙ regrouped (other_tokens w0.mine) down v.tokens;
         };
-        others = λ o e. found-put w.mine u o ∙ ap (λ c. cond c (Some u) (validator_of w.mine o)) (same_back o v.operator ∙ e);
+        others = λ o e. found-put w.mine u o ∙ ap (λ c. cond c (Some u) (validator_at w.mine o)) (same_back o v.operator ∙ e);
       }
     where
       regrouped : (a b c : ℕ) → a + b + c ≡ a + (b + c)
@@ -379,14 +379,14 @@ module _ (P : List ℕ → Type 0) where
       let start : HasShifted w 0 0 w = record { staked = h.staked; operators = λ o. refl; delegations = refl; shared = refl; bank = refl; ctx = refl; window = h.window; recorded = h.recorded; bonded = refl; other = refl } in
       let of_joining : (Q : Validator → Type 0) → AllByRecursion (λ v. joins_if v ≡ true → Q v) vs → AllByRecursion Q joining = λ Q k. ordered_all p.power_reduction Q (filter joins_if vs) (filtered_all joins_if Q vs k) in
       let of_leaving : (Q : Validator → Type 0) → AllByRecursion (λ v. leaves_if v ≡ true → Q v) vs → AllByRecursion Q leaving = λ Q k. filtered_all leaves_if Q vs k in
-      let each_one : (Q : Validator → Type 0) → ((v : Validator) → validator_of w.mine v.operator ≡ Some v → Q v) → AllByRecursion Q vs = λ Q f. weaker (λ v. validator_of w.mine v.operator ≡ Some v) Q f vs stand in
+      let each_one : (Q : Validator → Type 0) → ((v : Validator) → validator_at w.mine v.operator ≡ Some v → Q v) → AllByRecursion Q vs = λ Q f. weaker (λ v. validator_at w.mine v.operator ≡ Some v) Q f vs stand in
       let not_yet : AllByRecursion (λ v. is_bonded v.status ≡ false) joining = of_joining (λ v. is_bonded v.status ≡ false)
       (each_one (λ v. joins_if v ≡ true → is_bonded v.status ≡ false) (λ v f t. not_true (is_bonded v.status) (both_of (is_in_bonded_set p.power_reduction p.max_validators vs v) (not (is_bonded v.status)) t).1)) in
       let yet : AllByRecursion (λ v. is_bonded v.status ≡ true) leaving = of_leaving (λ v. is_bonded v.status ≡ true)
       (each_one (λ v. leaves_if v ≡ true → is_bonded v.status ≡ true) (λ v f t. (both_of (is_bonded v.status) (not (is_in_bonded_set p.power_reduction p.max_validators vs v)) t).0)) in
-      let joining_stand : AllStand w.mine joining = of_joining (λ v. validator_of w.mine v.operator ≡ Some v) (each_one (λ v. joins_if v ≡ true → validator_of w.mine v.operator ≡ Some v) (λ v f t. f)) in
-      let leaving_stand : AllStand w.mine leaving = of_leaving (λ v. validator_of w.mine v.operator ≡ Some v) (each_one (λ v. leaves_if v ≡ true → validator_of w.mine v.operator ≡ Some v) (λ v f t. f)) in
-      on_then (each (joined_set chain_told) joining w) _ (λ x. HasShifted w (0 + tokens_of joining) 0 x × ((o : List ℕ) → AllByRecursion (λ v. same_addr v.operator o ≡ false) joining → validator_of x.mine o ≡ validator_of w.mine o)) _
+      let joining_stand : AllStand w.mine joining = of_joining (λ v. validator_at w.mine v.operator ≡ Some v) (each_one (λ v. joins_if v ≡ true → validator_at w.mine v.operator ≡ Some v) (λ v f t. f)) in
+      let leaving_stand : AllStand w.mine leaving = of_leaving (λ v. validator_at w.mine v.operator ≡ Some v) (each_one (λ v. leaves_if v ≡ true → validator_at w.mine v.operator ≡ Some v) (λ v f t. f)) in
+      on_then (each (joined_set chain_told) joining w) _ (λ x. HasShifted w (0 + tokens_of joining) 0 x × ((o : List ℕ) → AllByRecursion (λ v. same_addr v.operator o ≡ false) joining → validator_at x.mine o ≡ validator_at w.mine o)) _
       (all_join w few joining 0 0 w start joining_stand (ordered_apart p.power_reduction (filter joins_if vs) (filtered_apart joins_if vs apart)) not_yet) (λ x k.
       on_then (each (left_set chain_told) leaving x) _ (HasShifted w (0 + tokens_of joining) (0 + tokens_of leaving)) _
       (all_leave w few leaving (0 + tokens_of joining) 0 x k.0
@@ -398,21 +398,21 @@ module _ (P : List ℕ → Type 0) where
       none m = omega arith
 
       -- who leaves is none of those that join
-      differ : (u v : Validator) → validator_of w.mine u.operator ≡ Some u → validator_of w.mine v.operator ≡ Some v → is_bonded u.status ≡ false → is_bonded v.status ≡ true → same_addr u.operator v.operator ≡ false
+      differ : (u v : Validator) → validator_at w.mine u.operator ≡ Some u → validator_at w.mine v.operator ≡ Some v → is_bonded u.status ≡ false → is_bonded v.status ≡ true → same_addr u.operator v.operator ≡ false
       differ u v f g a c = by_same (same_addr u.operator v.operator) refl
         where
           by_same : (s : Bool) → same_addr u.operator v.operator ≡ s → same_addr u.operator v.operator ≡ false
           by_same false e = e
           by_same true e =
-              let same : u ≡ v = same_some u v (validator_of w.mine u.operator) f (ap (validator_of w.mine) (same_is u.operator v.operator e) ∙ g) in
+              let same : u ≡ v = same_some u v (validator_at w.mine u.operator) f (ap (validator_at w.mine) (same_is u.operator v.operator e) ∙ g) in
               let both : false ≡ true = sym a ∙ ap (λ (x : Validator). is_bonded x.status) same ∙ c in
               absurd cc
 
-      all_differ : (us : List Validator) (v : Validator) → AllStand w.mine us → validator_of w.mine v.operator ≡ Some v → AllByRecursion (λ u. is_bonded u.status ≡ false) us → is_bonded v.status ≡ true → AllByRecursion (λ u. same_addr u.operator v.operator ≡ false) us
+      all_differ : (us : List Validator) (v : Validator) → AllStand w.mine us → validator_at w.mine v.operator ≡ Some v → AllByRecursion (λ u. is_bonded u.status ≡ false) us → is_bonded v.status ≡ true → AllByRecursion (λ u. same_addr u.operator v.operator ≡ false) us
       all_differ [] v s g a c = tt
       all_differ (u ∷ us) v s g a c = (differ u v s.0 g a.0 c, all_differ us v s.1 g a.1 c)
 
-      others_stand : (x : World Staked Hooks) (us vs : List Validator) → ((o : List ℕ) → AllByRecursion (λ v. same_addr v.operator o ≡ false) us → validator_of x.mine o ≡ validator_of w.mine o) → AllStand w.mine us → AllStand w.mine vs
+      others_stand : (x : World Staked Hooks) (us vs : List Validator) → ((o : List ℕ) → AllByRecursion (λ v. same_addr v.operator o ≡ false) us → validator_at x.mine o ≡ validator_at w.mine o) → AllStand w.mine us → AllStand w.mine vs
           → AllByRecursion (λ u. is_bonded u.status ≡ false) us → AllByRecursion (λ v. is_bonded v.status ≡ true) vs → AllStand x.mine vs
       others_stand x us [] k s t a c = tt
       others_stand x us (v ∷ vs) k s t a c = (k v.operator (all_differ us v s t.0 a c.0) ∙ t.0, others_stand x us vs k s t.1 a c.1)

@@ -23,7 +23,7 @@ use Rattle.stk_keep.proofs.AmountLemmas.{moves_by_amounts}
 use Rattle.stk_keep.proofs.HoldingLemmas.{balance-most, first_enough}
 use Rattle.stk_keep.specs.Hooks.{Lists, with_started}
 use Rattle.stk_keep.specs.Orders.{pair_cmp, same_addr}
-use Rattle.stk_keep.specs.Staked.{Staked, bonded_tokens, is_bonded, lists_of, of_bond, other_tokens, shares_of, validator_of, with_validator}
+use Rattle.stk_keep.specs.Staked.{Staked, bonded_tokens, is_bonded, lists_of, of_bond, other_tokens, delegation, validator_at, put_validator}
 use Rattle.stk_keep.specs.declared.params.Ctx.{Ctx}
 use Rattle.stk_machine.proofs.PointLemmas.{sound-more}
 use Rattle.stk_machine.proofs.PurseLemmas.{one-amount, one-money, one-rises}
@@ -45,7 +45,7 @@ use Rattle.stk_rules.specs.Chain.{Hooks, State, chain_told, staked_in, with_stak
 use Rattle.stk_rules.specs.Effects.{delegate}
 use Rattle.stk_rules.specs.Owed.{entry_balances}
 use Rattle.stk_rules.specs.Sound.{RedelegationsAreSound, UnbondingsAreSound}
-use Rattle.stk_rules.specs.Stakes.{refusal_of_shares, with_shares}
+use Rattle.stk_rules.specs.Stakes.{refusal_of_shares, put_delegation}
 use Rattle.stk_shares.specs.Shares.{issued_shares}
 use Rattle.std.specs.List.{AllByRecursion}
 
@@ -112,10 +112,10 @@ abbrev pub others : BondStatus → Bool
 others status = if is_bonded status then false else true
 
 -- the lists with a delegation that has shares
-pub shares_there : (s : Staked) (who op : List ℕ) (n : ℕ) (x o : List ℕ) → is_some (shares_of (with_shares who op n s) x o) ≡ cond (same_addr who x && same_addr op o) true (is_some (shares_of s x o))
-shares_there s who op n x o = ap is_some (at-put pair_cmp pair_total s.delegations (op, who) (o, x) n ∙ ap (λ b. cond b (Some n) (shares_of s x o)) (pair_at who op x o)) ∙ by (same_addr who x && same_addr op o)
+pub shares_there : (s : Staked) (who op : List ℕ) (n : ℕ) (x o : List ℕ) → is_some (delegation (put_delegation who op n s) x o) ≡ cond (same_addr who x && same_addr op o) true (is_some (delegation s x o))
+shares_there s who op n x o = ap is_some (at-put pair_cmp pair_total s.delegations (op, who) (o, x) n ∙ ap (λ b. cond b (Some n) (delegation s x o)) (pair_at who op x o)) ∙ by (same_addr who x && same_addr op o)
   where
-    by : (b : Bool) → is_some (cond b (Some n) (shares_of s x o)) ≡ cond b true (is_some (shares_of s x o))
+    by : (b : Bool) → is_some (cond b (Some n) (delegation s x o)) ≡ cond b true (is_some (delegation s x o))
     by true = refl
     by false = refl
 
@@ -265,8 +265,8 @@ module _ (P : List ℕ → Type 0) where
   more_of v amount issued = record v { tokens = v.tokens + amount; shares = v.shares + issued }
 
   pub stake_grown : (b n : ℕ) (l : Lists) (w : World Staked Hooks) (v : Validator) (who : List ℕ) (amount issued : ℕ) → StakeFits P (b + cond (is_bonded v.status) amount 0) (n + cond (is_bonded v.status) 0 amount) l w
-      → validator_of w.mine v.operator ≡ Some v → 0 < issued
-      → StakeFits P b n l (over_mine (λ s. with_shares who v.operator (unwrap_or (shares_of w.mine who v.operator) 0 + issued) (with_validator (more_of v amount issued) s)) w)
+      → validator_at w.mine v.operator ≡ Some v → 0 < issued
+      → StakeFits P b n l (over_mine (λ s. put_delegation who v.operator (unwrap_or (delegation w.mine who v.operator) 0 + issued) (put_validator (more_of v amount issued) s)) w)
   stake_grown b n l w v who amount issued h found some =
       let s = w.mine in
       let old = h.staked.validators v.operator v found in
@@ -298,26 +298,26 @@ module _ (P : List ℕ → Type 0) where
   anew false false x = refl
 
   pub delegated_fits : (v : Validator) (who : List ℕ) (amount : ℕ) (origin : Origin) (b n : ℕ) (w : World Staked Hooks) → StakeFits P (bonded_before origin amount b) (other_before origin amount n) (lists_of w.mine) w
-      → validator_of w.mine v.operator ≡ Some v → IfOk (delegated chain_told v who amount origin w) (λ x. StakeFits P b n (lists_of x.1.mine) x.1 × (x.1.view.ctx ≡ w.view.ctx))
+      → validator_at w.mine v.operator ≡ Some v → IfOk (delegated chain_told v who amount origin w) (λ x. StakeFits P b n (lists_of x.1.mine) x.1 × (x.1.view.ctx ≡ w.view.ctx))
   delegated_fits v who amount origin b n w h found =
       let l = lists_of w.mine in
       let op = v.operator in
-      let held = shares_of w.mine who op in
+      let held = delegation w.mine who op in
       let l1 = lists_before who op held l in
-      let there : is_some (validator_of w.mine op) ≡ true = ap is_some found in
+      let there : is_some (validator_at w.mine op) ≡ true = ap is_some found in
       on_then (shares_given v amount) _ (λ issued. 0 < issued) _ (given_some v amount) (λ issued some.
       on_hook Overflow (hook_before v who held) w _ (λ d u. Leaves P w.view l1 d u) _ (before_is_idle w v who held) (before_told P v who held w.view l w.hooks.0 (stake_hooks P _ _ l w h) there) (λ d u k left.
       let w1 : World Staked Hooks = hook_gave w d u k in
       on_then (paid_in origin who v.status amount u) _ (λ x. StakeFits P (b + cond (is_bonded v.status) amount 0) (n + cond (is_bonded v.status) 0 amount) l1 (over_view (λ y. x) w1) × (x.ctx ≡ u.ctx)) _
       (paid_fits origin who v.status amount b n l1 w1 (stake_left P _ _ l l1 w d u (w.log ++ k) h left)) (λ x paid.
-      let w2 : World Staked Hooks = over_view (λ y. x) (over_mine (λ s. with_shares who op (unwrap_or held 0 + issued) (with_validator (more_of v amount issued) s)) w1) in
+      let w2 : World Staked Hooks = over_view (λ y. x) (over_mine (λ s. put_delegation who op (unwrap_or held 0 + issued) (put_validator (more_of v amount issued) s)) w1) in
       let grown : StakeFits P b n l1 w2 = stake_grown b n l1 (over_view (λ y. x) w1) v who amount issued paid.0 found some in
       on_hook {B = ℕ × World Staked Hooks} Overflow (modified (more_of v amount issued) who (unwrap_or held 0 + issued)) w2 (λ y. Ok (issued, y)) (λ d u. Leaves P w2.view (with_started who op true l1) d u)
       (λ y. StakeFits P b n (lists_of y.1.mine) y.1 × (y.1.view.ctx ≡ w.view.ctx)) (λ y. refl)
       (start_leaves P (more_of v amount issued) who (unwrap_or held 0 + issued) w2.view l1 w2.hooks.0 (stake_hooks P b n l1 w2 grown) there) (λ d2 u2 k2 left2. and_also
       (stake_relisted P b n (with_started who op true l1) (lists_of w2.mine) (hook_gave w2 d2 u2 k2) (stake_left P b n l1 (with_started who op true l1) w2 d2 u2 (w2.log ++ k2) grown left2)
       (λ o. there_still w.mine.validators op o v (more_of v amount issued) found)
-      (λ y o. shares_there w.mine who op (unwrap_or held 0 + issued) y o ∙ anew (same_addr who y && same_addr op o) (is_some held) (is_some (shares_of w.mine y o)))) (left2.ctx ∙ paid.1 ∙ left.ctx)))))
+      (λ y o. shares_there w.mine who op (unwrap_or held 0 + issued) y o ∙ anew (same_addr who y && same_addr op o) (is_some held) (is_some (delegation w.mine y o)))) (left2.ctx ∙ paid.1 ∙ left.ctx)))))
 
   -- ---- the message
 
@@ -336,7 +336,7 @@ module _ (P : List ℕ → Type 0) where
   pub delegate_fits : (who operator : List ℕ) (coin : Coin) (w : State) → StateFits P w → IfOk (delegate who operator coin w) (StateLeft P w)
   delegate_fits who operator coin w h =
       on_then (delegated_by chain_told who operator coin (staked_in w)) _ (λ x. StateLeft P w (with_staked w.mine x.1)) _
-      (on_stop (coin.amount == 0) NonPositive _ _ (λ a. on_found (validator_of w.mine.staked operator) NoValidator _ _ (λ v found. on_stop (is_wrong coin w.view) WrongDenom _ _ (λ c.
+      (on_stop (coin.amount == 0) NonPositive _ _ (λ a. on_found (validator_at w.mine.staked operator) NoValidator _ _ (λ v found. on_stop (is_wrong coin w.view) WrongDenom _ _ (λ c.
       weaker_if (delegated chain_told v who coin.amount wallet (staked_in w)) _ _
       (delegated_fits v who coin.amount wallet 0 (entry_balances w.mine.unbondings) (staked_in w) h.stake (own_place P w.view.ctx.height w.mine.staked operator v h.stake.staked found))
       (λ x k. state_with w x.1 h k.0 k.1)))))

@@ -22,7 +22,7 @@ use Rattle.stk_keep.specs.Items.{no_purse}
 use Rattle.stk_keep.specs.Log.{Log}
 use Rattle.stk_keep.specs.Orders.{pair_cmp}
 use Rattle.stk_keep.specs.Pair.{and_then, given_with}
-use Rattle.stk_keep.specs.Staked.{Staked, is_unbonded, shares_of, with_validator}
+use Rattle.stk_keep.specs.Staked.{Staked, is_unbonded, delegation, put_validator}
 use Rattle.stk_keep.specs.World.{View, World, call, hooked}
 use Rattle.stk_keep.specs.declared.entities.Purse.{Purse}
 use Rattle.stk_keep.specs.declared.entities.Validator.{Validator}
@@ -42,7 +42,7 @@ use Rattle.stk_rules.specs.Distribution.{Shared, current_taken, left_by, told_of
 use Rattle.stk_rules.specs.Periods.{Periods, Rewards, initial_records, period_ended, periods_of, ratio_at, with_periods}
 use Rattle.stk_rules.specs.Purses.{Purses, current_emptied, current_pooled, pool_joined, purse_of, with_purse}
 use Rattle.stk_rules.specs.Sound.{IsSound}
-use Rattle.stk_rules.specs.Stakes.{with_shares}
+use Rattle.stk_rules.specs.Stakes.{put_delegation}
 use Rattle.stk_rules.specs.Window.{window_told}
 use Rattle.stk_types.specs.Orders.{addr_cmp}
 
@@ -144,22 +144,22 @@ paid_sure who Bonded n v e = absurd cc
 paid_sure who Unbonding n v e = absurd cc
 paid_sure who Unbonded n v e = tt
 
-delegated_sure : (v : Validator) (who : List ℕ) (n issued k : ℕ) (w : World Staked Hooks) → shares_given v n ≡ Ok issued → shares_of w.mine who v.operator ≡ None → is_unbonded v.status ≡ true → CanEnd k w.hooks.0 → k < 10 ^ 18
+delegated_sure : (v : Validator) (who : List ℕ) (n issued k : ℕ) (w : World Staked Hooks) → shares_given v n ≡ Ok issued → delegation w.mine who v.operator ≡ None → is_unbonded v.status ≡ true → CanEnd k w.hooks.0 → k < 10 ^ 18
     → IsOkAnd (delegated chain_told v who n (pool Unbonded) w) (λ x. (x.1.mine ≡ grown_stake v who n issued w.mine) × CanEnd (k + 1) x.1.hooks.0)
 delegated_sure v who n issued k w given none unbonded c l =
-    let held = shares_of w.mine who v.operator in
+    let held = delegation w.mine who v.operator in
     sure_then (shares_given v n) _ (λ i. i ≡ issued) _ (subst (λ (r : Result ℕ Refusal). IsOkAnd r (λ i. i ≡ issued)) (sym given) refl) (λ i same.
     sure_then (stopping Overflow (call chain_told (hook_before v who held) w)) _ (λ x. (x.mine ≡ w.mine) × CanEnd (k + 1) x.hooks.0) _
     (subst (λ (o : Option ℕ). IsOkAnd (stopping Overflow (call chain_told (hook_before v who o) w)) (λ x. (x.mine ≡ w.mine) × CanEnd (k + 1) x.hooks.0)) (sym none) (starting_sure v who k w c l)) (λ x s.
     sure_then (paid_in (pool Unbonded) who v.status n x.view) _ (λ u. Unit {0}) _ (paid_sure who v.status n x.view unbonded) (λ u t. (
-      ap (λ (m : Staked). with_shares who v.operator (unwrap_or held 0 + i) (with_validator (record v { tokens = v.tokens + n; shares = v.shares + i }) m)) s.0 ∙ ap (λ j. grown_stake v who n j w.mine) same,
+      ap (λ (m : Staked). put_delegation who v.operator (unwrap_or held 0 + i) (put_validator (record v { tokens = v.tokens + n; shares = v.shares + i }) m)) s.0 ∙ ap (λ j. grown_stake v who n j w.mine) same,
       record { current = s.1.current; periods = s.1.periods },
     ))))
 
 -- ---- pairs that are not there yet
 
 record ArePairsNew (ds : List GenesisDelegation) (s : Staked) : Type 0 where
-  none : AllByRecursion (λ d. shares_of s d.delegator d.validator ≡ None) ds
+  none : AllByRecursion (λ d. delegation s d.delegator d.validator ≡ None) ds
   once : has_pair_twice ds ≡ false
 
 either_not : (a b : Bool) → (a || b) ≡ false → (a ≡ false) × (b ≡ false)
@@ -169,12 +169,12 @@ either_not false b e = (refl, e)
 pair_apart : (k q : List ℕ × List ℕ) → is_at (pair_cmp k) q ≡ false → is_at (pair_cmp q) k ≡ false
 pair_apart k q e = pair_found q.0 k.0 q.1 k.1 ∙ (λ i. same_back q.0 k.0 i && same_back q.1 k.1 i) ∙ sym (pair_found k.0 q.0 k.1 q.1) ∙ e
 
-pairs_after : (op who : List ℕ) (sh : ℕ) (ds : List GenesisDelegation) (s t : Staked) → ((y o : List ℕ) → shares_of t y o ≡ cond (is_at (pair_cmp (o, y)) (op, who)) (Some sh) (shares_of s y o))
-    → list_any (is_at (pair_cmp (op, who))) (map (λ (d : GenesisDelegation). (d.validator, d.delegator)) ds) ≡ false → AllByRecursion (λ d. shares_of s d.delegator d.validator ≡ None) ds → AllByRecursion (λ d. shares_of t d.delegator d.validator ≡ None) ds
+pairs_after : (op who : List ℕ) (sh : ℕ) (ds : List GenesisDelegation) (s t : Staked) → ((y o : List ℕ) → delegation t y o ≡ cond (is_at (pair_cmp (o, y)) (op, who)) (Some sh) (delegation s y o))
+    → list_any (is_at (pair_cmp (op, who))) (map (λ (d : GenesisDelegation). (d.validator, d.delegator)) ds) ≡ false → AllByRecursion (λ d. delegation s d.delegator d.validator ≡ None) ds → AllByRecursion (λ d. delegation t d.delegator d.validator ≡ None) ds
 pairs_after op who sh [] s t f e h = tt
 pairs_after op who sh (d ∷ ds) s t f e h =
     let parts = either_not (is_at (pair_cmp (op, who)) (d.validator, d.delegator)) (list_any (is_at (pair_cmp (op, who))) (map (λ (x : GenesisDelegation). (x.validator, x.delegator)) ds)) e in (
-      f d.delegator d.validator ∙ ap (λ b. cond b (Some sh) (shares_of s d.delegator d.validator)) (pair_apart (op, who) (d.validator, d.delegator) parts.0) ∙ h.0,
+      f d.delegator d.validator ∙ ap (λ b. cond b (Some sh) (delegation s d.delegator d.validator)) (pair_apart (op, who) (d.validator, d.delegator) parts.0) ∙ h.0,
       pairs_after op who sh ds s t f parts.1 h.1,
     )
 
@@ -193,13 +193,13 @@ delegations_sure (d ∷ ds) k w v is new c l =
     sure_then {B = World Staked Hooks} (delegation_added chain_told d w) (λ y. each (delegation_added chain_told) ds y) (λ y. (y.mine ≡ grown_stake x d.delegator n issued w.mine) × CanEnd (k + 1) y.hooks.0) (λ y. Unit {0})
     (subst (λ (r : Option Validator). IsOkAnd (or_stop r NoValidator >>= λ y. delegated chain_told y d.delegator n (pool Unbonded) w >>= λ z. Ok z.1) (λ y. (y.mine ≡ grown_stake x d.delegator n issued w.mine) × CanEnd (k + 1) y.hooks.0)) (sym one.found)
     (sure_then (delegated chain_told x d.delegator n (pool Unbonded) w) (λ z. Ok z.1) (λ z. (z.1.mine ≡ grown_stake x d.delegator n issued w.mine) × CanEnd (k + 1) z.1.hooks.0) (λ y. (y.mine ≡ grown_stake x d.delegator n issued w.mine) × CanEnd (k + 1) y.hooks.0)
-    (delegated_sure x d.delegator n issued k w one.given (ap (shares_of w.mine d.delegator) one.operator ∙ new.none.0) unbonded c (first k (length ds) l)) (λ z j. j)))
+    (delegated_sure x d.delegator n issued k w one.given (ap (delegation w.mine d.delegator) one.operator ∙ new.none.0) unbonded c (first k (length ds) l)) (λ z j. j)))
     (λ y j. delegations_sure ds (k + 1) y v
     (subst (λ (s : Staked). IsStarting ds (over {H = Unit {0}} tt s v)) (one.left_is ∙ sym j.0) one.starting)
     (record {
-      none = pairs_after d.validator d.delegator (unwrap_or (shares_of w.mine d.delegator x.operator) 0 + issued) ds w.mine y.mine
-          (λ who o. ap (λ (s : Staked). shares_of s who o) j.0 ∙ at-put pair_cmp pair_total w.mine.delegations (x.operator, d.delegator) (o, who) (unwrap_or (shares_of w.mine d.delegator x.operator) 0 + issued)
-          ∙ ap (λ p. cond (is_at (pair_cmp (o, who)) (p, d.delegator)) (Some (unwrap_or (shares_of w.mine d.delegator x.operator) 0 + issued)) (shares_of w.mine who o)) one.operator)
+      none = pairs_after d.validator d.delegator (unwrap_or (delegation w.mine d.delegator x.operator) 0 + issued) ds w.mine y.mine
+          (λ who o. ap (λ (s : Staked). delegation s who o) j.0 ∙ at-put pair_cmp pair_total w.mine.delegations (x.operator, d.delegator) (o, who) (unwrap_or (delegation w.mine d.delegator x.operator) 0 + issued)
+          ∙ ap (λ p. cond (is_at (pair_cmp (o, who)) (p, d.delegator)) (Some (unwrap_or (delegation w.mine d.delegator x.operator) 0 + issued)) (delegation w.mine who o)) one.operator)
           apart.0 new.none.1;
       once = apart.1;
     })
@@ -216,11 +216,11 @@ delegations_sure (d ∷ ds) k w v is new c l =
 -- the validators, all entered
 abbrev entered : List GenesisValidator → View → Staked → Staked
 entered [] v s = s
-entered (x ∷ xs) v s = entered xs v (with_validator (entrant v x) s)
+entered (x ∷ xs) v s = entered xs v (put_validator (entrant v x) s)
 
 entered_is : (vs : List GenesisValidator) (s : Staked) (v : View) → each (validator_added no_hook) vs (over {H = Unit {0}} tt s v) ≡ Ok (over {H = Unit {0}} tt (entered vs v s) v)
 entered_is [] s v = refl
-entered_is (x ∷ xs) s v = entered_is xs (with_validator (entrant v x) s) v
+entered_is (x ∷ xs) s v = entered_is xs (put_validator (entrant v x) s) v
 
 validators_sure : (vs : List GenesisValidator) (w : World Staked Hooks) → CanEnd 1 w.hooks.0 → IsOkAnd (each (validator_added chain_told) vs w) (λ x. (x.mine ≡ entered vs w.view w.mine) × CanEnd 1 x.hooks.0)
 validators_sure [] w c = (refl, c)
@@ -229,7 +229,7 @@ validators_sure (x ∷ xs) w c =
 
 -- ---- the chain
 
-none_yet : (ds : List GenesisDelegation) (s : Staked) → s.delegations ≡ [] → AllByRecursion (λ d. shares_of s d.delegator d.validator ≡ None) ds
+none_yet : (ds : List GenesisDelegation) (s : Staked) → s.delegations ≡ [] → AllByRecursion (λ d. delegation s d.delegator d.validator ≡ None) ds
 none_yet [] s e = tt
 none_yet (d ∷ ds) s e = (ap (λ (es : List ((List ℕ × List ℕ) × ℕ)). at pair_cmp es (d.validator, d.delegator)) e, none_yet ds s e)
 

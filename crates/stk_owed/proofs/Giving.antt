@@ -11,7 +11,7 @@ use Rattle.stk_keep.specs.Entries.{at, without}
 use Rattle.stk_keep.specs.Hooks.{Lists}
 use Rattle.stk_keep.specs.Items.{no_purse}
 use Rattle.stk_keep.specs.Pair.{and_then, given_with}
-use Rattle.stk_keep.specs.Staked.{Staked, is_unbonded, lists_of, validator_of}
+use Rattle.stk_keep.specs.Staked.{Staked, is_unbonded, lists_of, validator_at}
 use Rattle.stk_keep.specs.Steps.{◌>>=◌, each}
 use Rattle.stk_keep.specs.World.{View, World, hooked, noted, over_mine, over_view}
 use Rattle.stk_keep.specs.declared.entities.Purse.{Purse}
@@ -141,7 +141,7 @@ module _ (P : List ℕ → Type 0) where
 
   -- ---- mature validators
 
-  gone_gives : (b n : ℕ) (w : World Staked Hooks) (v : Validator) → StakeFits P b n (lists_of w.mine) w → validator_of w.mine v.operator ≡ Some v → v.shares ≡ 0 → Gives (validator_removed chain_told v w)
+  gone_gives : (b n : ℕ) (w : World Staked Hooks) (v : Validator) → StakeFits P b n (lists_of w.mine) w → validator_at w.mine v.operator ≡ Some v → v.shares ≡ 0 → Gives (validator_removed chain_told v w)
   gone_gives b n w v h found none =
       let l = lists_of w.mine in
       let w1 : World Staked Hooks = over_mine (without_validator v.operator) w in
@@ -149,7 +149,7 @@ module _ (P : List ℕ → Type 0) where
       let (z, e) = removal_gives v w1.view l w1.hooks.0 (stake_hooks P b n l w1 gone) (ap is_some found) in
       subst (λ (r : Result (Shared × View) Over). Gives (hooked (and_then (told_of (unlogged r)) (λ d u k. given_with d k (window_told w1.hooks.1 (hook.removed v) u))) w1 >>= λ x. Ok (over_view (noted (fact.Removed v.operator)) x))) (sym e) (_, refl)
 
-  removed_gives : (b n : ℕ) (w : World Staked Hooks) (v : Validator) → StakeFits P b n (lists_of w.mine) w → validator_of w.mine v.operator ≡ Some v → Gives (removed_if_empty chain_told v w)
+  removed_gives : (b n : ℕ) (w : World Staked Hooks) (v : Validator) → StakeFits P b n (lists_of w.mine) w → validator_at w.mine v.operator ≡ Some v → Gives (removed_if_empty chain_told v w)
   removed_gives b n w v h found = by (is_unbonded v.status) (v.shares == 0) refl
     where
       zero_is : (m : ℕ) → (m == 0) ≡ true → m ≡ 0
@@ -160,7 +160,7 @@ module _ (P : List ℕ → Type 0) where
       by true false e = (w, refl)
       by false z e = (w, refl)
 
-  matured_gives : (b n : ℕ) (w : World Staked Hooks) (v : Validator) → StakeFits P b n (lists_of w.mine) w → validator_of w.mine v.operator ≡ Some v → Gives (matured chain_told v w)
+  matured_gives : (b n : ℕ) (w : World Staked Hooks) (v : Validator) → StakeFits P b n (lists_of w.mine) w → validator_at w.mine v.operator ≡ Some v → Gives (matured chain_told v w)
   matured_gives b n w v h found = by (is_unbonding v.status) (nat_le v.unbonding_time w.view.ctx.time) refl
     where
       u : Validator

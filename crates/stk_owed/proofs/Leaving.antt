@@ -18,7 +18,7 @@ use Rattle.std.specs.List.{AllByRecursion}
 use Rattle.stk_coins.specs.Coins.{coin_then}
 use Rattle.stk_keep.specs.Entries.{at}
 use Rattle.stk_keep.specs.Orders.{pair_cmp}
-use Rattle.stk_keep.specs.Staked.{Staked, is_bonded, lists_of, shares_of, validator_of}
+use Rattle.stk_keep.specs.Staked.{Staked, is_bonded, lists_of, delegation, validator_at}
 use Rattle.stk_owed.proofs.Delegating.{all_other, delegated_fits, to_not_bonded}
 use Rattle.stk_owed.proofs.Entries.{EntriesLeft, PairFits, PairsFit, entries_gone, entries_put, from_pairs, grown_balances, grown_length, grown_sound, lowered_balances, lowered_sound, lowered_whole, own_entries, own_within, to_pairs, whole_entries, Entries}
 use Rattle.stk_owed.proofs.Lists.{looked_up, weaker}
@@ -111,8 +111,8 @@ module _ (P : List ℕ → Type 0) where
   undelegated_fits : (who operator : List ℕ) (coin : Coin) (u : UnbondingLists) (w : World Staked Hooks) → StakeFits P 0 (entry_balances u) (lists_of w.mine) w → PairsFit w.view.ctx.height u → AllByRecursion (λ p. WholeEntries w.view.ctx.height p.1) u
       → IfOk (undelegated chain_told who operator coin u w) (λ x. PairsLeft w u x.1 x.2)
   undelegated_fits who operator coin u w h pairs whole =
-      on_stop (coin.amount == 0) NonPositive _ _ (λ a. on_found (validator_of w.mine operator) NoValidator _ _ (λ v found.
-      on_then (shares_to_unbond (shares_of w.mine who operator) v coin.amount) _ (λ x. (shares_of w.mine who operator ≡ Some x.0) × (x.1 ≤ x.0)) _ (unbonding_within (shares_of w.mine who operator) v coin.amount) (λ x within.
+      on_stop (coin.amount == 0) NonPositive _ _ (λ a. on_found (validator_at w.mine operator) NoValidator _ _ (λ v found.
+      on_then (shares_to_unbond (delegation w.mine who operator) v coin.amount) _ (λ x. (delegation w.mine who operator ≡ Some x.0) × (x.1 ≤ x.0)) _ (unbonding_within (delegation w.mine who operator) v coin.amount) (λ x within.
       on_stop (is_wrong coin w.view) WrongDenom _ _ (λ b.
       let es = entries_of u who operator in
       on_stop (nat_le w.view.ctx.params.max_entries (length es)) UnbondingsFull _ _ (λ full.
@@ -120,7 +120,7 @@ module _ (P : List ℕ → Type 0) where
       let n = entry_balances u in
       let same : v.operator ≡ operator = h.staked.operators operator v found in
       on_lifted_then Overflow (unbonded_shares chain_told v who x.0 x.1 w) _ (HasUnbonded P 0 n w v (amount_out v.tokens v.shares x.1)) _
-      (unbonded_fits P 0 n w v who x.0 x.1 h (own_place P height w.mine operator v h.staked found) (ap (shares_of w.mine who) same ∙ within.0) within.1) (λ y k.
+      (unbonded_fits P 0 n w v who x.0 x.1 h (own_place P height w.mine operator v h.staked found) (ap (delegation w.mine who) same ∙ within.0) within.1) (λ y k.
       let out : ℕ = y.0 in
       let fits = subst (λ m. StakeFits P (0 + cond (is_bonded v.status) m 0) (n + cond (is_bonded v.status) 0 m) (lists_of y.1.mine) y.1) (sym k.amount) k.fits in
       let z : World Staked Hooks = if is_bonded v.status then over_view (sent (account.Module holder.Bonded) (account.Module holder.NotBonded) (bond_coins w.view out)) y.1 else y.1 in
@@ -158,7 +158,7 @@ module _ (P : List ℕ → Type 0) where
   cancelled_fits : (who operator : List ℕ) (coin : Coin) (height : ℕ) (u : UnbondingLists) (w : World Staked Hooks) → StakeFits P 0 (entry_balances u) (lists_of w.mine) w → PairsFit w.view.ctx.height u
       → IfOk (cancelled chain_told who operator coin height u w) (λ x. PairsLeft w u x.1 x.2)
   cancelled_fits who operator coin height u w h pairs =
-      on_stop (coin.amount == 0) NonPositive _ _ (λ a. on_stop (is_wrong coin w.view) WrongDenom _ _ (λ b. on_found (validator_of w.mine operator) NoValidator _ _ (λ v found.
+      on_stop (coin.amount == 0) NonPositive _ _ (λ a. on_stop (is_wrong coin w.view) WrongDenom _ _ (λ b. on_found (validator_at w.mine operator) NoValidator _ _ (λ v found.
       on_stop (has_invalid_rate v.tokens v.shares) RateInvalid _ _ (λ c. on_stop v.jailed Jailed _ _ (λ d.
       let es = entries_of u who operator in
       let now = w.view.ctx.time in

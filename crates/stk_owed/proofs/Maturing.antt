@@ -17,7 +17,7 @@ use Rattle.std.specs.Ordering.{is_eq}
 use Rattle.std.specs.declared.cmp.Ordering.TheVariants.{Less}
 use Rattle.stk_keep.specs.Entries.{with}
 use Rattle.stk_keep.specs.Orders.{same_addr}
-use Rattle.stk_keep.specs.Staked.{Staked, is_bonded, lists_of, of_bond, tokens_where, validator_of, with_validator}
+use Rattle.stk_keep.specs.Staked.{Staked, is_bonded, lists_of, of_bond, tokens_where, validator_at, put_validator}
 use Rattle.stk_owed.proofs.Delegating.{others, state_with}
 use Rattle.stk_owed.proofs.Lists.{all_put, mapped_all}
 use Rattle.stk_owed.proofs.Moves.{keeps}
@@ -47,10 +47,10 @@ AreApart (v ∷ vs) = AllByRecursion (λ u. same_addr v.operator u.operator ≡ 
 
 -- each stands, as it is, under its own operator
 abbrev pub AllStand : Staked → List Validator → Type 0
-AllStand s vs = AllByRecursion (λ v. validator_of s v.operator ≡ Some v) vs
+AllStand s vs = AllByRecursion (λ v. validator_at s v.operator ≡ Some v) vs
 
 -- they stand still after one of another operator changed
-pub stand_still : (s t : Staked) (op : List ℕ) (vs : List Validator) → ((o : List ℕ) → same_addr op o ≡ false → validator_of t o ≡ validator_of s o) → AllByRecursion (λ u. same_addr op u.operator ≡ false) vs → AllStand s vs → AllStand t vs
+pub stand_still : (s t : Staked) (op : List ℕ) (vs : List Validator) → ((o : List ℕ) → same_addr op o ≡ false → validator_at t o ≡ validator_at s o) → AllByRecursion (λ u. same_addr op u.operator ≡ false) vs → AllStand s vs → AllStand t vs
 stand_still s t op [] f a h = tt
 stand_still s t op (v ∷ vs) f a h = (f v.operator a.0 ∙ h.0, stand_still s t op vs f a.1 h.1)
 
@@ -65,8 +65,8 @@ values_apart [] s o = tt
 values_apart (e ∷ es) s o = (apart_from e.0 es e.1 o.0 s.0 o.1, values_apart es s.1 o.1)
 
 pub values_stand : (height : ℕ) (s : Staked) → IsSoundAt height s → AllStand s (values_of s.validators)
-values_stand height s h = mapped_all (λ v. validator_of s v.operator ≡ Some v) (λ (e : List ℕ × Validator). e.1) s.validators
-    (recursion_from_All (λ e. validator_of s e.1.operator ≡ Some e.1) s.validators (to_all addr_cmp addr_total (λ e. validator_of s e.1.operator ≡ Some e.1) s.validators h.validators_ascend (λ k v f. ap (validator_of s) (h.operators k v f) ∙ f)))
+values_stand height s h = mapped_all (λ v. validator_at s v.operator ≡ Some v) (λ (e : List ℕ × Validator). e.1) s.validators
+    (recursion_from_All (λ e. validator_at s e.1.operator ≡ Some e.1) s.validators (to_all addr_cmp addr_total (λ e. validator_at s e.1.operator ≡ Some e.1) s.validators h.validators_ascend (λ k v f. ap (validator_at s) (h.operators k v f) ∙ f)))
 
 pub operators_are : (height : ℕ) (s : Staked) → IsSoundAt height s → AllByRecursion (λ e. e.1.operator ≡ e.0) s.validators
 operators_are height s h = recursion_from_All (λ e. e.1.operator ≡ e.0) s.validators (to_all addr_cmp addr_total (λ e. e.1.operator ≡ e.0) s.validators h.validators_ascend h.operators)
@@ -74,8 +74,8 @@ operators_are height s h = recursion_from_All (λ e. e.1.operator ≡ e.0) s.val
 module _ (P : List ℕ → Type 0) where
   -- ---- a validator of another status, whose tokens are in the same account
 
-  stake_restated : (b n : ℕ) (l : Lists) (w : World Staked Hooks) (u v : Validator) → StakeFits P b n l w → validator_of w.mine v.operator ≡ Some v → u.operator ≡ v.operator → u.cons ≡ v.cons → u.tokens ≡ v.tokens → u.shares ≡ v.shares
-      → is_bonded u.status ≡ is_bonded v.status → ValidatorIsSound w.view.ctx.height u → IsRecorded w.hooks.1 (u.operator, u) → StakeFits P b n l (over_mine (with_validator u) w)
+  stake_restated : (b n : ℕ) (l : Lists) (w : World Staked Hooks) (u v : Validator) → StakeFits P b n l w → validator_at w.mine v.operator ≡ Some v → u.operator ≡ v.operator → u.cons ≡ v.cons → u.tokens ≡ v.tokens → u.shares ≡ v.shares
+      → is_bonded u.status ≡ is_bonded v.status → ValidatorIsSound w.view.ctx.height u → IsRecorded w.hooks.1 (u.operator, u) → StakeFits P b n l (over_mine (put_validator u) w)
   stake_restated b n l w u v s found operator cons tokens shares status ok recorded = record {
     ground = s.ground;
     staked = sound-put w.view.ctx.height u v w.mine s.staked f (record { operator = operator; cons = cons; shares = shares; sound = ok });
@@ -87,8 +87,8 @@ module _ (P : List ℕ → Type 0) where
     recorded = all_put (IsRecorded w.hooks.1) addr_cmp exact_addr u.operator u w.mine.validators recorded s.recorded;
   }
     where
-      f : validator_of w.mine u.operator ≡ Some v
-      f = ap (validator_of w.mine) operator ∙ found
+      f : validator_at w.mine u.operator ≡ Some v
+      f = ap (validator_at w.mine) operator ∙ found
 
       same : (test : BondStatus → Bool) → test u.status ≡ test v.status → tokens_where test w.mine.validators ≡ tokens_where test (with addr_cmp w.mine.validators u.operator u)
       same test e =
@@ -103,7 +103,7 @@ module _ (P : List ℕ → Type 0) where
   unbonding_is Unbonding e = refl
   unbonding_is Unbonded e = absurd cc
 
-  pub unbonded_fits : (b n : ℕ) (w : World Staked Hooks) (v : Validator) → StakeFits P b n (lists_of w.mine) w → validator_of w.mine v.operator ≡ Some v → is_unbonding v.status ≡ true
+  pub unbonded_fits : (b n : ℕ) (w : World Staked Hooks) (v : Validator) → StakeFits P b n (lists_of w.mine) w → validator_at w.mine v.operator ≡ Some v → is_unbonding v.status ≡ true
       → StakeFits P b n (lists_of (changed v Unbonded w).mine) (changed v Unbonded w)
   unbonded_fits b n w v h found e =
       stake_told P b n (lists_of put.mine) put (λ facts. facts ++ fact.Changed v.operator Unbonded ∷ [])
@@ -119,9 +119,9 @@ module _ (P : List ℕ → Type 0) where
       sound = record { max_rate = own.max_rate; rate = own.rate; max_change = own.max_change; tokens = own.tokens; empty = own.empty; unbonding_height = own.unbonding_height }
 
       put : World Staked Hooks
-      put = over_mine (with_validator u) w
+      put = over_mine (put_validator u) w
 
-  pub matured_fits : (b n : ℕ) (w : World Staked Hooks) (v : Validator) → StakeFits P b n (lists_of w.mine) w → validator_of w.mine v.operator ≡ Some v → IfOk (matured chain_told v w) (StakeLeft P b n w v.operator)
+  pub matured_fits : (b n : ℕ) (w : World Staked Hooks) (v : Validator) → StakeFits P b n (lists_of w.mine) w → validator_at w.mine v.operator ≡ Some v → IfOk (matured chain_told v w) (StakeLeft P b n w v.operator)
   matured_fits b n w v h found = by (is_unbonding v.status) (nat_le v.unbonding_time w.view.ctx.time) refl
     where
       u : Validator
@@ -135,7 +135,7 @@ module _ (P : List ℕ → Type 0) where
           weaker_if (removed_if_empty chain_told u next) (StakeLeft P b n next v.operator) (StakeLeft P b n w v.operator) (removed_if_fits P b n next u (unbonded_fits b n w v h found e) (found_itself w.mine u)) (λ x k. record {
             fits = k.fits;
             ctx = k.ctx;
-            others = λ o f. k.others o f ∙ found-put w.mine u o ∙ ap (λ c. cond c (Some u) (validator_of w.mine o)) (same_back o v.operator ∙ f);
+            others = λ o f. k.others o f ∙ found-put w.mine u o ∙ ap (λ c. cond c (Some u) (validator_at w.mine o)) (same_back o v.operator ∙ f);
           })
       by true false e = record { fits = h; ctx = refl; others = λ o f. refl }
       by false t e = record { fits = h; ctx = refl; others = λ o f. refl }

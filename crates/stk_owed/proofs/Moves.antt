@@ -19,7 +19,7 @@ use Rattle.stk_rules.specs.Amounts.{is_empty}
 use Rattle.stk_rules.specs.Chain.{Hooks, State, with_shared, staked_in}
 use Rattle.stk_rules.specs.Distribution.{Shared}
 use Rattle.stk_rules.specs.Effects.{coins_sent, send, set_withdraw_address, fee_paid}
-use Rattle.stk_rules.specs.Laws.{Keeps}
+use Rattle.stk_rules.specs.Laws.{KeptByStep}
 use Rattle.stk_rules.specs.Owed.{owed_from_distribution}
 use Rattle.stk_rules.specs.Withdrawals.{payee_set}
 use Rattle.stk_rules.specs.Sound.{WindowIsSound, RedelegationsAreSound, UnbondingsAreSound}
@@ -34,13 +34,13 @@ use Rattle.stk_keep.specs.Entries.{with}
 use Rattle.std.specs.List.{AllByRecursion}
 
 -- what keeps all that fits, whatever property denominations have, keeps soundness
-pub keeps : {E : Type 0} (f : State → Result State E) → ((P : List ℕ → Type 0) (w : State) → StateFits P w → IfOk (f w) (StateLeft P w)) → Keeps IsSoundAfter f
+pub keeps : {E : Type 0} (f : State → Result State E) → ((P : List ℕ → Type 0) (w : State) → StateFits P w → IfOk (f w) (StateLeft P w)) → KeptByStep IsSoundAfter f
 keeps f h w s =
     let P : List ℕ → Type 0 = Contains s.few.some in
     if_ok (IsSoundAfter w) (f w) (λ new e. from_fits new s.few.some s.few.few (from_if (StateLeft P w) (f w) new e (h P w (to_fits w s))).fits)
 
 -- the same, where nothing is said of entries of this height
-pub keeps_fits : {E : Type 0} (f : State → Result State E) → ((P : List ℕ → Type 0) (w : State) → StateFits P w → IfOk (f w) (StateFits P)) → Keeps IsSoundAfter f
+pub keeps_fits : {E : Type 0} (f : State → Result State E) → ((P : List ℕ → Type 0) (w : State) → StateFits P w → IfOk (f w) (StateFits P)) → KeptByStep IsSoundAfter f
 keeps_fits f h w s =
     let P : List ℕ → Type 0 = Contains s.few.some in
     if_ok (IsSoundAfter w) (f w) (λ new e. from_fits new s.few.some s.few.few (from_if (StateFits P) (f w) new e (h P w (to_fits w s))))

@@ -18,7 +18,7 @@ use Rattle.stk_rules.specs.Unbonding.{unbonded_shares, shares_unbonded, unbonded
 use Rattle.std.specs.BTreeMap.{is_at}
 use Rattle.stk_dec.specs.declared.over.Over.{Over}
 use Rattle.stk_keep.specs.Orders.{same_addr}
-use Rattle.stk_keep.specs.Staked.{Staked, bonded_tokens, is_bonded, is_unbonded, lists_of, of_bond, other_tokens, shares_of, validator_by_cons, validator_of, with_validator}
+use Rattle.stk_keep.specs.Staked.{Staked, bonded_tokens, is_bonded, is_unbonded, lists_of, of_bond, other_tokens, delegation, validator_by_cons, validator_at, put_validator}
 use Rattle.stk_keep.specs.declared.facts.Fact.{Fact}
 use Rattle.stk_owed.proofs.Beside.{from_same, raised, raised_with, unbonded_same}
 use Rattle.stk_owed.proofs.Delegating.{others}
@@ -65,8 +65,8 @@ module _ (P : List ℕ → Type 0) (i : Window) where
   -- ---- a validator's own slash
 
   -- tokens leave a validator, without shares
-  stake_poorer : (b n : ℕ) (l : Lists) (w : World Staked Hooks) (v : Validator) (a : ℕ) → StakeFits P b n l w → validator_of w.mine v.operator ≡ Some v → a ≤ v.tokens
-      → StakeFits P (b + cond (is_bonded v.status) a 0) (n + cond (is_bonded v.status) 0 a) l (over_mine (with_validator (record v { tokens = v.tokens - a })) w)
+  stake_poorer : (b n : ℕ) (l : Lists) (w : World Staked Hooks) (v : Validator) (a : ℕ) → StakeFits P b n l w → validator_at w.mine v.operator ≡ Some v → a ≤ v.tokens
+      → StakeFits P (b + cond (is_bonded v.status) a 0) (n + cond (is_bonded v.status) 0 a) l (over_mine (put_validator (record v { tokens = v.tokens - a })) w)
   stake_poorer b n l w v a h found le =
       let u : Validator = record v { tokens = v.tokens - a } in
       let own = h.staked.validators v.operator v found in
@@ -122,17 +122,17 @@ module _ (P : List ℕ → Type 0) (i : Window) where
           (told_if (slash_recorded v fraction w.hooks w.view) (λ d u. Leaves P w.view l d u) (slash_leaves P v fraction w.view l w.hooks h there most))
           (λ d u k left. next d (noted (fact.Slashed v.operator fraction burned) u) (w.log ++ k ++ (v.operator, log.slashed burned v.tokens fraction) ∷ []) (noted_leaves w.view l d u (fact.Slashed v.operator fraction burned) left)))
 
-  validator_fits : (b n : ℕ) (w : World Staked Shared) (v : Validator) (amount : ℕ) → StakeFits P b n (lists_of w.mine) (raised i w) → validator_of w.mine v.operator ≡ Some v → IfOk (validator_slashed distribution_told v amount w) (λ x. BesideLeft b n w x.1)
+  validator_fits : (b n : ℕ) (w : World Staked Shared) (v : Validator) (amount : ℕ) → StakeFits P b n (lists_of w.mine) (raised i w) → validator_at w.mine v.operator ≡ Some v → IfOk (validator_slashed distribution_told v amount w) (λ x. BesideLeft b n w x.1)
   validator_fits b n w v amount h found =
       let l = lists_of w.mine in
       let burn : ℕ = min amount v.tokens in
       let less : Validator = record v { tokens = v.tokens - burn } in
-      on_slash {B = ℕ × World Staked Shared} v burn l w (λ x. Ok (burn, over_view (burnt (pool_of v.status) w.view.ctx.params.bond_denom burn) (over_mine (with_validator less) x))) (λ x. BesideLeft b n w x.1)
+      on_slash {B = ℕ × World Staked Shared} v burn l w (λ x. Ok (burn, over_view (burnt (pool_of v.status) w.view.ctx.params.bond_denom burn) (over_mine (put_validator less) x))) (λ x. BesideLeft b n w x.1)
       (stake_hooks P b n l (raised i w) h) (ap is_some found) (λ d u k left.
       let w1 : World Staked Shared = record { mine = w.mine; hooks = d; view = u; log = k } in
       let first : StakeFits P b n l (raised i w1) = stake_left P b n l l (raised i w) d u k h left in
       let poorer = stake_poorer b n l (raised i w1) v burn first found (within amount v.tokens) in
-      let w2 : World Staked Shared = over_mine (with_validator less) w1 in
+      let w2 : World Staked Shared = over_mine (put_validator less) w1 in
       let gone = stake_burnt P (is_bonded v.status) b n l (raised i w2) burn poorer in
       let x : World Staked Shared = over_view (burnt (pool_of v.status) w.view.ctx.params.bond_denom burn) w2 in
       record {
@@ -145,10 +145,10 @@ module _ (P : List ℕ → Type 0) (i : Window) where
       within : (a t : ℕ) → min a t ≤ t
       within a t = omega arith
 
-  rest_fits : (b n : ℕ) (w : World Staked Shared) (operator : List ℕ) (amount : ℕ) → StakeFits P b n (lists_of w.mine) (raised i w) → IfOk (rest_slashed distribution_told (validator_of w.mine operator) amount w) (λ x. BesideLeft b n w x.1)
-  rest_fits b n w operator amount h = by (validator_of w.mine operator) refl
+  rest_fits : (b n : ℕ) (w : World Staked Shared) (operator : List ℕ) (amount : ℕ) → StakeFits P b n (lists_of w.mine) (raised i w) → IfOk (rest_slashed distribution_told (validator_at w.mine operator) amount w) (λ x. BesideLeft b n w x.1)
+  rest_fits b n w operator amount h = by (validator_at w.mine operator) refl
     where
-      by : (r : Option Validator) → validator_of w.mine operator ≡ r → IfOk (rest_slashed distribution_told r amount w) (λ x. BesideLeft b n w x.1)
+      by : (r : Option Validator) → validator_at w.mine operator ≡ r → IfOk (rest_slashed distribution_told r amount w) (λ x. BesideLeft b n w x.1)
       by None e = record { fits = h; ctx = refl }
       by (Some v) e = validator_fits b n w v amount h (own_place P w.view.ctx.height w.mine operator v h.staked e)
 
@@ -159,16 +159,16 @@ module _ (P : List ℕ → Type 0) (i : Window) where
     fits : StakeFits P (b + cond s x.0 0) (n + cond s 0 x.0) (lists_of x.1.mine) (raised i x.1)
     ctx : x.1.view.ctx ≡ w.view.ctx
 
-  unbonded_beside : (b n : ℕ) (w : World Staked Shared) (t : Validator) (who : List ℕ) (part : ℕ) → StakeFits P b n (lists_of w.mine) (raised i w) → validator_of w.mine t.operator ≡ Some t
-      → part ≤ unwrap_or (shares_of w.mine who t.operator) 0 → IfOk (shares_unbonded distribution_told who t.operator part w) (BesideUnbonded b n (is_bonded t.status) w)
+  unbonded_beside : (b n : ℕ) (w : World Staked Shared) (t : Validator) (who : List ℕ) (part : ℕ) → StakeFits P b n (lists_of w.mine) (raised i w) → validator_at w.mine t.operator ≡ Some t
+      → part ≤ unwrap_or (delegation w.mine who t.operator) 0 → IfOk (shares_unbonded distribution_told who t.operator part w) (BesideUnbonded b n (is_bonded t.status) w)
   unbonded_beside b n w t who part h found within =
-      subst (λ r. IfOk (unbonded_of distribution_told r (shares_of w.mine who t.operator) who part w) (BesideUnbonded b n (is_bonded t.status) w)) (sym found) (by (shares_of w.mine who t.operator) refl within)
+      subst (λ r. IfOk (unbonded_of distribution_told r (delegation w.mine who t.operator) who part w) (BesideUnbonded b n (is_bonded t.status) w)) (sym found) (by (delegation w.mine who t.operator) refl within)
     where
       nothing : (s : Bool) (m : ℕ) → m ≡ m + cond s 0 0
       nothing true m = omega arith
       nothing false m = omega arith
 
-      by : (held : Option ℕ) → shares_of w.mine who t.operator ≡ held → part ≤ unwrap_or held 0 → IfOk (unbonded_of distribution_told (Some t) held who part w) (BesideUnbonded b n (is_bonded t.status) w)
+      by : (held : Option ℕ) → delegation w.mine who t.operator ≡ held → part ≤ unwrap_or held 0 → IfOk (unbonded_of distribution_told (Some t) held who part w) (BesideUnbonded b n (is_bonded t.status) w)
       by None e l = record {
         fits = subst (λ m. StakeFits P m (n + cond (is_bonded t.status) 0 0) (lists_of w.mine) (raised i w)) (nothing (is_bonded t.status) b) (subst (λ m. StakeFits P b m (lists_of w.mine) (raised i w)) (nothing (is_bonded t.status) n) h);
         ctx = refl;
@@ -180,11 +180,11 @@ module _ (P : List ℕ → Type 0) (i : Window) where
             ctx = q.ctx;
           })
 
-  target_fits : (b n : ℕ) (w : World Staked Shared) (target who : List ℕ) (part : ℕ) → StakeFits P b n (lists_of w.mine) (raised i w) → part ≤ unwrap_or (shares_of w.mine who target) 0
-      → IfOk (burned_at_target (staked_unbonds distribution_told) (validator_of w.mine target) who part w) (BesideLeft b n w)
-  target_fits b n w target who part h within = by (validator_of w.mine target) refl
+  target_fits : (b n : ℕ) (w : World Staked Shared) (target who : List ℕ) (part : ℕ) → StakeFits P b n (lists_of w.mine) (raised i w) → part ≤ unwrap_or (delegation w.mine who target) 0
+      → IfOk (burned_at_target (staked_unbonds distribution_told) (validator_at w.mine target) who part w) (BesideLeft b n w)
+  target_fits b n w target who part h within = by (validator_at w.mine target) refl
     where
-      by : (r : Option Validator) → validator_of w.mine target ≡ r → IfOk (burned_at_target (staked_unbonds distribution_told) r who part w) (BesideLeft b n w)
+      by : (r : Option Validator) → validator_at w.mine target ≡ r → IfOk (burned_at_target (staked_unbonds distribution_told) r who part w) (BesideLeft b n w)
       by None e = record { fits = h; ctx = refl }
       by (Some t) e = chosen (part == 0)
         where
@@ -195,7 +195,7 @@ module _ (P : List ℕ → Type 0) (i : Window) where
           chosen true = record { fits = h; ctx = refl }
           chosen false =
               on_then (shares_unbonded distribution_told who t.operator part w) _ (BesideUnbonded b n (is_bonded t.status) w) _
-              (unbonded_beside b n w t who part h (own_place P w.view.ctx.height w.mine target t h.staked e) (subst (λ o. part ≤ unwrap_or (shares_of w.mine who o) 0) (sym same) within)) (λ x k. record {
+              (unbonded_beside b n w t who part h (own_place P w.view.ctx.height w.mine target t h.staked e) (subst (λ o. part ≤ unwrap_or (delegation w.mine who o) 0) (sym same) within)) (λ x k. record {
                 fits = subst (λ (c : Ctx). StakeFits P b n (lists_of x.1.mine) (over_view (burnt (pool_of t.status) c.params.bond_denom x.0) (raised i x.1))) k.ctx (stake_burnt P (is_bonded t.status) b n (lists_of x.1.mine) (raised i x.1) x.0 k.fits);
                 ctx = k.ctx;
               })
@@ -211,11 +211,11 @@ module _ (P : List ℕ → Type 0) (i : Window) where
       part = shares_hit (staked_unbonds distribution_told) who target factor e w
 
       by : (c : Bool) → ((x : World Staked Shared) → StakeFits P b n (lists_of x.mine) (raised i x) → IfOk (targets_slashed (staked_unbonds distribution_told) who target infraction factor es x) (BesideLeft b n x))
-          → IfOk (if c then (burned_at_target (staked_unbonds distribution_told) (validator_of w.mine target) who part w >>= λ x. targets_slashed (staked_unbonds distribution_told) who target infraction factor es x)
+          → IfOk (if c then (burned_at_target (staked_unbonds distribution_told) (validator_at w.mine target) who part w >>= λ x. targets_slashed (staked_unbonds distribution_told) who target infraction factor es x)
           else targets_slashed (staked_unbonds distribution_told) who target infraction factor es w) (BesideLeft b n w)
       by true rest =
-          on_then {B = World Staked Shared} (burned_at_target (staked_unbonds distribution_told) (validator_of w.mine target) who part w) (λ x. targets_slashed (staked_unbonds distribution_told) who target infraction factor es x) (BesideLeft b n w) (BesideLeft b n w)
-          (target_fits b n w target who part h (hit_within (even (factor * e.shares_dst) (10 ^ 18)) (unwrap_or (shares_of w.mine who target) 0)))
+          on_then {B = World Staked Shared} (burned_at_target (staked_unbonds distribution_told) (validator_at w.mine target) who part w) (λ x. targets_slashed (staked_unbonds distribution_told) who target infraction factor es x) (BesideLeft b n w) (BesideLeft b n w)
+          (target_fits b n w target who part h (hit_within (even (factor * e.shares_dst) (10 ^ 18)) (unwrap_or (delegation w.mine who target) 0)))
           (λ x k. weaker_if (targets_slashed (staked_unbonds distribution_told) who target infraction factor es x) (BesideLeft b n x) (BesideLeft b n w) (rest x k.fits) (λ y j. beside_then b n w x y k.ctx j))
       by false rest = rest w h
 
@@ -263,14 +263,14 @@ module _ (P : List ℕ → Type 0) (i : Window) where
       first = entries_fit P op infraction factor w.mine.unbondings 0 (lists_of w.mine.staked) (staked_in (with_window i w)) (subst (λ m. StakeFits P 0 m (lists_of w.mine.staked) (staked_in (with_window i w))) (none_first (entry_balances w.mine.unbondings)) h.stake)
 
       by : (c : Bool) → IfOk {T = ℕ × World Stakes Shared} {E = Over} (if c then Ok (0, w) else (redelegations_slashed (staked_unbonds distribution_told) op infraction factor w.mine.redelegations w1 >>= λ y.
-          rest_slashed distribution_told (validator_of y.2.mine op) (slash_amount power w.view.ctx.params.power_reduction factor - (counted (all_counted op infraction factor w.view.ctx.time w.mine.unbondings) + y.0)) y.2 >>= λ z.
+          rest_slashed distribution_told (validator_at y.2.mine op) (slash_amount power w.view.ctx.params.power_reduction factor - (counted (all_counted op infraction factor w.view.ctx.time w.mine.unbondings) + y.0)) y.2 >>= λ z.
           Ok (z.0, record { mine = record { staked = z.1.mine; unbondings = u; redelegations = y.1 }; hooks = z.1.hooks; view = z.1.view; log = z.1.log }))) (λ x. SlashLeft w x.1)
       by true = record { fits = h; ctx = refl; pairs = λ m k. k }
       by false =
           on_then (redelegations_slashed (staked_unbonds distribution_told) op infraction factor w.mine.redelegations w1) _ (λ y. BesideLeft 0 (0 + entry_balances u) w1 y.2 × (y.1 ≡ w.mine.redelegations)) _
           (on_then (sources_slashed (staked_unbonds distribution_told) op infraction factor w.mine.redelegations w1) _ (BesideLeft 0 (0 + entry_balances u) w1) _ (sources_fit w.mine.redelegations 0 (0 + entry_balances u) w1 op infraction factor first.0) (λ x k. and_also k refl)) (λ y k.
           let amount : ℕ = slash_amount power w.view.ctx.params.power_reduction factor - (counted (all_counted op infraction factor w.view.ctx.time w.mine.unbondings) + y.0) in
-          on_then (rest_slashed distribution_told (validator_of y.2.mine op) amount y.2) _ (λ z. BesideLeft 0 (0 + entry_balances u) y.2 z.1) _ (rest_fits 0 (0 + entry_balances u) y.2 op amount k.0.fits) (λ z j.
+          on_then (rest_slashed distribution_told (validator_at y.2.mine op) amount y.2) _ (λ z. BesideLeft 0 (0 + entry_balances u) y.2 z.1) _ (rest_fits 0 (0 + entry_balances u) y.2 op amount k.0.fits) (λ z j.
           let ctx : z.1.view.ctx ≡ w.view.ctx = j.ctx ∙ k.0.ctx ∙ first.1 in
           record {
             fits = record {

@@ -19,7 +19,7 @@ use Rattle.std.specs.List.Sorted.{IsStrictlySortedBy}
 use Rattle.std.specs.Map.{keys_of}
 use Rattle.stk_keep.specs.Entries.{at, number_at}
 use Rattle.stk_keep.specs.Orders.{pair_cmp, same_addr, triple_cmp}
-use Rattle.stk_keep.specs.Staked.{Staked, is_bonded, lists_of, shares_of, validator_of}
+use Rattle.stk_keep.specs.Staked.{Staked, is_bonded, lists_of, delegation, validator_at}
 use Rattle.stk_owed.proofs.Delegating.{delegated_fits}
 use Rattle.stk_owed.proofs.Leaving.{unbonding_within}
 use Rattle.stk_owed.proofs.Lists.{all_put, joined_all, looked_up, weaker}
@@ -124,7 +124,7 @@ module _ (P : List ℕ → Type 0) where
     triples : TriplesFit w.view.ctx.height r
 
   -- what goes out is within the tokens
-  out_most : (v : Validator) (held part : ℕ) (n : ℕ) (source who : List ℕ) (w : World Staked Hooks) → StakeFits P 0 n (lists_of w.mine) w → validator_of w.mine source ≡ Some v → shares_of w.mine who source ≡ Some held → part ≤ held → amount_out v.tokens v.shares part ≤ v.tokens
+  out_most : (v : Validator) (held part : ℕ) (n : ℕ) (source who : List ℕ) (w : World Staked Hooks) → StakeFits P 0 n (lists_of w.mine) w → validator_at w.mine source ≡ Some v → delegation w.mine who source ≡ Some held → part ≤ held → amount_out v.tokens v.shares part ≤ v.tokens
   out_most v held part n source who w h found has within =
       let number : number_at pair_cmp w.mine.delegations (source, who) ≡ held = ap (λ r. unwrap_or r 0) has in
       let all : v.shares ≡ shares_at w.mine.delegations source = h.staked.shares source v found in
@@ -136,9 +136,9 @@ module _ (P : List ℕ → Type 0) where
       → IfOk (redelegated chain_told who source target coin r w) (λ x. TriplesLeft n w x.1 x.2)
   redelegated_fits who source target coin r n w h triples =
       let height = w.view.ctx.height in
-      on_stop (coin.amount == 0) NonPositive _ _ (λ a. on_found (validator_of w.mine source) NoValidator _ _ (λ v found.
-      on_then (shares_to_unbond (shares_of w.mine who source) v coin.amount) _ (λ x. (shares_of w.mine who source ≡ Some x.0) × (x.1 ≤ x.0)) _ (unbonding_within (shares_of w.mine who source) v coin.amount) (λ x within.
-      on_stop (is_wrong coin w.view) WrongDenom _ _ (λ b. on_stop (same_addr source target) SelfRedelegation _ _ (λ apart. on_found (validator_of w.mine target) NoValidator _ _ (λ t there.
+      on_stop (coin.amount == 0) NonPositive _ _ (λ a. on_found (validator_at w.mine source) NoValidator _ _ (λ v found.
+      on_then (shares_to_unbond (delegation w.mine who source) v coin.amount) _ (λ x. (delegation w.mine who source ≡ Some x.0) × (x.1 ≤ x.0)) _ (unbonding_within (delegation w.mine who source) v coin.amount) (λ x within.
+      on_stop (is_wrong coin w.view) WrongDenom _ _ (λ b. on_stop (same_addr source target) SelfRedelegation _ _ (λ apart. on_found (validator_at w.mine target) NoValidator _ _ (λ t there.
       on_stop (is_transitive r who source) Transitive _ _ (λ c. on_stop (nat_le w.view.ctx.params.max_entries (length (redelegations_of r who source target))) RedelegationsFull _ _ (λ full.
       let amount = amount_out v.tokens v.shares x.1 in
       on_stop (amount == 0) TinyRedelegation _ _ (λ d. on_next (shares_given t amount) _ _ (λ issued e.
@@ -146,16 +146,16 @@ module _ (P : List ℕ → Type 0) where
       let target_is : t.operator ≡ target = h.staked.operators target t there in
       let own : ValidatorIsSound height v = h.staked.validators source v found in
       on_lifted_then Overflow (unbonded_shares chain_told v who x.0 x.1 w) _ (HasUnbonded P 0 n w v amount) _
-      (unbonded_fits P 0 n w v who x.0 x.1 h (own_place P height w.mine source v h.staked found) (ap (shares_of w.mine who) same ∙ within.0) within.1) (λ y k.
+      (unbonded_fits P 0 n w v who x.0 x.1 h (own_place P height w.mine source v h.staked found) (ap (delegation w.mine who) same ∙ within.0) within.1) (λ y k.
       let fits = subst (λ m. StakeFits P (0 + cond (is_bonded v.status) m 0) (n + cond (is_bonded v.status) 0 m) (lists_of y.1.mine) y.1) (sym k.amount) k.fits in
-      let still : validator_of y.1.mine t.operator ≡ Some t = k.others t.operator ((λ i. same_addr (same i) (target_is i)) ∙ apart) ∙ own_place P height w.mine target t h.staked there in
+      let still : validator_at y.1.mine t.operator ≡ Some t = k.others t.operator ((λ i. same_addr (same i) (target_is i)) ∙ apart) ∙ own_place P height w.mine target t h.staked there in
       on_then (delegated chain_told t who y.0 (pool v.status) y.1) _ (λ z. StakeFits P 0 n (lists_of z.1.mine) z.1 × (z.1.view.ctx ≡ y.1.view.ctx)) _ (delegated_fits P t who y.0 (pool v.status) 0 n y.1 fits still) (λ z j. record {
         fits = j.0;
         ctx = j.1 ∙ k.ctx;
-        triples = appended_fits height who source target (begin_info v (is_none (validator_of y.1.mine source)) w.view.ctx) y.0 z.0 r triples
+        triples = appended_fits height who source target (begin_info v (is_none (validator_at y.1.mine source)) w.view.ctx) y.0 z.0 r triples
             (not_full (length (redelegations_of r who source target)) w.view.ctx.params.max_entries full h.ground.order.params.max_entries_most)
             (at_most y.0 amount v.tokens k.amount (out_most v x.0 x.1 n source who w h found within.0 within.1) own.tokens)
-            (begun_height v (is_none (validator_of y.1.mine source)) w.view.ctx own.unbonding_height);
+            (begun_height v (is_none (validator_at y.1.mine source)) w.view.ctx own.unbonding_height);
       }))))))))))))
     where
       not_full : (m most : ℕ) → nat_le most m ≡ false → most ≤ 100 → m + 1 ≤ 100

@@ -25,7 +25,7 @@ use Rattle.stk_keep.specs.Entries.{at, number_at, without}
 use Rattle.stk_keep.specs.Holdings.{balance_of}
 use Rattle.stk_keep.specs.Items.{no_purse}
 use Rattle.stk_keep.specs.Orders.{pair_cmp, same_addr}
-use Rattle.stk_keep.specs.Staked.{Staked, is_bonded, is_unbonded, lists_of, of_bond, tokens_where, validator_of}
+use Rattle.stk_keep.specs.Staked.{Staked, is_bonded, is_unbonded, lists_of, of_bond, tokens_where, validator_at}
 use Rattle.stk_keep.specs.declared.facts.Fact.{Fact}
 use Rattle.stk_owed.proofs.Hooking.{IfTold, hook_gave, on_call, stake_hooks}
 use Rattle.stk_owed.proofs.Lists.{all_taken, ascend_taken, weaker}
@@ -73,7 +73,7 @@ was_there es k q x a e = by (same_addr q k) refl (sym (at-taken addr_cmp addr_to
 -- ---- validators and delegations
 
 -- no delegation is to an operator whose shares are none
-none_to : (height : ℕ) (s : Staked) (v : Validator) (k : List ℕ × List ℕ) (n : ℕ) → IsSoundAt height s → validator_of s v.operator ≡ Some v → v.shares ≡ 0 → at pair_cmp s.delegations k ≡ Some n → same_addr k.0 v.operator ≡ false
+none_to : (height : ℕ) (s : Staked) (v : Validator) (k : List ℕ × List ℕ) (n : ℕ) → IsSoundAt height s → validator_at s v.operator ≡ Some v → v.shares ≡ 0 → at pair_cmp s.delegations k ≡ Some n → same_addr k.0 v.operator ≡ false
 none_to height s v k n h f z e = by (same_addr k.0 v.operator) refl
   where
     all : shares_at s.delegations v.operator ≡ 0
@@ -87,7 +87,7 @@ none_to height s v k n h f z e = by (same_addr k.0 v.operator) refl
         let some : 0 < n = h.positive k n e in
         absurd (omega (arith, here, within, some, all))
 
-sound-removed : (height : ℕ) (s : Staked) (v : Validator) → IsSoundAt height s → validator_of s v.operator ≡ Some v → v.shares ≡ 0 → IsSoundAt height (without_validator v.operator s)
+sound-removed : (height : ℕ) (s : Staked) (v : Validator) → IsSoundAt height s → validator_at s v.operator ≡ Some v → v.shares ≡ 0 → IsSoundAt height (without_validator v.operator s)
 sound-removed height s v h f z = record {
   validators_ascend = ascend_taken addr_cmp v.operator s.validators h.validators_ascend;
   delegations_ascend = h.delegations_ascend;
@@ -99,7 +99,7 @@ sound-removed height s v h f z = record {
   existing = λ k n e. gone_key s.validators v.operator k.0 h.validators_ascend ∙ stays (same_addr v.operator k.0) (same_back v.operator k.0 ∙ none_to height s v k n h f z e) (h.existing k n e);
 }
   where
-    there : (o : List ℕ) (x : Validator) → validator_of (without_validator v.operator s) o ≡ Some x → validator_of s o ≡ Some x
+    there : (o : List ℕ) (x : Validator) → validator_at (without_validator v.operator s) o ≡ Some x → validator_at s o ≡ Some x
     there o x e = (was_there s.validators v.operator o x h.validators_ascend e).there
 
     stays : (b : Bool) {r : Bool} → b ≡ false → r ≡ true → cond b false r ≡ true
@@ -107,7 +107,7 @@ sound-removed height s v h f z = record {
     stays false p q = q
 
 module _ (P : List ℕ → Type 0) where
-  pub stake_removed : (b n : ℕ) (l : Lists) (w : World Staked Hooks) (v : Validator) → StakeFits P b n l w → validator_of w.mine v.operator ≡ Some v → v.shares ≡ 0 → StakeFits P b n l (over_mine (without_validator v.operator) w)
+  pub stake_removed : (b n : ℕ) (l : Lists) (w : World Staked Hooks) (v : Validator) → StakeFits P b n l w → validator_at w.mine v.operator ≡ Some v → v.shares ≡ 0 → StakeFits P b n l (over_mine (without_validator v.operator) w)
   stake_removed b n l w v s f z = record {
     ground = s.ground;
     staked = sound-removed w.view.ctx.height w.mine v s.staked f z;
@@ -230,9 +230,9 @@ module _ (P : List ℕ → Type 0) where
   pub record StakeLeft (b n : ℕ) (w : World Staked Hooks) (op : List ℕ) (x : World Staked Hooks) : Type 0 where
     pub fits : StakeFits P b n (lists_of x.mine) x
     pub ctx : x.view.ctx ≡ w.view.ctx
-    pub others : (o : List ℕ) → same_addr op o ≡ false → validator_of x.mine o ≡ validator_of w.mine o
+    pub others : (o : List ℕ) → same_addr op o ≡ false → validator_at x.mine o ≡ validator_at w.mine o
 
-  pub removed_fits : (b n : ℕ) (w : World Staked Hooks) (v : Validator) → StakeFits P b n (lists_of w.mine) w → validator_of w.mine v.operator ≡ Some v → v.shares ≡ 0
+  pub removed_fits : (b n : ℕ) (w : World Staked Hooks) (v : Validator) → StakeFits P b n (lists_of w.mine) w → validator_at w.mine v.operator ≡ Some v → v.shares ≡ 0
       → IfOk (validator_removed chain_told v w) (StakeLeft b n w v.operator)
   removed_fits b n w v h found none =
       let l = lists_of w.mine in
@@ -246,10 +246,10 @@ module _ (P : List ℕ → Type 0) where
             (stake_relisted P b n (with_operator op false l) (lists_of w1.mine) (hook_gave w1 d u k) (stake_left P b n l (with_operator op false l) w1 d u (w1.log ++ k) gone left)
             (λ o. gone_key w.mine.validators op o h.staked.validators_ascend) (λ who o. refl));
         ctx = left.ctx;
-        others = λ o e. at-taken addr_cmp addr_total w.mine.validators op o h.staked.validators_ascend ∙ ap (λ t. cond t None (validator_of w.mine o)) (same_back o op ∙ e);
+        others = λ o e. at-taken addr_cmp addr_total w.mine.validators op o h.staked.validators_ascend ∙ ap (λ t. cond t None (validator_at w.mine o)) (same_back o op ∙ e);
       })
 
-  pub removed_if_fits : (b n : ℕ) (w : World Staked Hooks) (v : Validator) → StakeFits P b n (lists_of w.mine) w → validator_of w.mine v.operator ≡ Some v → IfOk (removed_if_empty chain_told v w) (StakeLeft b n w v.operator)
+  pub removed_if_fits : (b n : ℕ) (w : World Staked Hooks) (v : Validator) → StakeFits P b n (lists_of w.mine) w → validator_at w.mine v.operator ≡ Some v → IfOk (removed_if_empty chain_told v w) (StakeLeft b n w v.operator)
   removed_if_fits b n w v h found = by (is_unbonded v.status) (v.shares == 0) refl
     where
       zero_is : (m : ℕ) → (m == 0) ≡ true → m ≡ 0

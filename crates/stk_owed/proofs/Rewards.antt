@@ -23,7 +23,7 @@ use Rattle.stk_coins.specs.Coins.{Money, amount_of, coins_added, coins_mul_cut, 
 use Rattle.stk_dec.specs.Decimals.{trunc_of}
 use Rattle.stk_keep.specs.Items.{no_purse}
 use Rattle.stk_keep.specs.Orders.{pair_cmp, same_addr}
-use Rattle.stk_keep.specs.Staked.{lists_of, shares_of, validator_of}
+use Rattle.stk_keep.specs.Staked.{lists_of, delegation, validator_at}
 use Rattle.stk_owed.proofs.Lists.{all_put, all_taken, ascend_taken, looked_up}
 use Rattle.stk_owed.proofs.Moves.{HooksFit, Leaves, fit_after, keeps, leaves_then, state_left, user_is_other}
 use Rattle.stk_owed.proofs.Names.{IsKnown, known_added, known_fractions, known_mul_cut, known_none, known_smaller, known_taken, known_whole}
@@ -282,10 +282,10 @@ module _ (P : List ℕ → Type 0) where
       let s = w.mine.staked in
       let l = lists_of s in
       on_then (reward_taken s who operator w.hooks.0 w.view) _ (λ x. StateLeft P w (with_shared x.1 x.2 x.3 w)) _
-      (on_found (validator_of s operator) NoValidator _ _ (λ val found. on_found (shares_of s who operator) NoDelegation _ _ (λ shares held.
-      let own : validator_of s val.operator ≡ Some val = own_place P w.view.ctx.height s operator val h.stake.staked found in
+      (on_found (validator_at s operator) NoValidator _ _ (λ val found. on_found (delegation s who operator) NoDelegation _ _ (λ shares held.
+      let own : validator_at s val.operator ≡ Some val = own_place P w.view.ctx.height s operator val h.stake.staked found in
       let same : val.operator ≡ operator = h.stake.staked.operators operator val found in
-      let started : is_some (shares_of s who val.operator) ≡ true = ap (λ o. is_some (shares_of s who o)) same ∙ ap is_some held in
+      let started : is_some (delegation s who val.operator) ≡ true = ap (λ o. is_some (delegation s who o)) same ∙ ap is_some held in
       lifted_if Overflow (reward_renewed val who shares w.hooks.0 w.view) (λ x. StateLeft P w (with_shared x.1 x.2 x.3 w))
       (weaker_if (reward_renewed val who shares w.hooks.0 w.view) (λ z. Leaves P w.view (with_started who val.operator true (with_started who val.operator false l)) z.1 z.2) (λ x. StateLeft P w (with_shared x.1 x.2 x.3 w))
       (renewal_leaves val who shares w.view l w.hooks.0 (record { ground = h.stake.ground; owed = h.stake.owed; shared = h.stake.shared }) (ap is_some own))

@@ -16,7 +16,7 @@ use Rattle.std.specs.Map.{keys_of}
 use Rattle.stk_dec.specs.Decimals.{trunc_of}
 use Rattle.stk_keep.specs.Entries.{with}
 use Rattle.stk_keep.specs.Hooks.{Lists}
-use Rattle.stk_keep.specs.Staked.{Staked, is_bonded, is_unbonded, lists_of, of_bond, shares_of, tokens_where, validator_of, with_validator}
+use Rattle.stk_keep.specs.Staked.{Staked, is_bonded, is_unbonded, lists_of, of_bond, delegation, tokens_where, validator_at, put_validator}
 use Rattle.stk_keep.specs.declared.facts.Fact.{Fact}
 use Rattle.stk_owed.proofs.Lists.{all_put, looked_up}
 use Rattle.stk_owed.proofs.Moves.{keeps}
@@ -39,7 +39,7 @@ use Rattle.stk_keep.specs.Log.{Log}
 -- ---- validators that are put in their own place
 
 -- the same tokens are owed where a validator of as many, of the same status, is put
-pub same_tokens : (test : BondStatus → Bool) (s : Staked) (u v : Validator) → IsStrictlySortedBy addr_cmp (keys_of s.validators) → validator_of s u.operator ≡ Some v → u.tokens ≡ v.tokens → u.status ≡ v.status
+pub same_tokens : (test : BondStatus → Bool) (s : Staked) (u v : Validator) → IsStrictlySortedBy addr_cmp (keys_of s.validators) → validator_at s u.operator ≡ Some v → u.tokens ≡ v.tokens → u.status ≡ v.status
     → tokens_where test (with addr_cmp s.validators u.operator u) ≡ tokens_where test s.validators
 same_tokens test s u v a f t e =
     let put : tokens_where test (with addr_cmp s.validators u.operator u) + counted test v ≡ tokens_where test s.validators + counted test u = tokens-put test u.operator v u s.validators a f in
@@ -110,12 +110,12 @@ module _ (P : List ℕ → Type 0) where
     pub sound : ValidatorIsSound height u
 
   -- what is found under an operator stands under its own
-  pub own_place : (height : ℕ) (s : Staked) (o : List ℕ) (v : Validator) → IsSoundAt height s → validator_of s o ≡ Some v → validator_of s v.operator ≡ Some v
-  own_place height s o v h f = ap (validator_of s) (h.operators o v f) ∙ f
+  pub own_place : (height : ℕ) (s : Staked) (o : List ℕ) (v : Validator) → IsSoundAt height s → validator_at s o ≡ Some v → validator_at s v.operator ≡ Some v
+  own_place height s o v h f = ap (validator_at s) (h.operators o v f) ∙ f
 
-  pub stake_standing : (b n : ℕ) (l : Lists) (w : World Staked Hooks) (u v : Validator) → StakeFits P b n l w → validator_of w.mine v.operator ≡ Some v → StandsFor w.view.ctx.height u v → StakeFits P b n l (over_mine (with_validator u) w)
+  pub stake_standing : (b n : ℕ) (l : Lists) (w : World Staked Hooks) (u v : Validator) → StakeFits P b n l w → validator_at w.mine v.operator ≡ Some v → StandsFor w.view.ctx.height u v → StakeFits P b n l (over_mine (put_validator u) w)
   stake_standing b n l w u v s found k =
-      let f : validator_of w.mine u.operator ≡ Some v = ap (validator_of w.mine) k.operator ∙ found in
+      let f : validator_at w.mine u.operator ≡ Some v = ap (validator_at w.mine) k.operator ∙ found in
       let same = λ (test : BondStatus → Bool). same_tokens test w.mine u v s.staked.validators_ascend f k.tokens k.status in
       record {
         ground = s.ground;
@@ -135,16 +135,16 @@ module _ (P : List ℕ → Type 0) where
       recorded_as e = subst (λ c. IsSome (signing_of w.hooks.1 c)) (sym k.cons) (old (ap is_unbonded (sym k.status) ∙ e))
 
   -- the lists stay
-  pub same_operators : (s : Staked) (u v : Validator) → validator_of s u.operator ≡ Some v → (o : List ℕ) → is_some (validator_of (with_validator u s) o) ≡ is_some (validator_of s o)
+  pub same_operators : (s : Staked) (u v : Validator) → validator_at s u.operator ≡ Some v → (o : List ℕ) → is_some (validator_at (put_validator u s) o) ≡ is_some (validator_at s o)
   same_operators s u v f o = there_still s.validators u.operator o v u f
 
   -- the same of a whole state
-  pub state_standing : (w : State) (u v : Validator) (f : List Fact → List Fact) → StateFits P w → validator_of w.mine.staked v.operator ≡ Some v → StandsFor w.view.ctx.height u v
-      → StateLeft P w (over_view (over_facts f) (over_mine (λ c. record c { staked = with_validator u w.mine.staked }) w))
+  pub state_standing : (w : State) (u v : Validator) (f : List Fact → List Fact) → StateFits P w → validator_at w.mine.staked v.operator ≡ Some v → StandsFor w.view.ctx.height u v
+      → StateLeft P w (over_view (over_facts f) (over_mine (λ c. record c { staked = put_validator u w.mine.staked }) w))
   state_standing w u v f h found k = record {
     fits = record {
-      stake = stake_told 0 _ _ _ f (stake_relisted 0 _ (lists_of w.mine.staked) (lists_of (with_validator u w.mine.staked)) _ (stake_standing 0 _ _ (staked_in w) u v h.stake found k)
-          (same_operators w.mine.staked u v (ap (validator_of w.mine.staked) k.operator ∙ found)) (λ who o. refl));
+      stake = stake_told 0 _ _ _ f (stake_relisted 0 _ (lists_of w.mine.staked) (lists_of (put_validator u w.mine.staked)) _ (stake_standing 0 _ _ (staked_in w) u v h.stake found k)
+          (same_operators w.mine.staked u v (ap (validator_at w.mine.staked) k.operator ∙ found)) (λ who o. refl));
       unbondings = h.unbondings;
       redelegations = h.redelegations;
     };
@@ -191,7 +191,7 @@ module _ (P : List ℕ → Type 0) where
   edit_fits m w h =
       let s = w.mine.staked in
       on_then (edited m w.view.ctx.time w.view.ctx.params.min_commission_rate s) _ (λ t. StateLeft P w (over_mine (λ c. record c { staked = t }) w)) _
-      (on_next (edit_formed m) _ _ (λ t e. on_found (validator_of s m.validator) NoValidator _ _ (λ v found.
+      (on_next (edit_formed m) _ _ (λ t e. on_found (validator_at s m.validator) NoValidator _ _ (λ v found.
       on_then (rate_edited m.rate w.view.ctx.time w.view.ctx.params.min_commission_rate v) _ (λ u. StandsFor w.view.ctx.height u v) _ (rated w.view.ctx.height m.rate w.view.ctx.time w.view.ctx.params.min_commission_rate v (h.stake.staked.validators m.validator v found))
       (λ u k. on_then (minimum_edited m.min_self_delegation u) _ (λ x. StandsFor w.view.ctx.height x u) _ (with_minimum w.view.ctx.height m.min_self_delegation u k.sound)
       (λ x j. state_standing w x v (λ facts. facts) h (own_place w.view.ctx.height s m.validator v h.stake.staked found) (through w.view.ctx.height x u v j k))))))
@@ -203,7 +203,7 @@ module _ (P : List ℕ → Type 0) where
   unjail_fits operator w h =
       let s = w.mine.staked in
       on_then (unjailed operator w.hooks.1 s w.view) _ (λ x. StateLeft P w (over_view (λ u. x.2) (over_mine (λ c. record c { staked = x.1 }) w))) _
-      (on_found (validator_of s operator) NoValidator _ _ (λ v found. on_found (shares_of s operator operator) NoSelfDelegation _ _ (λ held f.
+      (on_found (validator_at s operator) NoValidator _ _ (λ v found. on_found (delegation s operator operator) NoSelfDelegation _ _ (λ held f.
       on_stop (nat_lt (trunc_of (value_even_of v.tokens v.shares held)) v.min_self) SelfBelowMinimum _ _ (λ a. on_stop (not v.jailed) NotJailed _ _ (λ b.
       on_next (may_leave w.view.ctx.time (signing_of w.hooks.1 v.cons)) _ _ (λ t c.
       let k : ValidatorIsSound w.view.ctx.height v = h.stake.staked.validators operator v found in

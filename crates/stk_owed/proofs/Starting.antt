@@ -23,7 +23,7 @@ use Rattle.stk_keep.specs.World.{View, World}
 use Rattle.stk_msgs.specs.declared.genesis.Genesis.{Genesis}
 use Rattle.stk_msgs.specs.declared.genesis.GenesisDelegation.{GenesisDelegation}
 use Rattle.stk_msgs.specs.declared.genesis.GenesisValidator.{GenesisValidator}
-use Rattle.stk_machine.specs.Genesis.{held_by, supplies_with}
+use Rattle.stk_machine.specs.Genesis.{held_at_start, supplies_with}
 use Rattle.stk_machine.specs.GenesisConditions.{accounts_at_start, start_condition}
 use Rattle.stk_machine.specs.GenesisState.{Start, ground_at_start, empty_over, validator_added, delegation_added, stake_added, chain_started}
 use Rattle.stk_machine.specs.Promises.{IsGoodGenesis, Replayed, RunsAreSound, AccountsHoldWhatIsOwed}
@@ -36,7 +36,7 @@ use Rattle.stk_coins.specs.Coins.{Money, amount_of}
 use Rattle.stk_keep.proofs.HoldingLemmas.{balance-within, place_total}
 use Rattle.stk_keep.specs.Holdings.{Holdings, IsBacked, balance_of, supply_of, total_of}
 use Rattle.stk_keep.specs.Orders.{place_cmp}
-use Rattle.stk_keep.specs.Staked.{Staked, lists_of, validator_of}
+use Rattle.stk_keep.specs.Staked.{Staked, lists_of, validator_at}
 use Rattle.stk_machine.proofs.StakesLemmas.{nobody_has}
 use Rattle.stk_owed.proofs.Bank.{AreHeld, same_place}
 use Rattle.stk_owed.proofs.Bonding.{set_fits}
@@ -113,7 +113,7 @@ module _ (P : List ℕ → Type 0) where
   amounts : List GenesisDelegation → ℕ
   amounts ds = sum (map (λ d. d.amount) ds)
 
-  start_fits : (g : Genesis) → start_condition g ≡ None → AreHeld P (held_by (accounts_at_start g)).balances → StakeFits P 0 (sum (map (λ d. d.amount) g.delegations)) (lists_of no_stake) (staked_in (empty_over (ground_at_start g)))
+  start_fits : (g : Genesis) → start_condition g ≡ None → AreHeld P (held_at_start (accounts_at_start g)).balances → StakeFits P 0 (sum (map (λ d. d.amount) g.delegations)) (lists_of no_stake) (staked_in (empty_over (ground_at_start g)))
   start_fits g e held =
       let v = ground_at_start g in
       let total = sum (map (λ d. d.amount) g.delegations) in
@@ -163,7 +163,7 @@ module _ (P : List ℕ → Type 0) where
       let all : sum (map (λ e. e.amount) (d ∷ ds)) ≡ rest + d.amount = turned _ d.amount rest (sum_by-cons (λ n. n) d.amount (map (λ e. e.amount) ds)) in
       on_then {B = World Staked Hooks} (delegation_added chain_told d w) (λ t. each (delegation_added chain_told) ds t) (λ x. StakeFits P 0 rest (lists_of x.mine) x × (x.view.ctx ≡ w.view.ctx))
       (λ y. StakeFits P 0 0 (lists_of y.mine) y × (y.view.ctx ≡ w.view.ctx))
-      (on_found (validator_of w.mine d.validator) NoValidator _ _ (λ v found.
+      (on_found (validator_at w.mine d.validator) NoValidator _ _ (λ v found.
       on_then {B = World Staked Hooks} (delegated chain_told v d.delegator d.amount (pool Unbonded) w) (λ x. Ok x.1) (λ x. StakeFits P 0 rest (lists_of x.1.mine) x.1 × (x.1.view.ctx ≡ w.view.ctx)) (λ x. StakeFits P 0 rest (lists_of x.mine) x × (x.view.ctx ≡ w.view.ctx))
       (delegated_fits P v d.delegator d.amount (pool Unbonded) 0 rest w (subst (λ m. StakeFits P 0 m (lists_of w.mine) w) all h) (own_place P w.view.ctx.height w.mine d.validator v h.staked found)) (λ x k. k)))
       (λ x k. weaker_if (each (delegation_added chain_told) ds x) (λ y. StakeFits P 0 0 (lists_of y.mine) y × (y.view.ctx ≡ x.view.ctx)) (λ y. StakeFits P 0 0 (lists_of y.mine) y × (y.view.ctx ≡ w.view.ctx)) (delegations_fit ds x k.0) (λ y j. and_also j.0 (j.1 ∙ k.1)))
@@ -196,7 +196,7 @@ module _ (P : List ℕ → Type 0) where
     entries = All-nil (λ (p : (List ℕ × List ℕ × List ℕ) × List RedelegationEntry). All (RedelegationIsSound 0) p.1);
   }
 
-  chain_fits : (g : Genesis) → start_condition g ≡ None → AreHeld P (held_by (accounts_at_start g)).balances → IfOk (chain_started g) StartedFits
+  chain_fits : (g : Genesis) → start_condition g ≡ None → AreHeld P (held_at_start (accounts_at_start g)).balances → IfOk (chain_started g) StartedFits
   chain_fits g e held =
       let v = ground_at_start g in
       let w = empty_over v in
@@ -219,7 +219,7 @@ module _ (P : List ℕ → Type 0) where
 
 -- ---- good geneses, and runs
 
-few_names : (g : Genesis) → start_condition g ≡ None → length (keys_of (held_by (accounts_at_start g)).supplies) ≤ 1_000_000
+few_names : (g : Genesis) → start_condition g ≡ None → length (keys_of (held_at_start (accounts_at_start g)).supplies) ≤ 1_000_000
 few_names g e =
     let m = may_start g e in
     let supplies = supplies_with (accounts_at_start g) [] in
@@ -235,7 +235,7 @@ record IsWellStarted (s : Start) : Type 0 where
 
 well_started : (g : Genesis) → start_condition g ≡ None → IfOk (chain_started g) IsWellStarted
 well_started g e =
-    let h = held_by (accounts_at_start g) in
+    let h = held_at_start (accounts_at_start g) in
     let P : List ℕ → Type 0 = Contains (keys_of h.supplies) in
     weaker_if (chain_started g) (StartedFits P) IsWellStarted (chain_fits P g e (held_supplied h (start_in_order g e).bank)) (λ s k. record { sound = from_fits s.state (keys_of h.supplies) (few_names g e) k.fits; height = k.height })
 

@@ -12,13 +12,13 @@ use Rattle.stk_keep.specs.Hooks.{Lists, with_started}
 use Rattle.stk_keep.specs.Log.{Log}
 use Rattle.stk_keep.specs.Log as log
 use Rattle.stk_keep.specs.World.{World, over_mine, logged, call, modifying, modified}
-use Rattle.stk_rules.specs.Unbonding.{jailed, falls_below_minimum, left_standing, unbonded_shares, removed_if_empty}
+use Rattle.stk_rules.specs.Unbonding.{put_in_jail, falls_below_minimum, left_standing, unbonded_shares, removed_if_empty}
 use Rattle.std.specs.List.Sorted.{IsStrictlySortedBy}
 use Rattle.std.specs.Map.{keys_of}
 use Rattle.stk_dec.specs.Decimals.{trunc_of}
 use Rattle.stk_keep.specs.Entries.{at, number_at, with, with_number, without}
 use Rattle.stk_keep.specs.Orders.{pair_cmp, same_addr}
-use Rattle.stk_keep.specs.Staked.{Staked, bonded_tokens, is_bonded, is_unbonded, lists_of, of_bond, other_tokens, shares_of, validator_of, with_validator}
+use Rattle.stk_keep.specs.Staked.{Staked, bonded_tokens, is_bonded, is_unbonded, lists_of, of_bond, other_tokens, delegation, validator_at, put_validator}
 use Rattle.stk_keep.specs.declared.params.Ctx.{Ctx}
 use Rattle.stk_rules.proofs.SoundLemmas.{found-put}
 use Rattle.stk_owed.proofs.Hooking.{before_told, called_if, hook_gave, on_call, stake_hooks}
@@ -35,7 +35,7 @@ use Rattle.stk_rules.proofs.SoundLemmas.{IsSoundAt, at-number, exact_addr, found
 use Rattle.stk_rules.proofs.TokenLemmas.{tokens-put}
 use Rattle.stk_rules.specs.Chain.{Hooks, chain_told}
 use Rattle.stk_rules.specs.Sound.{ValidatorIsSound}
-use Rattle.stk_rules.specs.Stakes.{with_shares, without_shares}
+use Rattle.stk_rules.specs.Stakes.{put_delegation, without_shares}
 use Rattle.stk_rules.specs.Window.{signing_of}
 use Rattle.stk_shares.specs.Shares.{amount_out, value_even_of}
 
@@ -78,10 +78,10 @@ lists_left who op left l = record { operators = l.operators; started = λ x o. c
 abbrev shares_left : List ℕ → List ℕ → ℕ → Staked → Staked
 shares_left who op left s = record s { delegations = with_number pair_cmp s.delegations (op, who) left }
 
-left_there : (s : Staked) (who op : List ℕ) (left : ℕ) (x o : List ℕ) → IsStrictlySortedBy pair_cmp (keys_of s.delegations) → is_some (shares_of (shares_left who op left s) x o) ≡ cond (same_addr who x && same_addr op o) (not (left == 0)) (is_some (shares_of s x o))
-left_there s who op left x o a = ap is_some (at-number s.delegations (op, who) (o, x) left a ∙ ap (λ b. cond b (cond (left == 0) None (Some left)) (shares_of s x o)) (pair_at who op x o)) ∙ by (same_addr who x && same_addr op o) (left == 0)
+left_there : (s : Staked) (who op : List ℕ) (left : ℕ) (x o : List ℕ) → IsStrictlySortedBy pair_cmp (keys_of s.delegations) → is_some (delegation (shares_left who op left s) x o) ≡ cond (same_addr who x && same_addr op o) (not (left == 0)) (is_some (delegation s x o))
+left_there s who op left x o a = ap is_some (at-number s.delegations (op, who) (o, x) left a ∙ ap (λ b. cond b (cond (left == 0) None (Some left)) (delegation s x o)) (pair_at who op x o)) ∙ by (same_addr who x && same_addr op o) (left == 0)
   where
-    by : (b z : Bool) → is_some (cond b (cond z None (Some left)) (shares_of s x o)) ≡ cond b (not z) (is_some (shares_of s x o))
+    by : (b z : Bool) → is_some (cond b (cond z None (Some left)) (delegation s x o)) ≡ cond b (not z) (is_some (delegation s x o))
     by true true = refl
     by true false = refl
     by false z = refl
@@ -102,12 +102,12 @@ module _ (P : List ℕ → Type 0) where
     pub shares : u.shares ≡ v.shares - part
     pub sound : ValidatorIsSound height u
 
-  stake_less : (b n : ℕ) (l : Lists) (w : World Staked Hooks) (u v : Validator) (who : List ℕ) (held part out : ℕ) → StakeFits P b n l w → validator_of w.mine v.operator ≡ Some v → shares_of w.mine who v.operator ≡ Some held
+  stake_less : (b n : ℕ) (l : Lists) (w : World Staked Hooks) (u v : Validator) (who : List ℕ) (held part out : ℕ) → StakeFits P b n l w → validator_at w.mine v.operator ≡ Some v → delegation w.mine who v.operator ≡ Some held
       → part ≤ held → held ≤ v.shares → out ≤ v.tokens → IsLess w.view.ctx.height u v part out
-      → StakeFits P (b + cond (is_bonded v.status) out 0) (n + cond (is_bonded v.status) 0 out) l (over_mine (λ s. with_validator u (shares_left who v.operator (held - part) s)) w)
+      → StakeFits P (b + cond (is_bonded v.status) out 0) (n + cond (is_bonded v.status) 0 out) l (over_mine (λ s. put_validator u (shares_left who v.operator (held - part) s)) w)
   stake_less b n l w u v who held part out h found has within less_held enough k =
       let s = w.mine in
-      let f : validator_of s u.operator ≡ Some v = ap (validator_of s) k.operator ∙ found in
+      let f : validator_at s u.operator ≡ Some v = ap (validator_at s) k.operator ∙ found in
       let number : number_at pair_cmp s.delegations (u.operator, who) ≡ held = ap (λ o. number_at pair_cmp s.delegations (o, who)) k.operator ∙ ap (λ r. unwrap_or r 0) has in
       let sound : IsSoundAt w.view.ctx.height (put_with u (with_number pair_cmp s.delegations (u.operator, who) (held - part)) s) =
       sound-changed w.view.ctx.height u v who (held - part) s h.staked f k.cons k.sound (left_shares u.shares v.shares _ held part k.shares number within less_held) in
@@ -136,14 +136,14 @@ module _ (P : List ℕ → Type 0) where
   record HasStood (b n : ℕ) (l : Lists) (v : Validator) (w x : World Staked Hooks) : Type 0 where
     now : Validator
     fits : StakeFits P b n l x
-    found : validator_of x.mine v.operator ≡ Some now
+    found : validator_at x.mine v.operator ≡ Some now
     same : StandsFor P w.view.ctx.height now v
     delegations : x.mine.delegations ≡ w.mine.delegations
-    operators : (o : List ℕ) → is_some (validator_of x.mine o) ≡ is_some (validator_of w.mine o)
-    others : (o : List ℕ) → same_addr v.operator o ≡ false → validator_of x.mine o ≡ validator_of w.mine o
+    operators : (o : List ℕ) → is_some (validator_at x.mine o) ≡ is_some (validator_at w.mine o)
+    others : (o : List ℕ) → same_addr v.operator o ≡ false → validator_at x.mine o ≡ validator_at w.mine o
     ctx : x.view.ctx ≡ w.view.ctx
 
-  jailed_fits : (b n : ℕ) (l : Lists) (w : World Staked Hooks) (v : Validator) (falls : Bool) → StakeFits P b n l w → validator_of w.mine v.operator ≡ Some v → HasStood b n l v w (if falls then jailed v w else w)
+  jailed_fits : (b n : ℕ) (l : Lists) (w : World Staked Hooks) (v : Validator) (falls : Bool) → StakeFits P b n l w → validator_at w.mine v.operator ≡ Some v → HasStood b n l v w (if falls then put_in_jail v w else w)
   jailed_fits b n l w v true h found =
       let k : ValidatorIsSound w.view.ctx.height v = h.staked.validators v.operator v found in
       let u : Validator = record v { jailed = true } in
@@ -157,12 +157,12 @@ module _ (P : List ℕ → Type 0) where
       } in
       record {
         now = u;
-        fits = stake_told P b n l (over_mine (with_validator u) w) (λ facts. facts ++ fact.Jailed v.operator ∷ []) (stake_standing P b n l w u v h found same);
+        fits = stake_told P b n l (over_mine (put_validator u) w) (λ facts. facts ++ fact.Jailed v.operator ∷ []) (stake_standing P b n l w u v h found same);
         found = found_itself w.mine u;
         same = same;
         delegations = refl;
         operators = λ o. there_still w.mine.validators v.operator o v u found;
-        others = λ o e. found-put w.mine u o ∙ ap (λ t. cond t (Some u) (validator_of w.mine o)) (same_back o v.operator ∙ e);
+        others = λ o e. found-put w.mine u o ∙ ap (λ t. cond t (Some u) (validator_at w.mine o)) (same_back o v.operator ∙ e);
         ctx = refl;
       }
   jailed_fits b n l w v false h found = record {
@@ -195,14 +195,14 @@ module _ (P : List ℕ → Type 0) where
       anew true x = refl
       anew false x = refl
 
-      by : (z : Bool) → (left == 0) ≡ z → IfOk (if z then Ok (over_mine (without_shares who op) w) else call chain_told (modified val who left) (over_mine (with_shares who op left) w)) (HasLeft b n l who op left w)
+      by : (z : Bool) → (left == 0) ≡ z → IfOk (if z then Ok (over_mine (without_shares who op) w) else call chain_told (modified val who left) (over_mine (put_delegation who op left) w)) (HasLeft b n l who op left w)
       by true e = record {
         mine = ap (λ z. record w.mine { delegations = cond z (without pair_cmp w.mine.delegations (op, who)) (with pair_cmp w.mine.delegations (op, who) left) }) (sym e);
         fits = stake_relisted P b n (with_started who op false l) (lists_left who op left l) w h (λ o. refl) (λ x o. ap (λ z. cond (same_addr who x && same_addr op o) (not z) (l.started x o)) e);
         ctx = refl;
       }
       by false e =
-          called_if (modified val who left) (over_mine (with_shares who op left) w) (λ d u. Leaves P w.view (with_started who op true (with_started who op false l)) d u) (HasLeft b n l who op left w) (λ u. refl)
+          called_if (modified val who left) (over_mine (put_delegation who op left) w) (λ d u. Leaves P w.view (with_started who op true (with_started who op false l)) d u) (HasLeft b n l who op left w) (λ u. refl)
           (start_leaves P val who left w.view (with_started who op false l) w.hooks.0 (stake_hooks P b n (with_started who op false l) w h) there)
           (λ d u k leaves. record {
             mine = ap (λ z. record w.mine { delegations = cond z (without pair_cmp w.mine.delegations (op, who)) (with pair_cmp w.mine.delegations (op, who) left) }) (sym e);
@@ -219,9 +219,9 @@ module _ (P : List ℕ → Type 0) where
     pub amount : x.0 ≡ out
     pub fits : StakeFits P (b + cond (is_bonded v.status) out 0) (n + cond (is_bonded v.status) 0 out) (lists_of x.1.mine) x.1
     pub ctx : x.1.view.ctx ≡ w.view.ctx
-    pub others : (o : List ℕ) → same_addr v.operator o ≡ false → validator_of x.1.mine o ≡ validator_of w.mine o
+    pub others : (o : List ℕ) → same_addr v.operator o ≡ false → validator_at x.1.mine o ≡ validator_at w.mine o
 
-  pub unbonded_fits : (b n : ℕ) (w : World Staked Hooks) (v : Validator) (who : List ℕ) (held part : ℕ) → StakeFits P b n (lists_of w.mine) w → validator_of w.mine v.operator ≡ Some v → shares_of w.mine who v.operator ≡ Some held
+  pub unbonded_fits : (b n : ℕ) (w : World Staked Hooks) (v : Validator) (who : List ℕ) (held part : ℕ) → StakeFits P b n (lists_of w.mine) w → validator_at w.mine v.operator ≡ Some v → delegation w.mine who v.operator ≡ Some held
       → part ≤ held → IfOk (unbonded_shares chain_told v who held part w) (HasUnbonded b n w v (amount_out v.tokens v.shares part))
   unbonded_fits b n w v who held part h found has within =
       let l = lists_of w.mine in
@@ -231,7 +231,7 @@ module _ (P : List ℕ → Type 0) where
       let now : Validator = record v { jailed = v.jailed || falls } in
       let out = amount_out v.tokens v.shares part in
       let less : Validator = record now { tokens = v.tokens - out; shares = v.shares - part } in
-      let there : is_some (validator_of w.mine op) ≡ true = ap is_some found in
+      let there : is_some (validator_at w.mine op) ≡ true = ap is_some found in
       let number : number_at pair_cmp w.mine.delegations (op, who) ≡ held = ap (λ r. unwrap_or r 0) has in
       let all : v.shares ≡ shares_at w.mine.delegations op = h.staked.shares op v found in
       let inside = held_within w.mine.delegations op who in
@@ -240,10 +240,10 @@ module _ (P : List ℕ → Type 0) where
       let enough : out ≤ v.tokens = out_within v.tokens v.shares part (omega (arith, some, held_most)) (omega (arith, within, held_most)) in
       on_call (modifying v who held) w _ (λ d u. Leaves P w.view l1 d u) _ (λ u. refl) (before_told P v who (Some held) w.view l w.hooks.0 (stake_hooks P b n l w h) there) (λ d u k leaves.
       let w1 : World Staked Hooks = hook_gave w d u k in
-      let w2 : World Staked Hooks = if falls then jailed v w1 else w1 in
+      let w2 : World Staked Hooks = if falls then put_in_jail v w1 else w1 in
       let stood : HasStood b n l1 v w1 w2 = jailed_fits b n l1 w1 v falls (stake_left P b n l l1 w d u (w.log ++ k) h leaves) found in
       on_then (left_standing chain_told now who (held - part) w2) _ (HasLeft b n l who op (held - part) w2) _ (left_fits b n l w2 now who (held - part) stood.fits there) (λ x after.
-      let w3 : World Staked Hooks = logged op log.left (over_mine (with_validator less) x) in
+      let w3 : World Staked Hooks = logged op log.left (over_mine (put_validator less) x) in
       let own : ValidatorIsSound w.view.ctx.height v = h.staked.validators op v found in
       let ctx : x.view.ctx ≡ w.view.ctx = after.ctx ∙ stood.ctx ∙ leaves.ctx in
       let is_less : IsLess x.view.ctx.height less stood.now part out = record {
@@ -255,31 +255,31 @@ module _ (P : List ℕ → Type 0) where
         sound = subst (λ (c : Ctx). ValidatorIsSound c.height less) (sym ctx)
             (record { max_rate = own.max_rate; rate = own.rate; max_change = own.max_change; tokens = fewer v.tokens out own.tokens; empty = λ z. out_all v.tokens v.shares part (omega (arith, within, held_most)) z; unbonding_height = own.unbonding_height });
       } in
-      let held_there : shares_of w2.mine who stood.now.operator ≡ Some held = (λ i. at pair_cmp (stood.delegations i) (stood.same.operator i, who)) ∙ has in
-      let lessened = stake_less b n (lists_left who op (held - part) l) (over_stake w2.mine x) less stood.now who held part out after.fits (ap (validator_of w2.mine) stood.same.operator ∙ stood.found) held_there within
+      let held_there : delegation w2.mine who stood.now.operator ≡ Some held = (λ i. at pair_cmp (stood.delegations i) (stood.same.operator i, who)) ∙ has in
+      let lessened = stake_less b n (lists_left who op (held - part) l) (over_stake w2.mine x) less stood.now who held part out after.fits (ap (validator_at w2.mine) stood.same.operator ∙ stood.found) held_there within
       (subst (λ m. held ≤ m) (sym stood.same.shares) held_most) (subst (λ m. out ≤ m) (sym stood.same.tokens) enough) is_less in
       let left : ℕ = held - part in
       let lists : Lists = lists_left who op left l in
-      let mine : with_validator less (shares_left who stood.now.operator left w2.mine) ≡ with_validator less x.mine = ap (λ o. with_validator less (shares_left who o left w2.mine)) stood.same.operator ∙ ap (with_validator less) (sym after.mine) in
+      let mine : put_validator less (shares_left who stood.now.operator left w2.mine) ≡ put_validator less x.mine = ap (λ o. put_validator less (shares_left who o left w2.mine)) stood.same.operator ∙ ap (put_validator less) (sym after.mine) in
       let status = stood.same.status in
       let first = stake_logged P (b + cond (is_bonded stood.now.status) out 0) (n + cond (is_bonded stood.now.status) 0 out) lists
-      (over_mine (λ s. with_validator less (shares_left who stood.now.operator left s)) (over_stake w2.mine x)) w3.log lessened in
+      (over_mine (λ s. put_validator less (shares_left who stood.now.operator left s)) (over_stake w2.mine x)) w3.log lessened in
       let second : StakeFits P (b + cond (is_bonded stood.now.status) out 0) (n + cond (is_bonded stood.now.status) 0 out) lists w3 =
       subst (λ (m : Staked). StakeFits P (b + cond (is_bonded stood.now.status) out 0) (n + cond (is_bonded stood.now.status) 0 out) lists (record { mine = m; hooks = x.hooks; view = x.view; log = w3.log })) mine first in
       let third : StakeFits P (b + cond (is_bonded v.status) out 0) (n + cond (is_bonded v.status) 0 out) lists w3 =
       subst (λ (t : BondStatus). StakeFits P (b + cond (is_bonded t) out 0) (n + cond (is_bonded t) 0 out) lists w3) status second in
-      let now_found : validator_of w2.mine op ≡ Some stood.now = stood.found in
+      let now_found : validator_at w2.mine op ≡ Some stood.now = stood.found in
       let fits : StakeFits P (b + cond (is_bonded v.status) out 0) (n + cond (is_bonded v.status) 0 out) (lists_of w3.mine) w3 =
       stake_relisted P _ _ lists (lists_of w3.mine) w3 third
-      (λ o. ap (λ (m : Staked). is_some (validator_of (with_validator less m) o)) after.mine ∙ there_still w2.mine.validators op o stood.now less now_found ∙ stood.operators o)
-      (λ y o. ap (λ (m : Staked). is_some (shares_of m y o)) after.mine ∙ left_there w2.mine who op left y o stood.fits.staked.delegations_ascend
+      (λ o. ap (λ (m : Staked). is_some (validator_at (put_validator less m) o)) after.mine ∙ there_still w2.mine.validators op o stood.now less now_found ∙ stood.operators o)
+      (λ y o. ap (λ (m : Staked). is_some (delegation m y o)) after.mine ∙ left_there w2.mine who op left y o stood.fits.staked.delegations_ascend
       ∙ ap (λ ds. cond (same_addr who y && same_addr op o) (not (left == 0)) (is_some (at pair_cmp ds (o, y)))) stood.delegations) in
       on_then (removed_if_empty chain_told less w3) _ (StakeLeft P (b + cond (is_bonded v.status) out 0) (n + cond (is_bonded v.status) 0 out) w3 op) _
       (removed_if_fits P _ _ w3 less fits (found_itself x.mine less)) (λ y gone. record {
         amount = refl;
         fits = gone.fits;
         ctx = gone.ctx ∙ ctx;
-        others = λ o e. gone.others o e ∙ found-put x.mine less o ∙ ap (λ t. cond t (Some less) (validator_of x.mine o)) (same_back o op ∙ e) ∙ ap (λ (m : Staked). validator_of m o) after.mine ∙ stood.others o e;
+        others = λ o e. gone.others o e ∙ found-put x.mine less o ∙ ap (λ t. cond t (Some less) (validator_at x.mine o)) (same_back o op ∙ e) ∙ ap (λ (m : Staked). validator_at m o) after.mine ∙ stood.others o e;
       })))
     where
       at_most : (a b m s : ℕ) → m ≡ a → b ≡ s → m ≤ s → a ≤ b

@@ -16,7 +16,7 @@ use Rattle.stk_rules.specs.Slashing.{plain_slash, core_slashes, slashed, jail_le
 use Rattle.stk_rules.specs.Window.{Signing, Window, signing_of, is_downtime, reset_at, vote_counted}
 use Rattle.stk_dec.specs.declared.over.Over.{Over}
 use Rattle.stk_keep.specs.Entries.{with}
-use Rattle.stk_keep.specs.Staked.{is_unbonded, validator_by_cons, validator_of}
+use Rattle.stk_keep.specs.Staked.{is_unbonded, validator_by_cons, validator_at}
 use Rattle.stk_keep.specs.declared.facts.Fact.{Fact}
 use Rattle.stk_owed.proofs.Allocating.{found_by_cons}
 use Rattle.stk_owed.proofs.Lists.{all_put, looked_up, weaker}
@@ -92,7 +92,7 @@ module _ (P : List ℕ → Type 0) where
             sound = record { max_rate = k.max_rate; rate = k.rate; max_change = k.max_change; tokens = k.tokens; empty = k.empty; unbonding_height = k.unbonding_height };
           })).fits
         where
-          found : validator_of w.mine.staked v.operator ≡ Some v
+          found : validator_at w.mine.staked v.operator ≡ Some v
           found = found_by_cons w.view.ctx.height w.mine.staked cons v h.stake.staked e
 
   -- ---- votes

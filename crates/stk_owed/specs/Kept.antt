@@ -11,7 +11,7 @@ use Rattle.stk_keep.specs.declared.messages.Vote.{Vote}
 use Rattle.stk_keep.specs.Ground.{end_of_blocks}
 use Rattle.stk_rules.specs.Chain.{State, vote_step, evidence_step, allocation_step, set_step, maturing_step, unbondings_step, redelegations_step}
 use Rattle.stk_rules.specs.Effects.{send, begin_redelegate, undelegate, cancel_unbonding, create_validator, delegate, withdraw_reward, edit_validator, unjail, withdraw_commission, set_withdraw_address, fund_community_pool, community_pool_spend, fee_paid}
-use Rattle.stk_rules.specs.Laws.{Keeps, AreWhole, AreVotes, IsPower, CountsBelow, next_block}
+use Rattle.stk_rules.specs.Laws.{KeptByStep, AreWhole, AreVotes, IsPower, CountsBelow, next_block}
 use Rattle.stk_rules.specs.RefusalOrder.{IsRefusedBy, against_fund}
 use Rattle.stk_rules.specs.Sound.{IsSound}
 use Rattle.stk_msgs.specs.declared.block.Block.{Block}
@@ -27,56 +27,56 @@ IsSoundAfter old new = IsSound new
 
 -- fees
 abbrev pub FeesKeepSoundness : Type 0
-FeesKeepSoundness = (payer : List ℕ) (fee : Money) → IsMoney fee → Keeps IsSoundAfter (fee_paid payer fee)
+FeesKeepSoundness = (payer : List ℕ) (fee : Money) → IsMoney fee → KeptByStep IsSoundAfter (fee_paid payer fee)
 
 -- sends
 abbrev pub SendsKeepSoundness : Type 0
-SendsKeepSoundness = (from : List ℕ) (to : Account) (coins : Money) → IsMoney coins → Keeps IsSoundAfter (send from to coins)
+SendsKeepSoundness = (from : List ℕ) (to : Account) (coins : Money) → IsMoney coins → KeptByStep IsSoundAfter (send from to coins)
 
 -- payees
 abbrev pub PayeesKeepSoundness : Type 0
-PayeesKeepSoundness = (who : List ℕ) (to : Account) → Keeps IsSoundAfter (set_withdraw_address who to)
+PayeesKeepSoundness = (who : List ℕ) (to : Account) → KeptByStep IsSoundAfter (set_withdraw_address who to)
 
 -- coins that join and leave the community pool
 abbrev pub FundingKeepsSoundness : Type 0
-FundingKeepsSoundness = (who : List ℕ) (coins : Money) → IsMoney coins → Keeps IsSoundAfter (fund_community_pool who coins)
+FundingKeepsSoundness = (who : List ℕ) (coins : Money) → IsMoney coins → KeptByStep IsSoundAfter (fund_community_pool who coins)
 
 abbrev pub SpendingKeepsSoundness : Type 0
-SpendingKeepsSoundness = (authority : List ℕ) (to : Account) (coins : Money) → IsMoney coins → Keeps IsSoundAfter (community_pool_spend authority to coins)
+SpendingKeepsSoundness = (authority : List ℕ) (to : Account) (coins : Money) → IsMoney coins → KeptByStep IsSoundAfter (community_pool_spend authority to coins)
 
 -- commission
 abbrev pub CommissionsKeepSoundness : Type 0
-CommissionsKeepSoundness = (operator : List ℕ) → Keeps IsSoundAfter (withdraw_commission operator)
+CommissionsKeepSoundness = (operator : List ℕ) → KeptByStep IsSoundAfter (withdraw_commission operator)
 
 -- edits of a validator, and leaving jail
 abbrev pub EditsKeepSoundness : Type 0
-EditsKeepSoundness = (m : EditValidator) → Keeps IsSoundAfter (edit_validator m)
+EditsKeepSoundness = (m : EditValidator) → KeptByStep IsSoundAfter (edit_validator m)
 
 abbrev pub UnjailingKeepsSoundness : Type 0
-UnjailingKeepsSoundness = (operator : List ℕ) → Keeps IsSoundAfter (unjail operator)
+UnjailingKeepsSoundness = (operator : List ℕ) → KeptByStep IsSoundAfter (unjail operator)
 
 -- withdrawing a reward
 abbrev pub RewardsKeepSoundness : Type 0
-RewardsKeepSoundness = (who operator : List ℕ) → Keeps IsSoundAfter (withdraw_reward who operator)
+RewardsKeepSoundness = (who operator : List ℕ) → KeptByStep IsSoundAfter (withdraw_reward who operator)
 
 -- delegating
 abbrev pub DelegatingKeepsSoundness : Type 0
-DelegatingKeepsSoundness = (who operator : List ℕ) (coin : Coin) → Keeps IsSoundAfter (delegate who operator coin)
+DelegatingKeepsSoundness = (who operator : List ℕ) (coin : Coin) → KeptByStep IsSoundAfter (delegate who operator coin)
 
 -- creating a validator
 abbrev pub CreatingKeepsSoundness : Type 0
-CreatingKeepsSoundness = (m : CreateValidator) → Keeps IsSoundAfter (create_validator m)
+CreatingKeepsSoundness = (m : CreateValidator) → KeptByStep IsSoundAfter (create_validator m)
 
 -- undelegating, where no entry of this height lost anything, and cancelling
 abbrev pub UndelegatingKeepsSoundness : Type 0
 UndelegatingKeepsSoundness = (who operator : List ℕ) (coin : Coin) (w : State) → IsSound w → AreWhole w → IfOk (undelegate who operator coin w) (IsSoundAfter w)
 
 abbrev pub CancellingKeepsSoundness : Type 0
-CancellingKeepsSoundness = (who operator : List ℕ) (coin : Coin) (height : ℕ) → Keeps IsSoundAfter (cancel_unbonding who operator coin height)
+CancellingKeepsSoundness = (who operator : List ℕ) (coin : Coin) (height : ℕ) → KeptByStep IsSoundAfter (cancel_unbonding who operator coin height)
 
 -- redelegating
 abbrev pub RedelegatingKeepsSoundness : Type 0
-RedelegatingKeepsSoundness = (who source target : List ℕ) (coin : Coin) → Keeps IsSoundAfter (begin_redelegate who source target coin)
+RedelegatingKeepsSoundness = (who source target : List ℕ) (coin : Coin) → KeptByStep IsSoundAfter (begin_redelegate who source target coin)
 
 -- the next block, which is later and not before its time
 abbrev pub NextBlockKeepsSoundness : Type 0
@@ -92,10 +92,10 @@ TransactionsKeepSoundness = (tx : Tx) → TxHasCoins tx → (w : State) → IsSo
 
 -- mature unbondings that are paid, and mature redelegations that go
 abbrev pub UnbondingsStepKeepsSoundness : Type 0
-UnbondingsStepKeepsSoundness = Keeps IsSoundAfter unbondings_step
+UnbondingsStepKeepsSoundness = KeptByStep IsSoundAfter unbondings_step
 
 abbrev pub RedelegationsStepKeepsSoundness : Type 0
-RedelegationsStepKeepsSoundness = Keeps IsSoundAfter redelegations_step
+RedelegationsStepKeepsSoundness = KeptByStep IsSoundAfter redelegations_step
 
 -- the fees of a block, among votes of validators that stand
 abbrev pub AllocationKeepsSoundness : Type 0
@@ -103,11 +103,11 @@ AllocationKeepsSoundness = (votes : List Vote) (w : State) → IsSound w → Are
 
 -- mature validators
 abbrev pub MaturingKeepsSoundness : Type 0
-MaturingKeepsSoundness = Keeps IsSoundAfter maturing_step
+MaturingKeepsSoundness = KeptByStep IsSoundAfter maturing_step
 
 -- the bonded set
 abbrev pub BondingKeepsSoundness : Type 0
-BondingKeepsSoundness = Keeps IsSoundAfter set_step
+BondingKeepsSoundness = KeptByStep IsSoundAfter set_step
 
 -- a vote, of a record of which fewer votes were counted than the height is, and a piece of evidence
 abbrev pub VotesKeepSoundness : Type 0

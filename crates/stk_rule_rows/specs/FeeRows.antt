@@ -8,7 +8,7 @@ use Rattle.stk_keep.specs.declared.entities.StartingInfo.{StartingInfo}
 use Rattle.stk_keep.specs.declared.refusal.Refusal.TheVariants.{InsufficientFunds, RateInvalid, NoTokens, NoCommission, PoolTooSmall, NotAuthority, WithdrawFixed}
 use Rattle.stk_rules.specs.Chain.{State, shared_in}
 use Rattle.stk_rules.specs.Effects.{accepted, refused_at, delegate, undelegate, withdraw_reward, withdraw_commission, set_withdraw_address, fund_community_pool, community_pool_spend}
-use Rattle.stk_keep.specs.Staked.{validator_of}
+use Rattle.stk_keep.specs.Staked.{validator_at}
 use Rattle.stk_rules.specs.Distribution.{pending}
 use Rattle.stk_rules.specs.Periods.{start_of, periods_of, ratio_at}
 use Rattle.stk_rules.specs.Purses.{purse_of}
@@ -99,7 +99,7 @@ wallet_and_start w = (balance 2 w, start_of (shared_in w).rewards (addr 2) (addr
 abbrev pub RewardIsPending : Type 0
 RewardIsPending =
     after small_wallet (block 1 [] [] (pays 9 100 [] ∷ []) ∷ block 2 (signs 1 1 ∷ []) [] [] ∷ [])
-    (λ w. option_map (λ v. pending v (addr 2) (504000 * 10 ^ 18) (shared_in w) w.view) (validator_of w.mine.staked (addr 1)))
+    (λ w. option_map (λ v. pending v (addr 2) (504000 * 10 ^ 18) (shared_in w) w.view) (validator_at w.mine.staked (addr 1)))
     ≡ Ok (Some (Ok (decimals (504 * 10 ^ 17))))
 
 -- 150 are delegated: nothing is left

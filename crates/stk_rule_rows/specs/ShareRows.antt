@@ -13,7 +13,7 @@ use Rattle.stk_keep.specs.declared.refusal.Refusal.TheVariants.{Overflow}
 use Rattle.stk_dec.specs.Decimals.{quotient_over}
 use Rattle.stk_keep.specs.World.{over_mine}
 use Rattle.stk_keep.specs.Holdings.{no_holdings}
-use Rattle.stk_keep.specs.Staked.{validator_of, shares_of}
+use Rattle.stk_keep.specs.Staked.{validator_at, delegation}
 use Rattle.stk_keep.specs.Steps.{◌>>=◌, each}
 use Rattle.stk_rules.specs.Chain.{State, shared_in}
 use Rattle.stk_rules.specs.Effects.{Effect, delegate, undelegate, create_validator}
@@ -75,7 +75,7 @@ left_by effects f = do
 
 -- the amounts of the unbonding entries of the operator, and its validator's tokens and shares
 abbrev pub entries_and_stake : State → List ℕ × Option (ℕ × ℕ)
-entries_and_stake w = (amounts (entries_of w.mine.unbondings (addr 1) (addr 1)), option_map (λ v. (v.tokens, v.shares)) (validator_of w.mine.staked (addr 1)))
+entries_and_stake w = (amounts (entries_of w.mine.unbondings (addr 1) (addr 1)), option_map (λ v. (v.tokens, v.shares)) (validator_at w.mine.staked (addr 1)))
   where
     amounts : List UnbondingEntry → List ℕ
     amounts [] = []
@@ -83,7 +83,7 @@ entries_and_stake w = (amounts (entries_of w.mine.unbondings (addr 1) (addr 1)),
 
 -- delegating 10 gives 10.101010101010101010 shares
 abbrev pub DelegatingTen : Type 0
-DelegatingTen = left_by (delegate (addr 2) (addr 1) (coin 10) ∷ []) (λ w. shares_of w.mine.staked (addr 2) (addr 1)) ≡ Ok (Some 10101010101010101010)
+DelegatingTen = left_by (delegate (addr 2) (addr 1) (coin 10) ∷ []) (λ w. delegation w.mine.staked (addr 2) (addr 1)) ≡ Ok (Some 10101010101010101010)
 
 -- undelegating 10 removes as many shares, whose value rounds to 10, and gives 10
 abbrev pub UndelegatingTen : Type 0

@@ -10,7 +10,7 @@ use Rattle.stk_keep.specs.declared.messages.Evidence.{Evidence}
 use Rattle.stk_keep.specs.declared.refusal.Refusal.{Refusal}
 use Rattle.stk_keep.specs.declared.refusal.Refusal.TheVariants.{StillJailed, Tombstoned}
 use Rattle.stk_keep.specs.Holdings.{balance_of}
-use Rattle.stk_keep.specs.Staked.{validator_of}
+use Rattle.stk_keep.specs.Staked.{validator_at}
 use Rattle.stk_keep.specs.Steps.{◌>>=◌}
 use Rattle.stk_keep.specs.World.{over_view, over_mine}
 use Rattle.stk_rules.specs.Amounts.{seconds}
@@ -58,7 +58,7 @@ abbrev pub UnbondingsUnderEvidence : Type 0
 UnbondingsUnderEvidence =
     then_of {A = List (List ℕ) × Option ℕ × ℕ × ℕ} evidence_against_unbondings (λ w. (
       map (λ es. map (λ e. e.balance) es) (values_of w.mine.unbondings),
-      option_map (λ v. v.tokens) (validator_of w.mine.staked (addr 1)),
+      option_map (λ v. v.tokens) (validator_at w.mine.staked (addr 1)),
       balance_of w.view.bank (account.Module holder.NotBonded) uatom,
       balance_of w.view.bank (account.Module holder.Bonded) uatom,
     ))
@@ -144,7 +144,7 @@ twice_at height =
 
 -- the tokens of the validator
 abbrev pub first_tokens : State → Option ℕ
-first_tokens w = option_map (λ v. v.tokens) (validator_of w.mine.staked (addr 1))
+first_tokens w = option_map (λ v. v.tokens) (validator_at w.mine.staked (addr 1))
 
 -- ten blocks of nothing
 abbrev pub ten_empty : List Block
@@ -192,7 +192,7 @@ fifteen_votes =
 abbrev pub missed_and_jailed : State → Option ℕ × Option (Bool × ℕ)
 missed_and_jailed w = (
   option_map (λ s. missed_of 10 s.votes) (signing_of (window_in w) (cons 1)),
-  option_map (λ v. (v.jailed, v.tokens)) (validator_of w.mine.staked (addr 1)),
+  option_map (λ v. (v.jailed, v.tokens)) (validator_at w.mine.staked (addr 1)),
 )
 
 -- five misses are allowed

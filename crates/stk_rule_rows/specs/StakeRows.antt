@@ -9,7 +9,7 @@ use Rattle.stk_keep.specs.declared.entities.Validator.{Validator}
 use Rattle.stk_keep.specs.declared.refusal.Refusal.{Refusal}
 use Rattle.stk_keep.specs.declared.refusal.Refusal.TheVariants.{Transitive, CommissionTooSoon, CommissionAboveMax, CommissionStep, CancelTooMuch, NoEntry}
 use Rattle.stk_keep.specs.Holdings.{balance_of}
-use Rattle.stk_keep.specs.Staked.{shares_of}
+use Rattle.stk_keep.specs.Staked.{delegation}
 use Rattle.stk_keep.specs.Steps.{◌>>=◌, each}
 use Rattle.stk_keep.specs.World.{over_view, over_mine}
 use Rattle.stk_rules.specs.Amounts.{seconds}
@@ -42,7 +42,7 @@ on_to_the_third =
 abbrev pub TransitiveIsRefused : Type 0
 TransitiveIsRefused =
     (last_endings three_validators on_to_the_third ≡ Ok (accepted ∷ refused_at 0 Transitive ∷ []))
-    × (after {A = ℕ × Option ℕ × Option ℕ} three_validators on_to_the_third (λ w. (balance 4 w, shares_of w.mine.staked (addr 4) (addr 2), shares_of w.mine.staked (addr 4) (addr 3))) ≡ Ok (0, Some (500000 * 10 ^ 18), None))
+    × (after {A = ℕ × Option ℕ × Option ℕ} three_validators on_to_the_third (λ w. (balance 4 w, delegation w.mine.staked (addr 4) (addr 2), delegation w.mine.staked (addr 4) (addr 3))) ≡ Ok (0, Some (500000 * 10 ^ 18), None))
 
 -- ---- two validators of one power, and a set of one
 
@@ -146,7 +146,7 @@ after_effects effects f = do
 
 -- the entries that are left, and the shares of the delegator
 abbrev pub entries_and_shares : State → UnbondingLists × Option ℕ
-entries_and_shares w = (w.mine.unbondings, shares_of w.mine.staked (addr 2) (addr 1))
+entries_and_shares w = (w.mine.unbondings, delegation w.mine.staked (addr 2) (addr 1))
 
 -- n of the entry are cancelled
 abbrev pub cancels : ℕ → Effect

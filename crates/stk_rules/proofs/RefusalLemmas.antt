@@ -17,7 +17,7 @@ use Rattle.stk_keep.specs.declared.refusal.Refusal.TheVariants.{InsufficientFund
 use Rattle.stk_keep.specs.Entries.{at, with}
 use Rattle.stk_keep.specs.Holdings.{is_short}
 use Rattle.stk_keep.specs.Orders.{same_addr}
-use Rattle.stk_keep.specs.Staked.{validator_of, shares_of, with_validator}
+use Rattle.stk_keep.specs.Staked.{validator_at, delegation, put_validator}
 use Rattle.stk_keep.specs.Steps.{◌>>=◌, ◌>>◌, stop_if, or_stop}
 use Rattle.stk_keep.specs.World.{View, sent, noted, over_view, over_mine}
 use Rattle.stk_rules.specs.Amounts.{is_empty, seconds}
@@ -117,7 +117,7 @@ jail_of (Some v) (Some n) s w g =
 pub unjails_refused : (operator : List ℕ) (w : State) → refusal_of (unjail operator) w ≡ first_of (against_unjail operator w)
 unjails_refused operator w =
     mapped (unjailed operator w.hooks.1 w.mine.staked w.view) (λ p. over_view (λ u. p.2) (over_mine (λ c. record c { staked = p.1 }) w))
-    ∙ jail_of (validator_of w.mine.staked operator) (shares_of w.mine.staked operator operator) (λ v. signing_of w.hooks.1 v.cons) w (λ v. (tt, with_validator (record v { jailed = false }) w.mine.staked, noted (fact.Unjailed operator) w.view))
+    ∙ jail_of (validator_at w.mine.staked operator) (delegation w.mine.staked operator operator) (λ v. signing_of w.hooks.1 v.cons) w (λ v. (tt, put_validator (record v { jailed = false }) w.mine.staked, noted (fact.Unjailed operator) w.view))
 
 -- ---- editing a validator
 
@@ -191,11 +191,11 @@ edit_of (Some v) (Some rate) None w g = rate_then rate v w (λ rated. minimum_ed
 edit_of (Some v) (Some rate) (Some n) w g =
     rate_then rate v w (λ rated. minimum_edited (Some n) rated >>= λ set. Ok (g set)) (first_of (minimum_list n v) ∷ []) (minimum_then n (record v { commission = record v.commission { rate = rate; updated = w.view.ctx.time } }) g)
 
-same_rate : (rate : Option ℕ) (operator : List ℕ) (w : State) → against_rate_of rate (validator_of w.mine.staked operator) w ≡ against_rate rate operator w
+same_rate : (rate : Option ℕ) (operator : List ℕ) (w : State) → against_rate_of rate (validator_at w.mine.staked operator) w ≡ against_rate rate operator w
 same_rate None operator w = refl
 same_rate (Some n) operator w = refl
 
-same_minimum : (n : Option ℕ) (operator : List ℕ) (w : State) → against_minimum_of n (validator_of w.mine.staked operator) ≡ against_minimum n operator w
+same_minimum : (n : Option ℕ) (operator : List ℕ) (w : State) → against_minimum_of n (validator_at w.mine.staked operator) ≡ against_minimum n operator w
 same_minimum None operator w = refl
 same_minimum (Some n) operator w = refl
 
@@ -203,9 +203,9 @@ pub edits_refused : (m : EditValidator) (w : State) → refusal_of (edit_validat
 edits_refused m w =
     mapped (edited m w.view.ctx.time w.view.ctx.params.min_commission_rate w.mine.staked) (λ s. over_mine (λ c. record c { staked = s }) w)
     ∙ two_steps (unwrap_or m.min_self_delegation 1 == 0) (nat_lt (10 ^ 18) (unwrap_or m.rate 0)) MinSelfNotPositive CommissionRange _ _
-    (edit_of (validator_of w.mine.staked m.validator) m.rate m.min_self_delegation w (λ set. with_validator set w.mine.staked)
-    ∙ ap (λ xs. first_of (when (is_none (validator_of w.mine.staked m.validator)) NoValidator ∷ first_of xs ∷ first_of (against_minimum_of m.min_self_delegation (validator_of w.mine.staked m.validator)) ∷ [])) (same_rate m.rate m.validator w)
-    ∙ ap (λ xs. first_of (when (is_none (validator_of w.mine.staked m.validator)) NoValidator ∷ first_of (against_rate m.rate m.validator w) ∷ first_of xs ∷ [])) (same_minimum m.min_self_delegation m.validator w))
+    (edit_of (validator_at w.mine.staked m.validator) m.rate m.min_self_delegation w (λ set. put_validator set w.mine.staked)
+    ∙ ap (λ xs. first_of (when (is_none (validator_at w.mine.staked m.validator)) NoValidator ∷ first_of xs ∷ first_of (against_minimum_of m.min_self_delegation (validator_at w.mine.staked m.validator)) ∷ [])) (same_rate m.rate m.validator w)
+    ∙ ap (λ xs. first_of (when (is_none (validator_at w.mine.staked m.validator)) NoValidator ∷ first_of (against_rate m.rate m.validator w) ∷ first_of xs ∷ [])) (same_minimum m.min_self_delegation m.validator w))
 
 pub are_refused_anywhere : AreRefusedAnywhere
 are_refused_anywhere = record {

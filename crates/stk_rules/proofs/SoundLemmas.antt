@@ -15,7 +15,7 @@ use Rattle.stk_types.specs.Orders.{addr_cmp}
 use Rattle.stk_keep.specs.declared.entities.Validator.{Validator}
 use Rattle.stk_keep.specs.Entries.{at, with, without, number_at, with_number, sum_where}
 use Rattle.stk_keep.specs.Orders.{pair_cmp, same_addr}
-use Rattle.stk_keep.specs.Staked.{Staked, validator_of, with_validator}
+use Rattle.stk_keep.specs.Staked.{Staked, validator_at, put_validator}
 use Rattle.stk_keep.proofs.EntryLemmas.{ascend-after, sum-after, number-within}
 use Rattle.stk_rules.specs.Sound.{StakedIsSound, ValidatorIsSound, delegated_shares}
 use Rattle.stk_rules.proofs.EntryLemmas.{at-put, at-taken, ascend-put, from_all, to_all}
@@ -38,12 +38,12 @@ some_is a b h = cc
 pub record IsSoundAt (height : ℕ) (s : Staked) : Type 0 where
   pub validators_ascend : IsStrictlySortedBy addr_cmp (keys_of s.validators)
   pub delegations_ascend : IsStrictlySortedBy pair_cmp (keys_of s.delegations)
-  pub operators : (o : List ℕ) (v : Validator) → validator_of s o ≡ Some v → v.operator ≡ o
-  pub validators : (o : List ℕ) (v : Validator) → validator_of s o ≡ Some v → ValidatorIsSound height v
-  pub cons : (o p : List ℕ) (u v : Validator) → validator_of s o ≡ Some u → validator_of s p ≡ Some v → u.cons ≡ v.cons → o ≡ p
-  pub shares : (o : List ℕ) (v : Validator) → validator_of s o ≡ Some v → v.shares ≡ delegated_shares s o
+  pub operators : (o : List ℕ) (v : Validator) → validator_at s o ≡ Some v → v.operator ≡ o
+  pub validators : (o : List ℕ) (v : Validator) → validator_at s o ≡ Some v → ValidatorIsSound height v
+  pub cons : (o p : List ℕ) (u v : Validator) → validator_at s o ≡ Some u → validator_at s p ≡ Some v → u.cons ≡ v.cons → o ≡ p
+  pub shares : (o : List ℕ) (v : Validator) → validator_at s o ≡ Some v → v.shares ≡ delegated_shares s o
   pub positive : (k : List ℕ × List ℕ) (n : ℕ) → at pair_cmp s.delegations k ≡ Some n → 0 < n
-  pub existing : (k : List ℕ × List ℕ) (n : ℕ) → at pair_cmp s.delegations k ≡ Some n → IsSome (validator_of s k.0)
+  pub existing : (k : List ℕ × List ℕ) (n : ℕ) → at pair_cmp s.delegations k ≡ Some n → IsSome (validator_at s k.0)
 
 -- a validator that stands is among the values
 values_contain : (vs : List (List ℕ × Validator)) (o : List ℕ) (u : Validator) → at addr_cmp vs o ≡ Some u → Contains (values_of vs) u
@@ -52,8 +52,8 @@ values_contain vs o u e = Contains-values_of vs o u (Contains-from_lookup (λ x 
 pub to_points : (height : ℕ) (s : Staked) → StakedIsSound height s → IsSoundAt height s
 to_points height s h =
     let vs = s.validators in
-    let in_values : (o : List ℕ) (u : Validator) → validator_of s o ≡ Some u → Contains (values_of vs) u = λ o u e. values_contain vs o u e in
-    let operator : (o : List ℕ) (u : Validator) → validator_of s o ≡ Some u → u.operator ≡ o = from_all addr_cmp addr_total (λ e. e.1.operator ≡ e.0) vs exact_addr h.operators in
+    let in_values : (o : List ℕ) (u : Validator) → validator_at s o ≡ Some u → Contains (values_of vs) u = λ o u e. values_contain vs o u e in
+    let operator : (o : List ℕ) (u : Validator) → validator_at s o ≡ Some u → u.operator ≡ o = from_all addr_cmp addr_total (λ e. e.1.operator ≡ e.0) vs exact_addr h.operators in
     record {
       validators_ascend = h.validators_ascend;
       delegations_ascend = h.delegations_ascend;
@@ -62,16 +62,16 @@ to_points height s h =
       cons = λ o p u v e f g. sym (operator o u e) ∙ ap (λ x. x.operator) (h.cons u v (in_values o u e) (in_values p v f) g) ∙ operator p v f;
       shares = from_all addr_cmp addr_total (λ e. e.1.shares ≡ delegated_shares s e.0) vs exact_addr h.shares;
       positive = from_all pair_cmp pair_total (λ e. 0 < e.1) s.delegations exact_pair h.positive;
-      existing = from_all pair_cmp pair_total (λ e. IsSome (validator_of s e.0.0)) s.delegations exact_pair h.existing;
+      existing = from_all pair_cmp pair_total (λ e. IsSome (validator_at s e.0.0)) s.delegations exact_pair h.existing;
     }
 
 pub from_points : (height : ℕ) (s : Staked) → IsSoundAt height s → StakedIsSound height s
 from_points height s h =
     let vs = s.validators in
-    let all_found : All (λ e. validator_of s e.1.operator ≡ Some e.1) vs
-    = to_all addr_cmp addr_total (λ e. validator_of s e.1.operator ≡ Some e.1) vs h.validators_ascend (λ k v e. ap (validator_of s) (h.operators k v e) ∙ e) in
-    let found : (u : Validator) → Contains (values_of vs) u → validator_of s u.operator ≡ Some u = λ u c.
-    All-contains (λ u. validator_of s u.operator ≡ Some u) (values_of vs) u (All-map (λ u. validator_of s u.operator ≡ Some u) (λ (e : List ℕ × Validator). e.1) vs all_found) c in
+    let all_found : All (λ e. validator_at s e.1.operator ≡ Some e.1) vs
+    = to_all addr_cmp addr_total (λ e. validator_at s e.1.operator ≡ Some e.1) vs h.validators_ascend (λ k v e. ap (validator_at s) (h.operators k v e) ∙ e) in
+    let found : (u : Validator) → Contains (values_of vs) u → validator_at s u.operator ≡ Some u = λ u c.
+    All-contains (λ u. validator_at s u.operator ≡ Some u) (values_of vs) u (All-map (λ u. validator_at s u.operator ≡ Some u) (λ (e : List ℕ × Validator). e.1) vs all_found) c in
     record {
       validators_ascend = h.validators_ascend;
       delegations_ascend = h.delegations_ascend;
@@ -79,19 +79,19 @@ from_points height s h =
       validators = to_all addr_cmp addr_total (λ e. ValidatorIsSound height e.1) vs h.validators_ascend h.validators;
       cons = λ u v c d g.
           let same : u.operator ≡ v.operator = h.cons u.operator v.operator u v (found u c) (found v d) g in
-          some_is u v (sym (found u c) ∙ ap (validator_of s) same ∙ found v d);
+          some_is u v (sym (found u c) ∙ ap (validator_at s) same ∙ found v d);
       shares = to_all addr_cmp addr_total (λ e. e.1.shares ≡ delegated_shares s e.0) vs h.validators_ascend h.shares;
       positive = to_all pair_cmp pair_total (λ e. 0 < e.1) s.delegations h.delegations_ascend h.positive;
-      existing = to_all pair_cmp pair_total (λ e. IsSome (validator_of s e.0.0)) s.delegations h.delegations_ascend h.existing;
+      existing = to_all pair_cmp pair_total (λ e. IsSome (validator_at s e.0.0)) s.delegations h.delegations_ascend h.existing;
     }
 
 -- ---- one validator is put, with other delegations
 
-pub found-put : (s : Staked) (w : Validator) (o : List ℕ) → validator_of (with_validator w s) o ≡ cond (same_addr o w.operator) (Some w) (validator_of s o)
+pub found-put : (s : Staked) (w : Validator) (o : List ℕ) → validator_at (put_validator w s) o ≡ cond (same_addr o w.operator) (Some w) (validator_at s o)
 found-put s w o = at-put addr_cmp addr_total s.validators w.operator o w
 
-pub found_itself : (s : Staked) (w : Validator) → validator_of (with_validator w s) w.operator ≡ Some w
-found_itself s w = found-put s w w.operator ∙ ap (λ b. cond b (Some w) (validator_of s w.operator)) (same_itself w.operator)
+pub found_itself : (s : Staked) (w : Validator) → validator_at (put_validator w s) w.operator ≡ Some w
+found_itself s w = found-put s w w.operator ∙ ap (λ b. cond b (Some w) (validator_at s w.operator)) (same_itself w.operator)
 
 pub either_some : {A : Type 0} (b : Bool) (w x : A) (r : Option A) → cond b (Some w) r ≡ Some x → ((b ≡ true) × (w ≡ x)) ⊎ ((b ≡ false) × (r ≡ Some x))
 either_some true w x r e = inl (refl, cc)
@@ -109,8 +109,8 @@ pub record MayBePut (height : ℕ) (w : Validator) (ds : Delegations) (s : Stake
   pub validator : ValidatorIsSound height w
   pub ascend : IsStrictlySortedBy pair_cmp (keys_of ds)
   pub positive : (k : List ℕ × List ℕ) (n : ℕ) → at pair_cmp ds k ≡ Some n → 0 < n
-  pub existing : (k : List ℕ × List ℕ) (n : ℕ) → at pair_cmp ds k ≡ Some n → (same_addr k.0 w.operator ≡ true) ⊎ IsSome (validator_of s k.0)
-  pub alone : (p : List ℕ) (v : Validator) → same_addr p w.operator ≡ false → validator_of s p ≡ Some v → v.cons ≡ w.cons → ⊥
+  pub existing : (k : List ℕ × List ℕ) (n : ℕ) → at pair_cmp ds k ≡ Some n → (same_addr k.0 w.operator ≡ true) ⊎ IsSome (validator_at s k.0)
+  pub alone : (p : List ℕ) (v : Validator) → same_addr p w.operator ≡ false → validator_at s p ≡ Some v → v.cons ≡ w.cons → ⊥
   pub own : w.shares ≡ shares_at ds w.operator
   pub others : (o : List ℕ) → same_addr o w.operator ≡ false → shares_at ds o ≡ shares_at s.delegations o
 
@@ -122,10 +122,10 @@ stands_still false w r (inr h) = h
 module _ (height : ℕ) (w : Validator) (ds : Delegations) (s : Staked) (h : IsSoundAt height s) (m : MayBePut height w ds s) where
   -- it is the one that was put, or stood before
   abbrev IsEither : List ℕ → Validator → Type 0
-  IsEither o x = ((same_addr o w.operator ≡ true) × (w ≡ x)) ⊎ ((same_addr o w.operator ≡ false) × (validator_of s o ≡ Some x))
+  IsEither o x = ((same_addr o w.operator ≡ true) × (w ≡ x)) ⊎ ((same_addr o w.operator ≡ false) × (validator_at s o ≡ Some x))
 
-  found : (o : List ℕ) (x : Validator) → validator_of (put_with w ds s) o ≡ Some x → IsEither o x
-  found o x e = either_some (same_addr o w.operator) w x (validator_of s o) (sym (found-put s w o) ∙ e)
+  found : (o : List ℕ) (x : Validator) → validator_at (put_with w ds s) o ≡ Some x → IsEither o x
+  found o x e = either_some (same_addr o w.operator) w x (validator_at s o) (sym (found-put s w o) ∙ e)
 
   pub sound-put_with : IsSoundAt height (put_with w ds s)
   sound-put_with = record {
@@ -136,7 +136,7 @@ module _ (height : ℕ) (w : Validator) (ds : Delegations) (s : Staked) (h : IsS
     cons = λ o p u v e f g. one o p u v (found o u e) (found p v f) g;
     shares = λ o v e. sums o v (found o v e);
     positive = m.positive;
-    existing = λ k n e. subst IsSome (sym (found-put s w k.0)) (stands_still (same_addr k.0 w.operator) w (validator_of s k.0) (m.existing k n e));
+    existing = λ k n e. subst IsSome (sym (found-put s w k.0)) (stands_still (same_addr k.0 w.operator) w (validator_at s k.0) (m.existing k n e));
   }
     where
       operator : (o : List ℕ) (v : Validator) → IsEither o v → v.operator ≡ o
@@ -169,12 +169,12 @@ pub record TakesPlace (height : ℕ) (w v : Validator) : Type 0 where
 pub differs : (a b : List ℕ) → same_addr a b ≡ false → a ≡ b → ⊥
 differs a b f e = let t : true ≡ false = sym (same_itself b) ∙ ap (λ x. same_addr x b) (sym e) ∙ f in absurd cc
 
-module _ (height : ℕ) (w v : Validator) (s : Staked) (h : IsSoundAt height s) (f : validator_of s w.operator ≡ Some v) where
+module _ (height : ℕ) (w v : Validator) (s : Staked) (h : IsSoundAt height s) (f : validator_at s w.operator ≡ Some v) where
   -- no other validator has its consensus address
-  pub alone_in : w.cons ≡ v.cons → (p : List ℕ) (x : Validator) → same_addr p w.operator ≡ false → validator_of s p ≡ Some x → x.cons ≡ w.cons → ⊥
+  pub alone_in : w.cons ≡ v.cons → (p : List ℕ) (x : Validator) → same_addr p w.operator ≡ false → validator_at s p ≡ Some x → x.cons ≡ w.cons → ⊥
   alone_in c p x a e g = differs p w.operator a (h.cons p w.operator x v e f (g ∙ c))
 
-  pub sound-put : TakesPlace height w v → IsSoundAt height (with_validator w s)
+  pub sound-put : TakesPlace height w v → IsSoundAt height (put_validator w s)
   sound-put t = sound-put_with height w s.delegations s h (record {
     validator = t.sound;
     ascend = h.delegations_ascend;
@@ -235,7 +235,7 @@ some_there : (b z : Bool) (n m : ℕ) (r : Option ℕ) → b ≡ false → cond 
 some_there true z n m r f e = absurd cc
 some_there false z n m r f e = e
 
-module _ (height : ℕ) (w v : Validator) (who : List ℕ) (n : ℕ) (s : Staked) (h : IsSoundAt height s) (f : validator_of s w.operator ≡ Some v) where
+module _ (height : ℕ) (w v : Validator) (who : List ℕ) (n : ℕ) (s : Staked) (h : IsSoundAt height s) (f : validator_at s w.operator ≡ Some v) where
   -- a validator stands in the place of one, whose shares changed as those of one delegation
   pub sound-changed : w.cons ≡ v.cons → ValidatorIsSound height w → w.shares + number_at pair_cmp s.delegations (w.operator, who) ≡ v.shares + n
       → IsSoundAt height (put_with w (with_number pair_cmp s.delegations (w.operator, who) n) s)
@@ -263,21 +263,21 @@ none_delegated_at o (e ∷ ds) h =
     omega (arith, first, rest)
 
 -- no delegation to an operator that has no validator
-pub none_delegated : (height : ℕ) (s : Staked) (o : List ℕ) → IsSoundAt height s → validator_of s o ≡ None → shares_at s.delegations o ≡ 0
+pub none_delegated : (height : ℕ) (s : Staked) (o : List ℕ) → IsSoundAt height s → validator_at s o ≡ None → shares_at s.delegations o ≡ 0
 none_delegated height s o h f =
     none_delegated_at o s.delegations
-    (All-weaker (λ (e : (List ℕ × List ℕ) × ℕ). IsSome (validator_of s e.0.0)) (λ e. same_addr e.0.0 o ≡ false) (λ e g. other e.0.0 g (same_addr e.0.0 o) refl) s.delegations
-    (to_all pair_cmp pair_total (λ (e : (List ℕ × List ℕ) × ℕ). IsSome (validator_of s e.0.0)) s.delegations h.delegations_ascend h.existing))
+    (All-weaker (λ (e : (List ℕ × List ℕ) × ℕ). IsSome (validator_at s e.0.0)) (λ e. same_addr e.0.0 o ≡ false) (λ e g. other e.0.0 g (same_addr e.0.0 o) refl) s.delegations
+    (to_all pair_cmp pair_total (λ (e : (List ℕ × List ℕ) × ℕ). IsSome (validator_at s e.0.0)) s.delegations h.delegations_ascend h.existing))
   where
-    other : (p : List ℕ) → is_some (validator_of s p) ≡ true → (b : Bool) → same_addr p o ≡ b → b ≡ false
+    other : (p : List ℕ) → is_some (validator_at s p) ≡ true → (b : Bool) → same_addr p o ≡ b → b ≡ false
     other p g true q =
-        let none : is_some (validator_of s p) ≡ false = ap (λ x. is_some (validator_of s x)) (same_is p o q) ∙ ap is_some f in
+        let none : is_some (validator_at s p) ≡ false = ap (λ x. is_some (validator_at s x)) (same_is p o q) ∙ ap is_some f in
         let both : true ≡ false = sym g ∙ none in
         absurd cc
     other p g false q = refl
 
-pub sound-joined : (height : ℕ) (s : Staked) (w : Validator) → IsSoundAt height s → validator_of s w.operator ≡ None → ((p : List ℕ) (x : Validator) → validator_of s p ≡ Some x → x.cons ≡ w.cons → ⊥)
-    → ValidatorIsSound height w → w.shares ≡ 0 → IsSoundAt height (with_validator w s)
+pub sound-joined : (height : ℕ) (s : Staked) (w : Validator) → IsSoundAt height s → validator_at s w.operator ≡ None → ((p : List ℕ) (x : Validator) → validator_at s p ≡ Some x → x.cons ≡ w.cons → ⊥)
+    → ValidatorIsSound height w → w.shares ≡ 0 → IsSoundAt height (put_validator w s)
 sound-joined height s w h f apart ok z = sound-put_with height w s.delegations s h (record {
   validator = ok;
   ascend = h.delegations_ascend;

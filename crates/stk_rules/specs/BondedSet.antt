@@ -50,13 +50,13 @@ placed reduction v [] = v ∷ []
 placed reduction v (u ∷ us) = if stands_before reduction u v then u ∷ placed reduction v us else v ∷ u ∷ us
 
 -- validators in the order of the set
-abbrev pub in_order : ℕ → List Validator → List Validator
-in_order reduction [] = []
-in_order reduction (v ∷ vs) = placed reduction v (in_order reduction vs)
+abbrev pub by_power : ℕ → List Validator → List Validator
+by_power reduction [] = []
+by_power reduction (v ∷ vs) = placed reduction v (by_power reduction vs)
 
 -- those of the set that are not bonded yet, in the set's order
 abbrev pub joining_of : ℕ → ℕ → List Validator → List Validator
-joining_of reduction most vs = in_order reduction (filter (λ v. is_in_bonded_set reduction most vs v && not (is_bonded v.status)) vs)
+joining_of reduction most vs = by_power reduction (filter (λ v. is_in_bonded_set reduction most vs v && not (is_bonded v.status)) vs)
 
 -- those that are bonded and no longer in the set, by ascending operator
 abbrev pub leaving_of : ℕ → ℕ → List Validator → List Validator

@@ -14,7 +14,7 @@ use Rattle.stk_keep.specs.declared.refusal.Refusal.{Refusal}
 use Rattle.stk_keep.specs.declared.refusal.Refusal.TheVariants.{Overflow}
 use Rattle.stk_keep.specs.Entries.{at}
 use Rattle.stk_keep.specs.Holdings.{is_short}
-use Rattle.stk_keep.specs.Staked.{validator_of, shares_of}
+use Rattle.stk_keep.specs.Staked.{validator_at, delegation}
 use Rattle.stk_keep.specs.World.{call}
 use Rattle.stk_rules.specs.Amounts.{bond_coins, is_empty}
 use Rattle.stk_rules.specs.Chain.{State, chain_told, shared_in, window_in}
@@ -41,15 +41,15 @@ over_in (Err over) = Some (Overflow over)
 
 -- what is said of an operator's validator, and this where there is none
 abbrev pub said_of : {A : Type 0} → A → (Validator → A) → List ℕ → State → A
-said_of otherwise f operator w = unwrap_or (option_map f (validator_of w.mine.staked operator)) otherwise
+said_of otherwise f operator w = unwrap_or (option_map f (validator_at w.mine.staked operator)) otherwise
 
 -- no validator has the operator
 abbrev pub lacks_validator : List ℕ → State → Bool
-lacks_validator operator w = is_none (validator_of w.mine.staked operator)
+lacks_validator operator w = is_none (validator_at w.mine.staked operator)
 
 -- there is no such delegation
 abbrev pub lacks_delegation : List ℕ → List ℕ → State → Bool
-lacks_delegation who operator w = is_none (shares_of w.mine.staked who operator)
+lacks_delegation who operator w = is_none (delegation w.mine.staked who operator)
 
 -- shares over no tokens
 abbrev pub has_no_rate : List ℕ → State → Bool
@@ -73,7 +73,7 @@ are_above (Err share.RateInvalid) held = false
 -- the amount stands for more shares than the delegation has
 abbrev pub asks_too_much : List ℕ → List ℕ → ℕ → State → Bool
 asks_too_much who operator amount w =
-    said_of false (λ v. are_above (shares_for_amount v.tokens v.shares amount) (unwrap_or (shares_of w.mine.staked who operator) 0)) operator w
+    said_of false (λ v. are_above (shares_for_amount v.tokens v.shares amount) (unwrap_or (delegation w.mine.staked who operator) 0)) operator w
 
 -- what goes out for an amount that is unbonded
 abbrev pub goes_out : Result ℕ ShareFault → Validator → ℕ
@@ -106,7 +106,7 @@ is_tiny operator amount w = said_of false (λ v. is_nothing (issued_shares v.tok
 
 -- the state after the hook before a delegation changes; or the excess of the period's end or of the reward
 abbrev pub after_hook : List ℕ → Validator → State → Result State Over
-after_hook who v w = call chain_told (hook_before v who (shares_of w.mine.staked who v.operator)) w
+after_hook who v w = call chain_told (hook_before v who (delegation w.mine.staked who v.operator)) w
 
 -- ending the period, or the reward, is over in the hook
 abbrev pub reward_over : List ℕ → List ℕ → State → Option Refusal
@@ -140,7 +140,7 @@ cancels_too_much who operator height amount w = unwrap_or (option_map (λ e. nat
 -- the operator's own delegation is worth less than its least
 abbrev pub has_too_little : List ℕ → State → Bool
 has_too_little operator w =
-    said_of false (λ v. nat_lt (trunc_of (value_even_of v.tokens v.shares (unwrap_or (shares_of w.mine.staked operator operator) 0))) v.min_self) operator w
+    said_of false (λ v. nat_lt (trunc_of (value_even_of v.tokens v.shares (unwrap_or (delegation w.mine.staked operator operator) 0))) v.min_self) operator w
 
 -- the signing record of an operator's validator
 abbrev pub record_of : List ℕ → State → Option Signing

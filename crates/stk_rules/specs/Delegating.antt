@@ -12,11 +12,11 @@ use Rattle.stk_keep.specs.declared.entities.Validator.{Validator}
 use Rattle.stk_keep.specs.declared.refusal.Refusal.{Refusal}
 use Rattle.stk_keep.specs.declared.refusal.Refusal.TheVariants.{InsufficientFunds, WrongDenom, NonPositive, NoValidator, TinyDelegation, Overflow}
 use Rattle.stk_keep.specs.Holdings.{is_short}
-use Rattle.stk_keep.specs.Staked.{Staked, validator_of, shares_of, with_validator}
+use Rattle.stk_keep.specs.Staked.{Staked, validator_at, delegation, put_validator}
 use Rattle.stk_keep.specs.Steps.{◌>>=◌, ◌>>◌, stop_if, or_stop, stopping}
 use Rattle.stk_keep.specs.World.{View, Hook, starting, modifying, modified, Told, World, call, sent, over_view, over_mine}
 use Rattle.stk_rules.specs.Amounts.{bond_coins}
-use Rattle.stk_rules.specs.Stakes.{with_shares, pool_of, refusal_of_shares}
+use Rattle.stk_rules.specs.Stakes.{put_delegation, pool_of, refusal_of_shares}
 
 -- where the coins of a delegation come from: the delegator's wallet, or the account of a validator of this status
 pub data Origin : Type 0 where
@@ -61,12 +61,12 @@ module _ {H : Type 0} (told : H → Hook → View → Told H) where
   abbrev pub delegated : Validator → List ℕ → ℕ → Origin → World Staked H → Result (ℕ × World Staked H) Refusal
   delegated v who amount origin w = do
     issued ← shares_given v amount
-    let held = shares_of w.mine who v.operator
+    let held = delegation w.mine who v.operator
     let shares = unwrap_or held 0 + issued
     let grown = record v { tokens = v.tokens + amount; shares = v.shares + issued }
     w1 ← stopping Overflow (call told (hook_before v who held) w)
     view ← paid_in origin who v.status amount w1.view
-    let w2 = over_view (λ u. view) (over_mine (λ s. with_shares who v.operator shares (with_validator grown s)) w1)
+    let w2 = over_view (λ u. view) (over_mine (λ s. put_delegation who v.operator shares (put_validator grown s)) w1)
     w3 ← stopping Overflow (call told (modified grown who shares) w2)
     Ok (issued, w3)
 
@@ -74,6 +74,6 @@ module _ {H : Type 0} (told : H → Hook → View → Told H) where
   abbrev pub delegated_by : List ℕ → List ℕ → Coin → World Staked H → Result (ℕ × World Staked H) Refusal
   delegated_by who operator coin w = do
     stop_if (coin.amount == 0) NonPositive
-    v ← or_stop (validator_of w.mine operator) NoValidator
+    v ← or_stop (validator_at w.mine operator) NoValidator
     stop_if (is_wrong coin w.view) WrongDenom
     delegated v who coin.amount wallet w

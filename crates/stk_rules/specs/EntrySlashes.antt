@@ -9,7 +9,7 @@ use Rattle.stk_keep.specs.declared.entities.UnbondingEntry.{UnbondingEntry}
 use Rattle.stk_keep.specs.declared.entities.RedelegationEntry.{RedelegationEntry}
 use Rattle.stk_keep.specs.Lent.{Unbonds}
 use Rattle.stk_keep.specs.Orders.{same_addr}
-use Rattle.stk_keep.specs.Staked.{validator_of, shares_of}
+use Rattle.stk_keep.specs.Staked.{validator_at, delegation}
 use Rattle.stk_keep.specs.Steps.{◌>>=◌}
 use Rattle.stk_keep.specs.World.{View, World, burnt, over_view}
 use Rattle.stk_rules.specs.Stakes.{pool_of}
@@ -98,14 +98,14 @@ module _ {D H : Type 0} (lent : Unbonds D H) where
 
   -- the shares that one entry's slash unbonds: the factor of what it gave, at most what the delegation has
   abbrev pub shares_hit : List ℕ → List ℕ → ℕ → RedelegationEntry → World D H → ℕ
-  shares_hit who target factor e w = min (even (factor * e.shares_dst) (10 ^ 18)) (unwrap_or (shares_of (lent.stake w.mine) who target) 0)
+  shares_hit who target factor e w = min (even (factor * e.shares_dst) (10 ^ 18)) (unwrap_or (delegation (lent.stake w.mine) who target) 0)
 
   -- the slash of the entries of one delegator and target, one after another
   abbrev pub targets_slashed : List ℕ → List ℕ → ℕ → ℕ → List RedelegationEntry → World D H → Result (World D H) Over
   targets_slashed who target infraction factor [] w = Ok w
   targets_slashed who target infraction factor (e ∷ es) w =
       if is_hit infraction w.view.ctx.time e.created e.completes then (do
-        w1 ← burned_at_target (validator_of (lent.stake w.mine) target) who (shares_hit who target factor e w) w
+        w1 ← burned_at_target (validator_at (lent.stake w.mine) target) who (shares_hit who target factor e w) w
         targets_slashed who target infraction factor es w1)
       else targets_slashed who target infraction factor es w
 

@@ -14,7 +14,7 @@ use Rattle.stk_keep.specs.declared.params.Params.{Params}
 use Rattle.stk_keep.specs.declared.refusal.Refusal.{Refusal}
 use Rattle.stk_keep.specs.declared.refusal.Refusal.TheVariants.{NoValidator, Overflow}
 use Rattle.stk_keep.specs.Holdings.{Holdings, no_holdings, balance_of, supply_of, with_balance}
-use Rattle.stk_keep.specs.Staked.{Staked, validator_of}
+use Rattle.stk_keep.specs.Staked.{Staked, validator_at}
 use Rattle.stk_keep.specs.Steps.{◌>>=◌, or_stop, stopping, each}
 use Rattle.stk_keep.specs.World.{World, over_view}
 use Rattle.stk_rules.specs.Amounts.{seconds}
@@ -130,7 +130,7 @@ validator_begun m w = stopping Overflow (stored chain_told (new_validator m w.vi
 -- a delegation that was there before the first block
 abbrev pub stake_begun : Stake → World Staked Hooks → Result (World Staked Hooks) Refusal
 stake_begun s w = do
-  v ← or_stop (validator_of w.mine (addr s.operator)) NoValidator
+  v ← or_stop (validator_at w.mine (addr s.operator)) NoValidator
   (issued, u) ← delegated chain_told v (addr s.who) s.amount (pool Unbonded) w
   Ok u
 

@@ -17,7 +17,7 @@ use Rattle.stk_keep.specs.Ground.{end_of_blocks}
 use Rattle.stk_keep.specs.Holdings.{supply_of}
 use Rattle.stk_keep.specs.Items.{IsOnce}
 use Rattle.stk_keep.specs.Log.{Log}
-use Rattle.stk_keep.specs.Staked.{validator_of, validator_by_cons, shares_of}
+use Rattle.stk_keep.specs.Staked.{validator_at, validator_by_cons, delegation}
 use Rattle.stk_keep.specs.World.{over_view}
 use Rattle.stk_rules.specs.Chain.{State, vote_step, evidence_step, allocation_step, set_step, shared_in, window_in, maturing_step, unbondings_step, redelegations_step}
 use Rattle.stk_rules.specs.Effects.{send, create_validator, edit_validator, delegate, undelegate, begin_redelegate, cancel_unbonding, unjail, withdraw_reward, withdraw_commission, set_withdraw_address, fund_community_pool, community_pool_spend, fee_paid}
@@ -30,8 +30,8 @@ use Rattle.stk_rules.specs.Window.{Signing, signing_of}
 -- ---- atomic steps
 
 -- what each state that meets P is, after a step that is not refused
-abbrev pub Keeps : {E : Type 0} → (State → State → Type 0) → (State → Result State E) → Type 0
-Keeps P f = (w : State) → IsSound w → IfOk (f w) (P w)
+abbrev pub KeptByStep : {E : Type 0} → (State → State → Type 0) → (State → Result State E) → Type 0
+KeptByStep P f = (w : State) → IsSound w → IfOk (f w) (P w)
 
 -- entries that were made at this height lost nothing to a slash, since slashes come at a block's beginning
 abbrev pub AreWhole : State → Type 0
@@ -43,20 +43,20 @@ CountsBelow cons w = (s : Signing) → signing_of (window_in w) cons ≡ Some s 
 
 -- a relation between the states before and after each message, from sound states
 pub record KeptByMessages (P : State → State → Type 0) : Type 0 where
-  pub fees : (payer : List ℕ) (fee : Money) → IsMoney fee → Keeps P (fee_paid payer fee)
-  pub sends : (from : List ℕ) (to : Account) (coins : Money) → IsMoney coins → Keeps P (send from to coins)
-  pub creates : (m : CreateValidator) → Keeps P (create_validator m)
-  pub edits : (m : EditValidator) → Keeps P (edit_validator m)
-  pub delegates : (who operator : List ℕ) (coin : Coin) → Keeps P (delegate who operator coin)
+  pub fees : (payer : List ℕ) (fee : Money) → IsMoney fee → KeptByStep P (fee_paid payer fee)
+  pub sends : (from : List ℕ) (to : Account) (coins : Money) → IsMoney coins → KeptByStep P (send from to coins)
+  pub creates : (m : CreateValidator) → KeptByStep P (create_validator m)
+  pub edits : (m : EditValidator) → KeptByStep P (edit_validator m)
+  pub delegates : (who operator : List ℕ) (coin : Coin) → KeptByStep P (delegate who operator coin)
   pub undelegates : (who operator : List ℕ) (coin : Coin) (w : State) → IsSound w → AreWhole w → IfOk (undelegate who operator coin w) (P w)
-  pub redelegates : (who source target : List ℕ) (coin : Coin) → Keeps P (begin_redelegate who source target coin)
-  pub cancels : (who operator : List ℕ) (coin : Coin) (height : ℕ) → Keeps P (cancel_unbonding who operator coin height)
-  pub unjails : (operator : List ℕ) → Keeps P (unjail operator)
-  pub withdraws : (who operator : List ℕ) → Keeps P (withdraw_reward who operator)
-  pub commissions : (operator : List ℕ) → Keeps P (withdraw_commission operator)
-  pub payees : (who : List ℕ) (to : Account) → Keeps P (set_withdraw_address who to)
-  pub funds : (who : List ℕ) (coins : Money) → IsMoney coins → Keeps P (fund_community_pool who coins)
-  pub spends : (authority : List ℕ) (to : Account) (coins : Money) → IsMoney coins → Keeps P (community_pool_spend authority to coins)
+  pub redelegates : (who source target : List ℕ) (coin : Coin) → KeptByStep P (begin_redelegate who source target coin)
+  pub cancels : (who operator : List ℕ) (coin : Coin) (height : ℕ) → KeptByStep P (cancel_unbonding who operator coin height)
+  pub unjails : (operator : List ℕ) → KeptByStep P (unjail operator)
+  pub withdraws : (who operator : List ℕ) → KeptByStep P (withdraw_reward who operator)
+  pub commissions : (operator : List ℕ) → KeptByStep P (withdraw_commission operator)
+  pub payees : (who : List ℕ) (to : Account) → KeptByStep P (set_withdraw_address who to)
+  pub funds : (who : List ℕ) (coins : Money) → IsMoney coins → KeptByStep P (fund_community_pool who coins)
+  pub spends : (authority : List ℕ) (to : Account) (coins : Money) → IsMoney coins → KeptByStep P (community_pool_spend authority to coins)
 
 -- the next block: a later height, and a time that is not earlier
 abbrev pub next_block : ℕ → ℕ → State → State
@@ -78,10 +78,10 @@ pub record KeptByBlocks (P : State → State → Type 0) : Type 0 where
   pub allocates : (votes : List Vote) (w : State) → IsSound w → AreVotes votes w → IfOk (allocation_step votes w) (P w)
   pub votes : (t : Vote) (w : State) → IsSound w → IsPower t.power w → CountsBelow t.cons w → IfOk (vote_step t w) (P w)
   pub evidence : (e : Evidence) (w : State) → IsSound w → IsPower e.power w → 1 ≤ e.height → e.height < w.view.ctx.height → e.time ≤ w.view.ctx.time → IfOk (evidence_step e w) (P w)
-  pub sets : Keeps P set_step
-  pub matures : Keeps P maturing_step
-  pub pays : Keeps P unbondings_step
-  pub ends : Keeps P redelegations_step
+  pub sets : KeptByStep P set_step
+  pub matures : KeptByStep P maturing_step
+  pub pays : KeptByStep P unbondings_step
+  pub ends : KeptByStep P redelegations_step
 
 -- ---- the statements
 
@@ -119,8 +119,8 @@ ClaimIsBracketed d w who v shares =
 -- Every delegation's claim does. Of every state that a genesis leads to this is stated, not proved.
 abbrev pub IsBracketed : State → Type 0
 IsBracketed w =
-    (d who : List ℕ) (v : Validator) (shares : ℕ) → validator_of w.mine.staked v.operator ≡ Some v
-    → shares_of w.mine.staked who v.operator ≡ Some shares → ClaimIsBracketed d w who v shares
+    (d who : List ℕ) (v : Validator) (shares : ℕ) → validator_at w.mine.staked v.operator ≡ Some v
+    → delegation w.mine.staked who v.operator ≡ Some shares → ClaimIsBracketed d w who v shares
 
 -- the claim of stretches in units of 10^-36: what the ratio grew in each, times its stake, not cut
 abbrev pub exact_claim : List ℕ → (ℕ → Money) → List Stretch → ℕ

@@ -11,7 +11,7 @@ use Rattle.stk_keep.specs.declared.refusal.Refusal.{Refusal}
 use Rattle.stk_keep.specs.declared.refusal.Refusal.TheVariants.{WrongDenom, NonPositive, NoValidator, SelfRedelegation, Transitive, RedelegationsFull, TinyRedelegation, Overflow}
 use Rattle.stk_keep.specs.Entries.{at, with}
 use Rattle.stk_keep.specs.Orders.{triple_cmp, same_addr}
-use Rattle.stk_keep.specs.Staked.{Staked, validator_of, shares_of, is_bonded}
+use Rattle.stk_keep.specs.Staked.{Staked, validator_at, delegation, is_bonded}
 use Rattle.stk_keep.specs.Steps.{◌>>=◌, ◌>>◌, stop_if, or_stop, stopping}
 use Rattle.stk_keep.specs.World.{View, Hook, Told, World}
 use Rattle.stk_rules.specs.Delegating.{is_wrong, pool, shares_given, delegated}
@@ -56,11 +56,11 @@ module _ {H : Type 0} (told : H → Hook → View → Told H) where
   abbrev pub redelegated : List ℕ → List ℕ → List ℕ → Coin → RedelegationLists → World Staked H → Result (⊤ × RedelegationLists × World Staked H) Refusal
   redelegated who source target coin r w = do
     stop_if (coin.amount == 0) NonPositive
-    v ← or_stop (validator_of w.mine source) NoValidator
-    (held, part) ← shares_to_unbond (shares_of w.mine who source) v coin.amount
+    v ← or_stop (validator_at w.mine source) NoValidator
+    (held, part) ← shares_to_unbond (delegation w.mine who source) v coin.amount
     stop_if (is_wrong coin w.view) WrongDenom
     stop_if (same_addr source target) SelfRedelegation
-    t ← or_stop (validator_of w.mine target) NoValidator
+    t ← or_stop (validator_at w.mine target) NoValidator
     stop_if (is_transitive r who source) Transitive
     stop_if (nat_le w.view.ctx.params.max_entries (length (redelegations_of r who source target))) RedelegationsFull
     let amount = amount_out v.tokens v.shares part
@@ -68,7 +68,7 @@ module _ {H : Type 0} (told : H → Hook → View → Told H) where
     shares_given t amount
     (out, w1) ← stopping Overflow (unbonded_shares told v who held part w)
     (issued, w2) ← delegated told t who out (pool v.status) w1
-    let gone = is_none (validator_of w1.mine source)
+    let gone = is_none (validator_at w1.mine source)
     Ok (tt, appended who source target (begin_info v gone w.view.ctx) out issued r, w2)
 
 -- All mature entries go (`CompleteRedelegation`).

@@ -7,7 +7,7 @@ use Rattle.stk_keep.specs.declared.entities.Validator.{Validator}
 use Rattle.stk_keep.specs.declared.facts.Fact.TheVariants as fact
 use Rattle.stk_keep.specs.Lent.{Unbonds, jail_told}
 use Rattle.stk_keep.specs.Log as log
-use Rattle.stk_keep.specs.Staked.{Staked, validator_of, validator_by_cons, with_validator, is_unbonded}
+use Rattle.stk_keep.specs.Staked.{Staked, validator_at, validator_by_cons, put_validator, is_unbonded}
 use Rattle.stk_keep.specs.Steps.{◌>>=◌}
 use Rattle.stk_keep.specs.World.{View, Hook, slashing, Told, World, call, noted, burnt, over_view, over_mine, logged}
 use Rattle.stk_rules.specs.Stakes.{pool_of}
@@ -59,7 +59,7 @@ module _ {H : Type 0} (told : H → Hook → View → Told H) where
     let burned = min amount v.tokens
     w1 ← slash_told v burned w
     let less = record v { tokens = v.tokens - burned }
-    Ok (burned, over_view (burnt (pool_of v.status) w.view.ctx.params.bond_denom burned) (over_mine (with_validator less) w1))
+    Ok (burned, over_view (burnt (pool_of v.status) w.view.ctx.params.bond_denom burned) (over_mine (put_validator less) w1))
 
   -- the same of a validator that may be gone
   abbrev pub rest_slashed : Option Validator → ℕ → World Staked H → Result (ℕ × World Staked H) Over
@@ -76,7 +76,7 @@ module _ {H : Type 0} (told : H → Hook → View → Told H) where
       let w1 : World Staked H = record { mine = w.mine.staked; hooks = w.hooks; view = view; log = w.log }
       (more, r, w2) ← entries.of_redelegations staked_unbonds v.operator infraction factor w.mine.redelegations w1
       let amount = slash_amount power w.view.ctx.params.power_reduction factor - (some + more)
-      (burned, w3) ← rest_slashed (validator_of w2.mine v.operator) amount w2
+      (burned, w3) ← rest_slashed (validator_at w2.mine v.operator) amount w2
       Ok (burned, record { mine = record { staked = w3.mine; unbondings = u; redelegations = r }; hooks = w3.hooks; view = w3.view; log = w3.log }))
 
     -- The slash of a consensus address since a height, by the power of then and a factor (`Slash`). Answers what the
@@ -89,7 +89,7 @@ module _ {H : Type 0} (told : H → Hook → View → Told H) where
 -- a validator that is jailed, where it is known
 abbrev pub jailed_of : Option Validator → Staked → Staked
 jailed_of None s = s
-jailed_of (Some v) s = with_validator (record v { jailed = true }) s
+jailed_of (Some v) s = put_validator (record v { jailed = true }) s
 
 -- the validator of a consensus address is jailed (`Jail`)
 abbrev pub jailed_by_cons : {U R : Type 0} → List ℕ → Core U R → Core U R

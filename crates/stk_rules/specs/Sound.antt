@@ -15,7 +15,7 @@ use Rattle.stk_keep.specs.Entries.{sum_where}
 use Rattle.stk_keep.specs.Ground.{IsInOrder}
 use Rattle.stk_keep.specs.Hooks.{Lists}
 use Rattle.stk_keep.specs.Orders.{pair_cmp, triple_cmp, same_addr}
-use Rattle.stk_keep.specs.Staked.{Staked, validator_of, lists_of, is_unbonded}
+use Rattle.stk_keep.specs.Staked.{Staked, validator_at, lists_of, is_unbonded}
 use Rattle.stk_rules.specs.Chain.{State, shared_in, window_in}
 use Rattle.stk_rules.specs.Distribution.{Shared}
 use Rattle.stk_rules.specs.Owed.{HoldsWhatIsOwed}
@@ -51,7 +51,7 @@ pub record StakedIsSound (height : ℕ) (s : Staked) : Type 0 where
   pub cons : (u v : Validator) → Contains (values_of s.validators) u → Contains (values_of s.validators) v → u.cons ≡ v.cons → u ≡ v
   pub shares : All (λ e. e.1.shares ≡ delegated_shares s e.0) s.validators
   pub positive : All (λ e. 0 < e.1) s.delegations
-  pub existing : All (λ e. IsSome (validator_of s e.0.0)) s.delegations
+  pub existing : All (λ e. IsSome (validator_at s e.0.0)) s.delegations
 
 -- ---- entries
 

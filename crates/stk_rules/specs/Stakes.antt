@@ -13,7 +13,7 @@ use Rattle.stk_keep.specs.declared.refusal.Refusal.{Refusal}
 use Rattle.stk_keep.specs.declared.refusal.Refusal.TheVariants as refused
 use Rattle.stk_keep.specs.Entries.{with, without}
 use Rattle.stk_keep.specs.Orders.{pair_cmp}
-use Rattle.stk_keep.specs.Staked.{Staked, with_validator, is_bonded}
+use Rattle.stk_keep.specs.Staked.{Staked, put_validator, is_bonded}
 use Rattle.stk_keep.specs.World.{World, noted, over_view, over_mine}
 
 -- the validators without this operator's
@@ -21,8 +21,8 @@ abbrev pub without_validator : List ℕ → Staked → Staked
 without_validator operator s = record s { validators = without addr_cmp s.validators operator }
 
 -- the delegations with these shares of a delegator at an operator
-abbrev pub with_shares : List ℕ → List ℕ → ℕ → Staked → Staked
-with_shares who operator n s = record s { delegations = with pair_cmp s.delegations (operator, who) n }
+abbrev pub put_delegation : List ℕ → List ℕ → ℕ → Staked → Staked
+put_delegation who operator n s = record s { delegations = with pair_cmp s.delegations (operator, who) n }
 
 -- the delegations without that of a delegator at an operator
 abbrev pub without_shares : List ℕ → List ℕ → Staked → Staked
@@ -40,7 +40,7 @@ pool_of status = if is_bonded status then holder.Bonded else holder.NotBonded
 
 -- a validator with another status, told by a fact
 abbrev pub changed : {H : Type 0} → Validator → BondStatus → World Staked H → World Staked H
-changed v status w = over_view (noted (fact.Changed v.operator status)) (over_mine (with_validator (record v { status = status })) w)
+changed v status w = over_view (noted (fact.Changed v.operator status)) (over_mine (put_validator (record v { status = status })) w)
 
 -- why a message is refused whose shares are not given
 abbrev pub refusal_of_shares : ShareFault → Refusal

@@ -10,11 +10,11 @@ use Rattle.stk_keep.specs.declared.refusal.Refusal.TheVariants.{NoDelegation, To
 use Rattle.stk_shares.specs.Shares.{shares_for_amount}
 use Rattle.stk_keep.specs.Log as log
 use Rattle.stk_keep.specs.Orders.{same_addr}
-use Rattle.stk_keep.specs.Staked.{Staked, validator_of, shares_of, with_validator, is_unbonded}
+use Rattle.stk_keep.specs.Staked.{Staked, validator_at, delegation, put_validator, is_unbonded}
 use Rattle.stk_keep.specs.Steps.{◌>>=◌, ◌>>◌, stop_if, or_stop, stopping}
 use Rattle.stk_keep.specs.World.{View, Hook, modifying, modified, Told, World, call, noted, over_view, over_mine, logged}
 use Rattle.stk_keep.specs.World as hook
-use Rattle.stk_rules.specs.Stakes.{without_validator, with_shares, without_shares}
+use Rattle.stk_rules.specs.Stakes.{without_validator, put_delegation, without_shares}
 
 -- The shares that an amount stands for, behind all shares of the delegation (`ValidateUnbondAmount`). Refused without a
 -- delegation, without tokens, and where these are more shares than the delegation has.
@@ -36,8 +36,8 @@ abbrev pub falls_below_minimum : Validator → List ℕ → ℕ → Bool
 falls_below_minimum v who left = same_addr who v.operator && not v.jailed && nat_lt (trunc_of (value_even_of v.tokens v.shares left)) v.min_self
 
 -- a validator that is jailed, told by a fact (`jailValidator`)
-abbrev pub jailed : {H : Type 0} → Validator → World Staked H → World Staked H
-jailed v w = over_view (noted (fact.Jailed v.operator)) (over_mine (with_validator (record v { jailed = true })) w)
+abbrev pub put_in_jail : {H : Type 0} → Validator → World Staked H → World Staked H
+put_in_jail v w = over_view (noted (fact.Jailed v.operator)) (over_mine (put_validator (record v { jailed = true })) w)
 
 module _ {H : Type 0} (told : H → Hook → View → Told H) where
   -- The validator goes, then its last hook is called (`RemoveValidator`: `AfterValidatorRemoved`).
@@ -54,7 +54,7 @@ module _ {H : Type 0} (told : H → Hook → View → Told H) where
   -- left, the delegation goes (`Unbond`: `RemoveDelegation`, or `SetDelegation` and `AfterDelegationModified`).
   abbrev pub left_standing : Validator → List ℕ → ℕ → World Staked H → Result (World Staked H) Over
   left_standing v who left w = if left == 0 then Ok (over_mine (without_shares who v.operator) w)
-      else call told (modified v who left) (over_mine (with_shares who v.operator left) w)
+      else call told (modified v who left) (over_mine (put_delegation who v.operator left) w)
 
   -- Unbonding a part of the shares that a delegator holds, in this order: the hook before; jailing; what is left; the
   -- tokens and shares leave the validator, which may go (`Unbond`). Answers the amount that goes out.
@@ -63,10 +63,10 @@ module _ {H : Type 0} (told : H → Hook → View → Told H) where
     w1 ← call told (modifying v who held) w
     let falls = falls_below_minimum v who (held - part)
     let now = record v { jailed = v.jailed || falls }
-    w2 ← left_standing now who (held - part) (if falls then jailed v w1 else w1)
+    w2 ← left_standing now who (held - part) (if falls then put_in_jail v w1 else w1)
     let out = amount_out v.tokens v.shares part
     let less = record now { tokens = v.tokens - out; shares = v.shares - part }
-    w3 ← removed_if_empty less (logged v.operator log.left (over_mine (with_validator less) w2))
+    w3 ← removed_if_empty less (logged v.operator log.left (over_mine (put_validator less) w2))
     Ok (out, w3)
 
   -- The same for a call that is lent the delegations; without a validator or a delegation nothing goes out.
@@ -77,4 +77,4 @@ module _ {H : Type 0} (told : H → Hook → View → Told H) where
 
   -- The same of the delegation of a delegator to an operator (`Unbond`).
   abbrev pub shares_unbonded : List ℕ → List ℕ → ℕ → World Staked H → Result (ℕ × World Staked H) Over
-  shares_unbonded who operator part w = unbonded_of (validator_of w.mine operator) (shares_of w.mine who operator) who part w
+  shares_unbonded who operator part w = unbonded_of (validator_at w.mine operator) (delegation w.mine who operator) who part w

@@ -12,7 +12,7 @@ use Rattle.stk_keep.specs.declared.refusal.Refusal.{Refusal}
 use Rattle.stk_keep.specs.declared.refusal.Refusal.TheVariants.{WrongDenom, NonPositive, NoValidator, RateInvalid, UnbondingsFull, Jailed, NoEntry, CancelTooMuch, Overflow}
 use Rattle.stk_keep.specs.Entries.{at, with, without}
 use Rattle.stk_keep.specs.Orders.{pair_cmp}
-use Rattle.stk_keep.specs.Staked.{Staked, validator_of, shares_of, is_bonded}
+use Rattle.stk_keep.specs.Staked.{Staked, validator_at, delegation, is_bonded}
 use Rattle.stk_keep.specs.Steps.{◌>>=◌, ◌>>◌, stop_if, or_stop, stopping}
 use Rattle.stk_keep.specs.World.{View, Hook, Told, World, sent, over_view}
 use Rattle.stk_rules.specs.Amounts.{bond_coins, seconds}
@@ -70,8 +70,8 @@ module _ {H : Type 0} (told : H → Hook → View → Told H) where
   abbrev pub undelegated : List ℕ → List ℕ → Coin → UnbondingLists → World Staked H → Result (ℕ × UnbondingLists × World Staked H) Refusal
   undelegated who operator coin u w = do
     stop_if (coin.amount == 0) NonPositive
-    v ← or_stop (validator_of w.mine operator) NoValidator
-    (held, part) ← shares_to_unbond (shares_of w.mine who operator) v coin.amount
+    v ← or_stop (validator_at w.mine operator) NoValidator
+    (held, part) ← shares_to_unbond (delegation w.mine who operator) v coin.amount
     stop_if (is_wrong coin w.view) WrongDenom
     let entries = entries_of u who operator
     stop_if (nat_le w.view.ctx.params.max_entries (length entries)) UnbondingsFull
@@ -87,7 +87,7 @@ module _ {H : Type 0} (told : H → Hook → View → Told H) where
   cancelled who operator coin height u w = do
     stop_if (coin.amount == 0) NonPositive
     stop_if (is_wrong coin w.view) WrongDenom
-    v ← or_stop (validator_of w.mine operator) NoValidator
+    v ← or_stop (validator_at w.mine operator) NoValidator
     stop_if (has_invalid_rate v.tokens v.shares) RateInvalid
     stop_if v.jailed Jailed
     let entries = entries_of u who operator

@@ -7,7 +7,7 @@ use Rattle.stk_keep.specs.declared.messages.CreateValidator.{CreateValidator}
 use Rattle.stk_keep.specs.declared.messages.EditValidator.{EditValidator}
 use Rattle.stk_keep.specs.declared.refusal.Refusal.{Refusal}
 use Rattle.stk_keep.specs.declared.refusal.Refusal.TheVariants.{WrongDenom, NonPositive, NoValidator, ValidatorExists, ConsKeyExists, CommissionRange, CommissionBelowMinimum, CommissionTooSoon, CommissionAboveMax, CommissionStep, MinSelfNotPositive, SelfBelowMinimum, MinSelfNotRaised, Overflow}
-use Rattle.stk_keep.specs.Staked.{Staked, validator_of, validator_by_cons, with_validator}
+use Rattle.stk_keep.specs.Staked.{Staked, validator_at, validator_by_cons, put_validator}
 use Rattle.stk_keep.specs.Steps.{◌>>=◌, ◌>>◌, stop_if, or_stop, stopping}
 use Rattle.stk_keep.specs.World.{View, Hook, Told, World, call, over_mine}
 use Rattle.stk_keep.specs.World as hook
@@ -37,7 +37,7 @@ are_out_of_range m = nat_lt (10 ^ 18) m.max_rate || nat_lt m.max_rate m.rate || 
 module _ {H : Type 0} (told : H → Hook → View → Told H) where
   -- a validator is there, and its first hook is called (`CreateValidator`: `AfterValidatorCreated`)
   abbrev pub stored : Validator → World Staked H → Result (World Staked H) Over
-  stored v w = call told (hook.created v) (over_mine (with_validator v) w)
+  stored v w = call told (hook.created v) (over_mine (put_validator v) w)
 
   -- A validator is created, then its operator delegates to it from the wallet (`msgServer.CreateValidator`).
   abbrev pub created : CreateValidator → World Staked H → Result (⊤ × World Staked H) Refusal
@@ -47,7 +47,7 @@ module _ {H : Type 0} (told : H → Hook → View → Told H) where
     stop_if (m.min_self_delegation == 0) MinSelfNotPositive
     stop_if (nat_lt m.amount.amount m.min_self_delegation) SelfBelowMinimum
     stop_if (nat_lt m.rate w.view.ctx.params.min_commission_rate) CommissionBelowMinimum
-    stop_if (is_some (validator_of w.mine m.validator)) ValidatorExists
+    stop_if (is_some (validator_at w.mine m.validator)) ValidatorExists
     stop_if (is_some (validator_by_cons w.mine m.cons)) ConsKeyExists
     stop_if (is_wrong m.amount w.view) WrongDenom
     let v = new_validator m w.view.ctx.time
@@ -85,7 +85,7 @@ minimum_edited (Some n) v = do
 abbrev pub edited : EditValidator → ℕ → ℕ → Staked → Result Staked Refusal
 edited m time minimum s = do
   edit_formed m
-  v ← or_stop (validator_of s m.validator) NoValidator
+  v ← or_stop (validator_at s m.validator) NoValidator
   rated ← rate_edited m.rate time minimum v
   set ← minimum_edited m.min_self_delegation rated
-  Ok (with_validator set s)
+  Ok (put_validator set s)

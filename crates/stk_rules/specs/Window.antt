@@ -14,7 +14,7 @@ use Rattle.stk_keep.specs.declared.params.Params.{Params}
 use Rattle.stk_keep.specs.declared.refusal.Refusal.{Refusal}
 use Rattle.stk_keep.specs.declared.refusal.Refusal.TheVariants.{NoValidator, NoSelfDelegation, SelfBelowMinimum, NotJailed, StillJailed, Tombstoned}
 use Rattle.stk_keep.specs.Entries.{at, with}
-use Rattle.stk_keep.specs.Staked.{Staked, validator_of, validator_by_cons, shares_of, with_validator, is_unbonded}
+use Rattle.stk_keep.specs.Staked.{Staked, validator_at, validator_by_cons, delegation, put_validator, is_unbonded}
 use Rattle.stk_keep.specs.Steps.{◌>>=◌, ◌>>◌, stop_if, or_stop}
 use Rattle.stk_keep.specs.World.{View, Hook, Told, gives, World, noted}
 use Rattle.stk_keep.specs.World as hook
@@ -128,9 +128,9 @@ may_leave now (Some s) = do
 -- tombstoned, and its time is over.
 abbrev pub unjailed : List ℕ → Window → Staked → View → Result (⊤ × Staked × View) Refusal
 unjailed operator i s w = do
-  v ← or_stop (validator_of s operator) NoValidator
-  held ← or_stop (shares_of s operator operator) NoSelfDelegation
+  v ← or_stop (validator_at s operator) NoValidator
+  held ← or_stop (delegation s operator operator) NoSelfDelegation
   stop_if (nat_lt (trunc_of (value_even_of v.tokens v.shares held)) v.min_self) SelfBelowMinimum
   stop_if (not v.jailed) NotJailed
   may_leave w.ctx.time (signing_of i v.cons)
-  Ok (tt, with_validator (record v { jailed = false }) s, noted (fact.Unjailed operator) w)
+  Ok (tt, put_validator (record v { jailed = false }) s, noted (fact.Unjailed operator) w)

@@ -13,7 +13,7 @@ use Rattle.stk_keep.specs.Entries.{at, with}
 use Rattle.stk_keep.specs.Holdings.{is_short}
 use Rattle.stk_keep.specs.Log.{Log}
 use Rattle.stk_keep.specs.Orders.{same_addr}
-use Rattle.stk_keep.specs.Staked.{Staked, validator_of, shares_of}
+use Rattle.stk_keep.specs.Staked.{Staked, validator_at, delegation}
 use Rattle.stk_keep.specs.Steps.{◌>>=◌, ◌>>◌, stop_if, or_stop, stopping}
 use Rattle.stk_keep.specs.World.{View, noted, sent}
 use Rattle.stk_rules.specs.Amounts.{is_empty, in_units, over_facts}
@@ -24,8 +24,8 @@ use Rattle.stk_rules.specs.Distribution.{Shared, payee_of, paid_to, reward_renew
 -- were paid.
 abbrev pub reward_taken : Staked → List ℕ → List ℕ → Shared → View → Result (Money × Shared × View × Log) Refusal
 reward_taken s who operator d v = do
-  val ← or_stop (validator_of s operator) NoValidator
-  shares ← or_stop (shares_of s who operator) NoDelegation
+  val ← or_stop (validator_at s operator) NoValidator
+  shares ← or_stop (delegation s who operator) NoDelegation
   stopping Overflow (reward_renewed val who shares d v)
 
 -- A validator's commission is paid, in whole coins (`WithdrawValidatorCommission`). Answers the coins that were paid.

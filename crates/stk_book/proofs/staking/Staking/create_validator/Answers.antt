@@ -1,7 +1,7 @@
 use Rattle.std.proofs.Common.{◌≡◌, ◌∙◌, ap, sym, subst}
 use Rattle.stk_keep.specs.Ground.{seen}
 use Rattle.stk_keep.specs.Hooks.{Stand}
-use Rattle.stk_keep.specs.Staked.{validator_of, with_validator, lists_of, bonded_tokens, other_tokens, HoldsStake}
+use Rattle.stk_keep.specs.Staked.{validator_at, put_validator, lists_of, bonded_tokens, other_tokens, HoldsStake}
 use Rattle.stk_keep.specs.World.{created}
 use Rattle.std.specs.Prelude.{Ok, Err}
 use Rattle.stk_keep.specs.Answers.{AnswersAs}
@@ -19,7 +19,7 @@ use Rattle.stk_book.proofs.staking.Staking.create_validator.Goals as goal
 pub delegate_to-delegated-requires-clause-stands : goal.delegate_to-delegated-requires-clause-stands
 delegate_to-delegated-requires-clause-stands g c =
     let v = c.new_validator-v.result in
-    ap (λ r. validator_of r.staked v.operator) c.in_ok-add.ensures.ok ∙ found_itself c.args.self.now.staked v
+    ap (λ r. validator_at r.staked v.operator) c.in_ok-add.ensures.ok ∙ found_itself c.args.self.now.staked v
 
 pub delegate_to-delegated-requires-clause-sound : goal.delegate_to-delegated-requires-clause-sound
 delegate_to-delegated-requires-clause-sound g c =
@@ -74,8 +74,8 @@ returns-in-Ok-clause-told g c = λ hs o.
     let p = picked (t.told hs (created v) u) (g.H.StakingHooks.holds c.after_validator_created.new.self) u2 (c.in_ok-after_validator_created.ensures.told hs o) in
     let given = told-of_ok (t.told hs (created v) u) p.0 u2 p.1.1 in
     let is = created_then t.told m s hs u v p.0 u2 given.0 c.new_validator-v.ensures (sym c.in_ok-form_create.ensures) (sym c.in-None.ensures.value) (sym c.in-None-at_cons.ensures.value) (sym c.is_other.ensures ∙ c.if-is_other.false) given.1 in
-    let staked : c.add.new.self.staked ≡ with_validator v s = ap (λ r. r.staked) c.in_ok-add.ensures.ok in
-    let last : AnswersAs (delegated t.told v m.validator m.amount.amount wallet (behind_log given.0 (with_validator v s) p.0 u2)) c.delegate_to-delegated.new.self.staked (g.H.StakingHooks.holds c.delegate_to-delegated.new.hooks) (seen g.B.Bank.holdings c.delegate_to-delegated.new.g) (Ok c.in-Ok.field-0)
+    let staked : c.add.new.self.staked ≡ put_validator v s = ap (λ r. r.staked) c.in_ok-add.ensures.ok in
+    let last : AnswersAs (delegated t.told v m.validator m.amount.amount wallet (behind_log given.0 (put_validator v s) p.0 u2)) c.delegate_to-delegated.new.self.staked (g.H.StakingHooks.holds c.delegate_to-delegated.new.hooks) (seen g.B.Bank.holdings c.delegate_to-delegated.new.g) (Ok c.in-Ok.field-0)
     = subst (λ x. AnswersAs (delegated t.told v m.validator m.amount.amount wallet (behind_log given.0 x p.0 u2)) c.delegate_to-delegated.new.self.staked (g.H.StakingHooks.holds c.delegate_to-delegated.new.hooks) (seen g.B.Bank.holdings c.delegate_to-delegated.new.g) (Ok c.in-Ok.field-0)) staked (c.in-Ok.ensures.told p.0 p.1.0 given.0) in
     subst (λ r. AnswersAs r c.delegate_to-delegated.new.self.staked (g.H.StakingHooks.holds c.delegate_to-delegated.new.hooks) (seen g.B.Bank.holdings c.delegate_to-delegated.new.g) (Ok tt)) (sym is)
     (answers_ok _ _ _ _ _ last)
@@ -91,8 +91,8 @@ returns-in-Err-clause-told g c = λ hs o.
     let p = picked (t.told hs (created v) u) (g.H.StakingHooks.holds c.after_validator_created.new.self) u2 (c.in_ok-after_validator_created.ensures.told hs o) in
     let given = told-of_ok (t.told hs (created v) u) p.0 u2 p.1.1 in
     let is = created_then t.told m s hs u v p.0 u2 given.0 c.new_validator-v.ensures (sym c.in_ok-form_create.ensures) (sym c.in-None.ensures.value) (sym c.in-None-at_cons.ensures.value) (sym c.is_other.ensures ∙ c.if-is_other.false) given.1 in
-    let staked : c.add.new.self.staked ≡ with_validator v s = ap (λ r. r.staked) c.in_ok-add.ensures.ok in
-    let last : AnswersAs (delegated t.told v m.validator m.amount.amount wallet (behind_log given.0 (with_validator v s) p.0 u2)) c.delegate_to-delegated.new.self.staked (g.H.StakingHooks.holds c.delegate_to-delegated.new.hooks) (seen g.B.Bank.holdings c.delegate_to-delegated.new.g) (Err c.in-Err.stop)
+    let staked : c.add.new.self.staked ≡ put_validator v s = ap (λ r. r.staked) c.in_ok-add.ensures.ok in
+    let last : AnswersAs (delegated t.told v m.validator m.amount.amount wallet (behind_log given.0 (put_validator v s) p.0 u2)) c.delegate_to-delegated.new.self.staked (g.H.StakingHooks.holds c.delegate_to-delegated.new.hooks) (seen g.B.Bank.holdings c.delegate_to-delegated.new.g) (Err c.in-Err.stop)
     = subst (λ x. AnswersAs (delegated t.told v m.validator m.amount.amount wallet (behind_log given.0 x p.0 u2)) c.delegate_to-delegated.new.self.staked (g.H.StakingHooks.holds c.delegate_to-delegated.new.hooks) (seen g.B.Bank.holdings c.delegate_to-delegated.new.g) (Err c.in-Err.stop)) staked (c.in-Err.ensures.told p.0 p.1.0 given.0) in
     subst (λ r. AnswersAs r c.delegate_to-delegated.new.self.staked (g.H.StakingHooks.holds c.delegate_to-delegated.new.hooks) (seen g.B.Bank.holdings c.delegate_to-delegated.new.g) (Err c.in-Err.stop)) (sym is)
     (answers_err _ _ _ _ _ last)

@@ -3,11 +3,11 @@ use Rattle.std.proofs.lemmas.Grind.{common_steps}
 use Rattle.std.specs.Prelude.{Ok, ◌+◌}
 use Rattle.stk_keep.specs.Ground.{seen}
 use Rattle.stk_keep.specs.Hooks.{Stand, after}
-use Rattle.stk_keep.specs.Staked.{lists_of, with_validator, bonded_tokens, other_tokens, HoldsStake}
+use Rattle.stk_keep.specs.Staked.{lists_of, put_validator, bonded_tokens, other_tokens, HoldsStake}
 use Rattle.stk_keep.specs.World.{modified}
 use Rattle.stk_keep.proofs.HookLemmas.{Stand-after_ok, picked}
 use Rattle.stk_rules.specs.Delegating.{hook_before}
-use Rattle.stk_rules.specs.Stakes.{with_shares}
+use Rattle.stk_rules.specs.Stakes.{put_delegation}
 use Rattle.stk_book.specs.Calls.{origin_of}
 use Rattle.stk_rules.proofs.SoundLemmas.{IsSoundAt, to_points, from_points}
 use Rattle.stk_book.proofs.DelegateLemmas.{ready-before, stand-before, origin-before, can_pay, reached, shares-given, held-most, ready-delegated, sound-delegated, lists-delegated_is, holds-delegated, keeps-ok, grown, ok_is}
@@ -104,8 +104,8 @@ returns-clause-sound g c =
     c.requires.stand.0 p.0 (seen g.B.Bank.holdings c.args.g.now) (seen g.B.Bank.holdings c.call_before.new.g) c.requires.stand.1.1 p.1.1
     (origin_of c.args.origin) c.args.amount c.requires.origin c.requires.some c.requires.accounts (seen g.B.Bank.holdings c.pay_in.new.g) c.in_ok-pay_in.ensures.paid c.in_ok-pay_in.ensures.backed in
     let w = grown c.args.v.now c.args.amount c.unwrap.result in
-    let staked : c.put_shares.new.self.staked ≡ with_shares c.args.who.now c.args.v.now.operator c.total_of-shares.result (with_validator w s)
-    = ap (λ r. r.staked) c.in_ok-put_shares.ensures.ok ∙ ap (λ r. with_shares c.args.who.now c.args.v.now.operator c.total_of-shares.result r.staked) c.in_ok-put.ensures.ok in (
+    let staked : c.put_shares.new.self.staked ≡ put_delegation c.args.who.now c.args.v.now.operator c.total_of-shares.result (put_validator w s)
+    = ap (λ r. r.staked) c.in_ok-put_shares.ensures.ok ∙ ap (λ r. put_delegation c.args.who.now c.args.v.now.operator c.total_of-shares.result r.staked) c.in_ok-put.ensures.ok in (
       c.requires.sound.0,
       from_points c.requires.sound.0 c.put_shares.new.self.staked (subst (IsSoundAt c.requires.sound.0) (sym staked)
           (sound-delegated c.requires.sound.0 s h c.args.v.now c.requires.stands c.args.who.now c.held-held.result (sym c.held-held.ensures.value)
@@ -123,8 +123,8 @@ returns-clause-stand g c =
     c.requires.stand.0 p.0 (seen g.B.Bank.holdings c.args.g.now) (seen g.B.Bank.holdings c.call_before.new.g) c.requires.stand.1.1 p.1.1
     (origin_of c.args.origin) c.args.amount c.requires.origin c.requires.some c.requires.accounts (seen g.B.Bank.holdings c.pay_in.new.g) c.in_ok-pay_in.ensures.paid c.in_ok-pay_in.ensures.backed in
     let w = grown c.args.v.now c.args.amount c.unwrap.result in
-    let staked : c.put_shares.new.self.staked ≡ with_shares c.args.who.now c.args.v.now.operator c.total_of-shares.result (with_validator w s)
-    = ap (λ r. r.staked) c.in_ok-put_shares.ensures.ok ∙ ap (λ r. with_shares c.args.who.now c.args.v.now.operator c.total_of-shares.result r.staked) c.in_ok-put.ensures.ok in
+    let staked : c.put_shares.new.self.staked ≡ put_delegation c.args.who.now c.args.v.now.operator c.total_of-shares.result (put_validator w s)
+    = ap (λ r. r.staked) c.in_ok-put_shares.ensures.ok ∙ ap (λ r. put_delegation c.args.who.now c.args.v.now.operator c.total_of-shares.result r.staked) c.in_ok-put.ensures.ok in
     let tells = g.H.StakingHooks.tells in
     let l = after (hook_before c.args.v.now c.args.who.now c.held-held.result) (lists_of s) in
     let hook = modified w c.args.who.now c.total_of-shares.result in
@@ -152,8 +152,8 @@ returns-clause-accounts g c =
     c.requires.stand.0 p.0 (seen g.B.Bank.holdings c.args.g.now) (seen g.B.Bank.holdings c.call_before.new.g) c.requires.stand.1.1 p.1.1
     (origin_of c.args.origin) c.args.amount c.requires.origin c.requires.some c.requires.accounts (seen g.B.Bank.holdings c.pay_in.new.g) c.in_ok-pay_in.ensures.paid c.in_ok-pay_in.ensures.backed in
     let w = grown c.args.v.now c.args.amount c.unwrap.result in
-    let staked : c.put_shares.new.self.staked ≡ with_shares c.args.who.now c.args.v.now.operator c.total_of-shares.result (with_validator w s)
-    = ap (λ r. r.staked) c.in_ok-put_shares.ensures.ok ∙ ap (λ r. with_shares c.args.who.now c.args.v.now.operator c.total_of-shares.result r.staked) c.in_ok-put.ensures.ok in
+    let staked : c.put_shares.new.self.staked ≡ put_delegation c.args.who.now c.args.v.now.operator c.total_of-shares.result (put_validator w s)
+    = ap (λ r. r.staked) c.in_ok-put_shares.ensures.ok ∙ ap (λ r. put_delegation c.args.who.now c.args.v.now.operator c.total_of-shares.result r.staked) c.in_ok-put.ensures.ok in
     let tells = g.H.StakingHooks.tells in
     let l = after (hook_before c.args.v.now c.args.who.now c.held-held.result) (lists_of s) in
     let hook = modified w c.args.who.now c.total_of-shares.result in

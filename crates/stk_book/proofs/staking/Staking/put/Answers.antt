@@ -2,7 +2,7 @@ use Rattle.std.proofs.Common.{◌≡◌, ◌∙◌, Some, ap, sym, subst, length
 use Rattle.std.specs.List.{range_with_len}
 use Rattle.stk_types.specs.Orders.{addr_cmp}
 use Rattle.stk_keep.specs.Entries.{at, with}
-use Rattle.stk_keep.specs.Staked.{validator_of}
+use Rattle.stk_keep.specs.Staked.{validator_at}
 use Rattle.stk_book.specs.Registered.{AreKeyed, operator_by_cons}
 use Rattle.stk_book.proofs.IndexLemmas.{keyed-put, index-put}
 use Rattle.stk_book.proofs.StepLemmas.{in_step-with}
@@ -13,7 +13,7 @@ invariant_of-self g c =
     let v = c.args.v.now in
     let es = c.self.inside.validators.entries in
     let step = c.self.invariant.1 in
-    let found : at addr_cmp es v.operator ≡ Some c.requires.stands.old = ap (λ r. validator_of r.staked v.operator) c.self.view_is ∙ c.requires.stands.found in
+    let found : at addr_cmp es v.operator ≡ Some c.requires.stands.old = ap (λ r. validator_at r.staked v.operator) c.self.view_is ∙ c.requires.stands.found in
     let entries : c.put.new.self.entries ≡ with addr_cmp es v.operator v = ap (λ t. t.entries) c.in-Ok.ensures.ok in
     let marks : c.put.new.self.marks ≡ c.self.inside.validators.marks = ap (λ t. t.marks) c.in-Ok.ensures.ok in (
       c.self.invariant.0 ∙ ap (λ m. range_with_len 0 (length m)) (sym marks),

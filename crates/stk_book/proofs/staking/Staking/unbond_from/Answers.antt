@@ -2,7 +2,7 @@ use Rattle.std.proofs.Common.{◌≡◌, ◌∙◌, ◌-◌, ◌==◌, ◌<◌, 
 use Rattle.stk_shares.specs.Shares.{amount_out}
 use Rattle.stk_keep.specs.Ground.{seen}
 use Rattle.stk_keep.specs.Hooks.{Stand, Ready, with_started}
-use Rattle.stk_keep.specs.Staked.{lists_of, validator_of, with_validator}
+use Rattle.stk_keep.specs.Staked.{lists_of, validator_at, put_validator}
 use Rattle.stk_keep.specs.World.{modifying, modified}
 use Rattle.stk_keep.proofs.HookLemmas.{told-of_ok, picked}
 use Rattle.stk_rules.specs.Unbonding.{falls_below_minimum, left_standing}
@@ -180,7 +180,7 @@ put-requires g c =
     record {
       stands = record {
         old = now_of v b;
-        found = (λ i. validator_of (here.mine i) (own i)) ∙ stands_left height s h v c.requires.stands who c.args.held c.args.part c.requires.holds c.requires.part b;
+        found = (λ i. validator_at (here.mine i) (own i)) ∙ stands_left height s h v c.requires.stands who c.args.held c.args.part c.requires.holds c.requires.part b;
         cons = sym (ap (λ x. x.cons) now);
       };
     }
@@ -223,10 +223,10 @@ remove_if_empty-requires-clause-stands g c =
     let less = record c.in_ok-now.now { tokens = c.remove-tokens.result.0; shares = c.remove-tokens.result.1 } in
     let less_is : less ≡ less_of v b c.args.part = λ i. record (now i) { tokens = tok i; shares = sh i } in
     let s3 = c.put.new.self.staked in
-    let s3_is : s3 ≡ with_validator less s2 = ap (λ r. r.staked) c.in_ok-put.ensures.ok in
-    let s3_at : s3 ≡ with_validator (less_of v b c.args.part) (state_left height s h v c.requires.stands who c.args.held c.args.part c.requires.holds c.requires.part b)
-    = s3_is ∙ (λ i. with_validator (less_is i) (here.mine i)) in
-    ap (λ x. validator_of x c.in_ok-now.now.operator) s3_is ∙ found_itself s2 less
+    let s3_is : s3 ≡ put_validator less s2 = ap (λ r. r.staked) c.in_ok-put.ensures.ok in
+    let s3_at : s3 ≡ put_validator (less_of v b c.args.part) (state_left height s h v c.requires.stands who c.args.held c.args.part c.requires.holds c.requires.part b)
+    = s3_is ∙ (λ i. put_validator (less_is i) (here.mine i)) in
+    ap (λ x. validator_at x c.in_ok-now.now.operator) s3_is ∙ found_itself s2 less
 
 pub remove_if_empty-requires-clause-sound : goal.remove_if_empty-requires-clause-sound
 remove_if_empty-requires-clause-sound g c =
@@ -266,9 +266,9 @@ remove_if_empty-requires-clause-sound g c =
     let less = record c.in_ok-now.now { tokens = c.remove-tokens.result.0; shares = c.remove-tokens.result.1 } in
     let less_is : less ≡ less_of v b c.args.part = λ i. record (now i) { tokens = tok i; shares = sh i } in
     let s3 = c.put.new.self.staked in
-    let s3_is : s3 ≡ with_validator less s2 = ap (λ r. r.staked) c.in_ok-put.ensures.ok in
-    let s3_at : s3 ≡ with_validator (less_of v b c.args.part) (state_left height s h v c.requires.stands who c.args.held c.args.part c.requires.holds c.requires.part b)
-    = s3_is ∙ (λ i. with_validator (less_is i) (here.mine i)) in
+    let s3_is : s3 ≡ put_validator less s2 = ap (λ r. r.staked) c.in_ok-put.ensures.ok in
+    let s3_at : s3 ≡ put_validator (less_of v b c.args.part) (state_left height s h v c.requires.stands who c.args.held c.args.part c.requires.holds c.requires.part b)
+    = s3_is ∙ (λ i. put_validator (less_is i) (here.mine i)) in
     (height, from_points height s3 (subst (IsSoundAt height) (sym s3_at) (sound_less height s h v c.requires.stands who c.args.held c.args.part c.requires.holds c.requires.part b)))
 
 pub remove_if_empty-requires-clause-stand : goal.remove_if_empty-requires-clause-stand
@@ -309,9 +309,9 @@ remove_if_empty-requires-clause-stand g c =
     let less = record c.in_ok-now.now { tokens = c.remove-tokens.result.0; shares = c.remove-tokens.result.1 } in
     let less_is : less ≡ less_of v b c.args.part = λ i. record (now i) { tokens = tok i; shares = sh i } in
     let s3 = c.put.new.self.staked in
-    let s3_is : s3 ≡ with_validator less s2 = ap (λ r. r.staked) c.in_ok-put.ensures.ok in
-    let s3_at : s3 ≡ with_validator (less_of v b c.args.part) (state_left height s h v c.requires.stands who c.args.held c.args.part c.requires.holds c.requires.part b)
-    = s3_is ∙ (λ i. with_validator (less_is i) (here.mine i)) in
+    let s3_is : s3 ≡ put_validator less s2 = ap (λ r. r.staked) c.in_ok-put.ensures.ok in
+    let s3_at : s3 ≡ put_validator (less_of v b c.args.part) (state_left height s h v c.requires.stands who c.args.held c.args.part c.requires.holds c.requires.part b)
+    = s3_is ∙ (λ i. put_validator (less_is i) (here.mine i)) in
     (h2, (second.1.0, subst (Stand t h2 u2) (sym (ap lists_of s3_at ∙ lists_less height s h v c.requires.stands who c.args.held c.args.part c.requires.holds c.requires.part b ((c.args.held - c.args.part) == 0) refl)) here.stand))
 
 pub returns-in-Err-remove_if_empty-clause-told : goal.returns-in-Err-remove_if_empty-clause-told
@@ -347,7 +347,7 @@ returns-in-Err-remove_if_empty-clause-told g c = λ hs o.
     let less = record c.in_ok-now.now { tokens = c.remove-tokens.result.0; shares = c.remove-tokens.result.1 } in
     let less_is : less ≡ less_of v b c.args.part = λ i. record (now i) { tokens = tok i; shares = sh i } in
     let s3 = c.put.new.self.staked in
-    let s3_is : s3 ≡ with_validator less s2 = ap (λ r. r.staked) c.in_ok-put.ensures.ok in
+    let s3_is : s3 ≡ put_validator less s2 = ap (λ r. r.staked) c.in_ok-put.ensures.ok in
     let s4 = c.remove_if_empty.new.self.staked in
     let h4 = g.H.StakingHooks.holds c.remove_if_empty.new.hooks in
     let u4 = seen g.B.Bank.holdings c.remove_if_empty.new.g in
@@ -387,7 +387,7 @@ returns-in-Ok-remove_if_empty-clause-told g c = λ hs o.
     let less = record c.in_ok-now.now { tokens = c.remove-tokens.result.0; shares = c.remove-tokens.result.1 } in
     let less_is : less ≡ less_of v b c.args.part = λ i. record (now i) { tokens = tok i; shares = sh i } in
     let s3 = c.put.new.self.staked in
-    let s3_is : s3 ≡ with_validator less s2 = ap (λ r. r.staked) c.in_ok-put.ensures.ok in
+    let s3_is : s3 ≡ put_validator less s2 = ap (λ r. r.staked) c.in_ok-put.ensures.ok in
     let s4 = c.remove_if_empty.new.self.staked in
     let h4 = g.H.StakingHooks.holds c.remove_if_empty.new.hooks in
     let u4 = seen g.B.Bank.holdings c.remove_if_empty.new.g in
@@ -432,9 +432,9 @@ returns-in-Ok-remove_if_empty-clause-unbonded g c =
     let less = record c.in_ok-now.now { tokens = c.remove-tokens.result.0; shares = c.remove-tokens.result.1 } in
     let less_is : less ≡ less_of v b c.args.part = λ i. record (now i) { tokens = tok i; shares = sh i } in
     let s3 = c.put.new.self.staked in
-    let s3_is : s3 ≡ with_validator less s2 = ap (λ r. r.staked) c.in_ok-put.ensures.ok in
-    let s3_at : s3 ≡ with_validator (less_of v b c.args.part) (state_left height s h v c.requires.stands who c.args.held c.args.part c.requires.holds c.requires.part b)
-    = s3_is ∙ (λ i. with_validator (less_is i) (here.mine i)) in
+    let s3_is : s3 ≡ put_validator less s2 = ap (λ r. r.staked) c.in_ok-put.ensures.ok in
+    let s3_at : s3 ≡ put_validator (less_of v b c.args.part) (state_left height s h v c.requires.stands who c.args.held c.args.part c.requires.holds c.requires.part b)
+    = s3_is ∙ (λ i. put_validator (less_is i) (here.mine i)) in
     let s4 = c.remove_if_empty.new.self.staked in
     let h4 = g.H.StakingHooks.holds c.remove_if_empty.new.hooks in
     let u4 = seen g.B.Bank.holdings c.remove_if_empty.new.g in
@@ -482,9 +482,9 @@ returns-in-Ok-remove_if_empty-clause-keeps g c = λ hs o stand.
     let less = record c.in_ok-now.now { tokens = c.remove-tokens.result.0; shares = c.remove-tokens.result.1 } in
     let less_is : less ≡ less_of v b c.args.part = λ i. record (now i) { tokens = tok i; shares = sh i } in
     let s3 = c.put.new.self.staked in
-    let s3_is : s3 ≡ with_validator less s2 = ap (λ r. r.staked) c.in_ok-put.ensures.ok in
-    let s3_at : s3 ≡ with_validator (less_of v b c.args.part) (state_left height s h v c.requires.stands who c.args.held c.args.part c.requires.holds c.requires.part b)
-    = s3_is ∙ (λ i. with_validator (less_is i) (here.mine i)) in
+    let s3_is : s3 ≡ put_validator less s2 = ap (λ r. r.staked) c.in_ok-put.ensures.ok in
+    let s3_at : s3 ≡ put_validator (less_of v b c.args.part) (state_left height s h v c.requires.stands who c.args.held c.args.part c.requires.holds c.requires.part b)
+    = s3_is ∙ (λ i. put_validator (less_is i) (here.mine i)) in
     let s4 = c.remove_if_empty.new.self.staked in
     let h4 = g.H.StakingHooks.holds c.remove_if_empty.new.hooks in
     let u4 = seen g.B.Bank.holdings c.remove_if_empty.new.g in

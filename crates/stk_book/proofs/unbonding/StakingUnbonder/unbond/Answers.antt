@@ -2,7 +2,7 @@ use Rattle.std.proofs.Common.{◌≡◌, ◌∙◌, Some, ap, sym, subst}
 use Rattle.std.specs.Prelude.{IfOk, IsSome, is_some}
 use Rattle.std.specs.Option.{option_copied}
 use Rattle.stk_table.proofs.WalkLemmas.{is_some-map}
-use Rattle.stk_keep.specs.Staked.{validator_of, IsUnbonded}
+use Rattle.stk_keep.specs.Staked.{validator_at, IsUnbonded}
 use Rattle.stk_rules.proofs.SoundLemmas.{to_points}
 use Rattle.stk_book.proofs.unbonding.StakingUnbonder.unbond.Goals as goal
 
@@ -10,12 +10,12 @@ pub unwrap-requires : goal.unwrap-requires
 unwrap-requires g c =
     let s = c.args.self.now.staked in
     let h = to_points c.requires.sound.0 s c.requires.sound.1 in
-    let stands : IsSome (validator_of s c.args.operator.now) = h.existing (c.args.operator.now, c.args.who.now) c.requires.shares.0 c.requires.shares.1.0 in
+    let stands : IsSome (validator_at s c.args.operator.now) = h.existing (c.args.operator.now, c.args.who.now) c.requires.shares.0 c.requires.shares.1.0 in
     sym (is_some-map (λ x. x.now) c.at.result) ∙ ap is_some c.at.ensures.value ∙ stands
 
 pub returns-clause-unbonded : goal.returns-clause-unbonded
 returns-clause-unbonded g c =
     let v = c.unwrap.result.now in
-    let found : validator_of c.args.self.now.staked c.args.operator.now ≡ Some v = sym c.at.ensures.value ∙ ap option_copied c.unwrap.ensures in
+    let found : validator_at c.args.self.now.staked c.args.operator.now ≡ Some v = sym c.at.ensures.value ∙ ap option_copied c.unwrap.ensures in
     let own : v.operator ≡ c.args.operator.now = c.known.ensures.operators c.args.operator.now v found in
     subst (λ o. IfOk c.unbond_from.result (λ out. IsUnbonded c.args.who.now o c.args.shares out c.args.self.now.staked c.unbond_from.new.self.staked)) own c.unbond_from.ensures.unbonded

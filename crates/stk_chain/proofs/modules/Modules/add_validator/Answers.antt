@@ -1,7 +1,7 @@
 use Rattle.std.proofs.Common.{◌∙◌, Ok, sym, ap, subst}
 use Rattle.stk_keep.specs.declared.messages.CreateValidator.{CreateValidator}
 use Rattle.stk_keep.specs.NoHooks.{nothing_told}
-use Rattle.stk_keep.specs.Staked.{validator_of, validator_by_cons}
+use Rattle.stk_keep.specs.Staked.{validator_at, validator_by_cons}
 use Rattle.stk_rules.specs.Answers.{WantsMemory, Leaves}
 use Rattle.stk_rules.specs.Validators.{new_validator, stored}
 use Rattle.stk_book.specs.Calls.{HasRates}
@@ -12,7 +12,7 @@ use Rattle.stk_chain.proofs.RestLemmas.{idle_stand, rests_next, AdmittedAs, admi
 use Rattle.stk_chain.proofs.modules.Modules.add_validator.Goals as goal
 
 pub admit-requires-clause-new : goal.admit-requires-clause-new
-admit-requires-clause-new g c = ap (λ (m : CreateValidator). validator_of c.args.self.now.staking.staked m.validator) c.creation_of-m.ensures ∙ c.requires.new
+admit-requires-clause-new g c = ap (λ (m : CreateValidator). validator_at c.args.self.now.staking.staked m.validator) c.creation_of-m.ensures ∙ c.requires.new
 
 pub admit-requires-clause-new_cons : goal.admit-requires-clause-new_cons
 admit-requires-clause-new_cons g c = ap (λ (m : CreateValidator). validator_by_cons c.args.self.now.staking.staked m.cons) c.creation_of-m.ensures ∙ c.requires.new_cons

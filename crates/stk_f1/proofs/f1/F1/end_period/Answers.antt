@@ -1,7 +1,7 @@
 use Rattle.std.proofs.Common.{◌≡◌, ◌∷◌, [], ◌++◌, sym, ap, subst, ◌∙◌, is_some}
 use Rattle.stk_keep.specs.declared.facts.Fact.TheVariants.{Period}
 use Rattle.stk_f1.specs.Kept.{current_of}
-use Rattle.stk_f1.specs.Stands.{Keeps, IsKept}
+use Rattle.stk_f1.specs.Stands.{KeepsRewards, IsKept}
 use Rattle.stk_f1.proofs.RatioLemmas.{last-stands, end-answers, end-faults}
 use Rattle.stk_f1.proofs.f1.F1.end_period.Goals as goal
 
@@ -14,7 +14,7 @@ pub returns-in-Err-clause-ended : goal.returns-in-Err-clause-ended
 returns-in-Err-clause-ended g c r h =
     let same : c.self.inside.tables ≡ c.args.self.now = c.self.view_is in
     end-faults c.self.inside.tables.kept c.args.self.now.kept r c.args.operator.now c.args.increment.now c.args.facts.now c.args.facts.now c.in-Err.fault
-    (subst (λ t. Keeps t.kept r) (sym same) h) (ap (λ t. is_some (current_of t.kept c.args.operator.now)) same ∙ c.requires.initialised)
+    (subst (λ t. KeepsRewards t.kept r) (sym same) h) (ap (λ t. is_some (current_of t.kept c.args.operator.now)) same ∙ c.requires.initialised)
     c.in-Err.ensures.fault
 
 pub returns-clause-ended : goal.returns-clause-ended
@@ -23,6 +23,6 @@ returns-clause-ended g c r h =
     let told = c.in_ok-push.ensures.ok in
     let copy = c.in_ok-told.ensures.same in
     end-answers c.self.inside.tables.kept c.end.new.self.kept r c.args.operator.now c.args.increment.now c.in-Ok.next.1 c.args.facts.now c.push.new.self c.in-Ok.next.0
-    (subst (λ t. Keeps t.kept r) (sym same) h) (ap (λ t. is_some (current_of t.kept c.args.operator.now)) same ∙ c.requires.initialised)
+    (subst (λ t. KeepsRewards t.kept r) (sym same) h) (ap (λ t. is_some (current_of t.kept c.args.operator.now)) same ∙ c.requires.initialised)
     c.known.ensures.historical c.len.ensures.money c.in-Ok.ensures.ratio c.in-Ok.ensures.period
     (ap (λ t. t.kept) c.in_ok-end.ensures.ok) (told ∙ ap (λ ratio. c.args.facts.now ++ Period c.args.operator.now c.in-Ok.next.0 ratio ∷ []) copy)

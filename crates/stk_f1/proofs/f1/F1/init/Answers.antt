@@ -1,7 +1,7 @@
 use Rattle.std.proofs.Common.{◌≡◌, sym, ap, subst, ◌∙◌}
 use Rattle.stk_f1.specs.Kept.{current_of}
 use Rattle.stk_rules.specs.Periods.{initial_records, with_periods}
-use Rattle.stk_f1.specs.Stands.{Keeps}
+use Rattle.stk_f1.specs.Stands.{KeepsRewards}
 use Rattle.stk_f1.proofs.InitLemmas.{init-stands}
 use Rattle.stk_f1.proofs.f1.F1.init.Goals as goal
 
@@ -9,5 +9,5 @@ pub returns-clause-made : goal.returns-clause-made
 returns-clause-made g c r h =
     let tables = c.self.inside.tables in
     let same : tables ≡ c.args.self.now = c.self.view_is in
-    subst (λ t. Keeps t.kept (with_periods c.args.operator.now initial_records r)) (sym c.in_ok-make.ensures.ok)
-    (init-stands tables.kept r c.args.operator.now c.known.ensures.historical (subst (λ t. Keeps t.kept r) (sym same) h) (ap (λ t. current_of t.kept c.args.operator.now) same ∙ c.requires.new))
+    subst (λ t. KeepsRewards t.kept (with_periods c.args.operator.now initial_records r)) (sym c.in_ok-make.ensures.ok)
+    (init-stands tables.kept r c.args.operator.now c.known.ensures.historical (subst (λ t. KeepsRewards t.kept r) (sym same) h) (ap (λ t. current_of t.kept c.args.operator.now) same ∙ c.requires.new))

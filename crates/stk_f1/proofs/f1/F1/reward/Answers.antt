@@ -1,5 +1,5 @@
 use Rattle.std.proofs.Common.{sym, ap, subst, ◌∙◌}
-use Rattle.stk_f1.specs.Stands.{Keeps, IsKept}
+use Rattle.stk_f1.specs.Stands.{KeepsRewards, IsKept}
 use Rattle.stk_f1.specs.Steps.{running}
 use Rattle.stk_f1.proofs.EarnLemmas.{found}
 use Rattle.stk_f1.proofs.GivesLemmas.{can-reward, reward-gives}
@@ -19,6 +19,6 @@ returns-clause-reward g c r h =
     (subst (λ t. IsKept t.kept) (sym c.self.view_is) c.requires.kept) (sym c.info.ensures.info ∙ c.unwrap-info.ensures)
     (c.requires.last ∙ sym (ap (λ t. running t.kept c.args.operator.now) c.self.view_is)) (found c.unwrap-last.ensures c.record.ensures.found) in
     reward-gives c.self.inside.tables.kept r c.args.operator.now c.args.who.now c.unwrap-info.result c.args.ending c.args.height c.args.value c.unwrap-last.result.now c.earned.result
-    (subst (λ t. Keeps t.kept r) (sym c.self.view_is) h) (sym c.info.ensures.info ∙ c.unwrap-info.ensures)
+    (subst (λ t. KeepsRewards t.kept r) (sym c.self.view_is) h) (sym c.info.ensures.info ∙ c.unwrap-info.ensures)
     (c.requires.last ∙ sym (ap (λ t. running t.kept c.args.operator.now) c.self.view_is)) (found c.unwrap-last.ensures c.record.ensures.found) c.if-info-height.false
     (c.earned.ensures.reward c.args.ending can) (c.earned.ensures.fault c.args.ending can)

@@ -1,6 +1,6 @@
 use Rattle.std.proofs.Common.{sym, ap, subst, ◌∙◌, is_some}
 use Rattle.stk_f1.specs.Kept.{current_of}
-use Rattle.stk_f1.specs.Stands.{Keeps, IsKept}
+use Rattle.stk_f1.specs.Stands.{KeepsRewards, IsKept}
 use Rattle.stk_f1.proofs.RatioLemmas.{last-stands}
 use Rattle.stk_f1.proofs.GivesLemmas.{can-reward-after, after-gives, after-excess}
 use Rattle.stk_f1.proofs.f1.F1.reward_after.Goals as goal
@@ -13,7 +13,7 @@ next_ratio-requires-clause-record g c =
 pub returns-in-Err-clause-reward : goal.returns-in-Err-clause-reward
 returns-in-Err-clause-reward g c r h =
     after-excess c.self.inside.tables.kept r c.args.operator.now c.args.who.now c.args.increment.now c.args.height c.args.value c.in-Err.fault
-    (subst (λ t. Keeps t.kept r) (sym c.self.view_is) h) (ap (λ t. is_some (current_of t.kept c.args.operator.now)) c.self.view_is ∙ c.requires.initialised) c.in-Err.ensures.fault
+    (subst (λ t. KeepsRewards t.kept r) (sym c.self.view_is) h) (ap (λ t. is_some (current_of t.kept c.args.operator.now)) c.self.view_is ∙ c.requires.initialised) c.in-Err.ensures.fault
 
 pub earned-requires : goal.earned-requires
 earned-requires g c =
@@ -23,5 +23,5 @@ earned-requires g c =
 pub returns-clause-reward : goal.returns-clause-reward
 returns-clause-reward g c r h =
     after-gives c.self.inside.tables.kept r c.args.operator.now c.args.who.now c.unwrap-info.result c.args.increment.now c.in-Ok.next.1 c.args.height c.args.value c.earned.result
-    (subst (λ t. Keeps t.kept r) (sym c.self.view_is) h) (sym c.info.ensures.info ∙ c.unwrap-info.ensures) c.len.ensures.money c.in-Ok.ensures.ratio (λ e. c.if-height-info.false (sym e))
+    (subst (λ t. KeepsRewards t.kept r) (sym c.self.view_is) h) (sym c.info.ensures.info ∙ c.unwrap-info.ensures) c.len.ensures.money c.in-Ok.ensures.ratio (λ e. c.if-height-info.false (sym e))
     c.earned.ensures.reward c.earned.ensures.fault

@@ -1,7 +1,7 @@
 use Rattle.std.proofs.Common.{◌≡◌, ◌≢◌, ◌≤◌, sym, ap, subst, ◌∙◌, is_some}
 use Rattle.std.specs.Prelude.{All}
 use Rattle.stk_f1.specs.Kept.{current_of, events_of, record_of, referred}
-use Rattle.stk_f1.specs.Stands.{Keeps, IsKept}
+use Rattle.stk_f1.specs.Stands.{KeepsRewards, IsKept}
 use Rattle.stk_f1.specs.Steps.{running}
 use Rattle.stk_f1.proofs.CallLemmas.{count-few, slash-answers}
 use Rattle.stk_f1.proofs.f1.F1.slash_event.Goals as goal
@@ -18,7 +18,7 @@ returns-clause-recorded g c r h =
     let put = c.in_ok-put_event.ensures.ok in
     let left = c.in_ok-refer.ensures.ok in
     slash-answers c.self.inside.tables.kept c.refer.new.self.kept r c.args.operator.now c.args.height c.args.period c.args.fraction
-    (subst (λ t. Keeps t.kept r) (sym same) h) (ap (λ t. is_some (current_of t.kept c.args.operator.now)) same ∙ c.requires.initialised)
+    (subst (λ t. KeepsRewards t.kept r) (sym same) h) (ap (λ t. is_some (current_of t.kept c.args.operator.now)) same ∙ c.requires.initialised)
     c.known.ensures.historical c.known.ensures.events (c.requires.last ∙ sym (ap (λ t. running t.kept c.args.operator.now) same))
     (subst (λ t. All (λ e. e.period ≢ c.args.period) (events_of t.kept c.args.operator.now)) (sym same) c.requires.free)
     (subst (λ t. All (λ e. e.height ≤ c.args.height) (events_of t.kept c.args.operator.now)) (sym same) c.requires.heights)

@@ -2,7 +2,7 @@ use Rattle.std.proofs.Common.{◌≡◌, ◌-◌, ◌∷◌, [], ◌++◌, sym, 
 use Rattle.std.specs.Prelude.{unwrap_or}
 use Rattle.stk_keep.specs.declared.facts.Fact.TheVariants.{Started}
 use Rattle.stk_f1.specs.Kept.{current_of, info_of, record_of, referred}
-use Rattle.stk_f1.specs.Stands.{Keeps, IsKept}
+use Rattle.stk_f1.specs.Stands.{KeepsRewards, IsKept}
 use Rattle.stk_f1.proofs.CallLemmas.{count-few, last-is, start-answers}
 use Rattle.stk_f1.proofs.RatioLemmas.{running-above}
 use Rattle.stk_f1.proofs.f1.F1.start.Goals as goal
@@ -20,7 +20,7 @@ returns-clause-started g c r h =
     let left = c.in_ok-refer.ensures.ok in
     let is = ap (λ t. is_some (current_of t.kept c.args.operator.now)) same ∙ c.requires.initialised in
     start-answers c.self.inside.tables.kept c.refer.new.self.kept r c.args.operator.now c.args.who.now c.args.stake c.args.height (c.unwrap-period.result - 1)
-    (subst (λ t. Keeps t.kept r) (sym same) h) is
+    (subst (λ t. KeepsRewards t.kept r) (sym same) h) is
     c.known.ensures.historical (ap (λ t. info_of t.kept c.args.who.now c.args.operator.now) same ∙ c.requires.new)
     (running-above c.self.inside.tables.kept c.args.operator.now (subst (λ t. IsKept t.kept) (sym same) c.requires.kept) is)
     (ap (λ x. unwrap_or x 0 - 1) (sym c.unwrap-period.ensures ∙ c.current.ensures.period))
@@ -30,6 +30,6 @@ pub returns-clause-told : goal.returns-clause-told
 returns-clause-told g c r h =
     let same : c.self.inside.tables ≡ c.args.self.now = c.self.view_is in
     let is = ap (λ t. is_some (current_of t.kept c.args.operator.now)) same ∙ c.requires.initialised in
-    let period = last-is c.self.inside.tables.kept r c.args.operator.now (c.unwrap-period.result - 1) (subst (λ t. Keeps t.kept r) (sym same) h) is
+    let period = last-is c.self.inside.tables.kept r c.args.operator.now (c.unwrap-period.result - 1) (subst (λ t. KeepsRewards t.kept r) (sym same) h) is
     (ap (λ x. unwrap_or x 0 - 1) (sym c.unwrap-period.ensures ∙ c.current.ensures.period)) in
     c.in_ok-push.ensures.ok ∙ ap (λ n. c.args.facts.now ++ Started c.args.who.now c.args.operator.now n c.args.stake ∷ []) period

@@ -1,6 +1,6 @@
 use Rattle.std.proofs.Common.{◌≡◌, sym, ap, subst, ◌∙◌}
 use Rattle.stk_f1.specs.Kept.{released}
-use Rattle.stk_f1.specs.Stands.{Keeps}
+use Rattle.stk_f1.specs.Stands.{KeepsRewards}
 use Rattle.stk_f1.proofs.CallLemmas.{stop-answers}
 use Rattle.stk_f1.proofs.f1.F1.stop.Goals as goal
 
@@ -12,5 +12,5 @@ returns-clause-stopped g c r h =
     let left = c.in_ok-release.ensures.ok in
     let taken = c.in_ok-take_info.ensures.ok in
     stop-answers c.self.inside.tables.kept c.release.new.self.kept r c.args.operator.now c.args.who.now c.unwrap-info.result
-    (subst (λ t. Keeps t.kept r) (sym same) h) c.known.ensures.historical (sym info ∙ is)
+    (subst (λ t. KeepsRewards t.kept r) (sym same) h) c.known.ensures.historical (sym info ∙ is)
     (ap (λ t. t.kept) left ∙ ap (λ t. released c.args.operator.now c.unwrap-info.result.period t.kept) taken)
