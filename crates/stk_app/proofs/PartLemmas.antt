@@ -128,17 +128,9 @@ none_fed n s line w short = record { text = []; number = sym (add-zero n); line_
 
 -- ---- the end of the input
 
-pub last-none : (line : List ℕ) → length line ≡ 0 → last_line line ≡ []
-last-none [] h = refl
-last-none (b ∷ line) h = absurd (omega arith)
-
 pub last-some : (line : List ℕ) → 0 < length line → last_line line ≡ line ∷ []
 last-some [] h = absurd (omega arith)
 last-some (b ∷ line) h = refl
-
--- the report needs no number
-pub none_done : (n : ℕ) (s : Stage) (line : List ℕ) (w w' : Option (List ℕ)) → length line ≡ 0 → Finishes 1 s [] w w' → Finishes n s (last_line line) w w'
-none_done n s line w w' h done = rw (last-none line h) (done.0, done.1, done.2)
 
 pub report_done : (n : ℕ) (s s' : Stage) (line : List ℕ) (w w1 w' : Option (List ℕ)) → 0 < length line → Took n s line s' w w1 → Finishes 1 s' [] w1 w' → Finishes n s (last_line line) w w'
 report_done n s s' line w w1 w' h took done =
@@ -176,20 +168,11 @@ report_ends n s s' lines text' ends.NoMemory text good of (inl h) = inl (record 
 })
 report_ends n s s' lines text' ends.NoMemory text good of (inr h) = inr (record { end = h.end; answered = answered_all n 1 s s' lines text' text h.end good h.answered })
 
-pub report_none : (s : Stage) (w : Option (List ℕ)) → FinishStops 1 s [] w w ends.NoMemory
-report_none s w = λ old told. ([], no_growth w old told, inr (record { end = s; answered = (refl, refl) }))
-
-pub none_stops : (n : ℕ) (s : Stage) (line : List ℕ) (w w' : Option (List ℕ)) (stop : EndStop) → length line ≡ 0 → IsOfReport stop → FinishStops 1 s [] w w' stop → FinishStops n s (last_line line) w w' stop
-none_stops n s line w w' stop h of stops = λ old told. let t = stops old told in (t.0, t.1, rw (last-none line h) (report_ends n s s [] [] stop t.0 (refl, refl) of t.2))
-
 pub report_stops : (n : ℕ) (s s' : Stage) (line : List ℕ) (w w1 w' : Option (List ℕ)) (stop : EndStop) → 0 < length line → Took n s line s' w w1 → IsOfReport stop → FinishStops 1 s' [] w1 w' stop → FinishStops n s (last_line line) w w' stop
 report_stops n s s' line w w1 w' stop h took of stops = λ old told.
     let t = stops _ (took.2 old told) in
     let one : AreAnswered n s (line ∷ []) took.0 s' = (record { text = took.0; stage = s' }, [], took.1, sym (append-nil took.0), (refl, refl)) in
     (took.0 ++ t.0, t.1 ∙ ap Some (append_assoc old took.0 t.0), rw (last-some line h) (report_ends n s s' (line ∷ []) took.0 stop t.0 one of t.2))
-
-pub last_stops : (n : ℕ) (s : Stage) (line : List ℕ) (w w' : Option (List ℕ)) (stop : Stop) → 0 < length line → PartStops n s (λ (more : List (List ℕ)). line ∷ more) (line ∷ []) w w' stop → FinishStops n s (last_line line) w w' (ends.Line stop)
-last_stops n s line w w' stop h stops = rw (last-some line h) (stops_along n n s [] [] s (λ (more : List (List ℕ)). line ∷ more) (λ (_ : ⊤). line ∷ []) (λ (_ : ⊤). []) (line ∷ []) [] (line ∷ []) w w w' stop (refl, refl) (sym (add-zero n)) (λ _. refl) refl (no_growth w) stops)
 
 -- ---- a piece, line by line
 
@@ -198,9 +181,6 @@ pub record FedTo (n : ℕ) (s : Stage) (line piece rest : List ℕ) (n' : ℕ) (
   pub done : List ℕ
   pub piece_is : piece ≡ done ++ rest
   pub fed : Fed n s line done n' s' line' w w'
-
-pub fed_to_none : (n : ℕ) (s : Stage) (line piece : List ℕ) (w : Option (List ℕ)) → length line ≤ longest → FedTo n s line piece piece n s line w w
-fed_to_none n s line piece w short = record { done = []; piece_is = refl; fed = none_fed n s line w short }
 
 -- the rest begins with bytes and the end of a line
 parted : (rest : List ℕ) (i : ℕ) → drop i rest ≡ 10 ∷ drop (i + 1) rest → rest ≡ (take i rest ++ 10 ∷ []) ++ drop (i + 1) rest
@@ -240,10 +220,6 @@ fed_to_number n s line piece rest n1 s1 line1 w w1 f =
 both_err : {A E : Type 0} (r : Result A E) (P Q R : E → Type 0) → ((e : E) → P e → Q e → R e) → IfErr r P → IfErr r Q → IfErr r R
 both_err (Ok x) P Q R f p q = tt
 both_err (Err e) P Q R f p q = f e p q
-
--- the report after the last line, or with no line before it
-pub none_all : (r : Result (Unit {0}) EndStop) (n : ℕ) (s : Stage) (line : List ℕ) (w w' : Option (List ℕ)) → length line ≡ 0 → IfErr r IsOfReport → IfErr r (FinishStops 1 s [] w w') → IfErr r (FinishStops n s (last_line line) w w')
-none_all r n s line w w' h of stops = both_err r IsOfReport _ _ (λ stop o t. none_stops n s line w w' stop h o t) of stops
 
 pub report_all : (r : Result (Unit {0}) EndStop) (n : ℕ) (s s' : Stage) (line : List ℕ) (w w1 w' : Option (List ℕ)) → 0 < length line → Took n s line s' w w1 → IfErr r IsOfReport → IfErr r (FinishStops 1 s' [] w1 w') → IfErr r (FinishStops n s (last_line line) w w')
 report_all r n s s' line w w1 w' h took of stops = both_err r IsOfReport _ _ (λ stop o t. report_stops n s s' line w w1 w' stop h took o t) of stops

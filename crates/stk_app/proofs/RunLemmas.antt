@@ -29,12 +29,6 @@ answered-append n s (l ∷ a) b text middle text' end g h =
     let h2 : AreAnswered (n + 1 + length a) middle b text' end = rw m at h in
     (g.0, g.1 ++ text', g.2, ap (λ (t : List ℕ). t ++ text') g.3 ∙ append_assoc g.0.text g.1 text', answered-append (n + 1) g.0.stage a b g.1 middle text' end g.4 h2)
 
--- what is written for all is what was written, and then what is written from here
-pub fed-ran : (n : ℕ) (s : Stage) (line bytes : List ℕ) (n' : ℕ) (s' : Stage) (line' : List ℕ) (w w' : Option (List ℕ)) (fed : Fed n s line bytes n' s' line' w w')
-    → (more : List ℕ) → ran_from n s (lines_from line (bytes ++ more)) ≡ before fed.text (ran_from n' s' (lines_from line' more))
-fed-ran n s line bytes n' s' line' w w' fed more =
-    rw (lines-append bytes line more, ran-append n s (whole_from line bytes) (lines_from (rest_from line bytes) more) fed.text s' fed.answered, fed.number, fed.line_is) refl
-
 pub fed-append : (n : ℕ) (s : Stage) (line a : List ℕ) (n1 : ℕ) (s1 : Stage) (line1 b : List ℕ) (n2 : ℕ) (s2 : Stage) (line2 : List ℕ) (w w1 w2 : Option (List ℕ)) → Fed n s line a n1 s1 line1 w w1 → Fed n1 s1 line1 b n2 s2 line2 w1 w2 → Fed n s line (a ++ b) n2 s2 line2 w w2
 fed-append n s line a n1 s1 line1 b n2 s2 line2 w w1 w2 f g =
     let number : n2 ≡ n + length (whole_from line a) + length (whole_from (rest_from line a) b) = rw (f.number, f.line_is) at g.number in

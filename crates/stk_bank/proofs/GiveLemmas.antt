@@ -148,31 +148,3 @@ pub record Starting (accounts : List (Account × Money)) (here : Booked) (rest :
 module _ (accounts : List (Account × Money)) where
   pub starting-first : IsBounded accounts → Starting accounts new_book accounts
   starting-first b = record { same = refl; gives = refl; backed = backed-none; bounded = λ d. let l : given_of accounts d ≤ 10 ^ 18 = b d in omega (arith, l) }
-
-  pub starting-bounded : (here : Booked) (a : Account × Money) (rest more : List (Account × Money)) → rest ≡ a ∷ more → Starting accounts here rest
-      → (d : List ℕ) → supply_of here.holdings d + amount_of a.1 d ≤ 10 ^ 18
-  starting-bounded here a rest more r m d =
-      let b : supply_of here.holdings d + given_of rest d ≤ 10 ^ 18 = m.bounded d in
-      let s : given_of rest d ≡ amount_of a.1 d + given_of more d = ap (λ l. given_of l d) r in
-      omega (arith, b, s)
-
-  pub starting-next : (here next : Booked) (a : Account × Money) (rest more : List (Account × Money)) → rest ≡ a ∷ more → Starting accounts here rest
-      → next ≡ holding (coins_given a.0 a.1 here.holdings) here → IsBacked next.holdings → ((d : List ℕ) → supply_of next.holdings d ≡ supply_of here.holdings d + amount_of a.1 d) → Starting accounts next more
-  starting-next here next a rest more r m e k s =
-      let gives : all_given (a ∷ more) here.holdings ≡ held_by accounts = subst (λ l. all_given l here.holdings ≡ held_by accounts) r m.gives in
-      let held : next.holdings ≡ coins_given a.0 a.1 here.holdings = ap (λ b. b.holdings) e in
-      record {
-        same = e ∙ ap (λ b. holding (coins_given a.0 a.1 here.holdings) b) m.same ∙ ap (λ h. holding h new_book) (sym held);
-        gives = ap (all_given more) held ∙ gives;
-        backed = k;
-        bounded = λ d.
-            let b : supply_of here.holdings d + given_of rest d ≤ 10 ^ 18 = m.bounded d in
-            let t : given_of rest d ≡ amount_of a.1 d + given_of more d = ap (λ l. given_of l d) r in
-            let u : supply_of next.holdings d ≡ supply_of here.holdings d + amount_of a.1 d = s d in
-            omega (arith, b, t, u);
-      }
-
-  pub starting-end : (here : Booked) (rest : List (Account × Money)) → rest ≡ [] → Starting accounts here rest → here ≡ holding (held_by accounts) new_book
-  starting-end here rest r m =
-      let gives : here.holdings ≡ held_by accounts = subst (λ l. all_given l here.holdings ≡ held_by accounts) r m.gives in
-      m.same ∙ ap (λ h. holding h new_book) gives

@@ -130,9 +130,6 @@ module _ {A : Type 0} (f : A → List ℕ × ℕ) (es : Money) where
   pub collected-shorter : (after : Option (List ℕ)) (c : A) → IsStrictlySortedBy denom_cmp (keys_of es) → Some (f c) ≡ entry_above denom_cmp es after → length (left_of denom_cmp es (Some (f c).0)) < length (left_of denom_cmp es after)
   collected-shorter after c s e = let n = ap length (walk-more denom_cmp denom_total es after (f c) s (sym e)) in omega (arith, n)
 
-  pub collected-all : (out : List A) (after : Option (List ℕ)) → map f out ++ left_of denom_cmp es after ≡ es → None ≡ entry_above denom_cmp es after → map f out ≡ es
-  collected-all out after w e = sym (append_nil (map f out)) ∙ ap (λ l. map f out ++ l) (sym (walk-end denom_cmp es after (sym e))) ∙ w
-
 -- the coins of an account are in order where a table holds the balances
 pub coins-ordered : (es : Balances) (h : Holdings) (who : Account) → es ≡ h.balances → IsStrictlySortedBy place_order (keys_of es) → IsStrictlySortedBy denom_cmp (keys_of (coins_of h who))
 coins-ordered es h who e s = subst (λ (bs : Balances). IsStrictlySortedBy denom_cmp (keys_of (coins who bs))) e (coins-ascend who es (ordered_at es s))

@@ -23,9 +23,6 @@ drop-here (y ∷ xs) (suc i) x e = drop-here xs i x e
 pub drop-at : {A : Type 0} (xs : List A) (i : ℕ) (x : A) → slice_get xs i ≡ Some x → drop i xs ≡ x ∷ drop (i + 1) xs
 drop-at xs i x e = drop-here xs i x e ∙ ap (λ n. x ∷ drop n xs) (sym (add-one i))
 
-pub drop-end : {A : Type 0} (xs : List A) (i : ℕ) → length xs ≤ i → drop i xs ≡ []
-drop-end xs i h = drop_of_length-le xs h
-
 -- ---- whether one is short
 
 pub short-here : (h : Holdings) (who : Account) (c : List ℕ × ℕ) (cs : Money) → balance_of h who c.0 < c.1 → is_short h who (c ∷ cs) ≡ true
@@ -82,11 +79,6 @@ module _ (from to : Account) (coins : Money) (start : Booked) where
 
   pub moving-enough : (here : Booked) (c : List ℕ × ℕ) (rest cs : Money) → rest ≡ c ∷ cs → Moving from to coins start here rest → c.1 ≤ balance_of here.holdings from c.0
   moving-enough here c rest cs r m = first_enough here.holdings from c cs (subst (λ l. is_short here.holdings from l ≡ false) r m.enough)
-
-  pub moving-end : (here : Booked) (rest : Money) → rest ≡ [] → Moving from to coins start here rest → here ≡ holding (moved from to coins start.holdings) start
-  moving-end here rest r m =
-      let moves : here.holdings ≡ moved from to coins start.holdings = subst (λ l. moved from to l here.holdings ≡ moved from to coins start.holdings) r m.moves in
-      m.same ∙ ap (λ h. holding h start) moves
 
 -- ---- what fits
 

@@ -33,11 +33,6 @@ use Rattle.stk_book.specs.Calls.{PaysAs, CanPay}
 
 -- ---- what can be undone after one step can be after two
 
-pub undone_then : {B M : Type 0} (m : B → M) (a b c : Ground B) → CanBeUndone m a b → CanBeUndone m b c → CanBeUndone m a c
-undone_then m a b c p q = record {
-  marks = q.marks ∙ p.marks;
-  ctx = q.ctx ∙ p.ctx;
-  facts = (p.facts.0 ++ q.facts.0, q.facts.1 ∙ ap (λ l. l ++ q.facts.0) p.facts.1 ∙ append_assoc a.facts p.facts.0 q.facts.0);
 }
 
 -- ---- coins of the bond denomination

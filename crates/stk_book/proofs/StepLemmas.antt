@@ -81,9 +81,6 @@ module _ (v : Tabled (List ℕ) Validator) (o : Tabled (List ℕ) (List ℕ)) (d
     power_reduction = p;
   }
 
-  pub depth-registered : (spent : Bool) (p : ℕ) → length (registered v d spent p).marks ≡ length v.marks
-  depth-registered spent p = length-side v.marks d.marks h.delegations_depth
-
   -- other entries of validators, and their index
   pub in_step-with : (v2 : Tabled (List ℕ) Validator) (o2 : Tabled (List ℕ) (List ℕ)) → v2.marks ≡ v.marks → v2.settled ≡ v.settled → o2.marks ≡ o.marks
       → AreKeyed v2.entries → IsIndex v2.entries o2.entries → AreInStep v2 o2 d
@@ -172,7 +169,3 @@ module _ (v : Tabled (List ℕ) Validator) (o : Tabled (List ℕ) (List ℕ)) (d
   closed-all spent p m =
       let n : length v.marks ≡ 0 = sym (length-side v.marks d.marks h.delegations_depth) ∙ ap length m in
       (none_from_length v.marks n, none_from_length o.marks (h.operators_depth ∙ n), none_from_length d.marks (h.delegations_depth ∙ n))
-
--- a table that went back to a mark just opened is as it was
-pub marked-back : {K V : Type 0} (t t2 : Tabled K V) → table.IsGoneBack (table.with_mark t) t2 → t2 ≡ t
-marked-back t t2 g = let r = same_last t2.marks t.marks t2.entries t.entries g.restored in g.rest ∙ (λ i. record t { entries = r.1 i; marks = r.0 i })

@@ -27,9 +27,6 @@ stakes_within T X N hs pos held above =
 raised_claims : (i : ℕ) (hs : List Holder) → total claim_of (map (raised i) hs) ≤ total claim_of hs + i * total stake_of hs
 raised_claims i hs = omega (arith, total_map 1 1 i (raised i) claim_of claim_of stake_of (λ h. omega arith) hs)
 
-ends_zero : (c C O N r total_claims after : ℕ) → after ≤ total_claims + 0 * 0 → (C + c) * one + total_claims ≤ O * one + N * r → (C + 0) * one + after ≤ (O - min c O) * one + N * (r + 0)
-ends_zero c C O N r total_claims after h k = omega arith
-
 ends_some : (T c C O N r i stakes claims after : ℕ) → i * T ≤ c → stakes ≤ T * one + N → after ≤ claims + i * stakes → (C + c) * one + claims ≤ O * one + N * r → (C + 0) * one + after ≤ (O - 0) * one + N * (r + i)
 ends_some T c C O N r i stakes claims after low within h k =
     let m : i * stakes ≤ i * (T * one + N) = mul-le-mul_left i within in

@@ -11,12 +11,6 @@ use Rattle.stk_machine.specs.Genesis.{first_that_holds}
 abbrev pub number_by : Bool → Bool → Bool → Bool → Bool → Option ℕ
 number_by a t b c d = first_that_holds ((1, not a || t) ∷ (2, b) ∷ (11, c) ∷ (12, d) ∷ [])
 
-pub eleven : (a t b c d : Bool) → a ≡ true → t ≡ false → b ≡ false → c ≡ true → Some 11 ≡ number_by a t b c d
-eleven a t b c d ea et eb ec = rw (ea, et, eb, ec) refl
-
-pub twelve : (a t b c d : Bool) → a ≡ true → t ≡ false → b ≡ false → c ≡ false → d ≡ true → Some 12 ≡ number_by a t b c d
-twelve a t b c d ea et eb ec ed = rw (ea, et, eb, ec, ed) refl
-
 pub no_condition : (a t b c d : Bool) → a ≡ true → t ≡ false → b ≡ false → c ≡ false → d ≡ false → None ≡ number_by a t b c d
 no_condition a t b c d ea et eb ec ed = rw (ea, et, eb, ec, ed) refl
 
@@ -24,11 +18,3 @@ before_end : (t : ℕ) → nat_le end_of_blocks t ≡ false → t < end_of_block
 before_end t e = grind (arith, nat_tests)
 
 -- ---- what a match on supplies leaves
-
-pub high_left : {X : Type 0} (P : Type 0) (Q : X → Type 0) (o : Option X) → o ≡ None → MatchOption o P Q → P
-high_left P Q None e m = m
-high_left P Q (Some x) e m = absurd cc
-
-pub low_left : {X : Type 0} (P : Type 0) (Q : X → Type 0) (o : Option X) (x : X) → o ≡ Some x → MatchOption o P Q → Q x
-low_left P Q None x e m = absurd cc
-low_left P Q (Some y) x e m = let same : y ≡ x = cc in subst Q same m

@@ -29,31 +29,6 @@ pub record TotalSoFar (ds : List GenesisDelegation) (place total : ℕ) : Type 0
   pub rest : total + amounts (drop place ds) ≡ amounts ds
   pub most : total ≤ 10 ^ 18
 
-pub total_first : (ds : List GenesisDelegation) → TotalSoFar ds 0 0
-total_first ds = record { rest = omega arith; most = omega arith }
-
-amounts-next : (ds : List GenesisDelegation) (place : ℕ) (d : GenesisDelegation) → place < length ds → d ≡ get_or ds place d → amounts (drop place ds) ≡ d.amount + amounts (drop (place + 1) ds)
-amounts-next ds place d lt is = ap amounts (next ds place d lt is) ∙ sum_by-cons (λ (k : ℕ). k) d.amount (map (λ (x : GenesisDelegation). x.amount) (drop (place + 1) ds))
-
-pub total_next : (ds : List GenesisDelegation) (place : ℕ) (d : GenesisDelegation) (total : ℕ) → place < length ds → d ≡ get_or ds place d → TotalSoFar ds place total → d.amount ≤ 10 ^ 18 - total → TotalSoFar ds (place + 1) (total + d.amount)
-total_next ds place d total lt is so le =
-    let one = amounts-next ds place d lt is in
-    let rest = so.rest in
-    let most = so.most in
-    record { rest = omega (arith, one, rest); most = omega (arith, le, most) }
-
-pub total_over : (ds : List GenesisDelegation) (place : ℕ) (d : GenesisDelegation) (total : ℕ) → place < length ds → d ≡ get_or ds place d → TotalSoFar ds place total → 10 ^ 18 - total < d.amount → 10 ^ 18 < amounts ds
-total_over ds place d total lt is so more =
-    let one = amounts-next ds place d lt is in
-    let rest = so.rest in
-    omega (arith, one, rest, more)
-
-pub total_all : (ds : List GenesisDelegation) (place total : ℕ) → place ≤ length ds → length ds ≤ place → TotalSoFar ds place total → (total ≡ amounts ds) × (total ≤ 10 ^ 18)
-total_all ds place total most least so =
-    let end : amounts (drop place ds) ≡ 0 = ap amounts (drop_end ds place most least) in
-    let rest = so.rest in
-    (omega (arith, end, rest), so.most)
-
 -- ---- the supplies with it
 
 supplies-last : (accounts : List GenesisAccount) (a : GenesisAccount) (s : Money) → supplies_with (accounts ++ a ∷ []) s ≡ coins_joined a.coins (supplies_with accounts s)

@@ -94,14 +94,8 @@ pub record JoinedSoFar (coins : Money) (place : ℕ) (s0 s : Money) : Type 0 whe
   pub low : IsLow s
   pub rest : coins_joined (drop place coins) s ≡ coins_joined coins s0
 
-pub joined_first : (coins s : Money) → IsLow s → JoinedSoFar coins 0 s s
-joined_first coins s low = record { low = low; rest = refl }
-
 next_coin : (coins : Money) (place : ℕ) (c : List ℕ × ℕ) → Some c ≡ slice_get coins place → drop place coins ≡ c ∷ drop (place + 1) coins
 next_coin coins place c is = next coins place c (slice_get_within coins place c (sym is)) (sym (get_or_from_slice_get coins place c c (sym is)))
-
-pub some_coin : (coins : Money) (place : ℕ) (c : List ℕ × ℕ) → IsMoney coins → Some c ≡ slice_get coins place → 0 < c.1
-some_coin coins place c money is = subst (λ (x : List ℕ × ℕ). 0 < x.1) (get_or_from_slice_get coins place c c (sym is)) (money.positive place c (slice_get_within coins place c (sym is)))
 
 pub joined_next : (coins : Money) (place : ℕ) (c : List ℕ × ℕ) (s0 s s2 : Money) → JoinedSoFar coins place s0 s → Some c ≡ slice_get coins place
     → s2 ≡ with_amount s c.0 (amount_of s c.0 + c.1) → amount_of s c.0 + c.1 ≤ 10 ^ 18 → JoinedSoFar coins (place + 1) s0 s2
@@ -140,10 +134,6 @@ held_first accounts = record { low = low-nil; rest = refl }
 next_held : (accounts : List GenesisAccount) (place : ℕ) (a : GenesisAccount) (s : Money) → place < length accounts → a ≡ get_or accounts place a → HeldSoFar accounts place s
     → supplies_with (drop (place + 1) accounts) (coins_joined a.coins s) ≡ supplies_with accounts []
 next_held accounts place a s lt is so = sym (ap (λ l. supplies_with l s) (next accounts place a lt is)) ∙ so.rest
-
-pub held_next : (accounts : List GenesisAccount) (place : ℕ) (a : GenesisAccount) (s s2 : Money) → place < length accounts → a ≡ get_or accounts place a → HeldSoFar accounts place s
-    → s2 ≡ coins_joined a.coins s → IsLow s2 → HeldSoFar accounts (place + 1) s2
-held_next accounts place a s s2 lt is so same low = record { low = low; rest = ap (supplies_with (drop (place + 1) accounts)) same ∙ next_held accounts place a s lt is so }
 
 pub held_over : (accounts : List GenesisAccount) (place : ℕ) (a : GenesisAccount) (s : Money) → place < length accounts → a ≡ get_or accounts place a → HeldSoFar accounts place s
     → IsHigh (coins_joined a.coins s) → IsHigh (supplies_with accounts [])

@@ -37,6 +37,3 @@ joined_over due out d over r rest here e = e ∙ ap (λ (s : Result ℕ Over). j
 
 pub put_more : (due out grown : Money) (d : List ℕ) (n : ℕ) (rest : Money) → grown ≡ out ++ coin_then d n [] → due ≡ out ++ coin_then d n rest → due ≡ grown ++ rest
 put_more due out grown d n rest g e = e ∙ append-then out d n rest ∙ ap (λ l. l ++ rest) (sym g)
-
-pub put_end : (due out : Money) → due ≡ out ++ [] → due ≡ out
-put_end due out e = e ∙ append-nil out

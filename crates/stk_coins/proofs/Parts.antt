@@ -69,12 +69,6 @@ module _ {X : Type 0} (seen : X → List ℕ × ℕ) where
       joined_more due out grown (seen x).0 n (f (seen x).1) (by_coin f (map seen (drop (i + 1) xs))) here g
       (e ∙ ap (λ l. joined out (by_coin f (map seen l))) (rest_is xs i x lt is))
 
-  pub stops_at : (f : ℕ → Result ℕ Over) (due : Result Money Over) (out : Money) (xs : List X) (i : ℕ) (x : X) (o : Over) → i < length xs → x ≡ get_or xs i x
-      → f (seen x).1 ≡ Err o → due ≡ joined out (by_coin f (map seen (drop i xs))) → due ≡ Err o
-  stops_at f due out xs i x o lt is here e =
-      joined_over due out (seen x).0 o (f (seen x).1) (by_coin f (map seen (drop (i + 1) xs))) here
-      (e ∙ ap (λ l. joined out (by_coin f (map seen l))) (rest_is xs i x lt is))
-
   pub puts_one : (f : List ℕ → ℕ → ℕ) (due out grown : Money) (xs : List X) (i : ℕ) (x : X) → i < length xs → x ≡ get_or xs i x
       → grown ≡ out ++ coin_then (seen x).0 (f (seen x).0 (seen x).1) [] → due ≡ out ++ all_coins f (map seen (drop i xs))
       → due ≡ grown ++ all_coins f (map seen (drop (i + 1) xs))

@@ -114,15 +114,3 @@ stop-answers k k2 r o who info h sorted there left =
     let has : is_some (at addr_cmp r.periods o) ≡ true = h.sound.started o who (ap is_some started) in
     let p = started_there (at addr_cmp r.periods o) has in
     subst (λ x. KeepsRewards x (without_start who o r)) (sym left) (stop-stands k r o who p.0 h p.1 sorted info started)
-
--- how many refer to a period
-pub count-answers : (k : Kept) (r : Rewards) (o : List ℕ) (n : ℕ) → KeepsRewards k r → option_map (λ (d : Historical). d.count) (record_of k o n) ≡ if_some (references_at r o n)
-count-answers k r o n h = ap (option_map (λ (d : Historical). d.count)) (h.historical o n) ∙ by (at addr_cmp r.periods o)
-  where
-    by : (x : Option Periods) → option_map (λ (d : Historical). d.count) (history_of x (starts_of r o) n) ≡ if_some (references_in x (starts_of r o) n)
-    by None = refl
-    by (Some p) = two (references_of p (starts_of r o) n == 0)
-      where
-        two : (b : Bool) → option_map (λ (d : Historical). d.count) (if b then None else Some (record { ratio = ratio_at p.ratios n; count = references_of p (starts_of r o) n })) ≡ (if b then None else Some (references_of p (starts_of r o) n))
-        two true = refl
-        two false = refl

@@ -32,10 +32,6 @@ gives due (Ok a) ok err = subst (λ d. Gives d (Ok a)) (sym ok) refl
 gives due (Err (hook.Over over)) ok err = subst (λ d. Gives d (Err (hook.Over over))) (sym err) refl
 gives due (Err hook.NoMemory) ok err = gives-none due
 
-pub gives-excess : {A : Type 0} (due : Result A Over) (fault : HookFault) → IsExcessOf due fault → Gives due (Err fault)
-gives-excess due (hook.Over over) err = subst (λ d. Gives d (Err (hook.Over over))) (sym err) refl
-gives-excess due hook.NoMemory err = gives-none due
-
 there_is : {A : Type 0} (x : Option A) → is_some x ≡ true → (a : A) × (x ≡ Some a)
 there_is None e = cc
 there_is (Some a) e = (a, refl)
@@ -110,20 +106,6 @@ after-gives k r o who s increment ratio height value result h info coins next ot
     ∙ ap (λ b. if b then Ok [] else earned (ratio_at (ended_with p ratio).ratios) (stretches_of s p.events p.current value) []) test
     ∙ sym (reward-after k r o who p s h there.1 start ratio grown value) in
     subst (λ d. Gives d result) (sym due) (gives (kept_reward k o s p.current ratio value) result (ok p.current can) (err p.current can))
-
--- of a start at this height
-pub after-nothing : (k : Kept) (r : Rewards) (o who : List ℕ) (s : StartingInfo) (increment ratio : Money) (height value : ℕ) (result : Money) → KeepsRewards k r → info_of k who o ≡ Some s
-    → next_ratio increment o k ≡ Ok ratio → s.height ≡ height → result ≡ []
-    → Gives (reward_after (start_of r who o) (periods_of r o) increment height value) (Ok result)
-after-nothing k r o who s increment ratio height value result h info next same none =
-    let start = start-is k r o who s h info in
-    let there = started-periods r o who s k h start in
-    let p : Periods = there.0 in
-    let test : (s.height == height) ≡ true = grind (arith, nat_tests) in
-    let due : reward_after (start_of r who o) (periods_of r o) increment height value ≡ Ok []
-    = (λ i. next-ended k r o p h there.1 increment ratio next i >>= λ ended. reward_at (start i) ended.1 (last_ended ended.1) height value)
-    ∙ ap (λ b. if b then Ok [] else earned (ratio_at (ended_with p ratio).ratios) (stretches_of s p.events (p.current + 1 - 1) value) []) test in
-    subst (λ d. Gives d (Ok result)) (sym due) none
 
 -- where the period can't end
 pub after-excess : (k : Kept) (r : Rewards) (o who : List ℕ) (increment : Money) (height value : ℕ) (fault : HookFault) → KeepsRewards k r → is_some (current_of k o) ≡ true → IsExcessOf (next_ratio increment o k) fault

@@ -121,13 +121,6 @@ running-above k o kept is =
     let e : running k o ≡ there.0.current = running-is k kept.0 o there.0 kept.1 there.1 in
     omega (arith, e, sound.running)
 
-pub running-below : (k : Kept) (o : List ℕ) → IsKept k → is_some (current_of k o) ≡ true → running k o ≤ 10 ^ 18
-running-below k o kept is =
-    let there = periods-there k kept.0 o kept.1 is in
-    let sound : AreSound there.0 (starts_of kept.0 o) = sound-is k kept.0 o there.0 kept.1 there.1 in
-    let e : running k o ≡ there.0.current = running-is k kept.0 o there.0 kept.1 there.1 in
-    omega (arith, e, sound.bounded)
-
 pub end-answers : (k k2 : Kept) (r : Rewards) (o : List ℕ) (increment ratio : Money) (facts facts2 : List Fact) (period : ℕ)
     → KeepsRewards k r → is_some (current_of k o) ≡ true → IsStrictlySortedBy period_cmp (keys_of k.historical) → IsMoney increment → next_ratio increment o k ≡ Ok ratio
     → period ≡ running k o → k2 ≡ ended_kept ratio o k → facts2 ≡ facts ++ Period o period ratio ∷ []

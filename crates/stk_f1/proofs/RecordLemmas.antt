@@ -59,9 +59,6 @@ pub counted-some : (ratio : Money) (c : ℕ) → c ≢ 0 → counted ratio c ≡
 unfolding some_if
 counted-some ratio c z = counted_by ratio c false (not_zero c z)
 
-pub counted-none : (ratio : Money) → counted ratio 0 ≡ None
-counted-none ratio = refl
-
 cond-same : {A : Type 0} (b : Bool) (x y : A) → (b ≡ true → x ≡ y) → y ≡ cond b x y
 cond-same true x y h = sym (h refl)
 cond-same false x y h = refl

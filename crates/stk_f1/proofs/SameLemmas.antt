@@ -44,9 +44,6 @@ coins-differ x y n c d f g h = (λ i. same_money (coin-at x n c f i) (coin-at y 
 pub coins-agree : (x y : Money) (n : ℕ) (c d : List ℕ × ℕ) → slice_get x n ≡ Some c → slice_get y n ≡ Some d → (bytes_eq c.0 d.0 && (c.1 == d.1)) ≡ true → same_money (drop n x) (drop n y) ≡ same_money (drop (n + 1) x) (drop (n + 1) y)
 coins-agree x y n c d f g h = (λ i. same_money (coin-at x n c f i) (coin-at y n d g i)) ∙ money-here c d (drop (n + 1) x) (drop (n + 1) y) true h
 
-pub none-over : (x y : Money) (n : ℕ) → length x ≤ n → length y ≤ n → same_money (drop n x) (drop n y) ≡ true
-none-over x y n p q = λ i. same_money (none-left x n p i) (none-left y n q i)
-
 -- ---- the tests tell whether values are one
 
 money : (x y : Money) → same_money x y ≡ true → x ≡ y

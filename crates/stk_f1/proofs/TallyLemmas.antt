@@ -18,10 +18,6 @@ module _ {K X : Type 0} (cmp : K → K → Ordering) (w : K → Bool) where
   abbrev pub passing : List (K × X) → List (K × X)
   passing es = filter (λ e. w e.0) es
 
-  passing-if : (b c : Bool) (e : K × X) (es fs : List (K × X)) → w e.0 ≡ false → passing (cond b es (e ∷ fs)) ≡ cond b (passing es) (passing fs)
-  passing-if true c e es fs h = refl
-  passing-if false c e es fs h = ap (λ p. cond p (e ∷ passing fs) (passing fs)) h
-
   -- a change at a key that does not pass changes none of those that pass
   pub passing-put : Respects cmp w → (es : List (K × X)) (k : K) (v : X) → w k ≡ false → passing (insert_entry cmp es k v) ≡ passing es
   passing-put r [] k v h = ap (λ p. cond p ((k, v) ∷ []) []) h

@@ -15,11 +15,6 @@ use Rattle.stk_f1.specs.Kept.{Kept}
 use Rattle.stk_rules.specs.Periods.{Periods, Rewards, with_periods}
 use Rattle.stk_f1.specs.Stands.{IsKept}
 
--- a period has ended
-pub ended-kept : (o : List ℕ) (r : Rewards) (f : List Fact) (due : Result (Money × Periods) Over) (k : Kept) (f2 : List Fact) (p : ℕ) → Ends o r f due k f2 (Ok p) → IsKept k
-ended-kept o r f (Ok due) k f2 p h = (with_periods o due.1 r, h.1)
-ended-kept o r f (Err over) k f2 p h = absurd h
-
 -- all events are from height 0
 pub since_first : (es : List SlashEvent) → events_since 0 es ≡ es
 since_first [] = refl

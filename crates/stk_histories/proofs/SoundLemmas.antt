@@ -119,9 +119,6 @@ told_then =
     ∷ fact.Transfer (account.Module holder.NotBonded) (account.Module holder.Bonded) (coins 3000000)
     ∷ []
 
-small_is_started : chain_started one_validator ≡ Ok (record { facts = told_then; state = small })
-small_is_started = refl
-
 -- ---- small lemmas
 
 at_most : (n most : ℕ) → nat_le n most ≡ true → n ≤ most

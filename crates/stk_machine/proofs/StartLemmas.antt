@@ -523,10 +523,3 @@ started g e =
       gives = ap (λ (r : Result (World Staked Hooks) Refusal). r >>= λ s. Ok (record { facts = (with_staked (empty_over v).mine s).view.facts; state = without_facts (with_staked (empty_over v).mine s) })) all;
       starting = last.2;
     }
-
--- the staking accounts hold what is owed from them
-pub starting_holds : {H : Type 0} (rest : List GenesisDelegation) (w : World Staked H) → IsStarting rest w → HoldsStake w.view (bonded_tokens w.mine) (other_tokens w.mine)
-starting_holds rest w is =
-    let none : bonded_tokens w.mine ≡ 0 = none-bonded w.mine.validators is.unbonded in
-    let held = is.held in
-    record { in_bonded = omega (arith, none); in_not_bonded = omega (arith, held) }

@@ -68,12 +68,6 @@ module _ {T K X : Type 0} (cmp : K → K → Ordering) (tell : T → Option (K �
 
 -- ---- the community pool
 
-pub pool_next : (items : List Item) (place : ℕ) (x : Item) (found : Option Money) → place < length items → x ≡ get_or items place x → pool_in x ≡ found →
-    pool_of (drop place items) ≡ pool_of items → or_else found (pool_of (drop (place + 1) items)) ≡ pool_of items
-pool_next items place x found lt is told before =
-    let next : pool_of (drop place items) ≡ or_else (pool_in x) (pool_of (drop (place + 1) items)) = ap pool_of (drop_next items place x lt is) in
-    sym (ap (λ o. or_else o (pool_of (drop (place + 1) items))) told) ∙ (sym next ∙ before)
-
 -- ---- purses
 
 -- a look-up among lent purses

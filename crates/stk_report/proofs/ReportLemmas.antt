@@ -77,11 +77,3 @@ line_pushed line xs place x old new all lt is pushed before =
 not_empty : (text rest : List ℕ) (byte : ℕ) → (text ++ byte ∷ []) ++ rest ≡ [] → ⊥
 not_empty [] rest byte h = absurd cc
 not_empty (c ∷ text) rest byte h = absurd cc
-
-pub none_written : (lines : List Data) → text_of lines ≡ [] → text_if_any lines ≡ None
-none_written [] h = refl
-none_written (line ∷ lines) h = absurd (not_empty (compact_text line) (text_of lines) 10 h)
-
-pub some_written : (lines : List Data) → (text_of lines ≡ [] → ⊥) → text_if_any lines ≡ Some (text_of lines)
-some_written [] h = absurd (h refl)
-some_written (line ∷ lines) h = refl

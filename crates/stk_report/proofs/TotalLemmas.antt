@@ -14,9 +14,6 @@ use Rattle.stk_keep.specs.Orders.{pair_cmp, place_cmp, triple_cmp}
 pub addr_total : IsTotalOrder addr_cmp
 addr_total = nat_list_cmp_total
 
-pub addr_exact : CmpEqualImpliesEq addr_cmp
-addr_exact = exact_bytes
-
 pub pair_total : IsTotalOrder pair_cmp
 pair_total = then_total (on_total (λ (t : List ℕ × List ℕ). t.0) addr_total) (on_total (λ (t : List ℕ × List ℕ). t.1) addr_total)
 

@@ -36,11 +36,6 @@ pub stop_step : {A : Type 0} (b : Bool) (why : Refusal) (next : Result A Refusal
 stop_step true why next rest h = refl
 stop_step false why next rest h = h
 
--- a step with conditions of its own, then the others
-bind_step : {A B : Type 0} (r : Result A Refusal) (f : A → Result B Refusal) (rest : List (Option Refusal)) → ((a : A) → r ≡ Ok a → refused_in (f a) ≡ first_of rest) → refused_in (r >>= f) ≡ first_of (refused_in r ∷ rest)
-bind_step (Ok a) f rest h = h a refl
-bind_step (Err e) f rest h = refl
-
 -- what is done with an answer refuses nothing
 pub mapped : {A B : Type 0} (r : Result A Refusal) (g : A → B) → refused_in (r >>= λ a. Ok (g a)) ≡ refused_in r
 mapped (Ok a) g = refl

@@ -62,10 +62,6 @@ fraction_fits burn tokens within some =
     let small : recorded_fraction burn tokens < 10 ^ 38 = omega (arith, fraction_most burn tokens within some) in
     grind (arith, common_steps)
 
--- and so are the burn and the tokens
-pub whole_fits : (n : ℕ) → n ≤ 10 ^ 18 → whole_of n ≡ Ok (n * 10 ^ 18)
-whole_fits n few = grind (arith, common_steps)
-
 pub fraction_is_just_above : FractionIsJustAbove
 fraction_is_just_above = λ burn tokens within some few. record {
   fits = fraction_fits burn tokens within some;

@@ -14,10 +14,6 @@ pub issued_later : (tokens shares amount issued : ℕ) → 0 < tokens → 0 < sh
     → issued ≡ cut (shares * amount) tokens
 issued_later tokens shares amount issued some more e = grind (arith, common_steps)
 
--- these are the shares for that amount
-pub issued_for : (tokens shares amount : ℕ) → 0 < tokens → 0 < shares → issued_shares tokens shares amount ≡ shares_for_amount tokens shares amount
-issued_for tokens shares amount some more = grind (arith, common_steps)
-
 -- what they are of the amount is at most what it is of the tokens
 pub issued_most : (tokens shares amount issued : ℕ) → 0 < tokens → 0 < shares → issued_shares tokens shares amount ≡ Ok issued
     → tokens * (shares + issued) ≤ (tokens + amount) * shares

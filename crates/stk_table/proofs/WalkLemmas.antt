@@ -36,9 +36,6 @@ module _ {K V : Type 0} (items rest : List (K × Slot K V)) (goal : Option (K ×
   pub walked_on : (e : Option (K × V)) → e ≡ entry_of k s → is_some e ≡ false → first_of (filled rest) ≡ goal
   walked_on e is none = sym (first_further (entry_of k s) (filled rest) (sym (ap is_some is) ∙ none)) ∙ sym (ap (λ l. first_of (filled l)) next) ∙ so_far
 
-pub walked_all : {K V : Type 0} (items : List (K × Slot K V)) (goal : Option (K × V)) → first_of (filled items) ≡ goal → items ≡ [] → None ≡ goal
-walked_all items goal so_far none = sym (ap (λ l. first_of (filled l)) none) ∙ so_far
-
 module _ {K : Type 0} {R : K → K → Ordering} (o : IsTotalOrder R) (lo : Bound K) where
   same_side : (k n : K) → is_at (R k) n ≡ true → range_contains R lo Unbounded k ≡ range_contains R lo Unbounded n
   same_side k n named = by lo
