@@ -162,7 +162,7 @@ fn clear<L: Ledger>(f: &mut F1, operator: &Addr, steps: &mut Steps<L>) -> Result
     requires { IsKept f.old.kept }
     ensures { OnOk result (IsKept f.new.kept) }
 {
-    if f.tables.current(operator, steps).is_none() || f.tables.starts_table().len() != 0 {
+    if f.tables.current(operator, steps).is_none() || f.tables.starts.len() != 0 {
         return Ok(false);
     }
     f.clear(operator, steps)?;
