@@ -3,5 +3,3 @@ pub mod HoldingLemmas
 pub mod HookLemmas
 pub mod AmountLemmas
 pub mod BurnLemmas
-pub mod StakeLemmas
-pub mod TrialLemmas

@@ -14,8 +14,5 @@ pub mod Pair
 pub mod Staked
 pub mod Lent
 pub mod Items
-pub mod Caller
-pub mod Forgetting
 pub mod Laws
 pub mod Worked
-pub mod Trials

@@ -44,14 +44,4 @@ pub use slashing::{RedelegationSlash, Signers, Slasher, UnbondingSlash};
 pub use staked::{Unbonder, ValidatorView};
 
 #[cfg(test)]
-mod callers;
-#[cfg(test)]
-mod forgetting;
-#[cfg(test)]
-mod forgetting_tests;
-#[cfg(test)]
 mod tests;
-#[cfg(test)]
-mod trial_tests;
-#[cfg(test)]
-mod trials;

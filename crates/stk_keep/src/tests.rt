@@ -1,67 +1,26 @@
-ghost use Rattle.std.specs.Prelude.{◌≡◌, ◌*◌, ◌<◌, ◌≤◌, ◌^◌, []};
-ghost use Rattle.stk_keep.specs.Answers.{AnswersAs};
-ghost use Rattle.stk_keep.specs.Caller.{sent_between_hooks};
-ghost use Rattle.stk_keep.specs.Ground.{seen, AreInRange, IsInOrder};
-ghost use Rattle.stk_keep.specs.Holdings.{no_holdings};
-ghost use Rattle.stk_keep.specs.Hooks.{MayCall};
-ghost use Rattle.stk_keep.specs.World.{starting};
-
 use crate::laws::{banks_stay_in_order, coins_burn_by_amounts, coins_move_by_amounts};
-use crate::trials::EmptyBank;
 use crate::worked::holdings_by_example;
 use crate::{
-    Bank, BankFault, Commission, CreateValidator, Ctx, Delegation, EditValidator, Evidence, Fact,
-    Facts, Ground, Historical, HookFault, HookPair, Listed, NoHooks, Params, Purse, RecordFault,
-    RedelegationEntry, Refusal, SigningInfo, SlashEvent, StakingHooks, StartingInfo, Stop,
-    UnbondingEntry, Validator, Vote,
+    BankFault, Commission, CreateValidator, Ctx, Delegation, EditValidator, Evidence, Fact, Facts,
+    Historical, HookFault, Listed, Params, Purse, RecordFault, RedelegationEntry, Refusal,
+    SigningInfo, SlashEvent, StartingInfo, Stop, UnbondingEntry, Validator, Vote,
 };
-use std::alloc::{AllocError, AllocFailed, Global};
-use std::marker::Brand;
+use std::alloc::{AllocError, AllocFailed};
 use std::process::Abort;
-use std::sync::ledger::{Blank, Ledger};
 use std::test::Fail;
-use stk_coins::{Coin, Coins, DecCoin, DecCoins};
+use stk_coins::{Coin, DecCoin, DecCoins};
 use stk_dec::{Dec, Over, OverKind};
-use stk_types::{
-    Account, Addr, BondStatus, ConsAddr, Copied, Denom, Module, Moment, Steps, TableFault,
-};
+use stk_types::{Addr, BondStatus, ConsAddr, Copied, Denom, Moment, TableFault};
 
-/// Sends coins between two hooks, over any bank and any hooks.
-pub fn send_between_hooks<B: Bank, H: StakingHooks, L: Ledger>(
-    alloc: Global,
-    g: &mut Ground<B>,
-    hooks: &mut H,
-    v: &Validator,
-    who: &Addr,
-    coins: &Coins,
-    shares: Dec,
-    steps: &mut Steps<L>,
-) -> Result<(), Stop>
-    requires ready { MayCall (H.holds hooks.old) H.tells (starting v.now who.now) (seen B.holdings g.old) }
-    requires some { 0 < shares }
-    requires most { shares ≤ v.now.shares }
-    ensures { (h : H.Held) → H.holds hooks.old h → AnswersAs (sent_between_hooks H.tells.told v.now who.now coins.now shares (record { mine = tt; hooks = h; view = seen B.holdings g.old; log = [] })) tt (H.holds hooks.new) (seen B.holdings g.new) result }
-{
-    hooks.before_delegation_created(alloc, g, v, who, steps)?;
-    let to = Account::Module(Module::NotBonded);
-    g.bank.send(alloc, &mut g.facts, &Account::User(*who), &to, coins, steps)?;
-    hooks.after_delegation_modified(alloc, g, v, who, shares, steps)?;
-    Ok(())
-}
-
-pub fn dec(rt: &impl Abort, raw: u128) -> Dec
-    ensures { result ≡ raw }
-{
+fn dec(rt: &impl Abort, raw: u128) -> Dec {
     Dec::from_raw(raw).expect(rt, "below the limit")
 }
 
-pub fn moment(rt: &impl Abort, nanos: u128) -> Moment
-    ensures { result ≡ nanos }
-{
+fn moment(rt: &impl Abort, nanos: u128) -> Moment {
     Moment::of(nanos).expect(rt, "before the year 10000")
 }
 
-pub fn user(rt: &impl Abort) -> Addr {
+fn user(rt: &impl Abort) -> Addr {
     Addr::of([7; 20]).expect(rt, "no module's address")
 }
 
@@ -69,9 +28,7 @@ fn atom(rt: &impl Abort) -> Denom {
     Denom::of(b"uatom").expect(rt, "a denomination")
 }
 
-fn params(rt: &impl Abort) -> Params
-    ensures { AreInRange result }
-{
+fn params(rt: &impl Abort) -> Params {
     Params {
         bond_denom: atom(rt),
         power_reduction: 1_000_000,
@@ -93,11 +50,7 @@ fn params(rt: &impl Abort) -> Params
 }
 
 /// An unbonded validator of so many tokens, and of 5 shares.
-pub fn validator(rt: &impl Abort, tokens: u128) -> Validator
-    ensures tokens { result.tokens ≡ tokens }
-    ensures status { result.status ≡ BondStatus.Unbonded }
-    ensures shares { result.shares ≡ 5 * 10 ^ 18 }
-{
+fn validator(rt: &impl Abort, tokens: u128) -> Validator {
     Validator {
         operator: user(rt),
         cons: ConsAddr::of([9; 20]),
@@ -117,17 +70,6 @@ pub fn validator(rt: &impl Abort, tokens: u128) -> Validator
     }
 }
 
-pub fn coins(rt: &(impl Abort + AllocGlobal), amount: u128) -> Result<Coins, Fail>
-    requires { amount < 10 ^ 38 }
-{
-    let mut list = Vec::new(rt.alloc());
-    list.push(Coin {
-        denom: atom(rt),
-        amount,
-    })?;
-    Ok(Coins::of(list)?)
-}
-
 fn dec_coins(rt: &(impl Abort + AllocGlobal), raw: u128) -> Result<DecCoins, Fail> {
     let mut list = Vec::new(rt.alloc());
     list.push(DecCoin {
@@ -135,61 +77,6 @@ fn dec_coins(rt: &(impl Abort + AllocGlobal), raw: u128) -> Result<DecCoins, Fai
         amount: dec(rt, raw),
     })?;
     Ok(DecCoins::of(list)?)
-}
-
-/// Height 1, over a bank that holds nothing.
-pub fn empty_ground(rt: &(impl Abort + AllocGlobal)) -> Ground<EmptyBank>
-    ensures height { result.ctx.height ≡ 1 }
-    ensures in_order { IsInOrder (seen (λ _. no_holdings) result) }
-{
-    Ground {
-        bank: EmptyBank,
-        ctx: Ctx {
-            height: 1,
-            time: moment(rt, 0),
-            params: params(rt),
-        },
-        facts: Facts::new(rt.alloc()),
-    }
-}
-
-/// What sending coins between hooks that do nothing answers, from a bank that holds nothing.
-fn outcome_of_sending<L: Ledger>(
-    rt: &(impl Abort + AllocGlobal),
-    blank: Blank,
-    coins: &Coins,
-) -> Result<(), Stop>
-    requires name { blank.name ≡ L.name }
-    requires parts { blank.parts ≡ L.parts }
-    requires some { 0 < L.parts }
-{
-    let mut steps: Steps<L> = Steps::new(blank);
-    let mut g = empty_ground(rt);
-    let mut hooks = HookPair {
-        first: NoHooks,
-        second: NoHooks,
-    };
-    let v = validator(rt, 5);
-    let shares = dec(rt, 1);
-    send_between_hooks(
-        rt.alloc(),
-        &mut g,
-        &mut hooks,
-        &v,
-        &v.operator,
-        coins,
-        shares,
-        &mut steps,
-    )
-}
-
-#[test]
-fn a_short_sender_between_hooks_is_refused(rt: HostRuntime) -> Result<(), Fail> {
-    let short = outcome_of_sending::<Brand>(&rt, Blank::new(1), &coins(&rt, 3)?);
-    assert!(rt; short == Err(Stop::Refused(Refusal::InsufficientFunds)));
-    let nothing = outcome_of_sending::<Brand>(&rt, Blank::new(1), &coins(&rt, 0)?);
-    assert!(rt; nothing == Ok(()));
-    Ok(())
 }
 
 #[test]

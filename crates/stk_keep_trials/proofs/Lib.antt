@@ -1,0 +1,2 @@
+mod StakeLemmas
+mod TrialLemmas
