@@ -7,7 +7,7 @@ use Rattle.stk_json.specs.Line.{line_of}
 use Rattle.stk_machine.specs.Report.{is_same_account, joined}
 use Rattle.stk_report.specs.Groups.{opened}
 use Rattle.stk_report.specs.Lines.{account_line, text_of}
-use Rattle.stk_report.proofs.EntryLemmas.{equal}
+use Rattle.stk_types.proofs.MapLemmas.{equal}
 use Rattle.stk_report.proofs.KeyLemmas.{account_equal, same_test}
 use Rattle.stk_report.proofs.TotalLemmas.{account_exact}
 
