@@ -275,21 +275,3 @@ module _ {K V : Type 0} (cmp : K → K → Ordering) (o : IsTotalOrder cmp)
     gone_only = gone-only t tells s (all-fit t.entries now) (all-fit t.settled was);
     gone_all = gone-all t tells s (all-fit t.entries now) (all-fit t.settled was);
   })
-
-  -- an item that joins a table
-  module _ (es more : List (K × V)) (fits : AreFit Fits es) (i : Item) (k : K) (v : V) (is : entry i ≡ Some (k, v)) (put : more ≡ insert_entry cmp es k v) where
-    pub item-added : IsStrictlySortedBy cmp (keys_of es) → IsAdded (rows_of of es) i (rows_of of more)
-    item-added s =
-        let r = rowed.made i k v is in
-        subst (λ (l : List (K × V)). IsAdded (rows_of of es) i (rows_of of l)) (sym put)
-        (subst (λ (j : Item). IsAdded (rows_of of es) j (rows_of of (insert_entry cmp es k v))) (sym r.0) (row-added es fits s k v r.1))
-
-    pub item-fits : IsStrictlySortedBy cmp (keys_of es) → AreFit Fits more
-    item-fits s q n c = by (is_at (cmp q) k) refl (sym (at-put cmp o es k q v) ∙ here)
-      where
-        here : value_at cmp (insert_entry cmp es k v) q ≡ Some n
-        here = value_of cmp o rowed.exact (insert_entry cmp es k v) q n (IsDistinct-from_sorted cmp (keys_of (insert_entry cmp es k v)) (ascend-put cmp o es k v s)) (subst (λ l. Member l (q, n)) put (member more (q, n) c))
-
-        by : (b : Bool) → is_at (cmp q) k ≡ b → cond b (Some v) (value_at cmp es q) ≡ Some n → Fits q n
-        by true h e = subst (λ x. Fits x n) (sym (same_key cmp o rowed.exact q k h)) (subst (Fits k) (some_same v n e) (rowed.made i k v is).1)
-        by false h e = fits q n (contained es (q, n) (entry_of cmp o rowed.exact es q n e))
