@@ -1,7 +1,5 @@
 -- The orders of the keys: they are total, and tell all keys apart.
-use Rattle.std.specs.Prelude.{◌≡◌, ℕ, ◌&&◌, true, List, refl}
-use Rattle.std.specs.declared.cmp.Ordering.{Ordering}
-use Rattle.std.specs.declared.cmp.Ordering.TheVariants.{Less, Equal, Greater}
+use Rattle.std.specs.Prelude.{◌≡◌, ℕ, ◌&&◌, true, List}
 use Rattle.std.specs.Cmp.{IsTotalOrder, tied_itself, tied_then, on_total, then_total, eq_by_cmp_equiv}
 use Rattle.std.specs.Ordering.{is_eq}
 use Rattle.std.specs.BTreeMap.{is_at}

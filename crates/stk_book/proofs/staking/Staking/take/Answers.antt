@@ -1,4 +1,4 @@
-use Rattle.std.proofs.Common.{◌≡◌, ◌∙◌, ap, sym, subst}
+use Rattle.std.proofs.Common.{◌≡◌, ap, sym, subst}
 use Rattle.stk_types.specs.Orders.{addr_cmp}
 use Rattle.stk_keep.specs.Entries.{without}
 use Rattle.stk_book.specs.Registered.{AreKeyed}
