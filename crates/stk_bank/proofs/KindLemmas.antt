@@ -9,7 +9,7 @@ use Rattle.std.specs.Ordering.{ordering_then}
 use Rattle.stk_types.specs.declared.account.Account.{Account}
 use Rattle.stk_types.specs.declared.account.Account.TheVariants as account
 use Rattle.stk_types.specs.declared.account.Module.TheVariants.{FeeCollector, Bonded, NotBonded, Distribution}
-use Rattle.stk_types.specs.contracts.account.AccountOrd.TheImpl.{ghosts}
+use Rattle.stk_types.proofs.OrderLemmas.{account_order, account_order_at}
 use Rattle.stk_types.specs.Orders.{account_cmp, denom_cmp}
 use Rattle.stk_keep.specs.declared.items.Item.{Item}
 use Rattle.stk_keep.specs.declared.items.Item.TheVariants as item
@@ -19,37 +19,12 @@ use Rattle.stk_rows.specs.Rows.{AnyValue, IsRowed}
 use Rattle.stk_rows.proofs.MemberLemmas.{entry-parts}
 use Rattle.stk_bank.specs.Rows.{balance_item, supply_item, balance_gone, supply_gone, balance_entry, supply_entry, same_amount}
 
--- the derived order of accounts
-abbrev pub account_order : Account → Account → Ordering
-account_order a b = ghosts.cmp a b
-
-same_order : (a b : Account) → account_order a b ≡ account_cmp a b
-same_order (account.User a) (account.User b) = refl
-same_order (account.User a) (account.Module n) = refl
-same_order (account.Module m) (account.User b) = refl
-same_order (account.Module FeeCollector) (account.Module FeeCollector) = refl
-same_order (account.Module FeeCollector) (account.Module Bonded) = refl
-same_order (account.Module FeeCollector) (account.Module NotBonded) = refl
-same_order (account.Module FeeCollector) (account.Module Distribution) = refl
-same_order (account.Module Bonded) (account.Module FeeCollector) = refl
-same_order (account.Module Bonded) (account.Module Bonded) = refl
-same_order (account.Module Bonded) (account.Module NotBonded) = refl
-same_order (account.Module Bonded) (account.Module Distribution) = refl
-same_order (account.Module NotBonded) (account.Module FeeCollector) = refl
-same_order (account.Module NotBonded) (account.Module Bonded) = refl
-same_order (account.Module NotBonded) (account.Module NotBonded) = refl
-same_order (account.Module NotBonded) (account.Module Distribution) = refl
-same_order (account.Module Distribution) (account.Module FeeCollector) = refl
-same_order (account.Module Distribution) (account.Module Bonded) = refl
-same_order (account.Module Distribution) (account.Module NotBonded) = refl
-same_order (account.Module Distribution) (account.Module Distribution) = refl
-
 -- the order of the keys
 abbrev pub place_order : Account × List ℕ → Account × List ℕ → Ordering
 place_order x y = ordering_then (account_order x.0 y.0) (denom_cmp x.1 y.1)
 
 pub place_order_is : place_order ≡ place_cmp
-place_order_is = λ i. λ x y. ordering_then (same_order x.0 y.0 i) (denom_cmp x.1 y.1)
+place_order_is = λ i. λ x y. ordering_then (account_order_at x.0 y.0 i) (denom_cmp x.1 y.1)
 
 pub same_account : (a b : Account) → account_cmp a b ≡ Equal → a ≡ b
 same_account (account.User a) (account.User b) e = ap account.User (exact_bytes a b e)

@@ -18,6 +18,7 @@ use Rattle.stk_coins.proofs.Order.{rises_from_money}
 use Rattle.stk_coins.proofs.Amounts.{same_list}
 use Rattle.stk_coins.proofs.Sorting.{rises_sorted, amount-sorted}
 use Rattle.stk_keep.specs.Holdings.{Holdings, Balances, balance_of, coin_if, coins_of, IsBacked}
+use Rattle.stk_types.proofs.MapLemmas.{equal}
 use Rattle.stk_keep.specs.Orders.{place_cmp}
 use Rattle.stk_keep.proofs.HoldingLemmas.{place_total, denom_total, balance-most}
 use Rattle.stk_bank.proofs.KindLemmas.{place_order}
@@ -29,19 +30,11 @@ use Rattle.stk_bank.proofs.CoinLemmas.{coins}
 
 -- ---- in order
 
-equal_account : (a b : Account) → is_at (account_cmp a) b ≡ true → account_cmp a b ≡ Equal
-equal_account a b h = by (account_cmp a b) h
-  where
-    by : (r : Ordering) → is_eq r ≡ true → r ≡ Equal
-    by Equal e = refl
-    by Less e = absurd cc
-    by Greater e = absurd cc
-
 module _ (who : Account) where
   own_above : (x y : Account × List ℕ) → is_at (account_cmp who) x.0 ≡ true → is_at (account_cmp who) y.0 ≡ true → place_cmp x y ≡ Less → denom_cmp x.1 y.1 ≡ Less
   own_above x y p q e =
-      let a : who ≡ x.0 = same_account who x.0 (equal_account who x.0 p) in
-      let b : account_cmp x.0 y.0 ≡ Equal = ap (λ z. account_cmp z y.0) (sym a) ∙ equal_account who y.0 q in
+      let a : who ≡ x.0 = same_account who x.0 (equal (account_cmp who x.0) p) in
+      let b : account_cmp x.0 y.0 ≡ Equal = ap (λ z. account_cmp z y.0) (sym a) ∙ equal (account_cmp who y.0) q in
       sym (ap (λ r. ordering_then r (denom_cmp x.1 y.1)) b) ∙ e
 
   all_own : (x : Account × List ℕ) (es : Balances) → is_at (account_cmp who) x.0 ≡ true → AllByRecursion (λ y. place_cmp x y ≡ Less) (keys_of es) → AllByRecursion (λ d. denom_cmp x.1 d ≡ Less) (keys_of (coins who es))

@@ -7,7 +7,6 @@ ghost use Rattle.stk_bank.specs.Booked.{Booked, Behind, behind, new_book, holdin
 ghost use Rattle.stk_bank.specs.Given.{held_by, IsBounded};
 ghost use Rattle.stk_bank.specs.Sending.{Transfers};
 
-use crate::mark::TablesMark;
 use crate::tables::Tables;
 use std::alloc::Global;
 use std::marker::Model;
@@ -21,19 +20,15 @@ use stk_types::{Account, Addr, Copied, Denom, Module, Steps};
 #[derive(Drop)]
 pub struct Book {
     pub(crate) tables: Tables,
-    pub(crate) marks: Vec<TablesMark>,
+    pub(crate) alloc: Global,
 }
 
 impl Model for Book {
-    ghost use Rattle.std.specs.Prelude.{◌≡◌, length};
-    ghost use Rattle.std.specs.List.{range_with_len};
     ghost use Rattle.stk_bank.specs.Booked.{Booked};
 
     ghost Value = { Booked };
 
     ghost view = { λ b. b.tables };
-
-    ghost invariant = { λ b. b.marks.items ≡ range_with_len 0 (length b.tables.marks) };
 }
 
 impl Book {
@@ -41,7 +36,10 @@ impl Book {
     pub fn new(alloc: Global) -> Book
         ensures { result ≡ new_book }
     {
-        Book::over(alloc, Tables::new(alloc))
+        Book {
+            tables: Tables::new(alloc),
+            alloc,
+        }
     }
 
     /// A book in which each account holds its coins, and the supplies are their sums, as a chain's genesis
@@ -61,7 +59,7 @@ impl Book {
         for (who, coins) in accounts {
             tables.give_coins(who, coins, steps)?;
         }
-        Ok(Book::over(alloc, tables))
+        Ok(Book { tables, alloc })
     }
 
     /// The message by which a user sends coins (Cosmos SDK: `MsgSend` of `x/bank`).
@@ -92,17 +90,6 @@ impl Book {
         }
         self.send(alloc, facts, &Account::User(*from), to, coins, steps)?;
         Ok(())
-    }
-
-    /// The book over these tables, of which none is marked.
-    fn over(alloc: Global, tables: Tables) -> Book
-        requires { tables.marks ≡ [] }
-        ensures { result ≡ tables }
-    {
-        Book {
-            tables,
-            marks: Vec::new(alloc),
-        }
     }
 }
 

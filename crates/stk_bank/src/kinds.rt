@@ -43,17 +43,6 @@ impl Row for BalanceKind {
         *value == *other
     }
 
-    fn entry(item: &Item) -> Result<Option<((Account, Denom), u128)>, TableFault> {
-        match item {
-            Item::Balance {
-                account,
-                denom,
-                amount,
-            } => Ok(Some(((*account, *denom), *amount))),
-            _ => Ok(None),
-        }
-    }
-
     fn told() {}
 }
 
@@ -82,13 +71,6 @@ impl Row for SupplyKind {
 
     fn is_same(value: &u128, other: &u128) -> bool {
         *value == *other
-    }
-
-    fn entry(item: &Item) -> Result<Option<(Denom, u128)>, TableFault> {
-        match item {
-            Item::Supply { denom, amount } => Ok(Some((*denom, *amount))),
-            _ => Ok(None),
-        }
     }
 
     fn told() {}

@@ -5,7 +5,6 @@
 mod book;
 mod kinds;
 mod laws;
-mod mark;
 mod moves;
 mod records;
 mod tables;

@@ -6,7 +6,6 @@ ghost use Rattle.stk_keep.specs.Holdings.{balance_of, supply_of, is_short, moved
 ghost use Rattle.stk_bank.specs.Booked.{holding, spent_now, IsGoneBack, IsForgotten};
 ghost use Rattle.stk_bank.specs.Given.{coin_given, coins_given};
 
-use crate::mark::TablesMark;
 use crate::tables::Tables;
 use std::sync::ledger::Ledger;
 use stk_coins::{Coin, Coins};
@@ -49,9 +48,9 @@ impl Tables {
         ensures cost { steps.new ≤ steps.old + 4 * length coins.now }
     {
         match self.mark() {
-            Ok(mark) => {
+            Ok(()) => {
                 let change = self.move_coins(from, to, coins, steps);
-                self.close(mark, change)
+                self.close(change)
             }
             Err(fault) => {
                 self.spend();
@@ -74,9 +73,9 @@ impl Tables {
         ensures err { OnErr result (self.new ≡ spent_now self.old) }
     {
         match self.mark() {
-            Ok(mark) => {
+            Ok(()) => {
                 let change = self.burn_coin(place, amount, steps);
-                self.close(mark, change)
+                self.close(change)
             }
             Err(fault) => {
                 self.spend();
@@ -106,15 +105,15 @@ impl Tables {
     }
 
     /// Ends a change: the mark is forgotten, or where memory was wanting gone back to.
-    fn close(&mut self, mark: TablesMark, change: Result<(), TableFault>) -> Result<(), TableFault>
-        requires latest { length self.old.marks ≡ mark + 1 }
+    fn close(&mut self, change: Result<(), TableFault>) -> Result<(), TableFault>
+        requires some { 0 < length self.old.marks }
         ensures same { result ≡ change }
         ensures ok { OnOk result (IsForgotten self.old self.new) }
         ensures err { OnErr result (IsGoneBack self.old self.new) }
     {
         match change {
-            Ok(()) => self.forget(mark),
-            Err(_) => self.back_to(mark),
+            Ok(()) => self.forget(),
+            Err(_) => self.back(),
         }
         change
     }

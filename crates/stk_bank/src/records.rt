@@ -37,24 +37,16 @@ impl Records for Book {
         _alloc: Global,
         _steps: &mut Steps<L>,
     ) -> Result<(), RecordFault> {
-        let mark = self.tables.mark()?;
-        match self.marks.push(mark) {
-            Ok(()) => Ok(()),
-            Err(failed) => {
-                self.tables.forget(failed.value);
-                Err(RecordFault::NoMemory)
-            }
-        }
+        self.tables.mark()?;
+        Ok(())
     }
 
     fn back<L: Ledger>(&mut self, _steps: &mut Steps<L>) {
-        let mark = self.marks.pop().unwrap();
-        self.tables.back_to(mark);
+        self.tables.back();
     }
 
     fn forget<L: Ledger>(&mut self, _steps: &mut Steps<L>) {
-        let mark = self.marks.pop().unwrap();
-        self.tables.forget(mark);
+        self.tables.forget();
     }
 
     fn items_into<L: Ledger>(
@@ -70,8 +62,7 @@ impl Records for Book {
         out: &mut Vec<(Item, bool)>,
         steps: &mut Steps<L>,
     ) -> Result<(), RecordFault> {
-        let alloc = *self.marks.allocator();
-        self.tables.kinds().changes_into(alloc, out, steps)
+        self.tables.kinds().changes_into(self.alloc, out, steps)
     }
 
     fn load<L: Ledger>(

@@ -1,6 +1,6 @@
 //! The two tables of a book: they are marked together, and each change is of one entry.
 
-ghost use Rattle.std.specs.Prelude.{◌≡◌, ◌+◌, [], length, true, OnOk, OnErr, IfOk};
+ghost use Rattle.std.specs.Prelude.{◌≡◌, ◌+◌, [], ◌<◌, length, true, OnOk, OnErr};
 ghost use Rattle.std.specs.List.Sorted.{IsStrictlySortedBy};
 ghost use Rattle.std.specs.Map.{keys_of};
 ghost use Rattle.std.specs.BTreeMap.{insert_entry};
@@ -10,7 +10,6 @@ ghost use Rattle.stk_keep.specs.Orders.{place_cmp};
 ghost use Rattle.stk_bank.specs.Booked.{new_book, holding, spent_now, with_mark, with_supply, AreInOrder, AreNamed, IsGoneBack, IsForgotten};
 
 use crate::kinds::{BalanceKind, SupplyKind};
-use crate::mark::TablesMark;
 use std::alloc::Global;
 use std::marker::Model;
 use std::sync::ledger::Ledger;
@@ -100,9 +99,9 @@ impl Tables {
         ensures ordered { IsStrictlySortedBy place_cmp (keys_of self.old.holdings.balances) }
         ensures cost { steps.new ≡ steps.old + 1 }
     {
-        // They tell that the denomination is a name, and that the keys ascend.
+        // It tells that the denomination is a name.
         let _ = place.1.bytes();
-        let _ = self.balances.len();
+        self.balances.known();
         match self.balances.put(place, amount, steps) {
             Ok(()) => Ok(()),
             Err(fault) => {
@@ -124,8 +123,7 @@ impl Tables {
         ensures ordered { IsStrictlySortedBy denom_cmp (keys_of self.old.holdings.supplies) }
         ensures cost { steps.new ≡ steps.old + 1 }
     {
-        // It tells that the keys ascend.
-        let _ = self.supplies.len();
+        self.supplies.known();
         match self.supplies.put(denom, amount, steps) {
             Ok(()) => Ok(()),
             Err(fault) => {
@@ -187,8 +185,8 @@ impl Tables {
     pub(crate) fn known(&self)
         ensures { AreInOrder self.now.holdings }
     {
-        let _ = self.balances.len();
-        let _ = self.supplies.len();
+        self.balances.known();
+        self.supplies.known();
     }
 
     /// The balances by account and denomination.
@@ -216,8 +214,7 @@ impl Tables {
     }
 
     /// Opens a mark above those that are open. Where memory is wanting, nothing changes.
-    pub(crate) fn mark(&mut self) -> Result<TablesMark, TableFault>
-        ensures depth { IfOk result (λ mark. mark ≡ length self.old.marks) }
+    pub(crate) fn mark(&mut self) -> Result<(), TableFault>
         ensures ok { OnOk result (self.new ≡ with_mark self.old) }
         ensures err { OnErr result (self.new ≡ self.old) }
         ensures spent { self.old.spent ≡ true → OnOk result ⊥ }
@@ -225,34 +222,32 @@ impl Tables {
         if self.spent {
             return Err(TableFault::Spent);
         }
-        let balances = self.balances.mark()?;
+        self.balances.mark()?;
         match self.supplies.mark() {
-            Ok(supplies) => Ok(TablesMark::of(balances, supplies)),
+            Ok(()) => Ok(()),
             Err(fault) => {
-                self.balances.back_to(balances);
+                self.balances.back();
                 Err(fault)
             }
         }
     }
 
     /// Goes back to the latest open mark and closes it. Takes no memory.
-    pub(crate) fn back_to(&mut self, mark: TablesMark)
-        requires latest { length self.old.marks ≡ mark + 1 }
+    pub(crate) fn back(&mut self)
+        requires some { 0 < length self.old.marks }
         ensures { IsGoneBack self.old self.new }
     {
-        let (balances, supplies) = mark.parts();
-        self.balances.back_to(balances);
-        self.supplies.back_to(supplies);
+        self.balances.back();
+        self.supplies.back();
     }
 
     /// Closes the latest open mark and keeps what is held. Takes no memory.
-    pub(crate) fn forget(&mut self, mark: TablesMark)
-        requires latest { length self.old.marks ≡ mark + 1 }
+    pub(crate) fn forget(&mut self)
+        requires some { 0 < length self.old.marks }
         ensures { IsForgotten self.old self.new }
     {
-        let (balances, supplies) = mark.parts();
-        self.balances.forget(balances);
-        self.supplies.forget(supplies);
+        self.balances.forget();
+        self.supplies.forget();
     }
 
     /// Settles both tables. Takes no memory.

@@ -23,8 +23,7 @@ impl Tables {
     ) -> Result<Vec<Coin>, TableFault>
         ensures { IfOk result (λ coins. map (λ c. (c.denom, c.amount)) coins.items ≡ coins_of self.now.holdings who.now) }
     {
-        // It tells that the keys ascend.
-        let _ = self.balances().len();
+        self.balances().known();
         let mut coins = Vec::new(alloc);
         let mut after = None;
         while let Some(coin) = self.coin_above(who, after, steps) {
@@ -44,8 +43,7 @@ impl Tables {
         ensures { option_map (λ c. (c.denom, c.amount)) result ≡ entry_above denom_cmp (coins_of self.now.holdings who.now) after }
     {
         let balances = self.balances();
-        // It tells that the keys ascend.
-        let _ = balances.len();
+        balances.known();
         match after {
             None => own_coin(who, balances.seek(&(*who, least_denom()), steps)),
             Some(denom) => own_coin(who, balances.next(Some(&(*who, denom)), steps)),

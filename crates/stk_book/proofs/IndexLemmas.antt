@@ -14,7 +14,7 @@ use Rattle.stk_types.specs.Orders.{addr_cmp, cons_cmp}
 use Rattle.stk_keep.specs.declared.entities.Validator.{Validator}
 use Rattle.stk_keep.specs.Entries.{at, with, without}
 use Rattle.stk_keep.specs.Orders.{same_addr}
-use Rattle.stk_table.proofs.CallerLemmas.{value_at-insert_entry, value_at-remove_entry, sorted-remove_entry}
+use Rattle.stk_types.proofs.MapLemmas.{ascend-taken, at-put, at-taken}
 use Rattle.stk_book.specs.Joint.{is_lower, listed}
 use Rattle.stk_book.specs.Registered.{Validators, Operators, operator_by_cons, IsIndex, AreKeyed, lower_of}
 use Rattle.stk_rules.proofs.OrderLemmas.{addr_total, cons_total, same_is, same_itself, same_back}
@@ -173,7 +173,7 @@ listed-joined v es index s f i c = by (is_lower v.operator (at cons_cmp index v.
 
     by : (b : Bool) → is_lower v.operator (at cons_cmp index v.cons) ≡ b
         → at cons_cmp (cond b (with cons_cmp index v.cons v.operator) index) c ≡ cond (has_cons v c) (Some (lower_of v.operator (operator_by_cons es c))) (operator_by_cons es c)
-    by true l = value_at-insert_entry cons_total index v.cons c v.operator ∙ ap (λ b. cond b (Some v.operator) (at cons_cmp index c)) flipped ∙ first (has_cons v c) refl l
+    by true l = at-put cons_cmp cons_total index v.cons c v.operator ∙ ap (λ b. cond b (Some v.operator) (at cons_cmp index c)) flipped ∙ first (has_cons v c) refl l
     by false l = second (has_cons v c) refl l
 
 -- ---- a validator that leaves
@@ -190,7 +190,7 @@ others-stay v c (e ∷ es) h f = by (same_addr v.operator e.0) f (λ g. others-s
 -- the index tells the first operators once a validator and its consensus address are gone
 pub index-left : (v : Validator) (es : Validators) (index : Operators) → IsStrictlySortedBy cons_cmp (keys_of index) → at addr_cmp es v.operator ≡ Some v
     → operator_by_cons (without addr_cmp es v.operator) v.cons ≡ None → IsIndex es index → IsIndex (without addr_cmp es v.operator) (without cons_cmp index v.cons)
-index-left v es index s f alone i c = value_at-remove_entry cons_total index v.cons c s ∙ by (has_cons v c) refl
+index-left v es index s f alone i c = at-taken cons_cmp cons_total index v.cons c s ∙ by (has_cons v c) refl
   where
     by : (b : Bool) → has_cons v c ≡ b → cond (same_addr c v.cons) None (at cons_cmp index c) ≡ operator_by_cons (without addr_cmp es v.operator) c
     by true h = ap (λ b. cond b None (at cons_cmp index c)) (same_back c v.cons ∙ h) ∙ sym (ap (operator_by_cons (without addr_cmp es v.operator)) (sym (same_is v.cons c h)) ∙ alone)
@@ -239,8 +239,8 @@ alone_without es v s f one = by (operator_by_cons (without addr_cmp es v.operato
     by : (r : Option (List ℕ)) → operator_by_cons (without addr_cmp es v.operator) v.cons ≡ r → r ≡ None
     by None e = refl
     by (Some o) e =
-        let found = found_by_cons (without addr_cmp es v.operator) v.cons o (sorted-remove_entry addr_total (is_at (addr_cmp v.operator)) es s) e in
-        let old = taken (same_addr o v.operator) o found.0 (at addr_cmp es o) (sym (value_at-remove_entry addr_total es v.operator o s) ∙ found.1.0) in
+        let found = found_by_cons (without addr_cmp es v.operator) v.cons o (ascend-taken addr_cmp (is_at (addr_cmp v.operator)) es s) e in
+        let old = taken (same_addr o v.operator) o found.0 (at addr_cmp es o) (sym (at-taken addr_cmp addr_total es v.operator o s) ∙ found.1.0) in
         let same : o ≡ v.operator = one o found.0 old.1 found.1.1 in
         let yes : same_addr o v.operator ≡ true = ap (λ y. same_addr y v.operator) same ∙ same_itself v.operator in
         let f2 : true ≡ false = sym yes ∙ old.0 in

@@ -10,8 +10,7 @@ use Rattle.stk_keep.specs.Entries.{at, number_at}
 use Rattle.stk_keep.specs.Orders.{pair_cmp, same_addr}
 use Rattle.stk_keep.specs.Staked.{Staked, validator_at, delegation, put_validator}
 use Rattle.stk_rules.specs.Stakes.{without_validator}
-use Rattle.stk_table.proofs.CallerLemmas.{sorted-remove_entry}
-use Rattle.stk_rules.proofs.EntryLemmas.{at-taken}
+use Rattle.stk_types.proofs.MapLemmas.{ascend-taken, at-taken}
 use Rattle.stk_book.specs.Calls.{IsSoundStake}
 use Rattle.stk_rules.proofs.OrderLemmas.{addr_total, same_is}
 use Rattle.stk_rules.proofs.SoundLemmas.{IsSoundAt, to_points, from_points, sound-put, held_within, later}
@@ -74,7 +73,7 @@ module _ (height : ℕ) (s : Staked) (v : Validator) (h : IsSoundAt height s) (f
 
   pub sound-taken : IsSoundAt height (without_validator v.operator s)
   sound-taken = record {
-    validators_ascend = sorted-remove_entry addr_total (is_at (addr_cmp v.operator)) s.validators h.validators_ascend;
+    validators_ascend = ascend-taken addr_cmp (is_at (addr_cmp v.operator)) s.validators h.validators_ascend;
     delegations_ascend = h.delegations_ascend;
     operators = λ o x e. h.operators o x (old_found o x e).1;
     validators = λ o x e. h.validators o x (old_found o x e).1;

@@ -1,12 +1,12 @@
 -- Three tables that are marked together, seen as one.
-use Rattle.std.proofs.Common.{◌≡◌, ◌∙◌, ℕ, ◌+◌, Bool, List, [], ◌∷◌, ◌++◌, length, refl, sym, ap, subst, arith}
+use Rattle.std.proofs.Common.{◌≡◌, ◌≢◌, ◌∙◌, ℕ, ◌+◌, ◌<◌, Bool, List, [], ◌∷◌, ◌++◌, length, refl, sym, ap, subst, arith}
 use Rattle.std.specs.Prelude.{suc, zero}
 use Rattle.std.specs.List.{range_with_len, AllByRecursion}
 use Rattle.std.proofs.lemmas.List.{length_push}
 use Rattle.stk_table.specs.Tabled.{Tabled}
 use Rattle.stk_table.specs.Tabled as table
 use Rattle.stk_keep.specs.declared.entities.Validator.{Validator}
-use Rattle.stk_rows.proofs.MarkLemmas.{same_last}
+use Rattle.stk_rows.proofs.MarkLemmas.{some_marks}
 use Rattle.stk_book.specs.Registered.{Validators, Delegations, Operators, IsIndex, AreIndexed, AreKeyed, AreInStep, side_by_side, registered, with_mark, IsGoneBack, IsForgotten}
 
 -- ---- marks side by side
@@ -169,3 +169,9 @@ module _ (v : Tabled (List ℕ) Validator) (o : Tabled (List ℕ) (List ℕ)) (d
   closed-all spent p m =
       let n : length v.marks ≡ 0 = sym (length-side v.marks d.marks h.delegations_depth) ∙ ap length m in
       (none_from_length v.marks n, none_from_length o.marks (h.operators_depth ∙ n), none_from_length d.marks (h.delegations_depth ∙ n))
+
+  -- where a mark is open, one is in each table
+  pub some_at : (spent : Bool) (p : ℕ) → (registered v d spent p).marks ≢ [] → (0 < length v.marks) × (0 < length o.marks) × (0 < length d.marks)
+  some_at spent p m =
+      let n : 0 < length v.marks = subst (λ n. 0 < n) (length-side v.marks d.marks h.delegations_depth) (some_marks (registered v d spent p).marks m) in
+      (n, subst (λ n. 0 < n) (sym h.operators_depth) n, subst (λ n. 0 < n) (sym h.delegations_depth) n)

@@ -12,7 +12,7 @@ ghost use Rattle.stk_book.specs.Joint.{listed, is_lower, Stays};
 use std::cmp::Ordering;
 use std::sync::ledger::Ledger;
 use stk_keep::Validator;
-use stk_table::{Mark, Table, TableFault};
+use stk_table::{Table, TableFault};
 use stk_types::{Addr, ConsAddr, Steps};
 
 /// Puts a validator whose operator has none into both tables. Where memory is wanting, the entries of both
@@ -32,23 +32,22 @@ pub(crate) fn put_both<L: Ledger>(
     ensures operators_entries { OnErr result (operators.new.entries ≡ operators.old.entries) }
     ensures operators_marks { OnErr result (operators.new.marks ≡ operators.old.marks) }
 {
-    // It tells that the keys ascend.
-    let _ = validators.len();
-    let mark = operators.mark()?;
+    validators.known();
+    operators.mark()?;
     match list(operators, v, steps) {
         Ok(()) => (),
         Err(fault) => {
-            operators.back_to(mark);
+            operators.back();
             return Err(fault);
         }
     }
     match validators.put(&v.operator, *v, steps) {
         Ok(()) => {
-            operators.forget(mark);
+            operators.forget();
             Ok(())
         }
         Err(fault) => {
-            operators.back_to(mark);
+            operators.back();
             Err(fault)
         }
     }
@@ -72,24 +71,23 @@ pub(crate) fn take_both<L: Ledger>(
     ensures operators_entries { OnErr result (operators.new.entries ≡ operators.old.entries) }
     ensures operators_marks { OnErr result (operators.new.marks ≡ operators.old.marks) }
 {
-    // They tell that the keys ascend.
-    let _ = validators.len();
-    let _operators = operators.len();
-    let mark = operators.mark()?;
+    validators.known();
+    operators.known();
+    operators.mark()?;
     match operators.remove(&v.cons, steps) {
         Ok(_) => (),
         Err(fault) => {
-            operators.back_to(mark);
+            operators.back();
             return Err(fault);
         }
     }
     match validators.remove(&v.operator, steps) {
         Ok(_) => {
-            operators.forget(mark);
+            operators.forget();
             Ok(())
         }
         Err(fault) => {
-            operators.back_to(mark);
+            operators.back();
             Err(fault)
         }
     }

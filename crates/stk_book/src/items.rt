@@ -48,13 +48,6 @@ impl Row for ValidatorKind {
         is_same_validator(value, other)
     }
 
-    fn entry(item: &Item) -> Result<Option<(Addr, Validator)>, TableFault> {
-        match item {
-            Item::Validator { validator } => Ok(Some((validator.operator, *validator))),
-            _ => Ok(None),
-        }
-    }
-
     fn told() {}
 }
 
@@ -91,17 +84,6 @@ impl Row for DelegationKind {
 
     fn is_same(value: &Stake, other: &Stake) -> bool {
         value.shares().raw() == other.shares().raw()
-    }
-
-    fn entry(item: &Item) -> Result<Option<((Addr, Addr), Stake)>, TableFault> {
-        match item {
-            Item::Delegation {
-                operator,
-                delegator,
-                shares,
-            } => Ok(Some(((*operator, *delegator), Stake::of(*shares)))),
-            _ => Ok(None),
-        }
     }
 
     fn told() {}

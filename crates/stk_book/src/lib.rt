@@ -9,7 +9,6 @@ mod delegating;
 mod editing;
 mod index;
 mod items;
-mod mark;
 mod origin;
 mod paying;
 mod records;

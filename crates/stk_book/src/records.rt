@@ -8,7 +8,6 @@ ghost use Rattle.stk_book.specs.Registered.{AreInOrder};
 ghost use Rattle.stk_book.specs.Rows.{items_of, is_stake, FitsOperator};
 
 use crate::items::{DelegationKind, ValidatorKind};
-use crate::mark::TablesMark;
 use crate::stake::Stake;
 use crate::staking::Staking;
 use std::alloc::Global;
@@ -51,21 +50,12 @@ impl Records for Staking {
         if self.spent {
             return Err(RecordFault::NoMemory);
         }
-        let mark = mark_all(
+        mark_all(
             &mut self.validators,
             &mut self.operators,
             &mut self.delegations,
         )?;
-        match self.marks.push(mark) {
-            Ok(()) => Ok(()),
-            Err(failed) => {
-                let (validators, operators, delegations) = failed.value.parts();
-                self.validators.forget(validators);
-                self.operators.forget(operators);
-                self.delegations.forget(delegations);
-                Err(RecordFault::NoMemory)
-            }
-        }
+        Ok(())
     }
 
     fn back<L: Ledger>(&mut self, _steps: &mut Steps<L>)
@@ -75,11 +65,9 @@ impl Records for Staking {
         ensures spent { self.new.spent ≡ self.old.spent }
         ensures power { self.new.power_reduction ≡ self.old.power_reduction }
     {
-        let mark = self.marks.pop().unwrap();
-        let (validators, operators, delegations) = mark.parts();
-        self.validators.back_to(validators);
-        self.operators.back_to(operators);
-        self.delegations.back_to(delegations);
+        self.validators.back();
+        self.operators.back();
+        self.delegations.back();
     }
 
     fn forget<L: Ledger>(&mut self, _steps: &mut Steps<L>)
@@ -90,11 +78,9 @@ impl Records for Staking {
         ensures spent { self.new.spent ≡ self.old.spent }
         ensures power { self.new.power_reduction ≡ self.old.power_reduction }
     {
-        let mark = self.marks.pop().unwrap();
-        let (validators, operators, delegations) = mark.parts();
-        self.validators.forget(validators);
-        self.operators.forget(operators);
-        self.delegations.forget(delegations);
+        self.validators.forget();
+        self.operators.forget();
+        self.delegations.forget();
     }
 
     fn items_into<L: Ledger>(
@@ -110,8 +96,7 @@ impl Records for Staking {
         out: &mut Vec<(Item, bool)>,
         steps: &mut Steps<L>,
     ) -> Result<(), RecordFault> {
-        let alloc = *self.marks.allocator();
-        self.kinds().changes_into(alloc, out, steps)
+        self.kinds().changes_into(self.alloc, out, steps)
     }
 
     fn load<L: Ledger>(
@@ -170,10 +155,7 @@ fn mark_all(
     validators: &mut Table<Addr, Validator>,
     operators: &mut Table<ConsAddr, Addr>,
     delegations: &mut Table<(Addr, Addr), Stake>,
-) -> Result<TablesMark, TableFault>
-    requires operators { length operators.old.marks ≡ length validators.old.marks }
-    requires delegations { length delegations.old.marks ≡ length validators.old.marks }
-    ensures depth { IfOk result (λ mark. mark ≡ length validators.old.marks) }
+) -> Result<(), TableFault>
     ensures validators { OnOk result (validators.new ≡ with_mark validators.old) }
     ensures operators { OnOk result (operators.new ≡ with_mark operators.old) }
     ensures delegations { OnOk result (delegations.new ≡ with_mark delegations.old) }
@@ -181,19 +163,31 @@ fn mark_all(
     ensures operators_err { OnErr result (operators.new ≡ operators.old) }
     ensures delegations_err { OnErr result (delegations.new ≡ delegations.old) }
 {
-    let first = validators.mark()?;
-    let second = match operators.mark() {
-        Ok(second) => second,
+    validators.mark()?;
+    match mark_both(operators, delegations) {
+        Ok(()) => Ok(()),
         Err(fault) => {
-            validators.back_to(first);
-            return Err(fault);
+            validators.back();
+            Err(fault)
         }
-    };
+    }
+}
+
+/// Opens a mark of the index and the delegations, or of none.
+fn mark_both(
+    operators: &mut Table<ConsAddr, Addr>,
+    delegations: &mut Table<(Addr, Addr), Stake>,
+) -> Result<(), TableFault>
+    ensures operators { OnOk result (operators.new ≡ with_mark operators.old) }
+    ensures delegations { OnOk result (delegations.new ≡ with_mark delegations.old) }
+    ensures operators_err { OnErr result (operators.new ≡ operators.old) }
+    ensures delegations_err { OnErr result (delegations.new ≡ delegations.old) }
+{
+    operators.mark()?;
     match delegations.mark() {
-        Ok(third) => Ok(TablesMark::of(first, second, third)),
+        Ok(()) => Ok(()),
         Err(fault) => {
-            validators.back_to(first);
-            operators.back_to(second);
+            operators.back();
             Err(fault)
         }
     }

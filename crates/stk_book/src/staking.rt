@@ -12,7 +12,6 @@ ghost use Rattle.stk_rules.specs.Stakes.{without_validator, put_delegation, with
 ghost use Rattle.stk_book.specs.Registered.{new_register, holding, spent_now, operator_by_cons, Stands};
 
 use crate::index::{put_both, take_both};
-use crate::mark::TablesMark;
 use crate::stake::Stake;
 use std::alloc::Global;
 use std::marker::Model;
@@ -34,21 +33,19 @@ pub struct Staking {
     pub(crate) operators: Table<ConsAddr, Addr>,
     /// The shares by operator and delegator.
     pub(crate) delegations: Table<(Addr, Addr), Stake>,
-    pub(crate) marks: Vec<TablesMark>,
+    pub(crate) alloc: Global,
     pub(crate) spent: bool,
     power_reduction: u64,
 }
 
 impl Model for Staking {
-    ghost use Rattle.std.specs.Prelude.{◌≡◌, length};
-    ghost use Rattle.std.specs.List.{range_with_len};
     ghost use Rattle.stk_book.specs.Registered.{Registered, AreInStep, registered};
 
     ghost Value = { Registered };
 
     ghost view = { λ s. registered s.validators s.delegations s.spent s.power_reduction };
 
-    ghost invariant = { λ s. (s.marks.items ≡ range_with_len 0 (length s.validators.marks)) × AreInStep s.validators s.operators s.delegations };
+    ghost invariant = { λ s. AreInStep s.validators s.operators s.delegations };
 }
 
 impl Staking {
@@ -63,7 +60,7 @@ impl Staking {
             validators: Table::new(alloc),
             operators: Table::new(alloc),
             delegations: Table::new(alloc),
-            marks: Vec::new(alloc),
+            alloc,
             spent: false,
             power_reduction,
         }
@@ -91,8 +88,8 @@ impl Staking {
         ensures delegations { IsStrictlySortedBy pair_cmp (keys_of self.now.staked.delegations) }
         ensures operators { (o : List ℕ) (v : Validator) → validator_at self.now.staked o ≡ Some v → v.operator ≡ o }
     {
-        let _ = self.validators.len();
-        let _delegations = self.delegations.len();
+        self.validators.known();
+        self.delegations.known();
     }
 
     /// The validator of an operator.
@@ -112,8 +109,7 @@ impl Staking {
         ensures value { option_copied result ≡ validator_by_cons self.now.staked cons.now }
         ensures cost { steps.new ≤ steps.old + 2 }
     {
-        // It tells that the keys ascend.
-        let _ = self.validators.len();
+        self.validators.known();
         match self.operators.get(cons, steps) {
             Some(operator) => self.validators.get(operator, steps),
             None => None,
@@ -151,8 +147,7 @@ impl Staking {
         if self.spent {
             return Err(TableFault::Spent);
         }
-        // It tells that the keys ascend.
-        let _ = self.validators.len();
+        self.validators.known();
         match self.validators.put(&v.operator, *v, steps) {
             Ok(()) => Ok(()),
             Err(fault) => {

@@ -8,7 +8,7 @@ use Rattle.std.specs.declared.cmp.Ordering.TheVariants.{Less, Equal, Greater}
 use Rattle.std.specs.Ordering.{is_eq, match_ordering, ordering_then}
 use Rattle.std.proofs.lemmas.Map.Text.{is_eq-slice_cmp}
 use Rattle.std.proofs.lemmas.Slice.Eq.{bytes_eq-Decides}
-use Rattle.std.specs.FinMap.Entries.{by_order, put, find, find-put}
+use Rattle.stk_types.proofs.MapLemmas.{at-put}
 use Rattle.std.proofs.lemmas.Cmp.{nat_list_cmp_total}
 use Rattle.stk_types.specs.Orders.{addr_cmp}
 use Rattle.stk_keep.specs.Log.{Log, LogEntry}
@@ -32,22 +32,11 @@ pair_is x y h = let p : (is_eq (addr_cmp x.0 y.0) ≡ true) × (is_eq (addr_cmp 
 
 -- ---- what stands at a key after an entry was put there or elsewhere
 
-put_is : {K X : Type 0} (R : K → K → Ordering) (es : List (K × X)) (k : K) (v : X) → insert_entry R es k v ≡ put R k v es
-put_is R [] k v = refl
-put_is R (e ∷ es) k v = elim (R k e.0) as (λ r. match_ordering r ((k, v) ∷ e ∷ es) ((e.0, v) ∷ es) (e ∷ insert_entry R es k v) ≡ by_order r ((k, v) ∷ e ∷ es) ((e.0, v) ∷ es) (e ∷ put R k v es)) [ Less ↦ refl | Equal ↦ refl | Greater ↦ ap (λ t. e ∷ t) (put_is R es k v) ]
-
-find_is : {K X : Type 0} (R : K → K → Ordering) (es : List (K × X)) (q : K) → lookup (is_at (R q)) es ≡ find R q es
-find_is R [] q = refl
-find_is R (e ∷ es) q = ap (λ t. cond (is_at (R q) e.0) (Some e.1) t) (find_is R es q)
-
-put_at : {X : Type 0} (es : List (List ℕ × X)) (k q : List ℕ) (v : X) → lookup (is_at (addr_cmp q)) (insert_entry addr_cmp es k v) ≡ cond (is_at (addr_cmp q) k) (Some v) (lookup (is_at (addr_cmp q)) es)
-put_at es k q v = find_is addr_cmp (insert_entry addr_cmp es k v) q ∙ ap (find addr_cmp q) (put_is addr_cmp es k v) ∙ find-put addr_cmp nat_list_cmp_total q k v es ∙ sym (ap (cond (is_at (addr_cmp q) k) (Some v)) (find_is addr_cmp es q))
-
 pub put_there : {X : Type 0} (k : List ℕ) (v : X) (es : List (List ℕ × X)) → lookup (is_at (addr_cmp k)) (insert_entry addr_cmp es k v) ≡ Some v
-put_there k v es = put_at es k k v ∙ ap (λ b. cond b (Some v) (lookup (is_at (addr_cmp k)) es)) (own_addr k)
+put_there k v es = at-put addr_cmp nat_list_cmp_total es k k v ∙ ap (λ b. cond b (Some v) (lookup (is_at (addr_cmp k)) es)) (own_addr k)
 
 pub put_elsewhere : {X : Type 0} (k q : List ℕ) (v : X) (es : List (List ℕ × X)) → same_addr q k ≡ false → lookup (is_at (addr_cmp q)) (insert_entry addr_cmp es k v) ≡ lookup (is_at (addr_cmp q)) es
-put_elsewhere k q v es apart = put_at es k q v ∙ ap (λ b. cond b (Some v) (lookup (is_at (addr_cmp q)) es)) apart
+put_elsewhere k q v es apart = at-put addr_cmp nat_list_cmp_total es k q v ∙ ap (λ b. cond b (Some v) (lookup (is_at (addr_cmp q)) es)) apart
 
 -- what holds of each entry that passes holds of one that does
 pub one_passes : {E S : Type 0} (P : S → Type 0) (f : E → S) (test : E → Bool) (i : ℕ) (es : List E) (e : E) → slice_get es i ≡ Some e → test e ≡ true

@@ -6,7 +6,7 @@ use Rattle.std.proofs.Common.{sym, ◌∙◌, ap, subst}
 use Rattle.stk_types.specs.Orders.{addr_cmp}
 use Rattle.stk_keep.specs.Entries.{at}
 use Rattle.stk_keep.specs.Orders.{pair_cmp, same_addr}
-use Rattle.stk_table.proofs.CallerLemmas.{value_at-insert_entry, sorted-insert_entry}
+use Rattle.stk_types.proofs.MapLemmas.{ascend-put, at-put}
 use Rattle.stk_rules.specs.Periods.{Periods, Rewards, initial_records, periods_of, start_of, starts_of, with_periods, ratio_at, references_of}
 use Rattle.stk_f1.specs.Kept.{Kept, current_of, record_of, events_of}
 use Rattle.stk_f1.specs.Stands.{AreSound, IsSound, KeepsRewards, history_of}
@@ -15,7 +15,7 @@ use Rattle.stk_f1.proofs.OrderLemmas.{addr_total, same_is, same_itself}
 
 -- the periods of an operator once some stand at one
 pub periods-with : (r : Rewards) (o q : List ℕ) (p : Periods) → at addr_cmp (with_periods o p r).periods q ≡ cond (same_addr q o) (Some p) (at addr_cmp r.periods q)
-periods-with r o q p = value_at-insert_entry addr_total r.periods o q p
+periods-with r o q p = at-put addr_cmp addr_total r.periods o q p
 
 pub periods-own : (r : Rewards) (o : List ℕ) (p : Periods) → at addr_cmp (with_periods o p r).periods o ≡ Some p
 periods-own r o p = periods-with r o o p ∙ ap (λ b. cond b (Some p) (at addr_cmp r.periods o)) (same_itself o)
@@ -45,7 +45,7 @@ pub record PeriodsChange (k k2 : Kept) (r : Rewards) (o : List ℕ) (p : Periods
 module _ (k k2 : Kept) (r : Rewards) (o : List ℕ) (p : Periods) (h : KeepsRewards k r) (c : PeriodsChange k k2 r o p) where
   sound-with : IsSound (with_periods o p r)
   sound-with = record {
-    operators_ascend = sorted-insert_entry addr_total o p r.periods h.sound.operators_ascend;
+    operators_ascend = ascend-put addr_cmp addr_total r.periods o p h.sound.operators_ascend;
     starts_ascend = h.sound.starts_ascend;
     periods = each-operator (λ q. (x : Periods) → at addr_cmp (with_periods o p r).periods q ≡ Some x → AreSound x (starts_of r q)) o
         (λ x e. subst (λ y. AreSound y (starts_of r o)) (ap (λ s. unwrap_or s p) (sym (periods-own r o p) ∙ e)) c.sound)

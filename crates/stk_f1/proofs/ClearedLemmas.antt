@@ -7,7 +7,7 @@ use Rattle.std.proofs.Common.{sym, ◌∙◌, ap}
 use Rattle.stk_types.specs.Orders.{addr_cmp}
 use Rattle.stk_keep.specs.Entries.{at}
 use Rattle.stk_keep.specs.Orders.{pair_cmp, same_addr}
-use Rattle.stk_table.proofs.CallerLemmas.{value_at-remove_entry, sorted-remove_entry}
+use Rattle.stk_types.proofs.MapLemmas.{ascend-taken, at-taken}
 use Rattle.stk_rules.specs.Periods.{Periods, Rewards, initial_records, periods_of, start_of, starts_of, without_periods}
 use Rattle.stk_f1.specs.Kept.{Kept, period_cmp, current_of, record_of, info_of, event_at, events_of, others, without_operator}
 use Rattle.stk_f1.specs.Stands.{AreSound, KeepsRewards, history_of}
@@ -78,10 +78,10 @@ first_same false b h = cc
 
 module _ (k : Kept) (r : Rewards) (o : List ℕ) (h : KeepsRewards k r) (is : is_some (current_of k o) ≡ true) (current : IsStrictlySortedBy addr_cmp (keys_of k.current)) (none : (who : List ℕ) → info_of k who o ≡ None) where
   own_periods : at addr_cmp (without_periods o r).periods o ≡ None
-  own_periods = value_at-remove_entry addr_total r.periods o o h.sound.operators_ascend ∙ ap (λ b. cond b None (at addr_cmp r.periods o)) (same_itself o)
+  own_periods = at-taken addr_cmp addr_total r.periods o o h.sound.operators_ascend ∙ ap (λ b. cond b None (at addr_cmp r.periods o)) (same_itself o)
 
   other_periods : (q : List ℕ) → same_addr q o ≡ false → at addr_cmp (without_periods o r).periods q ≡ at addr_cmp r.periods q
-  other_periods q apart = value_at-remove_entry addr_total r.periods o q h.sound.operators_ascend ∙ ap (λ b. cond b None (at addr_cmp r.periods q)) apart
+  other_periods q apart = at-taken addr_cmp addr_total r.periods o q h.sound.operators_ascend ∙ ap (λ b. cond b None (at addr_cmp r.periods q)) apart
 
   not_some : {A : Type 0} (x : Option A) → x ≡ None → is_some x ≡ true → ⊥
   not_some None e t = cc
@@ -94,8 +94,8 @@ module _ (k : Kept) (r : Rewards) (o : List ℕ) (h : KeepsRewards k r) (is : is
   pub clear-stands : KeepsRewards (without_operator o k) (without_periods o r)
   clear-stands = record {
     current = each-operator (λ q. current_of (without_operator o k) q ≡ option_map (λ p. p.current) (at addr_cmp (without_periods o r).periods q)) o
-        (value_at-remove_entry addr_total k.current o o current ∙ ap (λ b. cond b None (current_of k o)) (same_itself o) ∙ sym (ap (option_map (λ p. p.current)) own_periods))
-        (λ q apart. value_at-remove_entry addr_total k.current o q current ∙ ap (λ b. cond b None (current_of k q)) apart ∙ h.current q ∙ sym (ap (option_map (λ p. p.current)) (other_periods q apart)));
+        (at-taken addr_cmp addr_total k.current o o current ∙ ap (λ b. cond b None (current_of k o)) (same_itself o) ∙ sym (ap (option_map (λ p. p.current)) own_periods))
+        (λ q apart. at-taken addr_cmp addr_total k.current o q current ∙ ap (λ b. cond b None (current_of k q)) apart ∙ h.current q ∙ sym (ap (option_map (λ p. p.current)) (other_periods q apart)));
     historical = each-operator (λ q. (n : ℕ) → record_of (without_operator o k) q n ≡ history_of (at addr_cmp (without_periods o r).periods q) (starts_of r q) n) o
         (λ n. lookup-none (λ (key : List ℕ × ℕ). key.0) o (is_at (period_cmp (o, n)))
         (λ key t. ap (λ x. same_addr x o) (sym (same_is o key.0 (first_same (same_addr o key.0) (n == key.1) (sym (period_found o key.0 n key.1) ∙ t)))) ∙ same_itself o) k.historical
@@ -108,7 +108,7 @@ module _ (k : Kept) (r : Rewards) (o : List ℕ) (h : KeepsRewards k r) (is : is
         (ap (map event_at) (filter-none (λ (key : List ℕ × ℕ × ℕ). key.0) o k.events) ∙ sym (ap (λ p. (unwrap_or p initial_records).events) own_periods))
         (λ q apart. ap (map event_at) (filter-others (λ (key : List ℕ × ℕ × ℕ). key.0) o q apart k.events) ∙ h.events q ∙ sym (ap (λ p. (unwrap_or p initial_records).events) (other_periods q apart)));
     sound = record {
-      operators_ascend = sorted-remove_entry addr_total (is_at (addr_cmp o)) r.periods h.sound.operators_ascend;
+      operators_ascend = ascend-taken addr_cmp (is_at (addr_cmp o)) r.periods h.sound.operators_ascend;
       starts_ascend = h.sound.starts_ascend;
       periods = each-operator (λ q. (p : Periods) → at addr_cmp (without_periods o r).periods q ≡ Some p → AreSound p (starts_of r q)) o
           (λ p e. let no : None ≡ Some p = sym own_periods ∙ e in cc)

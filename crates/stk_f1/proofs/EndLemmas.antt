@@ -10,7 +10,7 @@ use Rattle.stk_coins.specs.Coins.{Money, IsMoney, amount_of}
 use Rattle.stk_keep.specs.declared.entities.StartingInfo.{StartingInfo}
 use Rattle.stk_keep.specs.Entries.{at}
 use Rattle.stk_keep.specs.Orders.{same_addr}
-use Rattle.stk_table.proofs.CallerLemmas.{sorted-insert_entry}
+use Rattle.stk_types.proofs.MapLemmas.{ascend-put}
 use Rattle.stk_rules.specs.Periods.{Periods, Rewards, initial_records, starts_of, with_periods, ratio_at, references_of}
 use Rattle.stk_f1.specs.Kept.{Kept, period_cmp, record_of, events_of, with_record, with_current, released}
 use Rattle.stk_f1.specs.Stands.{AreSound, KeepsRewards}
@@ -145,7 +145,7 @@ module _ (k : Kept) (r : Rewards) (o : List ℕ) (p : Periods) (h : KeepsRewards
   gone = released o (p.current - 1) put
 
   put-sorted : IsStrictlySortedBy period_cmp (keys_of put.historical)
-  put-sorted = sorted-insert_entry period_total (o, p.current) (record { ratio = ratio; count = 1 }) k.historical sorted
+  put-sorted = ascend-put period_cmp period_total k.historical (o, p.current) (record { ratio = ratio; count = 1 }) sorted
 
   put-record : (q : List ℕ) (m : ℕ) → record_of put q m ≡ cond (is_at (period_cmp (q, m)) (o, p.current)) (counted ratio 1) (record_of k q m)
   put-record q m = record-with k sorted o q p.current m 1 ratio

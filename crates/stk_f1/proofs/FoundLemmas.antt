@@ -7,7 +7,7 @@ use Rattle.stk_types.specs.Orders.{addr_cmp}
 use Rattle.stk_keep.specs.declared.entities.StartingInfo.{StartingInfo}
 use Rattle.stk_keep.specs.Entries.{at}
 use Rattle.stk_keep.specs.Orders.{pair_cmp, same_addr}
-use Rattle.stk_table.proofs.CallerLemmas.{value_at-insert_entry}
+use Rattle.stk_types.proofs.MapLemmas.{at-put}
 use Rattle.stk_rules.specs.Amounts.{count_where}
 use Rattle.stk_rules.specs.Periods.{Periods, Rewards, initial_records, periods_of, start_of, starts_of, ratio_at, references_of}
 use Rattle.stk_f1.specs.Kept.{Kept, period_cmp, current_of, record_of, with_current}
@@ -79,7 +79,7 @@ found-other o q n m h = period_found q o m n ∙ ap (λ b. b && (m == n)) h
 
 -- the period that runs, once one is put
 pub current-with : (k : Kept) (o q : List ℕ) (n : ℕ) → current_of (with_current o n k) q ≡ cond (same_addr q o) (Some n) (current_of k q)
-current-with k o q n = value_at-insert_entry addr_total k.current o q n
+current-with k o q n = at-put addr_cmp addr_total k.current o q n
 
 pub current-own : (k : Kept) (o : List ℕ) (n : ℕ) → current_of (with_current o n k) o ≡ Some n
 current-own k o n = current-with k o o n ∙ ap (λ b. cond b (Some n) (current_of k o)) (same_itself o)

@@ -1,7 +1,5 @@
 -- The orders of the keys: they are total, and tell all keys apart.
-use Rattle.std.specs.Prelude.{◌≡◌, ℕ, ◌==◌, ◌&&◌, true, List, refl}
-use Rattle.std.specs.declared.cmp.Ordering.{Ordering}
-use Rattle.std.specs.declared.cmp.Ordering.TheVariants.{Less, Equal, Greater}
+use Rattle.std.specs.Prelude.{◌≡◌, ℕ, ◌==◌, ◌&&◌, true, List}
 use Rattle.std.specs.Cmp.{IsTotalOrder, tied_itself, tied_then, on_total, then_total}
 use Rattle.std.specs.Ordering.{nat_cmp, is_eq}
 use Rattle.std.specs.BTreeMap.{is_at}
@@ -12,6 +10,7 @@ use Rattle.std.proofs.lemmas.Map.Lookups.{exact_bytes}
 use Rattle.stk_types.specs.Orders.{addr_cmp}
 use Rattle.stk_keep.specs.Orders.{pair_cmp, same_addr}
 use Rattle.stk_f1.specs.Kept.{period_cmp, event_cmp}
+pub use Rattle.stk_types.proofs.MapLemmas.{equal}
 
 pub addr_total : IsTotalOrder addr_cmp
 addr_total = nat_list_cmp_total
@@ -24,11 +23,6 @@ pair_total = then_total (on_total (λ (t : List ℕ × List ℕ). t.0) addr_tota
 
 pub event_total : IsTotalOrder event_cmp
 event_total = then_total (then_total (on_total (λ (t : List ℕ × ℕ × ℕ). t.0) addr_total) (on_total (λ (t : List ℕ × ℕ × ℕ). t.1) nat_cmp_total)) (on_total (λ (t : List ℕ × ℕ × ℕ). t.2) nat_cmp_total)
-
-pub equal : (r : Ordering) → is_eq r ≡ true → r ≡ Equal
-equal Less h = cc
-equal Equal h = refl
-equal Greater h = cc
 
 pub same_is : (a b : List ℕ) → same_addr a b ≡ true → a ≡ b
 same_is a b h = exact_bytes a b (equal _ h)

@@ -9,7 +9,7 @@ use Rattle.stk_coins.specs.Coins.{Money}
 use Rattle.stk_keep.specs.declared.entities.Historical.{Historical}
 use Rattle.stk_keep.specs.Entries.{at, with, without}
 use Rattle.stk_keep.specs.Orders.{same_addr}
-use Rattle.stk_table.proofs.CallerLemmas.{value_at-insert_entry, value_at-remove_entry}
+use Rattle.stk_types.proofs.MapLemmas.{at-put, at-taken}
 use Rattle.stk_f1.specs.Kept.{Kept, period_cmp, record_of, with_record, recounted, referred, released}
 use Rattle.stk_f1.proofs.OrderLemmas.{period_total, same_is, period_found}
 
@@ -32,8 +32,8 @@ some_if b h = if b then None else Some h
 at-set_if : (b : Bool) (es : Histories) (key q : List ℕ × ℕ) (h : Historical) → IsStrictlySortedBy period_cmp (keys_of es)
     → at period_cmp (set_if b es key h) q ≡ cond (is_at (period_cmp q) key) (some_if b h) (at period_cmp es q)
 unfolding set_if some_if
-at-set_if true es key q h s = value_at-remove_entry period_total es key q s
-at-set_if false es key q h s = value_at-insert_entry period_total es key q h
+at-set_if true es key q h s = at-taken period_cmp period_total es key q s
+at-set_if false es key q h s = at-put period_cmp period_total es key q h
 
 -- the record at a period once a record was put at one
 pub record-with : (k : Kept) → IsStrictlySortedBy period_cmp (keys_of k.historical) → (o q : List ℕ) (n m count : ℕ) (ratio : Money)

@@ -8,7 +8,7 @@ use Rattle.stk_types.specs.Orders.{addr_cmp}
 use Rattle.stk_keep.specs.declared.entities.StartingInfo.{StartingInfo}
 use Rattle.stk_keep.specs.Entries.{at}
 use Rattle.stk_keep.specs.Orders.{pair_cmp, same_addr}
-use Rattle.stk_table.proofs.CallerLemmas.{value_at-insert_entry, value_at-remove_entry, sorted-insert_entry, sorted-remove_entry}
+use Rattle.stk_types.proofs.MapLemmas.{ascend-put, ascend-taken, at-put, at-taken}
 use Rattle.stk_rules.specs.Periods.{Periods, Rewards, start_of, starts_of, with_start, without_start, ratio_at, references_of}
 use Rattle.stk_f1.specs.Kept.{Kept, period_cmp, record_of, with_info, without_info}
 use Rattle.stk_f1.specs.Stands.{AreSound, KeepsRewards}
@@ -82,8 +82,8 @@ module _ (k : Kept) (r : Rewards) (o who : List ℕ) (p : Periods) (h : KeepsRew
             (record-referred k1 sorted o s.period (ratio_at p.ratios s.period) (refs s.period) (record-is k r o p h e s.period) some q m);
         starts = recounted-starts (record_of k1 o s.period) (λ c. c + 1) o s.period k1 ∙ ap (λ es. (with_start who o s (record r { starts = es })).starts) h.starts;
         other_starts = λ q apart. starts-other r o q who s apart;
-        other_start = λ q w apart. value_at-insert_entry pair_total r.starts (o, who) (q, w) s ∙ ap (λ b. cond b (Some s) (start_of r w q)) (apart_pairs o q who w apart);
-        ascend = sorted-insert_entry pair_total (o, who) s r.starts h.sound.starts_ascend;
+        other_start = λ q w apart. at-put pair_cmp pair_total r.starts (o, who) (q, w) s ∙ ap (λ b. cond b (Some s) (start_of r w q)) (apart_pairs o q who w apart);
+        ascend = ascend-put pair_cmp pair_total r.starts (o, who) s h.sound.starts_ascend;
         events = recounted-events (record_of k1 o s.period) (λ c. c + 1) o s.period k1;
         sound = record {
           running = old.running;
@@ -113,8 +113,8 @@ module _ (k : Kept) (r : Rewards) (o who : List ℕ) (p : Periods) (h : KeepsRew
             (record-released k1 sorted o s.period (ratio_at p.ratios s.period) (refs s.period) (record-is k r o p h e s.period) q m);
         starts = recounted-starts (record_of k1 o s.period) (λ c. c - 1) o s.period k1 ∙ ap (λ es. (without_start who o (record r { starts = es })).starts) h.starts;
         other_starts = λ q apart. starts-left r o q who apart;
-        other_start = λ q w apart. value_at-remove_entry pair_total r.starts (o, who) (q, w) h.sound.starts_ascend ∙ ap (λ b. cond b None (start_of r w q)) (apart_pairs o q who w apart);
-        ascend = sorted-remove_entry pair_total (is_at (pair_cmp (o, who))) r.starts h.sound.starts_ascend;
+        other_start = λ q w apart. at-taken pair_cmp pair_total r.starts (o, who) (q, w) h.sound.starts_ascend ∙ ap (λ b. cond b None (start_of r w q)) (apart_pairs o q who w apart);
+        ascend = ascend-taken pair_cmp (is_at (pair_cmp (o, who))) r.starts h.sound.starts_ascend;
         events = recounted-events (record_of k1 o s.period) (λ c. c - 1) o s.period k1;
         sound = record {
           running = old.running;

@@ -9,17 +9,13 @@ use Rattle.std.proofs.lemmas.Bool.Decides.{nat_tests}
 use Rattle.std.proofs.lemmas.Cmp.{nat_list_cmp_total}
 use Rattle.std.proofs.lemmas.Map.Lookups.{exact_bytes}
 use Rattle.stk_types.specs.Orders.{addr_cmp}
+use Rattle.stk_types.proofs.MapLemmas.{equal}
 use Rattle.stk_keep.specs.Orders.{same_addr}
 use Rattle.stk_f1.specs.Grouped.{IsGrouped}
 use Rattle.stk_f1.specs.Kept.{period_cmp, event_cmp}
 
 addr_total : IsTotalOrder addr_cmp
 addr_total = nat_list_cmp_total
-
-equal : (r : Ordering) → is_eq r ≡ true → r ≡ Equal
-equal Less h = cc
-equal Equal h = refl
-equal Greater h = cc
 
 equal_back : (a b : List ℕ) → addr_cmp a b ≡ Equal → addr_cmp b a ≡ Equal
 equal_back a b h = addr_total.antisymm b a ∙ ap ordering_reverse h

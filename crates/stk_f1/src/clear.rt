@@ -77,8 +77,7 @@ fn first_of<K: Keyed, V: Copied, L: Ledger>(
     ensures own { IfOk result (λ found. IfSome found (λ key. same_addr (K.operator_of key) operator.now ≡ true)) }
     ensures none { IfOk result (λ found. IfNone found (others K.operator_of operator.now table.now.entries ≡ table.now.entries)) }
 {
-    // It tells that the keys ascend.
-    let _ = table.len();
+    table.known();
     let first = K::first(operator);
     match table.seek(&first, steps) {
         None => Ok(None),

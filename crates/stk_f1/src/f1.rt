@@ -9,7 +9,6 @@ ghost use Rattle.stk_rules.specs.Periods.{Rewards, initial_records, period_ended
 ghost use Rattle.stk_f1.specs.Stands.{KeepsRewards, IsKept, no_rewards, started_at, references_at, if_some};
 ghost use Rattle.stk_f1.specs.Steps.{running};
 
-use crate::mark::TablesMark;
 use crate::tables::Tables;
 use std::alloc::Global;
 use std::marker::Model;
@@ -27,19 +26,15 @@ use stk_types::{Addr, Copied, Steps};
 #[derive(Drop)]
 pub struct F1 {
     pub(crate) tables: Tables,
-    pub(crate) marks: Vec<TablesMark>,
+    pub(crate) alloc: Global,
 }
 
 impl Model for F1 {
-    ghost use Rattle.std.specs.Prelude.{◌≡◌, length};
-    ghost use Rattle.std.specs.List.{range_with_len};
     ghost use Rattle.stk_f1.specs.Kept.{Recorded};
 
     ghost Value = { Recorded };
 
     ghost view = { λ f. f.tables };
-
-    ghost invariant = { λ f. f.marks.items ≡ range_with_len 0 (length f.tables.marks) };
 }
 
 impl F1 {
@@ -50,7 +45,7 @@ impl F1 {
     {
         F1 {
             tables: Tables::new(alloc),
-            marks: Vec::new(alloc),
+            alloc,
         }
     }
 

@@ -49,13 +49,6 @@ impl Row for CurrentKind {
         *value == *other
     }
 
-    fn entry(item: &Item) -> Result<Option<(Addr, u64)>, TableFault> {
-        match item {
-            Item::CurrentPeriod { operator, period } => Ok(Some((*operator, *period))),
-            _ => Ok(None),
-        }
-    }
-
     fn told() {}
 }
 
@@ -98,17 +91,6 @@ impl Row for HistoricalKind {
 
     fn is_same(value: &Historical, other: &Historical) -> bool {
         value.count == other.count && same_coins(&value.ratio, &other.ratio)
-    }
-
-    fn entry(item: &Item) -> Result<Option<((Addr, u64), Historical)>, TableFault> {
-        match item {
-            Item::Historical {
-                operator,
-                period,
-                history,
-            } => Ok(Some(((*operator, *period), history.copied()?))),
-            _ => Ok(None),
-        }
     }
 
     fn told() {}
@@ -158,17 +140,6 @@ impl Row for StartKind {
             && value.height == other.height
     }
 
-    fn entry(item: &Item) -> Result<Option<((Addr, Addr), StartingInfo)>, TableFault> {
-        match item {
-            Item::Start {
-                operator,
-                delegator,
-                info,
-            } => Ok(Some(((*operator, *delegator), *info))),
-            _ => Ok(None),
-        }
-    }
-
     fn told() {}
 }
 
@@ -214,16 +185,6 @@ impl Row for EventKind {
 
     fn is_same(value: &Slash, other: &Slash) -> bool {
         value.fraction().raw() == other.fraction().raw()
-    }
-
-    fn entry(item: &Item) -> Result<Option<((Addr, u64, u64), Slash)>, TableFault> {
-        match item {
-            Item::Event { operator, event } => Ok(Some((
-                (*operator, event.height, event.period),
-                Slash::of(event.fraction),
-            ))),
-            _ => Ok(None),
-        }
     }
 
     fn told() {}

@@ -11,7 +11,6 @@ mod counts;
 mod f1;
 mod items;
 mod keyed;
-mod mark;
 mod records;
 mod reward;
 mod slash;

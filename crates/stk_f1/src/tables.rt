@@ -10,7 +10,6 @@ ghost use Rattle.stk_f1.specs.Kept.{new_records, current_of, record_of, info_of,
 ghost use Rattle.stk_table.specs.Tabled.{spent_now as table_spent, with_mark as table_marked, with_value};
 
 use crate::items::{CurrentKind, EventKind, HistoricalKind, StartKind};
-use crate::mark::TablesMark;
 use crate::slash::Slash;
 use std::alloc::Global;
 use std::hash::Hash;
@@ -19,7 +18,7 @@ use std::sync::ledger::Ledger;
 use stk_coins::DecCoins;
 use stk_keep::{Historical, SlashEvent, StartingInfo};
 use stk_rows::{Both, One};
-use stk_table::{Mark, Table, TableFault};
+use stk_table::{Table, TableFault};
 use stk_types::{Addr, Copied, Steps};
 
 /// The tables as kinds of records.
@@ -89,10 +88,10 @@ impl Tables {
         ensures few_starts { length self.now.kept.starts < 2 ^ 64 }
         ensures few_events { length self.now.kept.events < 2 ^ 64 }
     {
-        let _ = self.current.len();
-        let _ = self.historical.len();
-        let _starts = self.starts.len();
-        let _events = self.events.len();
+        self.current.known();
+        self.historical.known();
+        self.starts.known();
+        self.events.known();
     }
 
     /// The four tables, to be listed.
@@ -302,8 +301,7 @@ impl Tables {
     }
 
     /// Opens a mark of all four tables. Where memory is wanting all is as it was.
-    pub(crate) fn mark(&mut self) -> Result<TablesMark, TableFault>
-        ensures depth { IfOk result (λ mark. mark ≡ length self.old.marks) }
+    pub(crate) fn mark(&mut self) -> Result<(), TableFault>
         ensures ok { OnOk result (self.new ≡ with_mark self.old) }
         ensures err { OnErr result (self.new ≡ self.old) }
         ensures spent { self.old.spent ≡ true → IsErr result }
@@ -311,39 +309,37 @@ impl Tables {
         if self.spent {
             return Err(TableFault::Spent);
         }
-        let (current, historical) = mark_both(&mut self.current, &mut self.historical)?;
+        mark_both(&mut self.current, &mut self.historical)?;
         match mark_both(&mut self.starts, &mut self.events) {
-            Ok((starts, events)) => Ok(TablesMark::of(current, historical, starts, events)),
+            Ok(()) => Ok(()),
             Err(fault) => {
-                self.current.back_to(current);
-                self.historical.back_to(historical);
+                self.current.back();
+                self.historical.back();
                 Err(fault)
             }
         }
     }
 
     /// Goes back to the latest open mark and closes it. Takes no memory.
-    pub(crate) fn back_to(&mut self, mark: TablesMark)
-        requires latest { length self.old.marks ≡ mark + 1 }
+    pub(crate) fn back(&mut self)
+        requires some { 0 < length self.old.marks }
         ensures { IsGoneBack self.old self.new }
     {
-        let (current, historical, starts, events) = mark.parts();
-        self.current.back_to(current);
-        self.historical.back_to(historical);
-        self.starts.back_to(starts);
-        self.events.back_to(events);
+        self.current.back();
+        self.historical.back();
+        self.starts.back();
+        self.events.back();
     }
 
     /// Closes the latest open mark and keeps the records. Takes no memory.
-    pub(crate) fn forget(&mut self, mark: TablesMark)
-        requires latest { length self.old.marks ≡ mark + 1 }
+    pub(crate) fn forget(&mut self)
+        requires some { 0 < length self.old.marks }
         ensures { IsForgotten self.old self.new }
     {
-        let (current, historical, starts, events) = mark.parts();
-        self.current.forget(current);
-        self.historical.forget(historical);
-        self.starts.forget(starts);
-        self.events.forget(events);
+        self.current.forget();
+        self.historical.forget();
+        self.starts.forget();
+        self.events.forget();
     }
 
     /// Settles the four tables. Takes no memory.
@@ -362,19 +358,17 @@ impl Tables {
 fn mark_both<A: Ord + Hash + Copied, B: Copied, C: Ord + Hash + Copied, D: Copied>(
     first: &mut Table<A, B>,
     second: &mut Table<C, D>,
-) -> Result<(Mark, Mark), TableFault>
-    ensures first_depth { IfOk result (λ marks. marks.0 ≡ length first.old.marks) }
-    ensures second_depth { IfOk result (λ marks. marks.1 ≡ length second.old.marks) }
+) -> Result<(), TableFault>
     ensures first { OnOk result (first.new ≡ table_marked first.old) }
     ensures second { OnOk result (second.new ≡ table_marked second.old) }
     ensures first_err { OnErr result (first.new ≡ first.old) }
     ensures second_err { OnErr result (second.new ≡ second.old) }
 {
-    let mark = first.mark()?;
+    first.mark()?;
     match second.mark() {
-        Ok(other) => Ok((mark, other)),
+        Ok(()) => Ok(()),
         Err(fault) => {
-            first.back_to(mark);
+            first.back();
             Err(fault)
         }
     }

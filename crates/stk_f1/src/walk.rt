@@ -25,8 +25,7 @@ impl Tables {
         ensures fault { IfErr result (λ fault. fault ≡ NoMemory) }
         ensures cost { steps.new ≤ steps.old + (length (events_since height (events_of self.now.kept operator.now)) + 1) }
     {
-        // It tells that the keys ascend.
-        let _ = self.events.len();
+        self.events.known();
         let mut events = Vec::new(alloc);
         let mut entry = self.events.seek(&(*operator, height, 0), steps);
         while let Some((key, slash)) = entry {

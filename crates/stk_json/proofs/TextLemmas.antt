@@ -1,6 +1,6 @@
--- The text of a decimal, the digits of an address and the name of a denomination are ASCII.
+-- The text of a decimal and the name of a denomination are ASCII.
 use Rattle.std.specs.Result.{IsOk}
-use Rattle.std.specs.Prelude.{◌&&◌, nat_le, OnOk}
+use Rattle.std.specs.Prelude.{◌&&◌, nat_le}
 use Rattle.std.specs.List.{list_all}
 use Rattle.std.proofs.lemmas.Bool.{and_parts}
 use Rattle.std.proofs.lemmas.Bool.Decides.{nat_tests}
@@ -11,8 +11,6 @@ use Rattle.std.proofs.Math.Seq.{take-append_seam}
 use Rattle.std.proofs.lemmas.Str.{IsUtf8-from_ascii}
 use Rattle.std.proofs.lemmas.Str.Ascii.{IsAscii-from_all}
 use Rattle.std.proofs.lemmas.List.Elements.{All-cons, All-append, All-nil, All-tail}
-use Rattle.hex.specs.Hex.{lower_digits, encode_lower}
-use Rattle.hex.proofs.HexLemmas.{IsAscii-encode_with}
 use Rattle.stk_dec.specs.Texts.{last_digits, without_zeros, dec_text}
 
 abbrev IsSmall : ℕ → Type 0
@@ -52,12 +50,6 @@ denom_characters_small (c ∷ cs) h =
     let parts = and_parts (is_denom_character c) (list_all is_denom_character cs) h in
     All-cons IsSmall c cs (denom_character_small c parts.0) (denom_characters_small cs parts.1)
 
-lower_digits_small : All IsSmall lower_digits
-lower_digits_small = denom_characters_small lower_digits refl
-
-pub address_is_utf8 : (bytes : List ℕ) → IsUtf8 (encode_lower bytes)
-address_is_utf8 bytes = IsUtf8-from_ascii (encode_lower bytes) (IsAscii-encode_with lower_digits bytes (IsAscii-from_all lower_digits lower_digits_small))
-
 pub denom_is_utf8 : (name : List ℕ) → is_denom name ≡ true → IsUtf8 name
 denom_is_utf8 [] h = absurd cc
 denom_is_utf8 (first ∷ others) h =
@@ -74,8 +66,3 @@ front_of text rest bytes n h e = rw (h, e) (take-append_seam text rest)
 pub read_as_text : {X Y U : Type 0} (P : X → Type 0) (Q : Y → Type 0) (r : Result X Y) → U → MatchResult r P (λ e. ¬ U × Q e) → IsOk r
 read_as_text P Q (Ok x) u h = refl
 read_as_text P Q (Err e) u h = absurd (h.0 u)
-
--- what holds where there is a value, since there is one
-pub where_ok : {X Y : Type 0} (r : Result X Y) (P : Type 0) → IsOk r → OnOk r P → P
-where_ok (Ok x) P ok h = h
-where_ok (Err e) P ok h = absurd cc

@@ -3,6 +3,7 @@ use Rattle.std.specs.Prelude.{ℕ, List, [], ◌∷◌, bytes_eq, codes, if◌th
 use Rattle.serde_json.specs.Data.{Data}
 use Rattle.stk_dec.specs.Texts.{dec_of}
 use Rattle.stk_coins.specs.Steps.{◌>>=◌}
+use Rattle.stk_coins.specs.declared.coin.Coin.{Coin}
 use Rattle.stk_keep.specs.declared.messages.CreateValidator.{CreateValidator}
 use Rattle.stk_keep.specs.declared.messages.EditValidator.{EditValidator}
 use Rattle.stk_msgs.specs.declared.faults.LineFault.{LineFault}
@@ -53,6 +54,20 @@ kind_among (known ∷ others) name = if bytes_eq name known.0 then Some known.1 
 unfoldable pub kind_of : List ℕ → Option Kind
 kind_of name = kind_among kinds name
 
+-- ---- members that several kinds have
+
+-- the operator
+abbrev pub validator_named : Data → Result (List ℕ) LineFault
+validator_named d = user_at 94 (codes "validator") d
+
+-- the delegator
+abbrev pub delegator_named : Data → Result (List ℕ) LineFault
+delegator_named d = user_at 95 (codes "delegator") d
+
+-- a coin
+abbrev pub amount_named : Data → Result Coin LineFault
+amount_named d = coin_at 96 (codes "amount") d
+
 -- ---- the members of each kind
 
 -- coins go from a user to an account
@@ -67,13 +82,13 @@ send_of d = do
 -- a validator is created
 unfoldable pub create_validator_of : Data → Result CreateValidator LineFault
 create_validator_of d = do
-  validator ← user_at 94 (codes "validator") d
+  validator ← validator_named d
   cons ← cons_at 100 (codes "cons") d
   rate ← decimal_at 101 (codes "rate") d
   max_rate ← decimal_at 102 (codes "max_rate") d
   max_change_rate ← decimal_at 103 (codes "max_change_rate") d
   min_self_delegation ← amount_at 104 (codes "min_self_delegation") d
-  amount ← coin_at 96 (codes "amount") d
+  amount ← amount_named d
   only ← only_named (
       codes "kind" ∷ codes "validator" ∷ codes "cons" ∷ codes "rate" ∷ codes "max_rate" ∷ codes "max_change_rate"
       ∷ codes "min_self_delegation" ∷ codes "amount" ∷ []) d
@@ -90,7 +105,7 @@ create_validator_of d = do
 -- a validator is changed; the rate and the minimum may be missing
 unfoldable pub edit_validator_of : Data → Result EditValidator LineFault
 edit_validator_of d = do
-  validator ← user_at 94 (codes "validator") d
+  validator ← validator_named d
   rate ← optional_at (spelled_by dec_of) 101 (codes "rate") d
   min_self_delegation ← optional_at (spelled_by amount_of) 104 (codes "min_self_delegation") d
   only ← only_named (codes "kind" ∷ codes "validator" ∷ codes "rate" ∷ codes "min_self_delegation" ∷ []) d
@@ -99,37 +114,37 @@ edit_validator_of d = do
 -- a coin is delegated
 unfoldable pub delegate_of : Data → Result Delegate LineFault
 delegate_of d = do
-  delegator ← user_at 95 (codes "delegator") d
-  validator ← user_at 94 (codes "validator") d
-  amount ← coin_at 96 (codes "amount") d
+  delegator ← delegator_named d
+  validator ← validator_named d
+  amount ← amount_named d
   only ← only_named (codes "kind" ∷ codes "delegator" ∷ codes "validator" ∷ codes "amount" ∷ []) d
   Ok (record { delegator = delegator; validator = validator; amount = amount })
 
 -- a coin of a delegation is to unbond
 unfoldable pub undelegate_of : Data → Result Undelegate LineFault
 undelegate_of d = do
-  delegator ← user_at 95 (codes "delegator") d
-  validator ← user_at 94 (codes "validator") d
-  amount ← coin_at 96 (codes "amount") d
+  delegator ← delegator_named d
+  validator ← validator_named d
+  amount ← amount_named d
   only ← only_named (codes "kind" ∷ codes "delegator" ∷ codes "validator" ∷ codes "amount" ∷ []) d
   Ok (record { delegator = delegator; validator = validator; amount = amount })
 
 -- a coin of a delegation goes to another validator
 unfoldable pub begin_redelegate_of : Data → Result BeginRedelegate LineFault
 begin_redelegate_of d = do
-  delegator ← user_at 95 (codes "delegator") d
+  delegator ← delegator_named d
   source ← user_at 97 (codes "source") d
   target ← user_at 98 (codes "target") d
-  amount ← coin_at 96 (codes "amount") d
+  amount ← amount_named d
   only ← only_named (codes "kind" ∷ codes "delegator" ∷ codes "source" ∷ codes "target" ∷ codes "amount" ∷ []) d
   Ok (record { delegator = delegator; source = source; target = target; amount = amount })
 
 -- a coin that is unbonding is delegated again
 unfoldable pub cancel_unbonding_of : Data → Result CancelUnbonding LineFault
 cancel_unbonding_of d = do
-  delegator ← user_at 95 (codes "delegator") d
-  validator ← user_at 94 (codes "validator") d
-  amount ← coin_at 96 (codes "amount") d
+  delegator ← delegator_named d
+  validator ← validator_named d
+  amount ← amount_named d
   creation_height ← number_at 99 (codes "creation_height") d
   only ← only_named (
       codes "kind" ∷ codes "delegator" ∷ codes "validator" ∷ codes "amount" ∷ codes "creation_height" ∷ []) d
@@ -138,29 +153,29 @@ cancel_unbonding_of d = do
 -- a validator is to be jailed no longer
 unfoldable pub unjail_of : Data → Result Unjail LineFault
 unjail_of d = do
-  validator ← user_at 94 (codes "validator") d
+  validator ← validator_named d
   only ← only_named (codes "kind" ∷ codes "validator" ∷ []) d
   Ok (record { validator = validator })
 
 -- a delegator's reward is paid
 unfoldable pub withdraw_reward_of : Data → Result WithdrawReward LineFault
 withdraw_reward_of d = do
-  delegator ← user_at 95 (codes "delegator") d
-  validator ← user_at 94 (codes "validator") d
+  delegator ← delegator_named d
+  validator ← validator_named d
   only ← only_named (codes "kind" ∷ codes "delegator" ∷ codes "validator" ∷ []) d
   Ok (record { delegator = delegator; validator = validator })
 
 -- a validator's commission is paid
 unfoldable pub withdraw_commission_of : Data → Result WithdrawCommission LineFault
 withdraw_commission_of d = do
-  validator ← user_at 94 (codes "validator") d
+  validator ← validator_named d
   only ← only_named (codes "kind" ∷ codes "validator" ∷ []) d
   Ok (record { validator = validator })
 
 -- a delegator's rewards are to go to an account
 unfoldable pub set_withdraw_address_of : Data → Result SetWithdrawAddress LineFault
 set_withdraw_address_of d = do
-  delegator ← user_at 95 (codes "delegator") d
+  delegator ← delegator_named d
   withdraw ← account_at 105 (codes "withdraw") d
   only ← only_named (codes "kind" ∷ codes "delegator" ∷ codes "withdraw" ∷ []) d
   Ok (record { delegator = delegator; withdraw = withdraw })

@@ -1,6 +1,7 @@
 //! The messages of a transaction.
+ghost use Rattle.std.specs.Prelude.{◌≡◌};
 ghost use Rattle.stk_json.specs.Reading.{Gives};
-ghost use Rattle.stk_json.specs.Messages.{message_of_kind};
+ghost use Rattle.stk_json.specs.Messages.{amount_named, delegator_named, message_of_kind, validator_named};
 
 use crate::coin_reading::coins_at;
 use crate::kind::Kind;
@@ -8,11 +9,34 @@ use crate::members::{member_at, only_named, optional_at};
 use crate::nested::{FromTree, object_at};
 use crate::tree::Tree;
 use std::alloc::Global;
+use stk_coins::Coin;
 use stk_keep::{CreateValidator, EditValidator};
 use stk_msgs::{
     BeginRedelegate, CancelUnbonding, CommunityPoolSpend, Delegate, FundCommunityPool, LineFault,
     Msg, Send, SetWithdrawAddress, Undelegate, Unjail, WithdrawCommission, WithdrawReward,
 };
+use stk_types::Addr;
+
+/// The operator whom a message names.
+fn validator_named<N: Tree>(tree: &N) -> Result<Addr, LineFault>
+    ensures { result ≡ validator_named (N.seen tree.now) }
+{
+    member_at(94, "validator", tree)
+}
+
+/// The delegator whom a message names.
+fn delegator_named<N: Tree>(tree: &N) -> Result<Addr, LineFault>
+    ensures { result ≡ delegator_named (N.seen tree.now) }
+{
+    member_at(95, "delegator", tree)
+}
+
+/// The coin that a message names.
+fn amount_named<N: Tree>(alloc: Global, tree: &N) -> Result<Coin, LineFault>
+    ensures { Gives (λ coin. coin) result (amount_named (N.seen tree.now)) }
+{
+    object_at(alloc, 96, "amount", tree)
+}
 
 impl FromTree for Send {
     ghost use Rattle.stk_json.specs.Messages.{send_of};
@@ -36,13 +60,13 @@ impl FromTree for CreateValidator {
 
     #[tactic(auto, unfolding(crate::specs::Messages::create_validator_of))]
     fn from_tree<N: Tree>(alloc: Global, tree: &N) -> Result<CreateValidator, LineFault> {
-        let validator = member_at(94, "validator", tree)?;
+        let validator = validator_named(tree)?;
         let cons = member_at(100, "cons", tree)?;
         let rate = member_at(101, "rate", tree)?;
         let max_rate = member_at(102, "max_rate", tree)?;
         let max_change_rate = member_at(103, "max_change_rate", tree)?;
         let min_self_delegation = member_at(104, "min_self_delegation", tree)?;
-        let amount = object_at(alloc, 96, "amount", tree)?;
+        let amount = amount_named(alloc, tree)?;
         only_named(
             &[
                 "kind",
@@ -75,7 +99,7 @@ impl FromTree for EditValidator {
 
     #[tactic(auto, unfolding(crate::specs::Messages::edit_validator_of))]
     fn from_tree<N: Tree>(_alloc: Global, tree: &N) -> Result<EditValidator, LineFault> {
-        let validator = member_at(94, "validator", tree)?;
+        let validator = validator_named(tree)?;
         let rate = optional_at(101, "rate", tree)?;
         let min_self_delegation = optional_at(104, "min_self_delegation", tree)?;
         only_named(&["kind", "validator", "rate", "min_self_delegation"], tree)?;
@@ -94,9 +118,9 @@ impl FromTree for Delegate {
 
     #[tactic(auto, unfolding(crate::specs::Messages::delegate_of))]
     fn from_tree<N: Tree>(alloc: Global, tree: &N) -> Result<Delegate, LineFault> {
-        let delegator = member_at(95, "delegator", tree)?;
-        let validator = member_at(94, "validator", tree)?;
-        let amount = object_at(alloc, 96, "amount", tree)?;
+        let delegator = delegator_named(tree)?;
+        let validator = validator_named(tree)?;
+        let amount = amount_named(alloc, tree)?;
         only_named(&["kind", "delegator", "validator", "amount"], tree)?;
         Ok(Delegate {
             delegator,
@@ -113,9 +137,9 @@ impl FromTree for Undelegate {
 
     #[tactic(auto, unfolding(crate::specs::Messages::undelegate_of))]
     fn from_tree<N: Tree>(alloc: Global, tree: &N) -> Result<Undelegate, LineFault> {
-        let delegator = member_at(95, "delegator", tree)?;
-        let validator = member_at(94, "validator", tree)?;
-        let amount = object_at(alloc, 96, "amount", tree)?;
+        let delegator = delegator_named(tree)?;
+        let validator = validator_named(tree)?;
+        let amount = amount_named(alloc, tree)?;
         only_named(&["kind", "delegator", "validator", "amount"], tree)?;
         Ok(Undelegate {
             delegator,
@@ -132,10 +156,10 @@ impl FromTree for BeginRedelegate {
 
     #[tactic(auto, unfolding(crate::specs::Messages::begin_redelegate_of))]
     fn from_tree<N: Tree>(alloc: Global, tree: &N) -> Result<BeginRedelegate, LineFault> {
-        let delegator = member_at(95, "delegator", tree)?;
+        let delegator = delegator_named(tree)?;
         let source = member_at(97, "source", tree)?;
         let target = member_at(98, "target", tree)?;
-        let amount = object_at(alloc, 96, "amount", tree)?;
+        let amount = amount_named(alloc, tree)?;
         only_named(&["kind", "delegator", "source", "target", "amount"], tree)?;
         Ok(BeginRedelegate {
             delegator,
@@ -153,9 +177,9 @@ impl FromTree for CancelUnbonding {
 
     #[tactic(auto, unfolding(crate::specs::Messages::cancel_unbonding_of))]
     fn from_tree<N: Tree>(alloc: Global, tree: &N) -> Result<CancelUnbonding, LineFault> {
-        let delegator = member_at(95, "delegator", tree)?;
-        let validator = member_at(94, "validator", tree)?;
-        let amount = object_at(alloc, 96, "amount", tree)?;
+        let delegator = delegator_named(tree)?;
+        let validator = validator_named(tree)?;
+        let amount = amount_named(alloc, tree)?;
         let creation_height = member_at(99, "creation_height", tree)?;
         only_named(
             &[
@@ -183,7 +207,7 @@ impl FromTree for Unjail {
 
     #[tactic(auto, unfolding(crate::specs::Messages::unjail_of))]
     fn from_tree<N: Tree>(_alloc: Global, tree: &N) -> Result<Unjail, LineFault> {
-        let validator = member_at(94, "validator", tree)?;
+        let validator = validator_named(tree)?;
         only_named(&["kind", "validator"], tree)?;
         Ok(Unjail { validator })
     }
@@ -196,8 +220,8 @@ impl FromTree for WithdrawReward {
 
     #[tactic(auto, unfolding(crate::specs::Messages::withdraw_reward_of))]
     fn from_tree<N: Tree>(_alloc: Global, tree: &N) -> Result<WithdrawReward, LineFault> {
-        let delegator = member_at(95, "delegator", tree)?;
-        let validator = member_at(94, "validator", tree)?;
+        let delegator = delegator_named(tree)?;
+        let validator = validator_named(tree)?;
         only_named(&["kind", "delegator", "validator"], tree)?;
         Ok(WithdrawReward {
             delegator,
@@ -213,7 +237,7 @@ impl FromTree for WithdrawCommission {
 
     #[tactic(auto, unfolding(crate::specs::Messages::withdraw_commission_of))]
     fn from_tree<N: Tree>(_alloc: Global, tree: &N) -> Result<WithdrawCommission, LineFault> {
-        let validator = member_at(94, "validator", tree)?;
+        let validator = validator_named(tree)?;
         only_named(&["kind", "validator"], tree)?;
         Ok(WithdrawCommission { validator })
     }
@@ -226,7 +250,7 @@ impl FromTree for SetWithdrawAddress {
 
     #[tactic(auto, unfolding(crate::specs::Messages::set_withdraw_address_of))]
     fn from_tree<N: Tree>(_alloc: Global, tree: &N) -> Result<SetWithdrawAddress, LineFault> {
-        let delegator = member_at(95, "delegator", tree)?;
+        let delegator = delegator_named(tree)?;
         let withdraw = member_at(105, "withdraw", tree)?;
         only_named(&["kind", "delegator", "withdraw"], tree)?;
         Ok(SetWithdrawAddress {

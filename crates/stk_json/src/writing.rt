@@ -13,7 +13,7 @@ use std::{mem, str};
 use stk_coins::{Coins, DecCoins};
 use stk_dec::Dec;
 use stk_msgs::LineFault;
-use stk_types::{Account, Denom, Moment, print_moment};
+use stk_types::{Account, Denom, Moment, address_digits, print_moment};
 
 fn push_amount(writer: &mut Writer, amount: u128) -> Result<(), LineFault>
     ensures ok { OnOk result (writer.new.tokens
@@ -58,10 +58,9 @@ fn push_address(writer: &mut Writer, bytes: &[u8; 20]) -> Result<(), LineFault>
     ensures before { OnOk result (writer.new.before ≡ writer.old.before) }
     ensures fault { IfErr result (λ fault. fault ≡ LineFault.NoMemory) }
 {
-    let mut places = [0u8; 40];
-    hex::encode_to_slice(bytes, &mut places).unwrap();
-    let digits = str::from_utf8(&places).unwrap();
-    writer.string(digits)?;
+    let digits = address_digits(bytes);
+    let text = str::from_utf8(&digits).unwrap();
+    writer.string(text)?;
     Ok(())
 }
 

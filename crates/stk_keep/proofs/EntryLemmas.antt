@@ -3,40 +3,22 @@ use Rattle.std.proofs.Common.{◌≡◌, ◌∙◌, ℕ, ◌+◌, ◌≤◌, ◌
 use Rattle.std.specs.Prelude.{All, ◌<◌, unwrap_or, if◌then◌else◌}
 use Rattle.std.proofs.lemmas.List.Elements.{All-cons, All-head, All-tail}
 use Rattle.std.proofs.lemmas.Bool.Decides.{nat_tests}
-use Rattle.std.proofs.lemmas.Map.{lookup-none, lookup-remove_entry}
-use Rattle.std.proofs.lemmas.Map.Keys.{IsDistinct-from_sorted, sorted_tail}
+use Rattle.std.proofs.lemmas.Map.{lookup-none}
+use Rattle.std.proofs.lemmas.Map.Keys.{sorted_tail}
 use Rattle.std.proofs.lemmas.Map.Entries.{none_below_head}
 use Rattle.std.specs.declared.cmp.Ordering.{Ordering}
 use Rattle.std.specs.declared.cmp.Ordering.TheVariants.{Less, Equal, Greater}
-use Rattle.std.specs.Ordering.{eq_by_cmp, is_eq, match_ordering, ordering_reverse}
-use Rattle.std.specs.Cmp.{IsTotalOrder, eq_by_cmp_equiv}
-use Rattle.std.specs.List.{AllByRecursion}
+use Rattle.std.specs.Ordering.{is_eq, match_ordering}
+use Rattle.std.specs.Cmp.{IsTotalOrder}
 use Rattle.std.specs.List.Sorted.{IsStrictlySortedBy}
 use Rattle.std.specs.Map.{keys_of, lookup, remove_entry}
 use Rattle.std.specs.BTreeMap.{insert_entry, is_at}
-use Rattle.std.specs.FinMap.Entries.{by_order, put, find, find-put}
+use Rattle.stk_types.proofs.MapLemmas.{ascend-put, ascend-taken, at-put, at-taken}
 use Rattle.stk_keep.specs.Entries.{number_at, with_number, sum_where}
 
--- ---- what a key has after an entry was put
-
-put_is : {K X : Type 0} (R : K → K → Ordering) (es : List (K × X)) (k : K) (v : X) → insert_entry R es k v ≡ put R k v es
-put_is R [] k v = refl
-put_is R (e ∷ es) k v = elim (R k e.0) as (λ r. match_ordering r ((k, v) ∷ e ∷ es) ((e.0, v) ∷ es) (e ∷ insert_entry R es k v) ≡ by_order r ((k, v) ∷ e ∷ es) ((e.0, v) ∷ es) (e ∷ put R k v es)) [ Less ↦ refl | Equal ↦ refl | Greater ↦ ap (λ t. e ∷ t) (put_is R es k v) ]
-
-find_is : {K X : Type 0} (R : K → K → Ordering) (es : List (K × X)) (q : K) → lookup (is_at (R q)) es ≡ find R q es
-find_is R [] q = refl
-find_is R (e ∷ es) q = ap (λ t. cond (is_at (R q) e.0) (Some e.1) t) (find_is R es q)
-
-lookup-put : {K X : Type 0} {R : K → K → Ordering} → IsTotalOrder R → (es : List (K × X)) (k q : K) (v : X) → lookup (is_at (R q)) (insert_entry R es k v) ≡ cond (is_at (R q) k) (Some v) (lookup (is_at (R q)) es)
-lookup-put {R = R} o es k q v = find_is R (insert_entry R es k v) q ∙ ap (find R q) (put_is R es k v) ∙ find-put R o q k v es ∙ sym (ap (cond (is_at (R q) k) (Some v)) (find_is R es q))
+-- ---- what a key has after a change
 
 module _ {K : Type 0} (cmp : K → K → Ordering) (o : IsTotalOrder cmp) where
-  one_key : (k x y : K) → is_at (cmp k) x ≡ true → is_at (cmp k) y ≡ eq_by_cmp cmp x y
-  one_key k x y h = (eq_by_cmp_equiv o).congr k x y h
-
-  same_way : (k q : K) → is_at (cmp k) q ≡ is_at (cmp q) k
-  same_way k q = (eq_by_cmp_equiv o).symm k q
-
   none_or : (b : Bool) (x : Option ℕ) → unwrap_or (cond b None x) 0 ≡ cond b 0 (unwrap_or x 0)
   none_or true x = refl
   none_or false x = refl
@@ -47,9 +29,9 @@ module _ {K : Type 0} (cmp : K → K → Ordering) (o : IsTotalOrder cmp) where
 
   after : (b : Bool) (es : List (K × ℕ)) (k q : K) (n : ℕ) → (b ≡ true → n ≡ 0) → IsStrictlySortedBy cmp (keys_of es)
       → number_at cmp (if b then remove_entry (is_at (cmp k)) es else insert_entry cmp es k n) q ≡ cond (is_at (cmp q) k) n (number_at cmp es q)
-  after true es k q n z s = ap (λ r. unwrap_or r 0) (lookup-remove_entry (eq_by_cmp_equiv o) (is_at (cmp k)) (one_key k) q es (IsDistinct-from_sorted cmp (keys_of es) s))
-      ∙ none_or (is_at (cmp k) q) (lookup (is_at (cmp q)) es) ∙ (λ i. cond (same_way k q i) (sym (z refl) i) (number_at cmp es q))
-  after false es k q n z s = ap (λ r. unwrap_or r 0) (lookup-put o es k q n) ∙ some_or (is_at (cmp q) k) n (lookup (is_at (cmp q)) es)
+  after true es k q n z s = ap (λ r. unwrap_or r 0) (at-taken cmp o es k q s) ∙ none_or (is_at (cmp q) k) (lookup (is_at (cmp q)) es)
+      ∙ (λ i. cond (is_at (cmp q) k) (sym (z refl) i) (number_at cmp es q))
+  after false es k q n z s = ap (λ r. unwrap_or r 0) (at-put cmp o es k q n) ∙ some_or (is_at (cmp q) k) n (lookup (is_at (cmp q)) es)
 
   -- the number at a key after a change at another or the same
   pub number-after : (es : List (K × ℕ)) (k q : K) (n : ℕ) → IsStrictlySortedBy cmp (keys_of es)
@@ -58,49 +40,9 @@ module _ {K : Type 0} (cmp : K → K → Ordering) (o : IsTotalOrder cmp) where
 
   -- ---- keys stay in order
 
-  all-removed : (P : K → Type 0) (k : K) (es : List (K × ℕ)) → AllByRecursion P (keys_of es) → AllByRecursion P (keys_of (remove_entry (is_at (cmp k)) es))
-  all-removed P k [] h = h
-  all-removed P k (e ∷ es) h = by (is_at (cmp k) e.0) (all-removed P k es h.1)
-    where
-      by : (b : Bool) → AllByRecursion P (keys_of (remove_entry (is_at (cmp k)) es)) → AllByRecursion P (keys_of (cond b es (e ∷ remove_entry (is_at (cmp k)) es)))
-      by true later = h.1
-      by false later = (h.0, later)
-
-  ascend-removed : (k : K) (es : List (K × ℕ)) → IsStrictlySortedBy cmp (keys_of es) → IsStrictlySortedBy cmp (keys_of (remove_entry (is_at (cmp k)) es))
-  unfolding IsStrictlySortedBy
-  ascend-removed k [] s = s
-  ascend-removed k (e ∷ es) s = by (is_at (cmp k) e.0) (ascend-removed k es s.1)
-    where
-      by : (b : Bool) → IsStrictlySortedBy cmp (keys_of (remove_entry (is_at (cmp k)) es)) → IsStrictlySortedBy cmp (keys_of (cond b es (e ∷ remove_entry (is_at (cmp k)) es)))
-      by true later = s.1
-      by false later = (all-removed (λ y. cmp e.0 y ≡ Less) k es s.0, later)
-
-  all-put : (P : K → Type 0) (k : K) (n : ℕ) (es : List (K × ℕ)) → P k → AllByRecursion P (keys_of es) → AllByRecursion P (keys_of (insert_entry cmp es k n))
-  all-put P k n [] p h = (p, h)
-  all-put P k n (e ∷ es) p h = by (cmp k e.0) (all-put P k n es p h.1)
-    where
-      by : (r : Ordering) → AllByRecursion P (keys_of (insert_entry cmp es k n)) → AllByRecursion P (keys_of (match_ordering r ((k, n) ∷ e ∷ es) ((e.0, n) ∷ es) (e ∷ insert_entry cmp es k n)))
-      by Less later = (p, h)
-      by Equal later = h
-      by Greater later = (h.0, later)
-
-  all-below : (k x : K) (ks : List K) → cmp k x ≡ Less → AllByRecursion (λ y. cmp x y ≡ Less) ks → AllByRecursion (λ y. cmp k y ≡ Less) ks
-  all-below k x [] p h = h
-  all-below k x (y ∷ ks) p h = (o.trans k x y p h.0, all-below k x ks p h.1)
-
-  ascend-put : (k : K) (n : ℕ) (es : List (K × ℕ)) → IsStrictlySortedBy cmp (keys_of es) → IsStrictlySortedBy cmp (keys_of (insert_entry cmp es k n))
-  unfolding IsStrictlySortedBy
-  ascend-put k n [] s = (tt, tt)
-  ascend-put k n (e ∷ es) s = by (cmp k e.0) refl (ascend-put k n es s.1)
-    where
-      by : (r : Ordering) → cmp k e.0 ≡ r → IsStrictlySortedBy cmp (keys_of (insert_entry cmp es k n)) → IsStrictlySortedBy cmp (keys_of (match_ordering r ((k, n) ∷ e ∷ es) ((e.0, n) ∷ es) (e ∷ insert_entry cmp es k n)))
-      by Less p later = ((p, all-below k e.0 (keys_of es) p s.0), s)
-      by Equal p later = s
-      by Greater p later = (all-put (λ y. cmp e.0 y ≡ Less) k n es (o.antisymm e.0 k ∙ ap ordering_reverse p) s.0, later)
-
   ascend-if : (b : Bool) (es : List (K × ℕ)) (k : K) (n : ℕ) → IsStrictlySortedBy cmp (keys_of es) → IsStrictlySortedBy cmp (keys_of (if b then remove_entry (is_at (cmp k)) es else insert_entry cmp es k n))
-  ascend-if true es k n s = ascend-removed k es s
-  ascend-if false es k n s = ascend-put k n es s
+  ascend-if true es k n s = ascend-taken cmp (is_at (cmp k)) es s
+  ascend-if false es k n s = ascend-put cmp o es k n s
 
   pub ascend-after : (es : List (K × ℕ)) (k : K) (n : ℕ) → IsStrictlySortedBy cmp (keys_of es) → IsStrictlySortedBy cmp (keys_of (with_number cmp es k n))
   ascend-after es k n s = ascend-if (n == 0) es k n s

@@ -7,8 +7,8 @@ use Rattle.stk_json.specs.Line.{line_of}
 use Rattle.stk_machine.specs.Report.{is_same_account, joined}
 use Rattle.stk_report.specs.Groups.{opened}
 use Rattle.stk_report.specs.Lines.{account_line, text_of}
-use Rattle.stk_report.proofs.EntryLemmas.{equal}
-use Rattle.stk_report.proofs.KeyLemmas.{account_equal, same_test}
+use Rattle.stk_types.proofs.MapLemmas.{equal}
+use Rattle.stk_types.proofs.OrderLemmas.{account_equal, account_equal_at}
 use Rattle.stk_report.proofs.TotalLemmas.{account_exact}
 
 same_by : (a b : Account) (coins more : Money) (first : Account × Money) (rest : List (Account × Money)) (same : Bool) → is_same_account a b ≡ true →
@@ -56,7 +56,7 @@ pub other_gathered : (a b : Account) (old new : Money) (coin : List ℕ × ℕ) 
     account_equal a b ≡ false → new ≡ coin ∷ [] → last ≡ Some (a, old) → pushed ≡ out ++ line_of (account_line (a, old)) →
     pushed ++ told (joined b new rest) ≡ out ++ told (opened last (joined b (coin ∷ []) rest))
 other_gathered a b old new coin last rest out pushed other one found line =
-    ap (λ m. pushed ++ told (joined b m rest)) one ∙ (told_apart a b old (coin ∷ []) rest out pushed (sym (same_test a b) ∙ other) line
+    ap (λ m. pushed ++ told (joined b m rest)) one ∙ (told_apart a b old (coin ∷ []) rest out pushed (sym (account_equal_at a b) ∙ other) line
     ∙ ap (λ o. out ++ told (opened o (joined b (coin ∷ []) rest))) (sym found))
 
 -- the first coin of the first account

@@ -29,7 +29,8 @@ use Rattle.stk_machine.specs.Orders.{in_order}
 use Rattle.stk_report.specs.Telling.{Asked, balance_in, delegation_in, is_asked, pending_in, purse_in, redelegation_in, signing_in, unbonding_in, validator_in}
 use Rattle.stk_report.proofs.AccountOrderLemmas.{BehindFirst, behind_itself, behind_head, not_before}
 use Rattle.stk_report.proofs.AskedLemmas.{asked, asked_in_order, holds_in_order, holds_of_told}
-use Rattle.stk_report.proofs.EntryLemmas.{ascend_in_order, equal}
+use Rattle.stk_types.proofs.MapLemmas.{equal}
+use Rattle.stk_report.proofs.EntryLemmas.{ascend_in_order}
 use Rattle.stk_report.proofs.TotalLemmas.{account_exact, addr_total, pair_exact, pair_total, place_exact, triple_exact, triple_total}
 
 -- ---- accounts

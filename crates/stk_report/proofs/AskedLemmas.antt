@@ -13,7 +13,8 @@ use Rattle.std.proofs.lemmas.Map.Entries.{lookup-filter-keys}
 use Rattle.std.proofs.lemmas.Map.Lookups.{CmpEqualImpliesEq}
 use Rattle.stk_machine.specs.Orders.{entries_with, in_order}
 use Rattle.stk_report.specs.Telling.{told_if}
-use Rattle.stk_report.proofs.EntryLemmas.{ascend_in_order, equal, lookup-put, same_entries}
+use Rattle.stk_types.proofs.MapLemmas.{at-put, equal}
+use Rattle.stk_report.proofs.EntryLemmas.{ascend_in_order, same_entries}
 
 -- what is told, where its key is asked for
 abbrev pub asked : {K X : Type 0} → (K → Bool) → Option (K × X) → Option (K × X)
@@ -35,7 +36,7 @@ module _ {K X : Type 0} {R : K → K → Ordering} (o : IsTotalOrder R) (exact :
   put_both : (q k : K) (v : X) (es some : List (K × X)) → P k ≡ true → lookup (is_at (R q)) some ≡ cond (P q) (lookup (is_at (R q)) es) None
       → lookup (is_at (R q)) (insert_entry R some k v) ≡ cond (P q) (lookup (is_at (R q)) (insert_entry R es k v)) None
   put_both q k v es some y h =
-      lookup-put o some k q v ∙ (by (is_at (R q) k) refl ∙ sym (ap (λ x. cond (P q) x None) (lookup-put o es k q v)))
+      at-put R o some k q v ∙ (by (is_at (R q) k) refl ∙ sym (ap (λ x. cond (P q) x None) (at-put R o es k q v)))
     where
       by : (b : Bool) → is_at (R q) k ≡ b → cond b (Some v) (lookup (is_at (R q)) some) ≡ cond (P q) (cond b (Some v) (lookup (is_at (R q)) es)) None
       by true e = ap (λ p. cond p (Some v) None) (sym (sym (same_key exact P q k e) ∙ y))
@@ -43,7 +44,7 @@ module _ {K X : Type 0} {R : K → K → Ordering} (o : IsTotalOrder R) (exact :
 
   put_one : (q k : K) (v : X) (es some : List (K × X)) → P k ≡ false → lookup (is_at (R q)) some ≡ cond (P q) (lookup (is_at (R q)) es) None
       → lookup (is_at (R q)) some ≡ cond (P q) (lookup (is_at (R q)) (insert_entry R es k v)) None
-  put_one q k v es some n h = by (is_at (R q) k) refl ∙ sym (ap (λ x. cond (P q) x None) (lookup-put o es k q v))
+  put_one q k v es some n h = by (is_at (R q) k) refl ∙ sym (ap (λ x. cond (P q) x None) (at-put R o es k q v))
     where
       by : (b : Bool) → is_at (R q) k ≡ b → lookup (is_at (R q)) some ≡ cond (P q) (cond b (Some v) (lookup (is_at (R q)) es)) None
       by true e =

@@ -9,29 +9,16 @@ use Rattle.std.specs.BTreeMap.{insert_entry, is_at}
 use Rattle.std.specs.List.{AllByRecursion, IsDistinct}
 use Rattle.std.specs.List.Sorted.{IsStrictlySortedBy}
 use Rattle.std.specs.Map.{keys_of, lookup}
-use Rattle.std.specs.FinMap.Entries.{by_order, put, find, find-put}
 use Rattle.std.proofs.lemmas.Bool.{cases_Bool}
 use Rattle.std.proofs.lemmas.Map.{lookup-none}
 use Rattle.std.proofs.lemmas.Map.Entries.{lookup_head, lookup_tail, none_below_head, none_past_head}
 use Rattle.std.proofs.lemmas.Map.Keys.{IsDistinct-from_sorted, IsDistinct-head, IsDistinct-tail, sorted_tail}
 use Rattle.std.proofs.lemmas.Map.Lookups.{CmpEqualImpliesEq}
+use Rattle.stk_types.proofs.MapLemmas.{ascend-put, at-put}
 use Rattle.stk_machine.specs.Orders.{entries_with, in_order}
-
-pub equal : (r : Ordering) → is_eq r ≡ true → r ≡ Equal
-equal Less h = cc
-equal Equal h = refl
-equal Greater h = cc
 
 not_none : {X : Type 0} (v : X) → Some v ≢ None
 not_none v e = true≢false (ap is_some e)
-
-put_is : {K X : Type 0} (R : K → K → Ordering) (es : List (K × X)) (k : K) (v : X) → insert_entry R es k v ≡ put R k v es
-put_is R [] k v = refl
-put_is R (e ∷ es) k v = elim (R k e.0) as (λ r. match_ordering r ((k, v) ∷ e ∷ es) ((e.0, v) ∷ es) (e ∷ insert_entry R es k v) ≡ by_order r ((k, v) ∷ e ∷ es) ((e.0, v) ∷ es) (e ∷ put R k v es)) [ Less ↦ refl | Equal ↦ refl | Greater ↦ ap (λ t. e ∷ t) (put_is R es k v) ]
-
-find_is : {K X : Type 0} (R : K → K → Ordering) (es : List (K × X)) (q : K) → lookup (is_at (R q)) es ≡ find R q es
-find_is R [] q = refl
-find_is R (e ∷ es) q = ap (λ t. cond (is_at (R q) e.0) (Some e.1) t) (find_is R es q)
 
 -- ---- keys
 
@@ -41,10 +28,6 @@ unfolding IsStrictlySortedBy
 none_ascend R = tt
 
 module _ {K : Type 0} {R : K → K → Ordering} (o : IsTotalOrder R) where
-  all_below : (k x : K) (ks : List K) → R k x ≡ Less → AllByRecursion (λ y. R x y ≡ Less) ks → AllByRecursion (λ y. R k y ≡ Less) ks
-  all_below k x [] p h = h
-  all_below k x (y ∷ ks) p h = (o.trans k x y p h.0, all_below k x ks p h.1)
-
   apart : (x : K) (ks : List K) → AllByRecursion (λ y. eq_by_cmp R x y ≡ false) ks → AllByRecursion (λ y. eq_by_cmp R y x ≡ false) ks
   apart x [] h = tt
   apart x (k ∷ ks) h = ((eq_by_cmp_equiv o).symm k x ∙ h.0, apart x ks h.1)
@@ -52,32 +35,9 @@ module _ {K : Type 0} {R : K → K → Ordering} (o : IsTotalOrder R) where
 -- ---- entries
 
 module _ {K X : Type 0} {R : K → K → Ordering} (o : IsTotalOrder R) where
-  -- what stands at a key after an entry was put
-  pub lookup-put : (es : List (K × X)) (k q : K) (v : X) → lookup (is_at (R q)) (insert_entry R es k v) ≡ cond (is_at (R q) k) (Some v) (lookup (is_at (R q)) es)
-  lookup-put es k q v = find_is R (insert_entry R es k v) q ∙ ap (find R q) (put_is R es k v) ∙ find-put R o q k v es ∙ sym (ap (cond (is_at (R q) k) (Some v)) (find_is R es q))
-
-  all_put : (P : K → Type 0) (k : K) (n : X) (es : List (K × X)) → P k → AllByRecursion P (keys_of es) → AllByRecursion P (keys_of (insert_entry R es k n))
-  all_put P k n [] p h = (p, h)
-  all_put P k n (e ∷ es) p h = by (R k e.0) (all_put P k n es p h.1)
-    where
-      by : (r : Ordering) → AllByRecursion P (keys_of (insert_entry R es k n)) → AllByRecursion P (keys_of (match_ordering r ((k, n) ∷ e ∷ es) ((e.0, n) ∷ es) (e ∷ insert_entry R es k n)))
-      by Less later = (p, h)
-      by Equal later = h
-      by Greater later = (h.0, later)
-
-  pub ascend_put : (k : K) (n : X) (es : List (K × X)) → IsStrictlySortedBy R (keys_of es) → IsStrictlySortedBy R (keys_of (insert_entry R es k n))
-  unfolding IsStrictlySortedBy
-  ascend_put k n [] s = (tt, tt)
-  ascend_put k n (e ∷ es) s = by (R k e.0) refl (ascend_put k n es s.1)
-    where
-      by : (r : Ordering) → R k e.0 ≡ r → IsStrictlySortedBy R (keys_of (insert_entry R es k n)) → IsStrictlySortedBy R (keys_of (match_ordering r ((k, n) ∷ e ∷ es) ((e.0, n) ∷ es) (e ∷ insert_entry R es k n)))
-      by Less p later = ((p, all_below o k e.0 (keys_of es) p s.0), s)
-      by Equal p later = s
-      by Greater p later = (all_put (λ y. R e.0 y ≡ Less) k n es (o.antisymm e.0 k ∙ ap ordering_reverse p) s.0, later)
-
   ascend_with : (es news : List (K × X)) → IsStrictlySortedBy R (keys_of es) → IsStrictlySortedBy R (keys_of (entries_with R es news))
   ascend_with es [] s = s
-  ascend_with es (new ∷ news) s = ascend_with (insert_entry R es new.0 new.1) news (ascend_put new.0 new.1 es s)
+  ascend_with es (new ∷ news) s = ascend_with (insert_entry R es new.0 new.1) news (ascend-put R o es new.0 new.1 s)
 
   -- what is in order ascends
   pub ascend_in_order : (es : List (K × X)) → IsStrictlySortedBy R (keys_of (in_order R es))
@@ -98,7 +58,7 @@ module _ {K X : Type 0} {R : K → K → Ordering} (o : IsTotalOrder R) where
   lookup_with q es [] d = refl
   lookup_with q es (new ∷ news) d =
       lookup_with q (insert_entry R es new.0 new.1) news (IsDistinct-tail (eq_by_cmp R) new.0 (keys_of news) d)
-      ∙ ap (first (lookup (is_at (R q)) news)) (lookup-put es new.0 q new.1)
+      ∙ ap (first (lookup (is_at (R q)) news)) (at-put R o es new.0 q new.1)
       ∙ by (is_at (R q) new.0) refl
     where
       by : (b : Bool) → is_at (R q) new.0 ≡ b → first (lookup (is_at (R q)) news) (cond b (Some new.1) (lookup (is_at (R q)) es)) ≡ first (cond b (Some new.1) (lookup (is_at (R q)) news)) (lookup (is_at (R q)) es)

@@ -2,14 +2,15 @@
 use Rattle.std.proofs.Common.{◌≡◌, ◌∙◌, ℕ, ◌<◌, Bool, true, false, cond, List, [], ◌∷◌, ◌++◌, Option, Some, length, get_or, refl, sym, ap, subst, arith, inl, inr}
 use Rattle.std.specs.Prelude.{zero, suc, slice_get, ◌⊎◌, ⊤, Contains, unwrap_or}
 use Rattle.std.specs.declared.cmp.Ordering.{Ordering}
-use Rattle.std.specs.declared.cmp.Ordering.TheVariants.{Less, Equal, Greater}
-use Rattle.std.specs.Ordering.{is_eq, eq_by_cmp}
+use Rattle.std.specs.declared.cmp.Ordering.TheVariants.{Equal}
+use Rattle.std.specs.Ordering.{eq_by_cmp}
 use Rattle.std.specs.Cmp.{IsTotalOrder, eq_by_cmp_equiv}
 use Rattle.std.specs.List.{AllByRecursion, IsDistinct}
 use Rattle.std.specs.Map.{keys_of}
 use Rattle.std.specs.BTreeMap.{is_at}
 use Rattle.stk_table.specs.Tabled.{value_at}
 use Rattle.stk_keep.specs.Items.{IsOnce}
+use Rattle.stk_types.proofs.MapLemmas.{equal}
 
 -- ---- elements
 
@@ -82,11 +83,6 @@ once-append (x ∷ xs) ys p q apart = (first, once-append xs ys p.1 q (λ y m n.
 
 -- ---- entries by their keys
 
-is_equal : (r : Ordering) → is_eq r ≡ true → r ≡ Equal
-is_equal Equal h = refl
-is_equal Less h = absurd cc
-is_equal Greater h = absurd cc
-
 -- what holds of all keys holds of an entry's
 pub all_member : {K V : Type 0} (P : K → Type 0) (es : List (K × V)) (k : K) (v : V) → AllByRecursion P (keys_of es) → Member es (k, v) → P k
 all_member P [] k v h m = absurd m
@@ -95,7 +91,7 @@ all_member P (x ∷ es) k v h (inr m) = all_member P es k v h.1 m
 
 module _ {K : Type 0} (cmp : K → K → Ordering) (o : IsTotalOrder cmp) (exact : (a b : K) → cmp a b ≡ Equal → a ≡ b) where
   pub same_key : (a b : K) → is_at (cmp a) b ≡ true → a ≡ b
-  same_key a b h = exact a b (is_equal (cmp a b) h)
+  same_key a b h = exact a b (equal (cmp a b) h)
 
   pub at_itself : (a : K) → is_at (cmp a) a ≡ true
   at_itself a = (eq_by_cmp_equiv o).refl a

@@ -10,7 +10,7 @@ use Rattle.std.specs.List.Sorted.{IsStrictlySortedBy}
 use Rattle.std.specs.Map.{keys_of}
 use Rattle.std.specs.BTreeMap.{insert_entry, is_at}
 use Rattle.stk_table.specs.Tabled.{Tabled, TellsSettled, value_at}
-use Rattle.stk_table.proofs.CallerLemmas.{sorted-insert_entry, value_at-insert_entry}
+use Rattle.stk_types.proofs.MapLemmas.{ascend-put, at-put}
 use Rattle.stk_keep.specs.declared.items.Item.{Item}
 use Rattle.stk_keep.specs.Items.{key_of, IsOnce, IsAdded, AreChanges}
 use Rattle.stk_rows.specs.Rows.{rows_of, change_of, changes_of, AreFit, IsRowed}
@@ -84,19 +84,19 @@ module _ {K V : Type 0} (cmp : K → K → Ordering) (o : IsTotalOrder cmp)
       added-only i m s2 =
           let r = row_entry (insert_entry cmp es k v) i m in
           let here : value_at cmp (insert_entry cmp es k v) r.0 ≡ Some r.1 = value_of cmp o rowed.exact (insert_entry cmp es k v) r.0 r.1 (IsDistinct-from_sorted cmp (keys_of (insert_entry cmp es k v)) s2) r.3 in
-          by r.0 r.1 r.2 (is_at (cmp r.0) k) refl (sym (value_at-insert_entry o es k r.0 v) ∙ here)
+          by r.0 r.1 r.2 (is_at (cmp r.0) k) refl (sym (at-put cmp o es k r.0 v) ∙ here)
         where
           by : (q : K) (n : V) → i ≡ of q n → (b : Bool) → is_at (cmp q) k ≡ b → cond b (Some v) (value_at cmp es q) ≡ Some n → (i ≡ of k v) ⊎ (Member (rows_of of es) i × (key_of i ≢ key_of (of k v)))
           by q n p true h e = inl (p ∙ (λ j. of (same_key cmp o rowed.exact q k h j) (sym (some_same v n e) j)))
           by q n p false h e = inr (row-member es i (q, n, p, e), λ f. key_apart q n (fit_at es fits q n e) (other_key cmp o rowed.exact q k h) (ap key_of (sym p) ∙ f))
 
       pub added-all : (i : Item) → (i ≡ of k v) ⊎ (Member (rows_of of es) i × (key_of i ≢ key_of (of k v))) → Member (rows_of of (insert_entry cmp es k v)) i
-      added-all i (inl e) = row-member (insert_entry cmp es k v) i (k, v, e, value_at-insert_entry o es k k v ∙ ap (λ b. cond b (Some v) (value_at cmp es k)) (at_itself cmp o rowed.exact k))
+      added-all i (inl e) = row-member (insert_entry cmp es k v) i (k, v, e, at-put cmp o es k k v ∙ ap (λ b. cond b (Some v) (value_at cmp es k)) (at_itself cmp o rowed.exact k))
       added-all i (inr m) = let r = member-row i m.0 in by r.0 r.1 r.2 r.3 (is_at (cmp r.0) k) refl
         where
           by : (q : K) (n : V) → i ≡ of q n → value_at cmp es q ≡ Some n → (b : Bool) → is_at (cmp q) k ≡ b → Member (rows_of of (insert_entry cmp es k v)) i
           by q n p e true h = absurd (m.1 (ap key_of p ∙ rowed.keyed q n (fit_at es fits q n e) ∙ ap (λ x. gone x) (same_key cmp o rowed.exact q k h) ∙ sym (rowed.keyed k v fit)))
-          by q n p e false h = row-member (insert_entry cmp es k v) i (q, n, p, value_at-insert_entry o es k q v ∙ ap (λ b. cond b (Some v) (value_at cmp es q)) h ∙ e)
+          by q n p e false h = row-member (insert_entry cmp es k v) i (q, n, p, at-put cmp o es k q v ∙ ap (λ b. cond b (Some v) (value_at cmp es q)) h ∙ e)
 
   -- ---- rows stand once
 
@@ -263,7 +263,7 @@ module _ {K V : Type 0} (cmp : K → K → Ordering) (o : IsTotalOrder cmp)
 
   pub row-added : (es : List (K × V)) → AreFit Fits es → IsStrictlySortedBy cmp (keys_of es) → (k : K) (v : V) → Fits k v → IsAdded (rows_of of es) (of k v) (rows_of of (insert_entry cmp es k v))
   row-added es fits s k v fit = added (rows_of of es) (of k v) (rows_of of (insert_entry cmp es k v))
-      (λ i m. added-only es s (all-fit es fits) k v fit i m (sorted-insert_entry o k v es s))
+      (λ i m. added-only es s (all-fit es fits) k v fit i m (ascend-put cmp o es k v s))
       (added-all es s (all-fit es fits) k v fit)
 
   pub rows-changed : (t : Tabled K V) → TellsSettled cmp t → IsStrictlySortedBy cmp (keys_of t.entries) → AreFit Fits t.entries → AreFit Fits t.settled
@@ -275,21 +275,3 @@ module _ {K V : Type 0} (cmp : K → K → Ordering) (o : IsTotalOrder cmp)
     gone_only = gone-only t tells s (all-fit t.entries now) (all-fit t.settled was);
     gone_all = gone-all t tells s (all-fit t.entries now) (all-fit t.settled was);
   })
-
-  -- an item that joins a table
-  module _ (es more : List (K × V)) (fits : AreFit Fits es) (i : Item) (k : K) (v : V) (is : entry i ≡ Some (k, v)) (put : more ≡ insert_entry cmp es k v) where
-    pub item-added : IsStrictlySortedBy cmp (keys_of es) → IsAdded (rows_of of es) i (rows_of of more)
-    item-added s =
-        let r = rowed.made i k v is in
-        subst (λ (l : List (K × V)). IsAdded (rows_of of es) i (rows_of of l)) (sym put)
-        (subst (λ (j : Item). IsAdded (rows_of of es) j (rows_of of (insert_entry cmp es k v))) (sym r.0) (row-added es fits s k v r.1))
-
-    pub item-fits : IsStrictlySortedBy cmp (keys_of es) → AreFit Fits more
-    item-fits s q n c = by (is_at (cmp q) k) refl (sym (value_at-insert_entry o es k q v) ∙ here)
-      where
-        here : value_at cmp (insert_entry cmp es k v) q ≡ Some n
-        here = value_of cmp o rowed.exact (insert_entry cmp es k v) q n (IsDistinct-from_sorted cmp (keys_of (insert_entry cmp es k v)) (sorted-insert_entry o k v es s)) (subst (λ l. Member l (q, n)) put (member more (q, n) c))
-
-        by : (b : Bool) → is_at (cmp q) k ≡ b → cond b (Some v) (value_at cmp es q) ≡ Some n → Fits q n
-        by true h e = subst (λ x. Fits x n) (sym (same_key cmp o rowed.exact q k h)) (subst (Fits k) (some_same v n e) (rowed.made i k v is).1)
-        by false h e = fits q n (contained es (q, n) (entry_of cmp o rowed.exact es q n e))

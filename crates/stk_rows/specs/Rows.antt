@@ -3,7 +3,7 @@ use Rattle.std.specs.Prelude.{◌≡◌, if◌then◌else◌, Bool, true, false,
 use Rattle.std.specs.declared.cmp.Ordering.{Ordering}
 use Rattle.std.specs.declared.cmp.Ordering.TheVariants.{Equal}
 use Rattle.std.specs.List.{filter_map}
-use Rattle.stk_table.specs.Tabled.{Tabled, value_at, with_value}
+use Rattle.stk_table.specs.Tabled.{value_at}
 use Rattle.stk_keep.specs.declared.items.Item.{Item}
 use Rattle.stk_keep.specs.Items.{key_of}
 
@@ -30,11 +30,6 @@ module _ {K V : Type 0} (of : K → V → Item) (gone : K → Item) (same : V �
 -- the changes of the touched keys
 abbrev pub changes_of : {K V : Type 0} → (K → K → Ordering) → (K → V → Item) → (K → Item) → (V → V → Bool) → List (K × Option V) → List (K × V) → List (Item × Bool)
 changes_of cmp of gone same touched entries = filter_map (λ t. change_of of gone same t.0 t.1 (value_at cmp entries t.0)) touched
-
--- a table once this entry stands in it, where there is one
-abbrev pub with_entry : {K V : Type 0} → (K → K → Ordering) → Option (K × V) → Tabled K V → Tabled K V
-with_entry cmp None t = t
-with_entry cmp (Some e) t = with_value cmp t e.0 e.1
 
 -- What a kind of records is told by: the order of its keys, the values that fit a key, the item of a key and a value, that
 -- of a key alone, a test of two values, and the key and the value of an item, which has none where it is of another kind.

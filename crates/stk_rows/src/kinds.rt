@@ -92,7 +92,7 @@ impl<'a, R: Row> Kinds for One<'a, R> {
     ghost AreTold = { λ one. AreFit R.Fits one.table.now.entries × AreFit R.Fits one.table.now.settled };
 
     fn known(&self) {
-        let _ = self.table.len();
+        self.table.known();
         R::told();
     }
 

@@ -1,13 +1,16 @@
 //! The records of a module as items of the state: a module names each kind of its records by a key, a value
-//! and an item, and keeps them in a table. Its items, its changes since the last settling and the loading
-//! of an item follow, for one table and for several side by side.
+//! and an item, and keeps them in a table. Its items and its changes since the last settling follow, for one
+//! table and for several side by side.
 #![tactic(auto)]
 
 mod kinds;
-mod loading;
 mod row;
 mod walk;
 
 pub use kinds::{Both, Kinds, One};
-pub use loading::load;
 pub use row::Row;
+
+#[cfg(test)]
+mod tests;
+#[cfg(test)]
+mod trials;

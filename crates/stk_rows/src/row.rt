@@ -40,10 +40,6 @@ pub trait Row {
     fn is_same(value: &Self::Value, other: &Self::Value) -> bool
         ensures { result ≡ same value.now other.now };
 
-    /// The key and the value of an item, or None where it is of another kind.
-    fn entry(item: &Item) -> Result<Option<(Self::Key, Self::Value)>, TableFault>
-        ensures { IfOk result (λ entry. entry ≡ entry_of item.now) };
-
     /// It tells how items, keys and values belong together, and does nothing.
     fn told()
         ensures { IsRowed Self.Key.cmp Fits item_of gone_of same entry_of };

@@ -25,8 +25,7 @@ pub(crate) fn rows_into<R: Row, L: Ledger>(
     ensures ordered { IsStrictlySortedBy R.Key.cmp (keys_of table.now.entries) }
     ensures err { (some : List Item) × (out.new.items ≡ out.old.items ++ some) }
 {
-    // It tells that the keys ascend.
-    let _ = table.len();
+    table.known();
     let mut after: Option<R::Key> = None;
     while let Some((key, value)) = table.next(after.as_ref(), steps) {
         let item = R::item(key, value)?;
@@ -49,8 +48,7 @@ pub(crate) fn changes_into<R: Row, L: Ledger>(
     ensures ordered { IsStrictlySortedBy R.Key.cmp (keys_of table.now.entries) }
     ensures err { (some : List (Item × Bool)) × (out.new.items ≡ out.old.items ++ some) }
 {
-    // It tells that the keys ascend.
-    let _ = table.len();
+    table.known();
     for (key, was) in table.touched().iter() {
         let now = table.get(key, steps);
         if let Some(change) = change_of::<R>(alloc, key, was, now)? {

@@ -1,7 +1,5 @@
 -- The orders of the keys: they are total, and tell all keys apart.
-use Rattle.std.specs.Prelude.{◌≡◌, ℕ, ◌&&◌, true, List, refl}
-use Rattle.std.specs.declared.cmp.Ordering.{Ordering}
-use Rattle.std.specs.declared.cmp.Ordering.TheVariants.{Less, Equal, Greater}
+use Rattle.std.specs.Prelude.{◌≡◌, ℕ, ◌&&◌, true, List}
 use Rattle.std.specs.Cmp.{IsTotalOrder, tied_itself, tied_then, on_total, then_total, eq_by_cmp_equiv}
 use Rattle.std.specs.Ordering.{is_eq}
 use Rattle.std.specs.BTreeMap.{is_at}
@@ -10,6 +8,7 @@ use Rattle.std.proofs.lemmas.Cmp.{nat_list_cmp_total}
 use Rattle.std.proofs.lemmas.Map.Lookups.{exact_bytes}
 use Rattle.stk_types.specs.Orders.{addr_cmp, cons_cmp}
 use Rattle.stk_keep.specs.Orders.{pair_cmp, same_addr}
+pub use Rattle.stk_types.proofs.MapLemmas.{equal}
 
 pub addr_total : IsTotalOrder addr_cmp
 addr_total = nat_list_cmp_total
@@ -19,11 +18,6 @@ cons_total = nat_list_cmp_total
 
 pub pair_total : IsTotalOrder pair_cmp
 pair_total = then_total (on_total (λ (t : List ℕ × List ℕ). t.0) addr_total) (on_total (λ (t : List ℕ × List ℕ). t.1) addr_total)
-
-pub equal : (r : Ordering) → is_eq r ≡ true → r ≡ Equal
-equal Less h = cc
-equal Equal h = refl
-equal Greater h = cc
 
 pub same_is : (a b : List ℕ) → same_addr a b ≡ true → a ≡ b
 same_is a b h = exact_bytes a b (equal _ h)

@@ -10,12 +10,8 @@ use Rattle.std.specs.List.Sorted.{IsStrictlySortedBy}
 use Rattle.std.specs.Map.{keys_of, lookup, lookup_entry, lookup_key, remove_entry}
 use Rattle.std.specs.BTreeMap.{insert_entry, is_at}
 use Rattle.std.proofs.lemmas.Map.Keys.{sorted_head, sorted_tail}
+use Rattle.stk_types.proofs.MapLemmas.{all-below, equal}
 use Rattle.stk_table.specs.Restored.{with_entry}
-
-pub equal : (r : Ordering) → is_eq r ≡ true → r ≡ Equal
-equal Less h = cc
-equal Equal h = refl
-equal Greater h = cc
 
 -- the value and the key of the entry that a look-up finds
 pub lookup_is : {K X : Type 0} (test : K → Bool) (es : List (K × X)) → lookup test es ≡ option_map (λ e. e.1) (lookup_entry test es)
@@ -111,25 +107,6 @@ module _ {K : Type 0} {R : K → K → Ordering} (o : IsTotalOrder R) where
       | Greater ↦ (h.0, all_with P k v es p h.1)
     ]
 
-    all_inserted : (P : K → Type 0) (k : K) (v : X) (es : List (K × X)) → P k → AllByRecursion P (keys_of es) → AllByRecursion P (keys_of (insert_entry R es k v))
-    all_inserted P k v [] p h = (p, tt)
-    all_inserted P k v (e ∷ es) p h = elim (R k e.0) as (λ r. AllByRecursion P (keys_of (match_ordering r ((k, v) ∷ e ∷ es) ((e.0, v) ∷ es) (e ∷ insert_entry R es k v)))) [
-      | Less ↦ (p, h)
-      | Equal ↦ h
-      | Greater ↦ (h.0, all_inserted P k v es p h.1)
-    ]
-
-    all_without : (P : K → Type 0) (test : K → Bool) (es : List (K × X)) → AllByRecursion P (keys_of es) → AllByRecursion P (keys_of (remove_entry test es))
-    all_without P test [] h = h
-    all_without P test (e ∷ es) h = elim (test e.0) as (λ b. AllByRecursion P (keys_of (cond b es (e ∷ remove_entry test es)))) [
-      | true ↦ h.1
-      | false ↦ (h.0, all_without P test es h.1)
-    ]
-
-    pub below_less : (x y : K) (es : List (K × X)) → R x y ≡ Less → AllByRecursion (λ z. R y z ≡ Less) (keys_of es) → AllByRecursion (λ z. R x z ≡ Less) (keys_of es)
-    below_less x y [] p h = tt
-    below_less x y (e ∷ es) p h = (o.trans x y e.0 p h.0, below_less x y es p h.1)
-
     pub below_tied : (x y : K) (es : List (K × X)) → R x y ≡ Equal → AllByRecursion (λ z. R y z ≡ Less) (keys_of es) → AllByRecursion (λ z. R x z ≡ Less) (keys_of es)
     below_tied x y [] p h = tt
     below_tied x y (e ∷ es) p h = (o.congr x y e.0 p ∙ h.0, below_tied x y es p h.1)
@@ -144,31 +121,10 @@ module _ {K : Type 0} {R : K → K → Ordering} (o : IsTotalOrder R) where
         let below = sorted_head R e.0 (keys_of es) h in
         let rest = sorted_tail R e.0 (keys_of es) h in
         elim (R k e.0) as (λ r. R k e.0 ≡ r → IsStrictlySortedBy R (keys_of (match_ordering r ((k, v) ∷ e ∷ es) ((k, v) ∷ es) (e ∷ with_entry R k v es)))) [
-          | Less ↦ λ p. sorted-cons (k, v) (e ∷ es) (p, below_less k e.0 es p below) h
+          | Less ↦ λ p. sorted-cons (k, v) (e ∷ es) (p, all-below R o k e.0 (keys_of es) p below) h
           | Equal ↦ λ p. sorted-cons (k, v) es (below_tied k e.0 es p below) rest
           | Greater ↦ λ p. sorted-cons e (with_entry R k v es) (all_with (λ y. R e.0 y ≡ Less) k v es (o.antisymm e.0 k ∙ ap ordering_reverse p) below) (sorted-with_entry k v es rest)
         ] refl
-
-    pub sorted-insert_entry : (k : K) (v : X) (es : List (K × X)) → IsStrictlySortedBy R (keys_of es) → IsStrictlySortedBy R (keys_of (insert_entry R es k v))
-    sorted-insert_entry k v [] h = sorted-cons (k, v) [] tt h
-    sorted-insert_entry k v (e ∷ es) h =
-        let below = sorted_head R e.0 (keys_of es) h in
-        let rest = sorted_tail R e.0 (keys_of es) h in
-        elim (R k e.0) as (λ r. R k e.0 ≡ r → IsStrictlySortedBy R (keys_of (match_ordering r ((k, v) ∷ e ∷ es) ((e.0, v) ∷ es) (e ∷ insert_entry R es k v)))) [
-          | Less ↦ λ p. sorted-cons (k, v) (e ∷ es) (p, below_less k e.0 es p below) h
-          | Equal ↦ λ p. sorted-cons (e.0, v) es below rest
-          | Greater ↦ λ p. sorted-cons e (insert_entry R es k v) (all_inserted (λ y. R e.0 y ≡ Less) k v es (o.antisymm e.0 k ∙ ap ordering_reverse p) below) (sorted-insert_entry k v es rest)
-        ] refl
-
-    pub sorted-remove_entry : (test : K → Bool) (es : List (K × X)) → IsStrictlySortedBy R (keys_of es) → IsStrictlySortedBy R (keys_of (remove_entry test es))
-    sorted-remove_entry test [] h = h
-    sorted-remove_entry test (e ∷ es) h =
-        let below = sorted_head R e.0 (keys_of es) h in
-        let rest = sorted_tail R e.0 (keys_of es) h in
-        elim (test e.0) as (λ b. IsStrictlySortedBy R (keys_of (cond b es (e ∷ remove_entry test es)))) [
-          | true ↦ rest
-          | false ↦ sorted-cons e (remove_entry test es) (all_without (λ y. R e.0 y ≡ Less) test es below) (sorted-remove_entry test es rest)
-        ]
 
     entry_first : (e : K × X) (es : List (K × X)) → lookup_entry (is_at (R e.0)) (e ∷ es) ≡ Some e
     entry_first e es = ap (λ r. cond (is_eq r) (Some e) (lookup_entry (is_at (R e.0)) es)) (tied_itself o e.0)
@@ -176,7 +132,7 @@ module _ {K : Type 0} {R : K → K → Ordering} (o : IsTotalOrder R) where
     -- a key below each key of a list in order is not found in it
     missed : (e f : K × X) (es fs : List (K × X)) → R e.0 f.0 ≡ Less → AllByRecursion (λ y. R f.0 y ≡ Less) (keys_of fs) → lookup_entry (is_at (R e.0)) (e ∷ es) ≡ lookup_entry (is_at (R e.0)) (f ∷ fs) → ⊥
     missed e f es fs p below is =
-        let found : Some e ≡ None = sym (entry_first e es) ∙ is ∙ entry_below e.0 e.0 (f ∷ fs) (ap is_eq (tied_itself o e.0)) (p, below_less e.0 f.0 fs p below) in cc
+        let found : Some e ≡ None = sym (entry_first e es) ∙ is ∙ entry_below e.0 e.0 (f ∷ fs) (ap is_eq (tied_itself o e.0)) (p, all-below R o e.0 f.0 (keys_of fs) p below) in cc
 
     tails : (q : K) (e : K × X) (es fs : List (K × X)) → AllByRecursion (λ y. R e.0 y ≡ Less) (keys_of es) → AllByRecursion (λ y. R e.0 y ≡ Less) (keys_of fs) → lookup_entry (is_at (R q)) (e ∷ es) ≡ lookup_entry (is_at (R q)) (e ∷ fs) → lookup_entry (is_at (R q)) es ≡ lookup_entry (is_at (R q)) fs
     tails q e es fs g h =

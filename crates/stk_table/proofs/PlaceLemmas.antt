@@ -15,7 +15,8 @@ use Rattle.stk_table.specs.declared.slot.Slot.{Slot}
 use Rattle.stk_table.specs.declared.slot.Slot.TheVariants.{Empty, Filled, Renamed}
 use Rattle.stk_table.specs.Places.{entry_of, filled, put_back_slot, slot_value, AreNamed, IsNamed}
 use Rattle.stk_table.specs.Tabled.{key_in, value_at}
-use Rattle.stk_table.proofs.EntryLemmas.{alike_is_at, below_less, entry_below, entry-insert_other, entry-remove_entry, equal, lookup_is, lookup_key_is, same_entries, sorted-cons, sorted-insert_entry, sorted-remove_entry, tied_entry}
+use Rattle.stk_types.proofs.MapLemmas.{all-below, ascend-put, ascend-taken, equal}
+use Rattle.stk_table.proofs.EntryLemmas.{alike_is_at, entry_below, entry-insert_other, entry-remove_entry, lookup_is, lookup_key_is, same_entries, sorted-cons, tied_entry}
 
 -- the first that is there
 abbrev pub or_else : {A : Type 0} → Option A → Option A → Option A
@@ -61,7 +62,7 @@ module _ {K : Type 0} {R : K → K → Ordering} (o : IsTotalOrder R) where
   entry-insert_same k {X} v (e ∷ es) sorted =
       elim (R k e.0) as (λ r. R k e.0 ≡ r → lookup_entry (is_at (R k)) (match_ordering r ((k, v) ∷ e ∷ es) ((e.0, v) ∷ es) (e ∷ insert_entry R es k v)) ≡ Some (unwrap_or (cond (is_eq r) (Some e.0) (lookup_key (is_at (R k)) es)) k, v)) [
         | Less ↦ λ is.
-            let none : lookup_key (is_at (R k)) es ≡ None = lookup_key_is _ es ∙ ap (option_map (λ x. x.0)) (entry_below o k k es (tied k) (below_less o k e.0 es is (sorted_head R e.0 (keys_of es) sorted))) in
+            let none : lookup_key (is_at (R k)) es ≡ None = lookup_key_is _ es ∙ ap (option_map (λ x. x.0)) (entry_below o k k es (tied k) (all-below R o k e.0 (keys_of es) is (sorted_head R e.0 (keys_of es) sorted))) in
             ap (λ b. cond b (Some (k, v)) (lookup_entry (is_at (R k)) (e ∷ es))) (tied k) ∙ sym (ap (λ n. Some (unwrap_or n k, v)) none)
         | Equal ↦ λ is. ap (λ r. cond (is_eq r) (Some (e.0, v)) (lookup_entry (is_at (R k)) es)) is
         | Greater ↦ λ is. ap (λ r. cond (is_eq r) (Some e) (lookup_entry (is_at (R k)) (insert_entry R es k v))) is ∙ entry-insert_same k v es (sorted_tail R e.0 (keys_of es) sorted)
@@ -85,7 +86,7 @@ module _ {K : Type 0} {R : K → K → Ordering} (o : IsTotalOrder R) where
   length-insert_same k v (e ∷ es) f sorted found =
       elim (R k e.0) as (λ r. R k e.0 ≡ r → cond (is_eq r) (Some e) (lookup_entry (is_at (R k)) es) ≡ Some f → length (match_ordering r ((k, v) ∷ e ∷ es) ((e.0, v) ∷ es) (e ∷ insert_entry R es k v)) ≡ length (e ∷ es)) [
         | Less ↦ λ is found.
-            let none = entry_below o k k es (tied k) (below_less o k e.0 es is (sorted_head R e.0 (keys_of es) sorted)) in cc
+            let none = entry_below o k k es (tied k) (all-below R o k e.0 (keys_of es) is (sorted_head R e.0 (keys_of es) sorted)) in cc
         | Equal ↦ λ is found. refl
         | Greater ↦ λ is found. ap (λ n. suc n) (length-insert_same k v es f (sorted_tail R e.0 (keys_of es) sorted) found)
       ] refl found
@@ -196,7 +197,7 @@ module _ {K : Type 0} {R : K → K → Ordering} (o : IsTotalOrder R) where
       -- what is seen once a value stands at a place
       pub filled-insert : (s : Slot K V) (v : V) → IsNamed R k s → entry_of (key_in R ps k) s ≡ Some (key_in R (filled ps) k, v) → filled (insert_entry R ps k s) ≡ insert_entry R (filled ps) k v
       filled-insert s v here shows =
-          same_entries o _ _ (sorted-filled (insert_entry R ps k s) new_sorted new_named) (sorted-insert_entry o k v (filled ps) in_order)
+          same_entries o _ _ (sorted-filled (insert_entry R ps k s) new_sorted new_named) (ascend-put R o (filled ps) k v in_order)
           (λ q. elim (is_at (R q) k) as (λ b. is_at (R q) k ≡ b → lookup_entry (is_at (R q)) (filled (insert_entry R ps k s)) ≡ lookup_entry (is_at (R q)) (insert_entry R (filled ps) k v)) [
             | true ↦ λ at. entry-filled q (insert_entry R ps k s) new_sorted new_named ∙ ap shown (entry-insert_at q k s ps at sorted) ∙ shows ∙ sym (entry-insert_at q k v (filled ps) at in_order)
             | false ↦ λ at. entry-filled q (insert_entry R ps k s) new_sorted new_named ∙ ap shown (entry-insert_other o q k s ps at) ∙ sym (entry-filled q ps sorted named) ∙ sym (entry-insert_other o q k v (filled ps) at)
@@ -206,7 +207,7 @@ module _ {K : Type 0} {R : K → K → Ordering} (o : IsTotalOrder R) where
           in_order = sorted-filled ps sorted named
 
           new_sorted : IsStrictlySortedBy R (keys_of (insert_entry R ps k s))
-          new_sorted = sorted-insert_entry o k s ps sorted
+          new_sorted = ascend-put R o ps k s sorted
 
           new_named : AreNamed R (insert_entry R ps k s)
           new_named = AreNamed-insert ps k s here named
@@ -214,7 +215,7 @@ module _ {K : Type 0} {R : K → K → Ordering} (o : IsTotalOrder R) where
       -- what is seen once a place is empty
       pub filled-empty : filled (insert_entry R ps k Empty) ≡ remove_entry (is_at (R k)) (filled ps)
       filled-empty =
-          same_entries o _ _ (sorted-filled (insert_entry R ps k Empty) new_sorted new_named) (sorted-remove_entry o (is_at (R k)) (filled ps) in_order)
+          same_entries o _ _ (sorted-filled (insert_entry R ps k Empty) new_sorted new_named) (ascend-taken R (is_at (R k)) (filled ps) in_order)
           (λ q. entry-filled q (insert_entry R ps k Empty) new_sorted new_named
           ∙ elim (is_at (R q) k) as (λ b. is_at (R q) k ≡ b → shown (lookup_entry (is_at (R q)) (insert_entry R ps k Empty)) ≡ cond b None (lookup_entry (is_at (R q)) (filled ps))) [
             | true ↦ λ at. ap shown (entry-insert_at q k Empty ps at sorted)
@@ -226,7 +227,7 @@ module _ {K : Type 0} {R : K → K → Ordering} (o : IsTotalOrder R) where
           in_order = sorted-filled ps sorted named
 
           new_sorted : IsStrictlySortedBy R (keys_of (insert_entry R ps k Empty))
-          new_sorted = sorted-insert_entry o k Empty ps sorted
+          new_sorted = ascend-put R o ps k Empty sorted
 
           new_named : AreNamed R (insert_entry R ps k Empty)
           new_named = AreNamed-insert ps k Empty tt named
@@ -234,7 +235,7 @@ module _ {K : Type 0} {R : K → K → Ordering} (o : IsTotalOrder R) where
       -- what is seen once a place is taken out
       pub filled-remove : filled (remove_entry (is_at (R k)) ps) ≡ remove_entry (is_at (R k)) (filled ps)
       filled-remove =
-          same_entries o _ _ (sorted-filled (remove_entry (is_at (R k)) ps) new_sorted new_named) (sorted-remove_entry o (is_at (R k)) (filled ps) in_order)
+          same_entries o _ _ (sorted-filled (remove_entry (is_at (R k)) ps) new_sorted new_named) (ascend-taken R (is_at (R k)) (filled ps) in_order)
           (λ q. entry-filled q (remove_entry (is_at (R k)) ps) new_sorted new_named
           ∙ ap shown (entry-remove_entry o q k ps sorted)
           ∙ elim (is_at (R q) k) as (λ b. shown (cond b None (lookup_entry (is_at (R q)) ps)) ≡ cond b None (lookup_entry (is_at (R q)) (filled ps))) [
@@ -247,7 +248,7 @@ module _ {K : Type 0} {R : K → K → Ordering} (o : IsTotalOrder R) where
           in_order = sorted-filled ps sorted named
 
           new_sorted : IsStrictlySortedBy R (keys_of (remove_entry (is_at (R k)) ps))
-          new_sorted = sorted-remove_entry o (is_at (R k)) ps sorted
+          new_sorted = ascend-taken R (is_at (R k)) ps sorted
 
           new_named : AreNamed R (remove_entry (is_at (R k)) ps)
           new_named = AreNamed-remove (is_at (R k)) ps named
@@ -258,7 +259,7 @@ module _ {K : Type 0} {R : K → K → Ordering} (o : IsTotalOrder R) where
     set-insert k s t (p ∷ ps) sorted found =
         elim (R k p.0) as (λ r. R k p.0 ≡ r → cond (is_eq r) (Some p.1) (lookup (is_at (R k)) ps) ≡ Some t → cond (is_eq r) ((p.0, s) ∷ ps) (p ∷ set_value (is_at (R k)) ps s) ≡ match_ordering r ((k, s) ∷ p ∷ ps) ((p.0, s) ∷ ps) (p ∷ insert_entry R ps k s)) [
           | Less ↦ λ is found.
-              let none : lookup (is_at (R k)) ps ≡ None = lookup_is _ ps ∙ ap (option_map (λ x. x.1)) (entry_below o k k ps (tied k) (below_less o k p.0 ps is (sorted_head R p.0 (keys_of ps) sorted))) in cc
+              let none : lookup (is_at (R k)) ps ≡ None = lookup_is _ ps ∙ ap (option_map (λ x. x.1)) (entry_below o k k ps (tied k) (all-below R o k p.0 (keys_of ps) is (sorted_head R p.0 (keys_of ps) sorted))) in cc
           | Equal ↦ λ is found. refl
           | Greater ↦ λ is found. ap (λ l. p ∷ l) (set-insert k s t ps (sorted_tail R p.0 (keys_of ps) sorted) found)
         ] refl found
@@ -269,7 +270,7 @@ module _ {K : Type 0} {R : K → K → Ordering} (o : IsTotalOrder R) where
     put_back-insert k s (p ∷ ps) sorted =
         elim (R k p.0) as (λ r. R k p.0 ≡ r → put_back_slot R k (cond (is_eq r) (Some p.1) (lookup (is_at (R k)) ps)) (match_ordering r ((k, s) ∷ p ∷ ps) ((p.0, s) ∷ ps) (p ∷ insert_entry R ps k s)) ≡ p ∷ ps) [
           | Less ↦ λ is.
-              let none : lookup (is_at (R k)) ps ≡ None = lookup_is _ ps ∙ ap (option_map (λ x. x.1)) (entry_below o k k ps (tied k) (below_less o k p.0 ps is (sorted_head R p.0 (keys_of ps) sorted))) in
+              let none : lookup (is_at (R k)) ps ≡ None = lookup_is _ ps ∙ ap (option_map (λ x. x.1)) (entry_below o k k ps (tied k) (all-below R o k p.0 (keys_of ps) is (sorted_head R p.0 (keys_of ps) sorted))) in
               ap (λ n. put_back_slot R k n ((k, s) ∷ p ∷ ps)) none ∙ ap (λ b. cond b (p ∷ ps) ((k, s) ∷ remove_entry (is_at (R k)) (p ∷ ps))) (tied k)
           | Equal ↦ λ is. ap (λ r. cond (is_eq r) ((p.0, p.1) ∷ ps) ((p.0, s) ∷ set_value (is_at (R k)) ps p.1)) is
           | Greater ↦ λ is. further (lookup (is_at (R k)) ps) is ∙ ap (λ l. p ∷ l) (put_back-insert k s ps (sorted_tail R p.0 (keys_of ps) sorted))

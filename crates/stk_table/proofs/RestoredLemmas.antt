@@ -8,7 +8,8 @@ use Rattle.std.specs.Map.{keys_of, lookup, lookup_entry, lookup_key, remove_entr
 use Rattle.std.specs.BTreeMap.{insert_entry, is_at}
 use Rattle.stk_table.specs.Restored.{put_back, restored, KeepsSettled}
 use Rattle.stk_table.specs.Tabled.{key_in, touched_with, value_at}
-use Rattle.stk_table.proofs.EntryLemmas.{alike_is_at, entry-insert_other, entry-remove_entry, entry-with_entry, lookup_is, lookup_key_is, same_entries, sorted-insert_entry, sorted-remove_entry, sorted-with_entry, tied_entry, tied_lookup}
+use Rattle.stk_types.proofs.MapLemmas.{ascend-put, ascend-taken}
+use Rattle.stk_table.proofs.EntryLemmas.{alike_is_at, entry-insert_other, entry-remove_entry, entry-with_entry, lookup_is, lookup_key_is, same_entries, sorted-with_entry, tied_entry, tied_lookup}
 
 -- the entry that a listed pair tells
 abbrev pub pair_entry : {K V : Type 0} → K × Option V → Option (K × V)
@@ -31,7 +32,7 @@ module _ {K : Type 0} {R : K → K → Ordering} (o : IsTotalOrder R) where
     told q (t ∷ ts) now = cond (is_at (R q) t.0) (pair_entry t) (told q ts now)
 
     sorted-put_back : (k : K) (old : Option V) (es : List (K × V)) → IsStrictlySortedBy R (keys_of es) → IsStrictlySortedBy R (keys_of (put_back R k old es))
-    sorted-put_back k None es h = sorted-remove_entry o (is_at (R k)) es h
+    sorted-put_back k None es h = ascend-taken R (is_at (R k)) es h
     sorted-put_back k (Some v) es h = sorted-with_entry o k v es h
 
     pub sorted-restored : (ts : List (K × Option V)) (es : List (K × V)) → IsStrictlySortedBy R (keys_of es) → IsStrictlySortedBy R (keys_of (restored R ts es))
@@ -119,12 +120,12 @@ module _ {K : Type 0} {R : K → K → Ordering} (o : IsTotalOrder R) where
 
     pub KeepsSettled-put : (ts us : List (K × Option V)) (es fs : List (K × V)) (k : K) (v : V) → IsStrictlySortedBy R (keys_of es) → us ≡ touched_with R ts es k → fs ≡ insert_entry R es k v → KeepsSettled R ts es us fs
     KeepsSettled-put ts us es fs k v in_order noted made =
-        let new_in_order : IsStrictlySortedBy R (keys_of fs) = subst (λ l. IsStrictlySortedBy R (keys_of l)) (sym made) (sorted-insert_entry o k v es in_order) in
+        let new_in_order : IsStrictlySortedBy R (keys_of fs) = subst (λ l. IsStrictlySortedBy R (keys_of l)) (sym made) (ascend-put R o es k v in_order) in
         subst (λ l. KeepsSettled R ts es l fs) (sym noted) (KeepsSettled-touched ts es fs k in_order new_in_order (λ q t. ap (lookup_entry (is_at (R q))) made ∙ entry-insert_other o q k v es t))
 
     pub KeepsSettled-remove : (ts us : List (K × Option V)) (es fs : List (K × V)) (k : K) → IsStrictlySortedBy R (keys_of es) → us ≡ touched_with R ts es k → fs ≡ remove_entry (is_at (R k)) es → KeepsSettled R ts es us fs
     KeepsSettled-remove ts us es fs k in_order noted made =
-        let new_in_order : IsStrictlySortedBy R (keys_of fs) = subst (λ l. IsStrictlySortedBy R (keys_of l)) (sym made) (sorted-remove_entry o (is_at (R k)) es in_order) in
+        let new_in_order : IsStrictlySortedBy R (keys_of fs) = subst (λ l. IsStrictlySortedBy R (keys_of l)) (sym made) (ascend-taken R (is_at (R k)) es in_order) in
         subst (λ l. KeepsSettled R ts es l fs) (sym noted) (KeepsSettled-touched ts es fs k in_order new_in_order
         (λ q t. ap (lookup_entry (is_at (R q))) made ∙ entry-remove_entry o q k es in_order ∙ ap (λ b. cond b None (lookup_entry (is_at (R q)) es)) t))
 

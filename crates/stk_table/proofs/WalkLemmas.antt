@@ -13,7 +13,7 @@ use Rattle.stk_table.specs.declared.slot.Slot.{Slot}
 use Rattle.stk_table.specs.declared.slot.Slot.TheVariants.{Empty, Filled, Renamed}
 use Rattle.stk_table.specs.Places.{bound_above, entry_of, filled, AreNamed, IsNamed}
 use Rattle.stk_table.specs.Tabled.{entry_above, first_of}
-use Rattle.stk_table.proofs.EntryLemmas.{equal}
+use Rattle.stk_types.proofs.MapLemmas.{equal}
 
 pub is_some-map : {A B : Type 0} (f : A → B) (x : Option A) → is_some (option_map f x) ≡ is_some x
 is_some-map f None = refl

@@ -5,7 +5,6 @@
 
 mod change;
 mod laws;
-mod mark;
 mod places;
 mod slot;
 mod table;
@@ -13,7 +12,6 @@ mod undo;
 mod walk;
 
 pub use laws::going_back_by_example;
-pub use mark::Mark;
 pub use stk_types::{Copied, TableFault};
 pub use table::Table;
 

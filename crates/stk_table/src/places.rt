@@ -159,21 +159,19 @@ impl<K: Ord + Copied, V: Copied> Places<K, V> {
         Ok(value)
     }
 
-    /// Opens a mark above those that are open, and answers how many they are. It takes no memory, and fails
-    /// only where as many marks are open as a `usize` counts.
-    pub(crate) fn mark(&mut self) -> Result<usize, TableFault>
-        ensures depth { IfOk result (λ depth. depth ≡ length self.old.marks) }
+    /// Opens a mark above those that are open. It takes no memory, and fails only where as many marks are open
+    /// as a `usize` counts.
+    pub(crate) fn mark(&mut self) -> Result<(), TableFault>
         ensures ok { OnOk result (self.new ≡ record self.old { marks = self.old.marks ++ self.old.entries ∷ [] }) }
         ensures err { OnErr result (self.new ≡ self.old) }
         ensures succeeds { length self.old.marks < usize.MAX → IsOk result }
     {
-        let depth = self.depth;
-        let Some(more) = depth.checked_add(1) else {
+        let Some(more) = self.depth.checked_add(1) else {
             return Err(TableFault::NoMemory);
         };
         self.depth = more;
         self.here.marks += 1;
-        Ok(depth)
+        Ok(())
     }
 
     /// Goes back to the latest mark and closes it.

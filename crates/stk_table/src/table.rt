@@ -1,11 +1,10 @@
-ghost use Rattle.std.specs.Prelude.{◌≡◌, ◌+◌, [], false, length, ◌<◌, IsOk, if◌then◌else◌, is_some, option_map, IfOk, OnOk, OnErr, IsErrOf, IsTrue, ◌↔◌};
+ghost use Rattle.std.specs.Prelude.{◌≡◌, ◌+◌, ◌^◌, [], false, length, ◌<◌, IsOk, if◌then◌else◌, is_some, option_map, IfOk, OnOk, OnErr, IsErrOf, IsTrue, ◌↔◌};
 ghost use Rattle.std.specs.List.Sorted.{IsStrictlySortedBy};
 ghost use Rattle.std.specs.Map.{keys_of};
 ghost use Rattle.std.specs.Option.{option_copied};
 ghost use Rattle.stk_table.specs.Tabled.{empty_table, entry_above, entry_from, settled_now, spent_now, value_at, with_mark, with_value, without_key, IsForgotten, IsGoneBack, TellsSettled};
 
 use crate::change::{take_out, write};
-use crate::mark::Mark;
 use crate::places::Places;
 use indexmap::IndexMap;
 use std::alloc::Global;
@@ -58,6 +57,17 @@ impl<K: Ord + Hash + Copied, V: Copied> Table<K, V> {
         ensures ordered { IsStrictlySortedBy K.cmp (keys_of self.now.entries) }
     {
         self.places.len()
+    }
+
+    /// It tells that the keys ascend, how many entries there are at most, and what the touched list says of
+    /// the last settling. It does nothing.
+    pub fn known(&self)
+        ensures ordered { IsStrictlySortedBy K.cmp (keys_of self.now.entries) }
+        ensures few { length self.now.entries < 2 ^ 64 }
+        ensures settled { TellsSettled K.cmp self.now }
+    {
+        let _entries = self.len();
+        let _touched = self.touched();
     }
 
     /// The value under a key, or None where nothing stands under it. It counts one step.
@@ -154,8 +164,7 @@ impl<K: Ord + Hash + Copied, V: Copied> Table<K, V> {
     /// Opens a mark above those that are open. It keeps no copy and takes no memory: of a table that is not
     /// spent it succeeds, unless as many marks are open as a `usize` counts. Then it answers `NoMemory`, and
     /// nothing changes.
-    pub fn mark(&mut self) -> Result<Mark, TableFault>
-        ensures depth { IfOk result (λ mark. mark ≡ length self.old.marks) }
+    pub fn mark(&mut self) -> Result<(), TableFault>
         ensures ok { OnOk result (self.new ≡ with_mark self.old) }
         ensures err { OnErr result (self.new ≡ self.old) }
         ensures spent { IsErrOf result TableFault.Spent ↔ IsTrue self.old.spent }
@@ -167,27 +176,25 @@ impl<K: Ord + Hash + Copied, V: Copied> Table<K, V> {
         // It tells that the keys ascend.
         let _ = self.places.len();
         match self.places.mark() {
-            Ok(depth) => Ok(Mark::above(depth)),
+            Ok(()) => Ok(()),
             Err(_) => Err(TableFault::NoMemory),
         }
     }
 
     /// Goes back to the latest open mark and closes it: the entries are those of the mark. The touched list
     /// stays. It takes no memory.
-    pub fn back_to(&mut self, mark: Mark)
-        requires latest { length self.old.marks ≡ mark + 1 }
+    pub fn back(&mut self)
+        requires some { 0 < length self.old.marks }
         ensures { IsGoneBack self.old self.new }
     {
-        mark.end();
         self.places.back();
     }
 
     /// Closes the latest open mark and keeps the entries as they are. It takes no memory.
-    pub fn forget(&mut self, mark: Mark)
-        requires latest { length self.old.marks ≡ mark + 1 }
+    pub fn forget(&mut self)
+        requires some { 0 < length self.old.marks }
         ensures { IsForgotten self.old self.new }
     {
-        mark.end();
         self.places.forget();
     }
 

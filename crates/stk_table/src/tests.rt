@@ -17,10 +17,10 @@ fn gone_back<L: Ledger>(alloc: Global, blank: Blank) -> Result<Table<u64, u64>, 
     let mut table: Table<u64, u64> = Table::new(alloc);
     table.put(&1, 10, &mut steps)?;
     table.settle();
-    let mark = table.mark()?;
+    table.mark()?;
     table.put(&2, 20, &mut steps)?;
     table.remove(&1, &mut steps)?;
-    table.back_to(mark);
+    table.back();
     Ok(table)
 }
 
@@ -56,12 +56,12 @@ fn forget_inner<L: Ledger>(
     table: &mut Table<u64, u64>,
     steps: &mut Steps<L>,
 ) -> Result<(), TableFault> {
-    let outer = table.mark()?;
+    table.mark()?;
     fill(table, 2, steps)?;
-    let inner = table.mark()?;
+    table.mark()?;
     fill(table, 3, steps)?;
-    table.forget(inner);
-    table.back_to(outer);
+    table.forget();
+    table.back();
     Ok(())
 }
 
@@ -70,12 +70,12 @@ fn forget_outer<L: Ledger>(
     table: &mut Table<u64, u64>,
     steps: &mut Steps<L>,
 ) -> Result<(), TableFault> {
-    let outer = table.mark()?;
+    table.mark()?;
     fill(table, 4, steps)?;
-    let inner = table.mark()?;
+    table.mark()?;
     table.remove(&0, steps)?;
-    table.back_to(inner);
-    table.forget(outer);
+    table.back();
+    table.forget();
     Ok(())
 }
 
@@ -122,13 +122,13 @@ fn seen_without_2<L: Ledger>(alloc: Global, blank: Blank) -> Result<Seen, TableF
     table.put(&1, 10, &mut steps)?;
     table.put(&2, 20, &mut steps)?;
     table.put(&3, 30, &mut steps)?;
-    let mark = table.mark()?;
+    table.mark()?;
     table.remove(&2, &mut steps)?;
     let above = table.next(Some(&1), &mut steps).map(|entry| *entry.1);
     let from = table.seek(&2, &mut steps).map(|entry| *entry.1);
     let value = table.get(&2, &mut steps).copied();
     let len = table.len();
-    table.forget(mark);
+    table.forget();
     table.settle();
     Ok((len, above, from, value, table.touched().len()))
 }
@@ -153,13 +153,13 @@ fn values_of_1<L: Ledger>(
     let mut steps: Steps<L> = Steps::new(blank);
     let mut table: Table<u64, u64> = Table::new(alloc);
     table.put(&1, 10, &mut steps)?;
-    let first = table.mark()?;
+    table.mark()?;
     let taken = table.remove(&1, &mut steps)?;
-    let second = table.mark()?;
+    table.mark()?;
     table.put(&1, 11, &mut steps)?;
-    table.back_to(second);
+    table.back();
     let without = table.get(&1, &mut steps).copied();
-    table.back_to(first);
+    table.back();
     let with = table.get(&1, &mut steps).copied();
     Ok((taken, without, with))
 }

@@ -8,3 +8,4 @@ pub mod DigitLemmas
 pub mod OnLiterals
 pub mod OrderLemmas
 pub mod WordLemmas
+pub mod MapLemmas

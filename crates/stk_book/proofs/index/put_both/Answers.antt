@@ -13,5 +13,5 @@ returns-in-Ok-put-clause-index g c = λ cons.
     = ap (λ t. t.entries) c.forget.ensures.rest ∙ c.in-Ok.ensures.entries ∙ ap (λ t. listed v t.entries) c.in_ok-mark.ensures.ok in
     let es : c.put.new.self.entries ≡ with addr_cmp c.args.validators.now.entries v.operator v = ap (λ t. t.entries) c.in-Ok-put.ensures.ok in
     ap (λ is. at cons_cmp is cons) index
-    ∙ listed-joined v c.args.validators.now.entries c.args.operators.now.entries c.len.ensures.ordered c.requires.new c.requires.index cons
+    ∙ listed-joined v c.args.validators.now.entries c.args.operators.now.entries c.known.ensures.ordered c.requires.new c.requires.index cons
     ∙ sym (ap (λ es. operator_by_cons es cons) es)

@@ -12,5 +12,5 @@ returns-in-Ok-remove-clause-index g c = λ cons.
     = ap (λ t. t.entries) c.forget.ensures.rest ∙ ap (λ t. t.entries) c.in-Ok.ensures.ok ∙ ap (λ t. without cons_cmp t.entries v.cons) c.in_ok-mark.ensures.ok in
     let es : c.remove-2.new.self.entries ≡ without addr_cmp c.args.validators.now.entries v.operator = ap (λ t. t.entries) c.in-Ok-remove.ensures.ok in
     ap (λ is. at cons_cmp is cons) index
-    ∙ index-left v c.args.validators.now.entries c.args.operators.now.entries c.len-operators.ensures.ordered c.requires.stands c.requires.alone c.requires.index cons
+    ∙ index-left v c.args.validators.now.entries c.args.operators.now.entries c.known-2.ensures.ordered c.requires.stands c.requires.alone c.requires.index cons
     ∙ sym (ap (λ es. operator_by_cons es cons) es)

@@ -14,13 +14,13 @@ opposite false = refl
 
 pub returns-in-None-clause-none : goal.returns-in-None-clause-none
 returns-in-None-clause-none g c =
-    none-left g.K.Ord.cmp g.met.K.Ord.total g.K.Keyed.operator_of g.K.Keyed.first_of g.met.K.Keyed.grouped c.args.operator.now c.args.table.now.entries c.len.ensures.ordered
+    none-left g.K.Ord.cmp g.met.K.Ord.total g.K.Keyed.operator_of g.K.Keyed.first_of g.met.K.Keyed.grouped c.args.operator.now c.args.table.now.entries c.known.ensures.ordered
     (λ e t. let apart : None ≡ Some e = c.in-None.ensures.from ∙ ap (entry_from g.K.Ord.cmp c.args.table.now.entries) c.first-first.ensures ∙ t in cc)
 
 pub returns-then-ne-clause-none : goal.returns-then-ne-clause-none
 returns-then-ne-clause-none g c =
     let differs : same_addr c.operator.result.now c.args.operator.now ≡ false = is_eq-slice_cmp c.operator.result.now c.args.operator.now ∙ opposite _ ∙ ap not (sym c.if-ne.ensures) in
-    none-left g.K.Ord.cmp g.met.K.Ord.total g.K.Keyed.operator_of g.K.Keyed.first_of g.met.K.Keyed.grouped c.args.operator.now c.args.table.now.entries c.len.ensures.ordered
+    none-left g.K.Ord.cmp g.met.K.Ord.total g.K.Keyed.operator_of g.K.Keyed.first_of g.met.K.Keyed.grouped c.args.operator.now c.args.table.now.entries c.known.ensures.ordered
     (λ e t.
     let is : Some (c.in-Some.key.now, c.in-Some.field-0-1.now) ≡ Some e = c.in-Some.ensures.from ∙ ap (entry_from g.K.Ord.cmp c.args.table.now.entries) c.first-first.ensures ∙ t in
     let same : (c.in-Some.key.now, c.in-Some.field-0-1.now) ≡ e = ap (λ o. unwrap_or o e) is in

@@ -6,14 +6,14 @@ use Rattle.stk_machine.specs.Report.{is_same_account}
 use Rattle.stk_report.specs.Lines.{account_line}
 use Rattle.stk_json.specs.Told.{coins_seen}
 use Rattle.stk_report.proofs.AccountLemmas.{first_gathered, other_gathered, same_gathered}
-use Rattle.stk_report.proofs.KeyLemmas.{account_equal, same_test}
+use Rattle.stk_types.proofs.OrderLemmas.{account_equal, account_equal_at}
 use Rattle.stk_report.proofs.accounts.with_coin.Goals as goal
 use Rattle.stk_report.proofs.accounts.with_coin.Goals.{in-Some+else-eq+in_ok-push_account, in_default}
 
 pub returns-then-eq-clause-next : goal.returns-then-eq-clause-next
 returns-then-eq-clause-next c = λ rest.
     let same : is_same_account c.in-Some.before.account c.args.account.now ≡ true
-    = sym (same_test c.in-Some.before.account c.args.account.now) ∙ (sym c.eq.ensures ∙ c.if-eq.true) in
+    = sym (account_equal_at c.in-Some.before.account c.args.account.now) ∙ (sym c.eq.ensures ∙ c.if-eq.true) in
     let more : coins_seen c.push.new.self.items ≡ coins_seen c.in-Some.before.coins.items ++ (c.args.denom.now, c.args.amount) ∷ []
     = ap coins_seen c.in_ok-push.ensures.items ∙ map-append _ c.in-Some.before.coins.items ((c.args.denom, c.args.amount) ∷ []) in
     same_gathered c.in-Some.before.account c.args.account.now (coins_seen c.in-Some.before.coins.items) _ (c.args.denom.now, c.args.amount) _ rest _

@@ -1,15 +1,6 @@
-use Rattle.std.proofs.Common.{◌∙◌, ◌++◌, length, sym, ap}
-use Rattle.std.specs.Option.{option_to_list}
-use Rattle.stk_rows.proofs.MarkLemmas.{numbers-pop, numbers-last}
+use Rattle.std.proofs.Common.{◌≢◌, [], sym, subst}
+use Rattle.stk_rows.proofs.MarkLemmas.{some_marks}
 use Rattle.stk_bank.proofs.records.BookRecords.forget.Goals as goal
 
 pub forget-requires : goal.forget-requires
-forget-requires g c = record {
-  latest = numbers-last c.pop.new.self.items c.unwrap-mark.result (length c.self.inside.tables.marks)
-      (sym (c.pop.ensures.items ∙ ap (λ r. c.pop.new.self.items ++ option_to_list r) c.unwrap-mark.ensures) ∙ c.self.invariant);
-}
-
-pub invariant_of-self : goal.invariant_of-self
-invariant_of-self g c =
-    (numbers-pop c.self.inside.marks.items c.pop.new.self.items c.unwrap-mark.result c.self.inside.tables.marks c.forget.new.self.marks c.forget.ensures.closed.0
-    (c.pop.ensures.items ∙ ap (λ r. c.pop.new.self.items ++ option_to_list r) c.unwrap-mark.ensures) c.self.invariant c.forget.ensures.closed.1).0
+forget-requires g c = record { some = some_marks c.self.inside.tables.marks (subst (λ b. b.marks ≢ []) (sym c.self.view_is) c.requires) }

@@ -17,7 +17,7 @@ pub returns-in-Ok-clause-ok : goal.returns-in-Ok-clause-ok
 returns-in-Ok-clause-ok g c = rw (← c.self.view_is) (ap (λ b. booked b c.self.inside.supplies c.self.inside.spent) (put_at c.self.inside.balances c.put.new.self c.args.place.now c.args.amount c.in-Ok.ensures.ok))
 
 pub returns-in-Ok-clause-ordered : goal.returns-in-Ok-clause-ordered
-returns-in-Ok-clause-ordered g c = subst (λ b. IsStrictlySortedBy place_cmp (keys_of b.holdings.balances)) c.self.view_is (ordered_at c.self.inside.balances.entries c.len.ensures.ordered)
+returns-in-Ok-clause-ordered g c = subst (λ b. IsStrictlySortedBy place_cmp (keys_of b.holdings.balances)) c.self.view_is (ordered_at c.self.inside.balances.entries c.known.ensures.ordered)
 
 pub returns-in-Err-clause-ordered : goal.returns-in-Err-clause-ordered
-returns-in-Err-clause-ordered g c = subst (λ b. IsStrictlySortedBy place_cmp (keys_of b.holdings.balances)) c.self.view_is (ordered_at c.self.inside.balances.entries c.len.ensures.ordered)
+returns-in-Err-clause-ordered g c = subst (λ b. IsStrictlySortedBy place_cmp (keys_of b.holdings.balances)) c.self.view_is (ordered_at c.self.inside.balances.entries c.known.ensures.ordered)

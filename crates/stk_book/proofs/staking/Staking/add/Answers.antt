@@ -1,5 +1,4 @@
-use Rattle.std.proofs.Common.{◌≡◌, ◌∙◌, ap, sym, subst, length}
-use Rattle.std.specs.List.{range_with_len}
+use Rattle.std.proofs.Common.{◌≡◌, ap, sym, subst}
 use Rattle.stk_types.specs.Orders.{addr_cmp}
 use Rattle.stk_keep.specs.Entries.{with}
 use Rattle.stk_book.specs.Registered.{AreKeyed}
@@ -10,10 +9,8 @@ use Rattle.stk_book.proofs.staking.Staking.add.Goals as goal
 pub invariant_of-self : goal.invariant_of-self
 invariant_of-self g c =
     let v = c.args.v.now in
-    let step = c.self.invariant.1 in
+    let step = c.self.invariant in
     let entries : c.put_both.new.validators.entries ≡ with addr_cmp c.self.inside.validators.entries v.operator v = ap (λ t. t.entries) c.in-Ok.ensures.validators in
-    let marks : c.put_both.new.validators.marks ≡ c.self.inside.validators.marks = ap (λ t. t.marks) c.in-Ok.ensures.validators in (
-      c.self.invariant.0 ∙ ap (λ m. range_with_len 0 (length m)) (sym marks),
-      in_step-with c.self.inside.validators c.self.inside.operators c.self.inside.delegations step c.put_both.new.validators c.put_both.new.operators
-          marks (ap (λ t. t.settled) c.in-Ok.ensures.validators) c.in-Ok.ensures.marks (subst AreKeyed (sym entries) (keyed-put c.self.inside.validators.entries v step.keyed)) c.in-Ok.ensures.index,
-    )
+    let marks : c.put_both.new.validators.marks ≡ c.self.inside.validators.marks = ap (λ t. t.marks) c.in-Ok.ensures.validators in
+    in_step-with c.self.inside.validators c.self.inside.operators c.self.inside.delegations step c.put_both.new.validators c.put_both.new.operators
+    marks (ap (λ t. t.settled) c.in-Ok.ensures.validators) c.in-Ok.ensures.marks (subst AreKeyed (sym entries) (keyed-put c.self.inside.validators.entries v step.keyed)) c.in-Ok.ensures.index

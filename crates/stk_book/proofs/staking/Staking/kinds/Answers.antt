@@ -2,7 +2,7 @@ use Rattle.stk_book.proofs.ItemLemmas.{keyed_fit}
 use Rattle.stk_book.proofs.staking.Staking.kinds.Goals as goal
 
 pub returns-clause-keyed : goal.returns-clause-keyed
-returns-clause-keyed c = keyed_fit _ c.self.invariant.1.keyed
+returns-clause-keyed c = keyed_fit _ c.self.invariant.keyed
 
 pub returns-clause-keyed_then : goal.returns-clause-keyed_then
-returns-clause-keyed_then c = keyed_fit _ c.self.invariant.1.keyed_then
+returns-clause-keyed_then c = keyed_fit _ c.self.invariant.keyed_then

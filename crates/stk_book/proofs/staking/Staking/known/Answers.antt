@@ -4,4 +4,4 @@ use Rattle.stk_book.proofs.IndexLemmas.{keyed_found}
 use Rattle.stk_book.proofs.staking.Staking.known.Goals as goal
 
 pub returns-clause-operators : goal.returns-clause-operators
-returns-clause-operators c = λ o v e. keyed_found c.self.inside.validators.entries o v c.self.invariant.1.keyed (ap (λ r. validator_at r.staked o) c.self.view_is ∙ e)
+returns-clause-operators c = λ o v e. keyed_found c.self.inside.validators.entries o v c.self.invariant.keyed (ap (λ r. validator_at r.staked o) c.self.view_is ∙ e)

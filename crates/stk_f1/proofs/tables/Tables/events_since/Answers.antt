@@ -32,7 +32,7 @@ returns-then-ne-clause-events g c =
     let differs : same_addr c.in-Some.key.now.0 c.args.operator.now ≡ false = is_eq-slice_cmp c.in-Some.key.now.0 c.args.operator.now ∙ opposite _ ∙ ap not (sym c.if-ne.ensures) in
     let inv = c.loop-entry.invariant in
     let seen = ap (option_map (λ e. (e.0.now, e.1.now))) (sym c.in-Some.is) ∙ inv.1.entry in
-    listed-all c.self.inside.events.entries c.args.operator.now inv.0 (c.in-Some.key.now, c.in-Some.slash.now) c.loop-entry.events.items _ c.len.ensures.ordered inv.1.walk seen differs inv.1.listed
+    listed-all c.self.inside.events.entries c.args.operator.now inv.0 (c.in-Some.key.now, c.in-Some.slash.now) c.loop-entry.events.items _ c.known.ensures.ordered inv.1.walk seen differs inv.1.listed
 
 pub loop-entry-smaller : goal.loop-entry-smaller
 loop-entry-smaller g c =
@@ -40,7 +40,7 @@ loop-entry-smaller g c =
     let inv = c.loop-entry.invariant in
     let seen = ap (option_map (λ e. (e.0.now, e.1.now))) (sym c.in-Some.is) ∙ inv.1.entry in
     let cons = cons_of inv.0 (c.in-Some.key.now, c.in-Some.slash.now) seen in
-    let falls = ahead-falls es c.args.operator.now (c.in-Some.key.now, c.in-Some.slash.now) cons.0 c.len.ensures.ordered (subst (IsRest es c.args.operator.now) cons.1 inv.1.walk) in
+    let falls = ahead-falls es c.args.operator.now (c.in-Some.key.now, c.in-Some.slash.now) cons.0 c.known.ensures.ordered (subst (IsRest es c.args.operator.now) cons.1 inv.1.walk) in
     let one = ap (ahead es) c.next-entry.ensures.above in
     let two = ap (λ o. ahead es (option_map (λ e. (e.0.now, e.1.now)) o)) c.in-Some.is in
     omega (arith, one, two, falls)
@@ -50,7 +50,7 @@ loop-entry-preserved g c =
     let same : same_addr c.in-Some.key.now.0 c.args.operator.now ≡ true = is_eq-slice_cmp c.in-Some.key.now.0 c.args.operator.now ∙ opposite _ ∙ ap not (sym c.if-ne.ensures) in
     let inv = c.loop-entry.invariant in
     let seen = ap (option_map (λ e. (e.0.now, e.1.now))) (sym c.in-Some.is) ∙ inv.1.entry in
-    let more = listed-more c.self.inside.events.entries c.args.operator.now inv.0 (c.in-Some.key.now, c.in-Some.slash.now) c.loop-entry.events.items _ c.len.ensures.ordered inv.1.walk seen same inv.1.listed in
+    let more = listed-more c.self.inside.events.entries c.args.operator.now inv.0 (c.in-Some.key.now, c.in-Some.slash.now) c.loop-entry.events.items _ c.known.ensures.ordered inv.1.walk seen same inv.1.listed in
     let some = ap {B = ℕ} (λ o. if is_some o then 1 else 0) c.in-Some.is in
     let longer = ap length c.in_ok-push.ensures.items in
     let steps = c.next-entry.ensures.cost in

@@ -1,6 +1,6 @@
 use Rattle.std.proofs.Common.{refl}
 use Rattle.stk_table.proofs.MarkLemmas.{gone_back, restored-latest, MarksRestore-back}
-use Rattle.stk_table.proofs.table.Table.back_to.Goals as goal
+use Rattle.stk_table.proofs.table.Table.back.Goals as goal
 
 pub invariant_of-self : goal.invariant_of-self
 invariant_of-self g c = MarksRestore-back g.K.Ord.cmp c.self.inside.touched.entries c.self.inside.places.entries _ _ _ c.back.ensures c.self.invariant
