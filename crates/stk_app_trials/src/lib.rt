@@ -4,8 +4,6 @@
 #[cfg(test)]
 mod block_tests;
 #[cfg(test)]
-mod limit_tests;
-#[cfg(test)]
 mod outside_tests;
 #[cfg(test)]
 mod samples;

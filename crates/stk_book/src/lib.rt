@@ -13,7 +13,6 @@ mod mark;
 mod origin;
 mod paying;
 mod records;
-mod stake;
 mod staking;
 mod unbonding;
 

@@ -9,11 +9,10 @@ ghost use Rattle.stk_book.specs.Rows.{items_of, is_stake, FitsOperator};
 
 use crate::items::{DelegationKind, ValidatorKind};
 use crate::mark::TablesMark;
-use crate::stake::Stake;
 use crate::staking::Staking;
 use std::alloc::Global;
 use std::sync::ledger::Ledger;
-use stk_keep::{Item, RecordFault, Records, Validator};
+use stk_keep::{Delegation, Item, RecordFault, Records, Validator};
 use stk_rows::{Both, Kinds, One};
 use stk_table::{Table, TableFault};
 use stk_types::{Addr, ConsAddr, Steps};
@@ -169,7 +168,7 @@ impl Staking {
 fn mark_all(
     validators: &mut Table<Addr, Validator>,
     operators: &mut Table<ConsAddr, Addr>,
-    delegations: &mut Table<(Addr, Addr), Stake>,
+    delegations: &mut Table<(Addr, Addr), Delegation>,
 ) -> Result<TablesMark, TableFault>
     requires operators { length operators.old.marks ≡ length validators.old.marks }
     requires delegations { length delegations.old.marks ≡ length validators.old.marks }

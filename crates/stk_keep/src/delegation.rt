@@ -4,14 +4,14 @@ use std::marker::Model;
 use stk_dec::Dec;
 use stk_types::{Copied, TableFault};
 
-/// The shares of a delegation, as their table has them under the operator and the delegator. Contracts see
+/// A delegation, under its operator and delegator (`stakingtypes.Delegation`): its shares. Contracts see
 /// their number of units of 10^-18.
 #[derive(Clone, Copy, Debug, PartialEq, Eq)]
-pub struct Stake {
+pub struct Delegation {
     shares: Dec,
 }
 
-impl Model for Stake {
+impl Model for Delegation {
     ghost use Rattle.std.specs.Prelude.{ℕ};
 
     ghost Value = { ℕ };
@@ -21,26 +21,26 @@ impl Model for Stake {
     ghost inverse = { λ n. record { shares = n } };
 }
 
-impl Stake {
-    /// So many shares.
-    pub(crate) fn of(shares: Dec) -> Stake
+impl Delegation {
+    /// A delegation of so many shares.
+    pub fn of(shares: Dec) -> Delegation
         ensures { result ≡ shares }
     {
-        Stake { shares }
+        Delegation { shares }
     }
 
-    /// How many they are.
-    pub(crate) fn shares(&self) -> Dec
+    /// How many shares it has.
+    pub fn shares(&self) -> Dec
         ensures { result ≡ self.now }
     {
         self.shares
     }
 }
 
-impl Copied for Stake {
+impl Copied for Delegation {
     ghost is_infallible = { ⊤ };
 
-    fn copied(&self) -> Result<Stake, TableFault> {
+    fn copied(&self) -> Result<Delegation, TableFault> {
         Ok(*self)
     }
 }
