@@ -11,16 +11,3 @@ mod status;
 
 pub use running::run;
 pub use status::{InputFault, LimitKind, Status};
-
-#[cfg(test)]
-mod block_tests;
-#[cfg(test)]
-mod limit_tests;
-#[cfg(test)]
-mod outside_tests;
-#[cfg(test)]
-mod samples;
-#[cfg(test)]
-mod stake_tests;
-#[cfg(test)]
-mod tests;

@@ -14,6 +14,3 @@ mod worked;
 pub use book::Book;
 pub use laws::accounts_hold_what_they_are_given;
 pub use worked::sends_by_example;
-
-#[cfg(test)]
-mod tests;

@@ -6,9 +6,8 @@ ghost use Rattle.stk_book.specs.Rows.{validator_item, delegation_item, validator
 ghost use Rattle.stk_keep.specs.Items.{no_validator};
 
 use crate::creating::{beginning, nothing};
-use crate::stake::Stake;
 use std::alloc::Global;
-use stk_keep::{Commission, Item, Validator};
+use stk_keep::{Commission, Delegation, Item, Validator};
 use stk_rows::Row;
 use stk_table::TableFault;
 use stk_types::{Addr, BondStatus, ConsAddr};
@@ -54,7 +53,7 @@ impl Row for ValidatorKind {
 impl Row for DelegationKind {
     type Key = (Addr, Addr);
 
-    type Value = Stake;
+    type Value = Delegation;
 
     ghost Fits = { AnyValue };
 
@@ -66,7 +65,7 @@ impl Row for DelegationKind {
 
     ghost entry_of = { delegation_entry };
 
-    fn item(key: &(Addr, Addr), value: &Stake) -> Result<Item, TableFault> {
+    fn item(key: &(Addr, Addr), value: &Delegation) -> Result<Item, TableFault> {
         Ok(Item::Delegation {
             operator: key.0,
             delegator: key.1,
@@ -82,7 +81,7 @@ impl Row for DelegationKind {
         }
     }
 
-    fn is_same(value: &Stake, other: &Stake) -> bool {
+    fn is_same(value: &Delegation, other: &Delegation) -> bool {
         value.shares().raw() == other.shares().raw()
     }
 

@@ -12,7 +12,6 @@ mod items;
 mod origin;
 mod paying;
 mod records;
-mod stake;
 mod staking;
 mod unbonding;
 

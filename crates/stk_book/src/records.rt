@@ -8,11 +8,10 @@ ghost use Rattle.stk_book.specs.Registered.{AreInOrder};
 ghost use Rattle.stk_book.specs.Rows.{items_of, is_stake, FitsOperator};
 
 use crate::items::{DelegationKind, ValidatorKind};
-use crate::stake::Stake;
 use crate::staking::Staking;
 use std::alloc::Global;
 use std::sync::ledger::Ledger;
-use stk_keep::{Item, RecordFault, Records, Validator};
+use stk_keep::{Delegation, Item, RecordFault, Records, Validator};
 use stk_rows::{Both, Kinds, One};
 use stk_table::{Table, TableFault};
 use stk_types::{Addr, ConsAddr, Steps};
@@ -154,7 +153,7 @@ impl Staking {
 fn mark_all(
     validators: &mut Table<Addr, Validator>,
     operators: &mut Table<ConsAddr, Addr>,
-    delegations: &mut Table<(Addr, Addr), Stake>,
+    delegations: &mut Table<(Addr, Addr), Delegation>,
 ) -> Result<(), TableFault>
     ensures validators { OnOk result (validators.new ≡ with_mark validators.old) }
     ensures operators { OnOk result (operators.new ≡ with_mark operators.old) }

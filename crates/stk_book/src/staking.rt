@@ -12,12 +12,11 @@ ghost use Rattle.stk_rules.specs.Stakes.{without_validator, put_delegation, with
 ghost use Rattle.stk_book.specs.Registered.{new_register, holding, spent_now, operator_by_cons, Stands};
 
 use crate::index::{put_both, take_both};
-use crate::stake::Stake;
 use std::alloc::Global;
 use std::marker::Model;
 use std::sync::ledger::Ledger;
 use stk_dec::Dec;
-use stk_keep::Validator;
+use stk_keep::{Delegation, Validator};
 use stk_table::{Table, TableFault};
 use stk_types::{Addr, ConsAddr, Steps};
 
@@ -32,7 +31,7 @@ pub struct Staking {
     /// The first operator of each consensus address.
     pub(crate) operators: Table<ConsAddr, Addr>,
     /// The shares by operator and delegator.
-    pub(crate) delegations: Table<(Addr, Addr), Stake>,
+    pub(crate) delegations: Table<(Addr, Addr), Delegation>,
     pub(crate) alloc: Global,
     pub(crate) spent: bool,
     power_reduction: u64,
@@ -221,7 +220,7 @@ impl Staking {
         }
         match self
             .delegations
-            .put(&(*operator, *who), Stake::of(shares), steps)
+            .put(&(*operator, *who), Delegation::of(shares), steps)
         {
             Ok(()) => Ok(()),
             Err(fault) => {

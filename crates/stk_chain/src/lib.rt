@@ -23,10 +23,3 @@ mod transaction;
 pub use chain::Chain;
 pub use fault::ChainFault;
 pub use stk_msgs::{Block, BlockFault, BlockReport, Genesis, Outcome, TxReport};
-
-#[cfg(test)]
-mod genesis_tests;
-#[cfg(test)]
-mod staking_tests;
-#[cfg(test)]
-mod tests;

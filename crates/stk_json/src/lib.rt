@@ -36,8 +36,3 @@ pub use reading_example::lines_read_by_example;
 pub use told::Told;
 pub use writing::push_line;
 pub use written::lines_written_by_example;
-
-#[cfg(test)]
-mod reading_tests;
-#[cfg(test)]
-mod writing_tests;

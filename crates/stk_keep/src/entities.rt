@@ -37,12 +37,6 @@ pub struct Validator {
     pub unbonding_time: Moment,
 }
 
-/// A delegation, under its delegator and operator (`stakingtypes.Delegation`).
-#[derive(Clone, Copy, Debug, PartialEq, Eq)]
-pub struct Delegation {
-    pub shares: Dec,
-}
-
 /// Tokens that left a delegation and are not paid yet (`stakingtypes.UnbondingDelegationEntry`).
 #[derive(Clone, Copy, Debug, PartialEq, Eq)]
 pub struct UnbondingEntry {
@@ -131,14 +125,6 @@ impl Copied for Validator {
     ghost is_infallible = { ⊤ };
 
     fn copied(&self) -> Result<Validator, TableFault> {
-        Ok(*self)
-    }
-}
-
-impl Copied for Delegation {
-    ghost is_infallible = { ⊤ };
-
-    fn copied(&self) -> Result<Delegation, TableFault> {
         Ok(*self)
     }
 }

@@ -7,6 +7,7 @@
 #![tactic(auto)]
 
 pub mod bank;
+pub mod delegation;
 pub mod entities;
 pub mod facts;
 pub mod faults;
@@ -25,9 +26,10 @@ pub mod staked;
 pub mod worked;
 
 pub use bank::{Bank, Ground};
+pub use delegation::Delegation;
 pub use entities::{
-    Commission, Delegation, Historical, Purse, RedelegationEntry, SigningInfo, SlashEvent,
-    StartingInfo, UnbondingEntry, Validator,
+    Commission, Historical, Purse, RedelegationEntry, SigningInfo, SlashEvent, StartingInfo,
+    UnbondingEntry, Validator,
 };
 pub use facts::{Fact, Facts};
 pub use faults::{BankFault, HookFault, RecordFault, Stop};

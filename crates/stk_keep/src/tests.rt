@@ -127,7 +127,7 @@ fn copies_are_equal(rt: HostRuntime) {
     );
     let validator = validator(&rt, 5);
     assert!(rt; is_copied(validator) && is_copied(validator.commission));
-    assert!(rt; is_copied(Delegation { shares: one }));
+    assert!(rt; is_copied(Delegation::of(one)));
     assert!(rt;
         is_copied(UnbondingEntry {
             created: 1,

@@ -20,6 +20,3 @@ pub use laws::{answers_are_lines, states_are_reported};
 pub use question::Query;
 pub use reporting::report;
 pub use worked::reports_by_example;
-
-#[cfg(test)]
-mod tests;

@@ -1,0 +1,13 @@
+//! Tests of `stk_app`. They stand apart so that they are proved without it, and nothing waits for them.
+#![tactic(auto)]
+
+#[cfg(test)]
+mod block_tests;
+#[cfg(test)]
+mod outside_tests;
+#[cfg(test)]
+mod samples;
+#[cfg(test)]
+mod stake_tests;
+#[cfg(test)]
+mod tests;

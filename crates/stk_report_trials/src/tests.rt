@@ -1,0 +1,289 @@
+use stk_report::{Query, query, report};
+use std::alloc::Global;
+use std::process::Abort;
+use std::test::Fail;
+use stk_coins::{DecCoin, DecCoins};
+use stk_dec::Dec;
+use stk_keep::{
+    Commission, Item, Listed, Purse, RedelegationEntry, SigningInfo, UnbondingEntry, Validator,
+};
+use stk_msgs::Pending;
+use stk_types::{Account, Addr, BondStatus, ConsAddr, Denom, Module, Moment};
+
+const ONES_LINE: &str =
+    "{\"address\":\"1111111111111111111111111111111111111111\",\"coins\":[{\"amount\":\"5\",\"denom\":\"stake\"},{\"amount\":\"890\",\"denom\":\"uatom\"}],\"kind\":\"account\"}\n";
+
+const VALIDATOR_LINE: &str =
+    "{\"commission\":[{\"amount\":\"0.500000000000000000\",\"denom\":\"uatom\"}],\"cons\":\"2222222222222222222222222222222222222222\",\"jailed\":true,\"kind\":\"validator\",\"operator\":\"3333333333333333333333333333333333333333\",\"outstanding\":[{\"amount\":\"1.500000000000000000\",\"denom\":\"uatom\"}],\"rate\":\"0.100000000000000000\",\"shares\":\"150.000000000000000000\",\"status\":\"unbonding\",\"tokens\":\"149\"}\n";
+
+const ONES_DELEGATION: &str =
+    "{\"delegator\":\"1111111111111111111111111111111111111111\",\"kind\":\"delegation\",\"shares\":\"100.000000000000000000\",\"validator\":\"3333333333333333333333333333333333333333\"}\n";
+
+const TWOS_DELEGATION: &str =
+    "{\"delegator\":\"2222222222222222222222222222222222222222\",\"kind\":\"delegation\",\"shares\":\"50.000000000000000000\",\"validator\":\"3333333333333333333333333333333333333333\"}\n";
+
+const ONES_PENDING: &str =
+    "{\"delegator\":\"1111111111111111111111111111111111111111\",\"kind\":\"pending\",\"limit\":true,\"validator\":\"3333333333333333333333333333333333333333\"}\n";
+
+const TWOS_PENDING: &str =
+    "{\"coins\":[{\"amount\":\"0.250000000000000000\",\"denom\":\"uatom\"}],\"delegator\":\"2222222222222222222222222222222222222222\",\"kind\":\"pending\",\"validator\":\"3333333333333333333333333333333333333333\"}\n";
+
+const UNBONDINGS: &str =
+    "{\"balance\":\"950\",\"completes\":\"2024-01-01T00:00:05Z\",\"created\":7,\"delegator\":\"1111111111111111111111111111111111111111\",\"initial\":\"1000\",\"kind\":\"unbonding\",\"validator\":\"3333333333333333333333333333333333333333\"}\n{\"balance\":\"0\",\"completes\":\"2024-01-01T00:00:05Z\",\"created\":8,\"delegator\":\"1111111111111111111111111111111111111111\",\"initial\":\"12\",\"kind\":\"unbonding\",\"validator\":\"3333333333333333333333333333333333333333\"}\n";
+
+const REDELEGATION: &str =
+    "{\"completes\":\"2024-01-01T00:00:05Z\",\"created\":8,\"delegator\":\"1111111111111111111111111111111111111111\",\"initial\":\"5\",\"kind\":\"redelegation\",\"shares\":\"5.000000000000000000\",\"source\":\"2222222222222222222222222222222222222222\",\"target\":\"3333333333333333333333333333333333333333\"}\n";
+
+const SIGNING: &str =
+    "{\"cons\":\"2222222222222222222222222222222222222222\",\"counted\":9,\"jailed_until\":\"2024-01-01T00:00:05Z\",\"kind\":\"signing\",\"missed\":2,\"start\":1,\"tombstoned\":true}\n";
+
+const POOL: &str =
+    "{\"coins\":[{\"amount\":\"0.250000000000000000\",\"denom\":\"uatom\"}],\"kind\":\"pool\"}\n";
+
+fn addr(rt: &impl Abort, byte: u8) -> Addr {
+    Addr::of([byte; 20]).expect(rt, "a user")
+}
+
+fn user(rt: &impl Abort, byte: u8) -> Account {
+    Account::User(addr(rt, byte))
+}
+
+fn dec(rt: &impl Abort, raw: u128) -> Dec {
+    Dec::from_raw(raw).expect(rt, "below the limit")
+}
+
+fn time(rt: &impl Abort) -> Moment {
+    Moment::of(1_704_067_205_000_000_000).expect(rt, "a moment")
+}
+
+fn balance(rt: &impl Abort, account: Account, name: &str, amount: u128) -> Item {
+    Item::Balance {
+        account,
+        denom: Denom::of(name.as_bytes()).expect(rt, "a denomination"),
+        amount,
+    }
+}
+
+/// So many units of 10^-18 of `uatom`.
+fn part(rt: &(impl Abort + AllocGlobal), raw: u128) -> Result<DecCoins, Fail> {
+    let coin = DecCoin {
+        denom: Denom::of(b"uatom".as_slice()).expect(rt, "a denomination"),
+        amount: dec(rt, raw),
+    };
+    Ok(DecCoins::of(vec![in rt.alloc(); coin]?)?)
+}
+
+/// What the worked run leaves, in the order of rows, where modules stand before users.
+fn run_items(rt: &(impl Abort + AllocGlobal)) -> Result<Vec<Item>, Fail> {
+    let collector = Account::Module(Module::FeeCollector);
+    let mut items = Vec::new(rt.alloc());
+    items.push(balance(rt, collector, "uatom", 10))?;
+    items.push(balance(rt, user(rt, 0x11), "uatom", 890))?;
+    items.push(balance(rt, user(rt, 0x22), "uatom", 100))?;
+    items.push(Item::Supply {
+        denom: Denom::of(b"uatom".as_slice()).expect(rt, "a denomination"),
+        amount: 1000,
+    })?;
+    items.push(Item::Pool {
+        coins: DecCoins::new(rt.alloc()),
+    })?;
+    Ok(items)
+}
+
+fn validator(rt: &impl Abort) -> Validator {
+    Validator {
+        operator: addr(rt, 0x33),
+        cons: ConsAddr::of([0x22; 20]),
+        status: BondStatus::Unbonding,
+        jailed: true,
+        tokens: 149,
+        shares: dec(rt, 150_000_000_000_000_000_000),
+        commission: Commission {
+            rate: dec(rt, 100_000_000_000_000_000),
+            max_rate: dec(rt, 1_000_000_000_000_000_000),
+            max_change: dec(rt, 0),
+            updated: time(rt),
+        },
+        min_self: 1,
+        unbonding_height: 7,
+        unbonding_time: time(rt),
+    }
+}
+
+fn delegation(rt: &impl Abort, delegator: u8, shares: u128) -> Item {
+    Item::Delegation {
+        operator: addr(rt, 0x33),
+        delegator: addr(rt, delegator),
+        shares: dec(rt, shares),
+    }
+}
+
+fn unbonding(rt: &(impl Abort + AllocGlobal)) -> Result<Item, Fail> {
+    let first = UnbondingEntry {
+        created: 7,
+        completes: time(rt),
+        initial: 1000,
+        balance: 950,
+    };
+    let second = UnbondingEntry {
+        created: 8,
+        completes: time(rt),
+        initial: 12,
+        balance: 0,
+    };
+    Ok(Item::Unbonding {
+        delegator: addr(rt, 0x11),
+        operator: addr(rt, 0x33),
+        entries: Listed::of(vec![in rt.alloc(); first, second]?),
+    })
+}
+
+fn redelegation(rt: &(impl Abort + AllocGlobal)) -> Result<Item, Fail> {
+    let entry = RedelegationEntry {
+        created: 8,
+        completes: time(rt),
+        initial: 5,
+        shares_dst: dec(rt, 5_000_000_000_000_000_000),
+    };
+    Ok(Item::Redelegation {
+        delegator: addr(rt, 0x11),
+        source: addr(rt, 0x22),
+        target: addr(rt, 0x33),
+        entries: Listed::of(vec![in rt.alloc(); entry]?),
+    })
+}
+
+/// An item of each kind that has a line, and not in the order of the report.
+fn items(rt: &(impl Abort + AllocGlobal)) -> Result<Vec<Item>, Fail> {
+    let mut items = Vec::new(rt.alloc());
+    items.push(Item::Pool {
+        coins: part(rt, 250_000_000_000_000_000)?,
+    })?;
+    items.push(delegation(rt, 0x22, 50_000_000_000_000_000_000))?;
+    items.push(delegation(rt, 0x11, 100_000_000_000_000_000_000))?;
+    items.push(Item::Purse {
+        operator: addr(rt, 0x33),
+        purse: Purse {
+            outstanding: part(rt, 1_500_000_000_000_000_000)?,
+            commission: part(rt, 500_000_000_000_000_000)?,
+            current: part(rt, 1)?,
+        },
+    })?;
+    items.push(Item::Validator {
+        validator: validator(rt),
+    })?;
+    items.push(redelegation(rt)?)?;
+    items.push(unbonding(rt)?)?;
+    items.push(Item::Signing {
+        cons: ConsAddr::of([0x22; 20]),
+        info: SigningInfo {
+            start: 1,
+            counted: 9,
+            missed: 2,
+            jailed_until: time(rt),
+            tombstoned: true,
+        },
+        ring: Listed::new(rt.alloc()),
+    })?;
+    items.push(balance(rt, user(rt, 0x11), "uatom", 890))?;
+    items.push(balance(rt, user(rt, 0x11), "stake", 5))?;
+    Ok(items)
+}
+
+fn pending(rt: &(impl Abort + AllocGlobal)) -> Result<Vec<Pending>, Fail> {
+    let second = Pending {
+        delegator: addr(rt, 0x22),
+        operator: addr(rt, 0x33),
+        coins: Some(part(rt, 250_000_000_000_000_000)?),
+    };
+    let first = Pending {
+        delegator: addr(rt, 0x11),
+        operator: addr(rt, 0x33),
+        coins: None,
+    };
+    Ok(vec![in rt.alloc(); second, first]?)
+}
+
+/// Whether the answer to a question about the items is this text.
+fn answers(
+    rt: &(impl Abort + AllocGlobal),
+    items: &[Item],
+    pending: &[Pending],
+    what: Query,
+    wanted: Option<&str>,
+) -> Result<bool, Fail> {
+    let answer = query(rt.alloc(), items, pending, &what)?;
+    Ok(match (answer, wanted) {
+        (Some(text), Some(wanted)) => text.as_slice() == wanted.as_bytes(),
+        (None, None) => true,
+        _ => false,
+    })
+}
+
+#[test]
+fn the_worked_run_is_reported(rt: HostRuntime) -> Result<(), Fail> {
+    let items = run_items(&rt)?;
+    let text = report(rt.alloc(), items.as_slice(), &[])?;
+    let wanted =
+        "{\"coins\":[{\"amount\":\"1000\",\"denom\":\"uatom\"}],\"kind\":\"supply\"}\n{\"address\":\"1111111111111111111111111111111111111111\",\"coins\":[{\"amount\":\"890\",\"denom\":\"uatom\"}],\"kind\":\"account\"}\n{\"address\":\"2222222222222222222222222222222222222222\",\"coins\":[{\"amount\":\"100\",\"denom\":\"uatom\"}],\"kind\":\"account\"}\n{\"address\":\"fee_collector\",\"coins\":[{\"amount\":\"10\",\"denom\":\"uatom\"}],\"kind\":\"account\"}\n{\"coins\":[],\"kind\":\"pool\"}\n";
+    assert!(rt; text.as_slice() == wanted.as_bytes());
+    Ok(())
+}
+
+#[test]
+fn each_kind_has_its_lines_in_order(rt: HostRuntime) -> Result<(), Fail> {
+    let items = items(&rt)?;
+    let pending = pending(&rt)?;
+    let text = report(rt.alloc(), items.as_slice(), pending.as_slice())?;
+    let wanted = format!(in rt.alloc();
+        "{{\"coins\":[],\"kind\":\"supply\"}}\n{ONES_LINE}{VALIDATOR_LINE}{ONES_DELEGATION}{TWOS_DELEGATION}{ONES_PENDING}{TWOS_PENDING}{UNBONDINGS}{REDELEGATION}{SIGNING}{POOL}"
+    )?;
+    assert!(rt; text.as_slice() == wanted.as_bytes());
+    Ok(())
+}
+
+#[test]
+fn a_question_is_answered_by_the_lines_of_its_address(rt: HostRuntime) -> Result<(), Fail> {
+    let items = items(&rt)?;
+    let pending = pending(&rt)?;
+    let (i, p) = (items.as_slice(), pending.as_slice());
+    let ones = user(&rt, 0x11);
+    let twos = user(&rt, 0x22);
+    let threes = user(&rt, 0x33);
+    assert!(rt; answers(&rt, i, p, Query::Account(ones), Some(ONES_LINE))?);
+    assert!(rt; answers(&rt, i, p, Query::Account(twos), None)?);
+    assert!(rt; answers(&rt, i, p, Query::Validator(threes), Some(VALIDATOR_LINE))?);
+    assert!(rt; answers(&rt, i, p, Query::Validator(ones), None)?);
+    assert!(rt; answers(&rt, i, p, Query::Delegations(twos), Some(TWOS_DELEGATION))?);
+    assert!(rt; answers(&rt, i, p, Query::Delegations(threes), None)?);
+    assert!(rt; answers(&rt, i, p, Query::Rewards(ones), Some(ONES_PENDING))?);
+    assert!(rt; answers(&rt, i, p, Query::Rewards(threes), None)?);
+    assert!(rt; answers(&rt, i, p, Query::Unbondings(ones), Some(UNBONDINGS))?);
+    assert!(rt; answers(&rt, i, p, Query::Unbondings(twos), None)?);
+    assert!(rt; answers(&rt, i, p, Query::Redelegations(ones), Some(REDELEGATION))?);
+    assert!(rt; answers(&rt, i, p, Query::Redelegations(twos), None)?);
+    let cons = ConsAddr::of([0x22; 20]);
+    assert!(rt; answers(&rt, i, p, Query::Signing(cons), Some(SIGNING))?);
+    let other = ConsAddr::of([0x11; 20]);
+    assert!(rt; answers(&rt, i, p, Query::Signing(other), None)?);
+    Ok(())
+}
+
+#[test]
+fn a_question_about_all_has_an_answer_without_lines(rt: HostRuntime) -> Result<(), Fail> {
+    let items = run_items(&rt)?;
+    let i = items.as_slice();
+    let supply = "{\"coins\":[{\"amount\":\"1000\",\"denom\":\"uatom\"}],\"kind\":\"supply\"}\n";
+    assert!(rt; answers(&rt, i, &[], Query::Supply, Some(supply))?);
+    let pool = "{\"coins\":[],\"kind\":\"pool\"}\n";
+    assert!(rt; answers(&rt, i, &[], Query::Pool, Some(pool))?);
+    assert!(rt; answers(&rt, i, &[], Query::Validators, Some(""))?);
+    let collector = Account::Module(Module::FeeCollector);
+    let line =
+        "{\"address\":\"fee_collector\",\"coins\":[{\"amount\":\"10\",\"denom\":\"uatom\"}],\"kind\":\"account\"}\n";
+    assert!(rt; answers(&rt, i, &[], Query::Account(collector), Some(line))?);
+    let nobody = Account::Module(Module::Bonded);
+    assert!(rt; answers(&rt, i, &[], Query::Account(nobody), None)?);
+    assert!(rt; answers(&rt, i, &[], Query::Delegations(collector), None)?);
+    Ok(())
+}
