@@ -175,7 +175,7 @@ fn mark_all(
 /// Opens a mark of the index and the delegations, or of none.
 fn mark_both(
     operators: &mut Table<ConsAddr, Addr>,
-    delegations: &mut Table<(Addr, Addr), Stake>,
+    delegations: &mut Table<(Addr, Addr), Delegation>,
 ) -> Result<(), TableFault>
     ensures operators { OnOk result (operators.new ≡ with_mark operators.old) }
     ensures delegations { OnOk result (delegations.new ≡ with_mark delegations.old) }
