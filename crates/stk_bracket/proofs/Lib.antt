@@ -31,3 +31,8 @@ pub mod Creating
 pub mod Bonding
 pub mod Maturing
 pub mod Allocating
+pub mod Fits
+pub mod Redelegating
+pub mod Beside
+pub mod Slashing
+pub mod Punishing

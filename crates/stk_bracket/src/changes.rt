@@ -1,7 +1,7 @@
 //! Messages that change stakes, and the parts of a block, keep accounts reached: laws as functions that do nothing, whose
 //! contracts are the laws.
 
-ghost use Rattle.stk_bracket.specs.Changes.{DelegatingKeepsReached, CancellingKeepsReached, UndelegatingKeepsReached, CreatingKeepsReached, UnbondingsStepKeepsReached, RedelegationsStepKeepsReached, BondedSetKeepsReached, MaturingKeepsReached, NoneStartedInNext, AllocationKeepsReached, BlockBeginKeepsReached};
+ghost use Rattle.stk_bracket.specs.Changes.{DelegatingKeepsReached, CancellingKeepsReached, UndelegatingKeepsReached, CreatingKeepsReached, UnbondingsStepKeepsReached, RedelegationsStepKeepsReached, BondedSetKeepsReached, MaturingKeepsReached, RedelegatingKeepsReached, VotesKeepReached, EvidenceKeepsReached, NoneStartedInNext, AllocationKeepsReached, BlockBeginKeepsReached};
 
 /// Delegating keeps accounts reached, and so does cancelling an unbonding.
 pub fn delegating_keeps_reached()
@@ -12,6 +12,11 @@ pub fn delegating_keeps_reached()
 /// So does undelegating, where also a validator may go.
 pub fn undelegating_keeps_reached()
     ensures { UndelegatingKeepsReached }
+{}
+
+/// So does redelegating, where the source may go.
+pub fn redelegating_keeps_reached()
+    ensures { RedelegatingKeepsReached }
 {}
 
 /// So does creating a validator.
@@ -41,4 +46,11 @@ pub fn allocation_keeps_reached()
     ensures none_started { NoneStartedInNext }
     ensures allocated { AllocationKeepsReached }
     ensures begun { BlockBeginKeepsReached }
+{}
+
+/// So do a vote and a piece of evidence, each with the slash and the jailing that it may bring: of the validator, and of
+/// what was redelegated from it, at each target.
+pub fn punishing_keeps_reached()
+    ensures voted { VotesKeepReached }
+    ensures weighed { EvidenceKeepsReached }
 {}
