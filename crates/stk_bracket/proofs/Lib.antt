@@ -36,3 +36,4 @@ pub mod Redelegating
 pub mod Beside
 pub mod Slashing
 pub mod Punishing
+pub mod Withdrawing
