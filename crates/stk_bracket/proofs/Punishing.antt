@@ -63,7 +63,7 @@ unbonded_going c i x t who part y g found within e =
           reached = λ d u there. unbonded_then w t who held part (y.0, raised i y.1) g.fits found has some g.reached same d u there;
         }
 
-target_going : (c : Stakes) (i : Window) (x : World Staked Shared) (target who : List ℕ) (part : ℕ) (y : World Staked Shared) → Going c i x → part ≤ unwrap_or (delegation x.mine who target) 0
+pub target_going : (c : Stakes) (i : Window) (x : World Staked Shared) (target who : List ℕ) (part : ℕ) (y : World Staked Shared) → Going c i x → part ≤ unwrap_or (delegation x.mine who target) 0
     → burned_at_target (staked_unbonds distribution_told) (validator_at x.mine target) who part x ≡ Ok y → Going c i y
 target_going c i x target who part y g within e = by (validator_at x.mine target) refl e
   where
@@ -89,7 +89,7 @@ target_going c i x target who part y g within e = by (validator_at x.mine target
             let now : Going c i out = record { fits = after.fits; reached = λ d u there. after.reached d u there } in
             subst (λ a. Going c i a) (same_ok out y one.2) now
 
-hit_within : (m s : ℕ) → min m s ≤ s
+pub hit_within : (m s : ℕ) → min m s ≤ s
 hit_within m s = omega arith
 
 targets_going : (es : List RedelegationEntry) (c : Stakes) (i : Window) (x : World Staked Shared) (who target : List ℕ) (infraction factor : ℕ) (y : World Staked Shared) → Going c i x
@@ -109,7 +109,7 @@ targets_going (e ∷ es) c i x who target infraction factor y g h = by (is_hit i
         rest one.0 (target_going c i x target who part one.0 g (hit_within (even (factor * e.shares_dst) (10 ^ 18)) (unwrap_or (delegation x.mine who target) 0)) one.1) one.2
     by false rest k = rest x g k
 
-sources_going : (r : RedelegationLists) (c : Stakes) (i : Window) (x : World Staked Shared) (operator : List ℕ) (infraction factor : ℕ) (y : World Staked Shared) → Going c i x
+pub sources_going : (r : RedelegationLists) (c : Stakes) (i : Window) (x : World Staked Shared) (operator : List ℕ) (infraction factor : ℕ) (y : World Staked Shared) → Going c i x
     → sources_slashed (staked_unbonds distribution_told) operator infraction factor r x ≡ Ok y → Going c i y
 sources_going [] c i x operator infraction factor y g e = subst (λ t. Going c i t) (same_ok x y e) g
 sources_going (p ∷ ps) c i x operator infraction factor y g h = by (same_addr p.0.1 operator) (λ z k j. sources_going ps c i z operator infraction factor y k j) h
@@ -126,7 +126,7 @@ sources_going (p ∷ ps) c i x operator infraction factor y g h = by (same_addr 
 -- ---- a slash
 
 -- the slash of unbonding entries burns coins, and is within the block
-entries_at : (operator : List ℕ) (infraction factor : ℕ) (u : UnbondingLists) (v : View) → (entries_slashed operator infraction factor u v).1.ctx ≡ v.ctx
+pub entries_at : (operator : List ℕ) (infraction factor : ℕ) (u : UnbondingLists) (v : View) → (entries_slashed operator infraction factor u v).1.ctx ≡ v.ctx
 entries_at operator infraction factor [] v = refl
 entries_at operator infraction factor (p ∷ ps) v = by (same_addr p.0.1 operator) (λ u. entries_at operator infraction factor ps u)
   where
@@ -144,9 +144,9 @@ entries_at operator infraction factor (p ∷ ps) v = by (same_addr p.0.1 operato
     by false rest = rest v
 
 -- a state beside its window
-record Beside (i : Window) (w : World Stakes Shared) : Type 0 where
-  fits : Fits nobody w.mine.staked w.hooks
-  reached : AreReached (with_window i w)
+pub record Beside (i : Window) (w : World Stakes Shared) : Type 0 where
+  pub fits : Fits nobody w.mine.staked w.hooks
+  pub reached : AreReached (with_window i w)
 
 slashed_at_going : (r : Option Validator) (infraction power factor : ℕ) (i : Window) (w : World Stakes Shared) (y : ℕ × World Stakes Shared) → Beside i w
     → slashed_at distribution_told plain_slash r infraction power factor w ≡ Ok y → Beside i y.1
@@ -234,7 +234,7 @@ jail_going cons i w g = by (validator_by_cons w.mine.staked cons) refl
 
 -- ---- votes and evidence
 
-beside_of : (w : State) → IsSound w → AreReached w → Beside w.hooks.1 (beside_window w)
+pub beside_of : (w : State) → IsSound w → AreReached w → Beside w.hooks.1 (beside_window w)
 beside_of w sound reached = record { fits = fits_sound w sound; reached = λ d u there. reached d u there }
 
 abbrev Counted : Type 0

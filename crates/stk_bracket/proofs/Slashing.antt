@@ -41,10 +41,10 @@ use Rattle.stk_bracket.proofs.Beside.{raised}
 -- ---- what a slash records and burns
 
 -- behind the end of the period, the slash event
-abbrev event_put : Validator → ℕ → ℕ × Shared × View × Log → Shared
+abbrev pub event_put : Validator → ℕ → ℕ × Shared × View × Log → Shared
 event_put v fraction z = record z.1 { rewards = with_periods v.operator (event_recorded z.2.ctx.height fraction (periods_of z.1.rewards v.operator)) z.1.rewards }
 
-slash_parts : (v : Validator) (fraction : ℕ) (d : Shared) (u : View) (y : Shared × View × Log) → slash_recorded v fraction d u ≡ Ok y
+pub slash_parts : (v : Validator) (fraction : ℕ) (d : Shared) (u : View) (y : Shared × View × Log) → slash_recorded v fraction d u ≡ Ok y
     → (z : ℕ × Shared × View × Log) × (ended v d u ≡ Ok z) × ((event_put v fraction z, z.2, z.3) ≡ y)
 slash_parts v fraction d u y e =
     let one : (z : ℕ × Shared × View × Log) × (ended v d u ≡ Ok z) × (Path (Result (Shared × View × Log) Over) (Ok (event_put v fraction z, z.2, z.3)) (Ok y)) =
@@ -52,7 +52,7 @@ slash_parts v fraction d u y e =
     (one.0, one.1, same_ok (event_put v fraction one.0, one.0.2, one.0.3) y one.2)
 
 -- the validator with fewer tokens
-abbrev poorer : Validator → ℕ → Validator
+abbrev pub poorer : Validator → ℕ → Validator
 poorer v burn = record v { tokens = v.tokens - burn }
 
 abbrev burn_entry : Validator → ℕ → LogEntry
@@ -138,10 +138,10 @@ event_fits s d u v fraction z f found e =
     let closed : HasLists z.1 op = ended_lists v d u z own e op own in
     let starts : z.1.rewards.starts ≡ d.rewards.starts = ended_starts v d u z own e in record {
       lists = λ o x there. (let h : HasLists z.1 o = ended_lists v d u z own e o (f.lists o x there) in record {
-          current = h.current;
-          outstanding = h.outstanding;
-          lists = put_then AreLists z.1.rewards.periods (with addr_cmp z.1.rewards.periods op p) op o p initial_records refl closed.lists h.lists;
-        });
+        current = h.current;
+        outstanding = h.outstanding;
+        lists = put_then AreLists z.1.rewards.periods (with addr_cmp z.1.rewards.periods op p) op o p initial_records refl closed.lists h.lists;
+      });
       starts = λ x o. ap (λ es. is_some (at pair_cmp es (o, x))) starts ∙ f.starts x o;
       own = f.own;
       tokens = f.tokens;
@@ -162,7 +162,7 @@ pub record Going (c : Stakes) (i : Window) (x : World Staked Shared) : Type 0 wh
   pub reached : AreReached (whole_of c i x)
 
 -- what distribution told
-told_parts : (hook : Hook) (w y : World Staked Shared) → call distribution_told hook w ≡ Ok y
+pub told_parts : (hook : Hook) (w y : World Staked Shared) → call distribution_told hook w ≡ Ok y
     → (z : Shared × View × Log) × (distribution_told w.hooks hook w.view ≡ gives z.0 z.1 z.2) × (record { mine = w.mine; hooks = z.0; view = z.1; log = w.log ++ z.2 } ≡ y)
 told_parts hook w y e = by (distribution_told w.hooks hook w.view) refl e
   where
@@ -172,12 +172,12 @@ told_parts hook w y e = by (distribution_told w.hooks hook w.view) refl e
     by (exceeds over) is h = absurd cc
 
 -- a rule's answer is what is told of it
-rule_told : (r : Result (Shared × View × Log) Over) (z : Shared × View × Log) → told_of r ≡ gives z.0 z.1 z.2 → r ≡ Ok z
+pub rule_told : (r : Result (Shared × View × Log) Over) (z : Shared × View × Log) → told_of r ≡ gives z.0 z.1 z.2 → r ≡ Ok z
 rule_told (Ok p) z h = let parts : (p.0 ≡ z.0) × (p.1 ≡ z.1) × (p.2 ≡ z.2) = same_told p.0 z.0 p.1 z.1 p.2 z.2 h in λ i. Ok (parts.0 i, parts.1 i, parts.2 i)
 rule_told (Err over) z h = absurd cc
 
 -- a validator burns an amount
-abbrev burnt_with : Validator → ℕ → List ℕ → World Staked Shared → World Staked Shared
+abbrev pub burnt_with : Validator → ℕ → List ℕ → World Staked Shared → World Staked Shared
 burnt_with v burn denom x = over_view (burnt (pool_of v.status) denom burn) (over_mine (put_validator (poorer v burn)) x)
 
 told_going : (c : Stakes) (i : Window) (x y : World Staked Shared) (v : Validator) (burn : ℕ) (denom : List ℕ) → Going c i x → validator_at x.mine v.operator ≡ Some v → burn ≤ v.tokens → slash_told distribution_told v burn x ≡ Ok y

@@ -3,7 +3,7 @@ use Rattle.std.proofs.Common.{◌≡◌, ℕ, ◌-◌, ◌*◌, ◌^◌, ◌≤�
 use Rattle.std.specs.Prelude.{unwrap_or, is_some}
 use Rattle.std.proofs.lemmas.List.Elements.{recursion_from_All}
 use Rattle.stk_dec.specs.declared.over.Over.{Over}
-use Rattle.stk_coins.specs.Coins.{Money, amount_of, smaller_of, whole_coins, coins_taken, fractions}
+use Rattle.stk_coins.specs.Coins.{Money, IsMoney, amount_of, smaller_of, whole_coins, coins_taken, fractions}
 use Rattle.stk_shares.specs.Shares.{value_even_of}
 use Rattle.stk_keep.specs.declared.entities.Purse.{Purse}
 use Rattle.stk_keep.specs.declared.entities.StartingInfo.{StartingInfo}
@@ -13,22 +13,23 @@ use Rattle.stk_keep.specs.Log.{Log}
 use Rattle.stk_keep.specs.Staked.{validator_at, delegation}
 use Rattle.stk_keep.specs.Steps.{◌>>=◌}
 use Rattle.stk_keep.specs.World.{View, noted}
-use Rattle.stk_rules.specs.Amounts.{over_facts}
+use Rattle.stk_rules.specs.Amounts.{over_facts, count_where}
 use Rattle.stk_rules.specs.Chain.{State}
 use Rattle.stk_rules.specs.Distribution.{Shared, ended, reward_due, reward_withdrawn, payee_of, paid_to}
-use Rattle.stk_rules.specs.Ideal.{Span, Brackets, span_of, history_of, overclaim_of}
+use Rattle.stk_rules.specs.Ideal.{Span, Brackets, span_of, history_of, is_left, overclaim_of}
 use Rattle.stk_rules.specs.Periods.{periods_of, start_of, without_start, ratio_at, reward_at}
 use Rattle.stk_rules.specs.Purses.{Purses, purse_of, with_purse, pool_joined, paid_out, pooled_told}
 use Rattle.stk_bracket.specs.Account.{Start, Account, IsReached, reward_now}
 use Rattle.stk_bracket.specs.Account as deed
 use Rattle.stk_bracket.specs.Laws.{IsStartBracketed, IsCutWithin, overclaim}
 use Rattle.stk_bracket.specs.States.{starts_in, account_in, AreReached}
-use Rattle.stk_bracket.specs.Withdrawals.{IsFairWithdrawal, WithdrawalsAreFair}
+use Rattle.stk_bracket.specs.Withdrawals.{raised_in, overclaim_in, IsFairWithdrawal, IsFairPayment, WithdrawalsAreFair}
 use Rattle.stk_bracket.proofs.Denominations.{step_parts}
 use Rattle.stk_bracket.proofs.Reached.{deeds_lead_on, rewards_are_bracketed, cut_is_bounded}
-use Rattle.stk_bracket.proofs.Claims.{IsReady, ready_in, IsEnded, closed_account, closed_history, closed_reward, due_parts, some_of, start_with, own_start}
+use Rattle.stk_bracket.proofs.Claims.{IsReady, ready_in, IsEnded, closed_account, closed_history, closed_full, due_parts, some_of, start_with, own_start}
 use Rattle.stk_bracket.proofs.Endings.{state_then, closed_is, end_is}
 use Rattle.stk_bracket.proofs.Quiet.{same_ok}
+use Rattle.stk_bracket.proofs.Rising.{raised_reached}
 
 -- ---- what a withdrawal answers and leaves
 
@@ -87,11 +88,13 @@ made_is v who shares s u y e =
 -- ---- where the period has ended, in one denomination
 
 record IsFairIn (d : List ℕ) (w : State) (v : Validator) (who : List ℕ) (full : Money) (z : ℕ × Shared × View × Log) : Type 0 where
+  money : IsMoney full
   span : Span
   is : span_of who (history_of v.operator (w.log ++ z.3) []) None ≡ Some span
   bracketed : Brackets d span (amount_of full d)
   cut : 10 ^ 18 * (amount_of full d - amount_of (purse_of z.1.purses v.operator).outstanding d)
       ≤ overclaim_of d (history_of v.operator (w.log ++ z.3) []) (ratio_at (periods_of z.1.rewards v.operator).ratios z.0)
+  raised : amount_of (ratio_at (periods_of z.1.rewards v.operator).ratios z.0) d ≡ raised_in d (history_of v.operator (w.log ++ z.3) [])
 
 fair_in : (d : List ℕ) (w : State) (v : Validator) (who : List ℕ) (shares : ℕ) (full : Money) (z : ℕ × Shared × View × Log) → IsReady w v.operator → validator_at w.mine.staked v.operator ≡ Some v
     → delegation w.mine.staked who v.operator ≡ Some shares → AreReached w → ended v w.hooks.0 w.view ≡ Ok z
@@ -110,18 +113,22 @@ fair_in d w v who shares full z ready found held reached ends reward =
     subst (IsStartBracketed d a) own (own_start w v who some.0 (IsStartBracketed d a) some.1 (recursion_from_All (IsStartBracketed d a) starts (rewards_are_bracketed d a closed refl))) in
     let cut : IsCutWithin d a start =
     subst (IsCutWithin d a) own (own_start w v who some.0 (IsCutWithin d a) some.1 (recursion_from_All (IsCutWithin d a) starts (cut_is_bounded d a closed))) in
-    let amount : amount_of full d ≡ reward_now d a start = closed_reward d w v who shares some.0 full z k ready some.1 reward in
+    let goes : IsMoney full × (amount_of full d ≡ reward_now d a start) = closed_full d w v who shares some.0 full z k ready some.1 reward in
+    let amount : amount_of full d ≡ reward_now d a start = goes.1 in
     let history : history_of op (w.log ++ z.3) [] ≡ a.history = closed_history d w v z k in
     let is : account_in d (state_then w z) v ≡ a = closed_is d w v z k in
     let left : amount_of (purse_of z.1.purses op).outstanding d ≡ a.outstanding = ap (λ x. x.outstanding) is in
     let over : overclaim_of d (history_of op (w.log ++ z.3) []) (ratio_at (periods_of z.1.rewards op).ratios z.0) ≡ overclaim d a =
     ap (λ x. overclaim_of d x.history (ratio_at x.periods.ratios z.0)) is ∙ ap (λ n. overclaim_of d a.history (ratio_at a.periods.ratios n)) k.period in
     record {
+      money = goes.0;
       span = bracketed.span;
       is = ap (λ es. span_of who es None) history ∙ bracketed.is;
       bracketed = subst (λ n. Brackets d bracketed.span n) (sym amount) bracketed.brackets;
       cut = cut_then (amount_of full d) (reward_now d a start) (amount_of (purse_of z.1.purses op).outstanding d) a.outstanding
           (overclaim_of d (history_of op (w.log ++ z.3) []) (ratio_at (periods_of z.1.rewards op).ratios z.0)) (overclaim d a) amount left over cut;
+      raised = ap (λ x. amount_of (ratio_at x.periods.ratios z.0) d) is ∙ ap (λ n. amount_of (ratio_at a.periods.ratios n) d) k.period
+          ∙ raised_reached d a closed ∙ ap (raised_in d) (sym history);
     }
   where
     cut_then : (full reward left outstanding over most : ℕ) → full ≡ reward → left ≡ outstanding → over ≡ most → 10 ^ 18 * (reward - outstanding) ≤ most → 10 ^ 18 * (full - left) ≤ over
@@ -143,10 +150,12 @@ fair_withdrawal w v who shares y ready found held reached e =
       ends = m.ends;
       full = m.full;
       due = m.due;
+      full_is = (f []).money;
       span = (f []).span;
       is = (f []).is;
       bracketed = λ d. subst (λ s. Brackets d s (amount_of m.full d)) (same_span (f d).span (f []).span (span_of who (history_of v.operator (w.log ++ m.z.3) []) None) (f d).is (f []).is) (f d).bracketed;
       cut = λ d. (f d).cut;
+      ratio_is = λ d. (f d).raised;
       reward = m.paid.0;
       reward_is = m.reward_is;
       coins_are = coins;
@@ -157,6 +166,20 @@ fair_withdrawal w v who shares y ready found held reached e =
   where
     same_span : (s t : Span) (o : Option Span) → o ≡ Some s → o ≡ Some t → s ≡ t
     same_span s t o e f = let both : Path (Option Span) (Some s) (Some t) = sym e ∙ f in cc
+
+-- so the payment that is told is
+pub fair_payment : (w : State) (v : Validator) (who : List ℕ) (shares : ℕ) (y : Money × Shared × View × Log) → (k : IsFairWithdrawal w v who shares y) → IsFairPayment (w.log ++ k.more) who v.operator k.reward y.0
+fair_payment w v who shares y k = record {
+  full = k.full;
+  full_is = k.full_is;
+  outstanding = (purse_of k.closed.purses v.operator).outstanding;
+  span = k.span;
+  is = k.is;
+  bracketed = k.bracketed;
+  cut = λ d. subst (λ n. 10 ^ 18 * (amount_of k.full d - amount_of (purse_of k.closed.purses v.operator).outstanding d) ≤ count_where is_left (history_of v.operator (w.log ++ k.more) []) * n) (k.ratio_is d) (k.cut d);
+  reward_is = k.reward_is;
+  coins_are = k.coins_are;
+}
 
 pub withdrawals_are_fair : WithdrawalsAreFair
 withdrawals_are_fair = λ w v who shares answer sound reached found held e. fair_withdrawal w v who shares answer (ready_in w v.operator sound) found held reached e

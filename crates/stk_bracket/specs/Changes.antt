@@ -12,7 +12,7 @@ use Rattle.stk_rules.specs.Sound.{IsSound}
 use Rattle.stk_keep.specs.declared.messages.CreateValidator.{CreateValidator}
 use Rattle.stk_rules.specs.Chain.{State, allocation_step, vote_step, evidence_step, set_step, maturing_step, unbondings_step, redelegations_step}
 use Rattle.stk_rules.specs.Effects.{create_validator, delegate, undelegate, begin_redelegate, cancel_unbonding}
-use Rattle.stk_rules.specs.Laws.{KeptByStep, next_block}
+use Rattle.stk_rules.specs.Laws.{KeptByStep, KeptByMessages, next_block}
 use Rattle.stk_bracket.specs.States.{ReachedStays, NoneStartedHere}
 
 -- delegating keeps accounts reached
@@ -34,6 +34,10 @@ UndelegatingKeepsReached = (who operator : List ℕ) (coin : Coin) → KeptBySte
 -- and so does redelegating
 abbrev pub RedelegatingKeepsReached : Type 0
 RedelegatingKeepsReached = (who source target : List ℕ) (coin : Coin) → KeptByStep ReachedStays (begin_redelegate who source target coin)
+
+-- So each message that is not refused keeps accounts reached, and so does the fee.
+abbrev pub MessagesKeepReached : Type 0
+MessagesKeepReached = KeptByMessages ReachedStays
 
 -- and so do the mature entries of a block: unbondings that are paid, and redelegations that go
 abbrev pub UnbondingsStepKeepsReached : Type 0

@@ -1,7 +1,7 @@
 //! Messages that change stakes, and the parts of a block, keep accounts reached: laws as functions that do nothing, whose
 //! contracts are the laws.
 
-ghost use Rattle.stk_bracket.specs.Changes.{DelegatingKeepsReached, CancellingKeepsReached, UndelegatingKeepsReached, CreatingKeepsReached, UnbondingsStepKeepsReached, RedelegationsStepKeepsReached, BondedSetKeepsReached, MaturingKeepsReached, RedelegatingKeepsReached, VotesKeepReached, EvidenceKeepsReached, NoneStartedInNext, AllocationKeepsReached, BlockBeginKeepsReached};
+ghost use Rattle.stk_bracket.specs.Changes.{DelegatingKeepsReached, CancellingKeepsReached, UndelegatingKeepsReached, CreatingKeepsReached, UnbondingsStepKeepsReached, RedelegationsStepKeepsReached, BondedSetKeepsReached, MaturingKeepsReached, RedelegatingKeepsReached, MessagesKeepReached, VotesKeepReached, EvidenceKeepsReached, NoneStartedInNext, AllocationKeepsReached, BlockBeginKeepsReached};
 
 /// Delegating keeps accounts reached, and so does cancelling an unbonding.
 pub fn delegating_keeps_reached()
@@ -22,6 +22,12 @@ pub fn redelegating_keeps_reached()
 /// So does creating a validator.
 pub fn creating_keeps_reached()
     ensures { CreatingKeepsReached }
+{}
+
+/// So each message keeps accounts reached where it is not refused, and so does the fee.
+#[tactic(auto, using(crate::proofs::Together::messages_keep_reached))]
+pub fn messages_keep_reached()
+    ensures { MessagesKeepReached }
 {}
 
 /// So do the mature entries of a block: unbondings that are paid, and redelegations that go.
