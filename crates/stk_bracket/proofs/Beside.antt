@@ -1,6 +1,6 @@
 -- Slashes call the hooks of distribution alone, beside the window, which does nothing there: unbonding does with it what it
 -- does without.
-use Rattle.std.proofs.Common.{◌≡◌, ℕ, ◌-◌, ◌==◌, Bool, true, false, List, [], ◌∷◌, ◌++◌, refl, sym, ap, subst, ◌∙◌, Result, Ok, Err, append-nil}
+use Rattle.std.proofs.Common.{◌≡◌, ℕ, ◌-◌, ◌==◌, Bool, true, false, List, [], ◌++◌, refl, sym, ap, subst, ◌∙◌, Result, Ok, Err, append-nil}
 use Rattle.std.specs.Prelude.{◌&&◌, ◌||◌, if◌then◌else◌}
 use Rattle.stk_dec.specs.declared.over.Over.{Over}
 use Rattle.stk_shares.specs.Shares.{amount_out}

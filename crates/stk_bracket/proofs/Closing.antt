@@ -1,6 +1,6 @@
 -- The parts of a block that pay no reward: allocation, the bonded set, and what matures. With votes and evidence, all parts
 -- of a block pay fairly.
-use Rattle.std.proofs.Common.{◌≡◌, ℕ, ◌-◌, ◌*◌, ◌^◌, ◌==◌, Bool, true, false, List, [], ◌∷◌, ◌++◌, refl, sym, ap, subst, ◌∙◌, Option, Some, None, Result, Ok, Err, append_assoc}
+use Rattle.std.proofs.Common.{ℕ, ◌-◌, ◌*◌, ◌^◌, Bool, true, false, List, [], ◌∷◌, ◌++◌, subst, Option, Some, None, Result, Ok, Err, append_assoc}
 use Rattle.std.specs.Prelude.{IfOk, if◌then◌else◌, ◌&&◌, nat_lt, nat_le, map, sum}
 use Rattle.std.specs.Map.{values_of}
 use Rattle.stk_dec.specs.declared.over.Over.{Over}

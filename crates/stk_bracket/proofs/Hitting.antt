@@ -1,15 +1,13 @@
 -- In a sound state whose accounts are reached, the payments that a vote or a piece of evidence tells are fair: those of a
 -- slash are of what was redelegated, at each target.
-use Rattle.std.proofs.Common.{◌≡◌, ℕ, ◌+◌, ◌-◌, ◌*◌, ◌^◌, ◌≤◌, ◌==◌, Bool, true, false, cond, List, [], ◌∷◌, ◌++◌, map, filter, refl, arith, sym, ap, subst, ◌∙◌, Option, Some, None, Result, Ok, Err, min, append_assoc}
+use Rattle.std.proofs.Common.{◌≡◌, ℕ, ◌+◌, ◌-◌, ◌*◌, ◌^◌, ◌==◌, Bool, true, false, cond, List, [], ◌∷◌, ◌++◌, map, filter, refl, ap, subst, ◌∙◌, Option, Some, None, Result, Ok, Err, min}
 use Rattle.std.specs.Prelude.{IfOk, unwrap_or, if◌then◌else◌, not, sum, ◌||◌, ⊤}
-use Rattle.std.proofs.lemmas.List.Elements.{All-from_recursion}
 use Rattle.stk_dec.specs.declared.over.Over.{Over}
 use Rattle.stk_dec.specs.Rounding.{even}
 use Rattle.stk_types.specs.declared.account.Module.TheVariants as holder
 use Rattle.stk_types.specs.Orders.{cons_cmp}
 use Rattle.stk_keep.specs.declared.entities.RedelegationEntry.{RedelegationEntry}
 use Rattle.stk_keep.specs.declared.entities.Validator.{Validator}
-use Rattle.stk_keep.specs.declared.facts.Fact.{Fact}
 use Rattle.stk_keep.specs.declared.facts.Fact.TheVariants as fact
 use Rattle.stk_keep.specs.declared.messages.Evidence.{Evidence}
 use Rattle.stk_keep.specs.declared.messages.Vote.{Vote}
@@ -21,25 +19,25 @@ use Rattle.stk_keep.specs.Orders.{same_addr}
 use Rattle.stk_keep.specs.Staked.{Staked, validator_at, validator_by_cons, delegation, is_unbonded}
 use Rattle.stk_keep.specs.Steps.{◌>>=◌}
 use Rattle.stk_keep.specs.World.{View, World, gives, call, slashing, burnt, noted, over_view, over_mine, logged}
-use Rattle.stk_rules.specs.Chain.{Hooks, Stakes, State, chain_told, beside_window, with_window, vote_step, evidence_step}
+use Rattle.stk_rules.specs.Chain.{Stakes, State, chain_told, beside_window, with_window, vote_step, evidence_step}
 use Rattle.stk_rules.specs.Distribution.{Shared, distribution_told, ended, slash_recorded}
 use Rattle.stk_rules.specs.EntrySlashes.{is_hit, counted, counted_of, all_counted, redelegation_made, burned_of, entry_slashed, entries_slashed, burned_at_target, shares_hit, targets_slashed, sources_slashed, redelegations_slashed}
-use Rattle.stk_rules.specs.Evidence.{forever, banned, window_bans, is_too_old, jailed_if_not, evidence_weighed, equivocation_handled}
+use Rattle.stk_rules.specs.Evidence.{forever, banned, window_bans, is_too_old, jailed_if_not, evidence_weighed}
 use Rattle.stk_rules.specs.Redelegations.{RedelegationLists}
 use Rattle.stk_rules.specs.Slashing.{plain_slash, slash_amount, slash_fraction, slash_told, validator_slashed, staked_unbonds, rest_slashed, slashed_at, slashed, jailed_of, core_slashes, jail_lent}
 use Rattle.stk_rules.specs.Sound.{IsSound}
 use Rattle.stk_rules.specs.Stakes.{pool_of}
 use Rattle.stk_rules.specs.Unbonding.{unbonded_shares, unbonded_of, shares_unbonded}
 use Rattle.stk_rules.specs.Unbondings.{UnbondingLists}
-use Rattle.stk_rules.specs.Window.{Signing, Window, signing_of, is_downtime, reset_at, vote_counted, voted}
+use Rattle.stk_rules.specs.Window.{Signing, Window, signing_of, is_downtime, reset_at, vote_counted}
 use Rattle.stk_bracket.specs.States.{AreReached}
-use Rattle.stk_bracket.specs.Withdrawals.{IsFairFact, PaysFairly, PaysWhereReached, VotesPayFairly, EvidencePaysFairly}
+use Rattle.stk_bracket.specs.Withdrawals.{VotesPayFairly, EvidencePaysFairly}
 use Rattle.stk_bracket.proofs.Denominations.{step_parts}
 use Rattle.stk_bracket.proofs.Quiet.{same_ok, viewed_reached}
-use Rattle.stk_bracket.proofs.Fits.{Fits, nobody, ready_fits}
+use Rattle.stk_bracket.proofs.Fits.{ready_fits}
 use Rattle.stk_bracket.proofs.Beside.{raised, raised_answer, unbonded_same}
 use Rattle.stk_bracket.proofs.Slashing.{Going, whole_of, burnt_with, told_parts, rule_told, slash_parts, event_put}
-use Rattle.stk_bracket.proofs.Punishing.{Beside, beside_of, hit_within, target_going, sources_going, entries_at}
+use Rattle.stk_bracket.proofs.Punishing.{Beside, beside_of, hit_within, target_going, entries_at}
 use Rattle.stk_bracket.proofs.Paying.{Pays, pays_then, pays_nothing, pays_logged, pays_noted, pays_burnt, pays_ended}
 use Rattle.stk_bracket.proofs.Staking.{PaysIn, pays_unbonded}
 use Rattle.stk_bracket.proofs.Telling.{where_reached}

@@ -1,44 +1,36 @@
 -- What steps tell and log: each payment of a reward among the facts is fair, with the log up to it.
-use Rattle.std.proofs.Common.{◌≡◌, ℕ, ◌+◌, ◌-◌, ◌≤◌, ◌==◌, Bool, true, false, List, [], ◌∷◌, ◌++◌, refl, sym, ap, subst, ◌∙◌, Option, Some, None, Result, Ok, Err, append-nil, append_assoc}
-use Rattle.std.specs.Prelude.{if◌then◌else◌, ◌&&◌, ◌||◌}
+use Rattle.std.proofs.Common.{◌≡◌, ℕ, ◌==◌, Bool, true, false, List, [], ◌∷◌, ◌++◌, refl, sym, ap, subst, ◌∙◌, Option, Some, None, Result, Ok, append-nil, append_assoc}
+use Rattle.std.specs.Prelude.{if◌then◌else◌}
 use Rattle.std.specs.List.{AllByRecursion}
 use Rattle.stk_dec.specs.declared.over.Over.{Over}
 use Rattle.stk_types.specs.declared.account.Account.{Account as Holder}
 use Rattle.stk_types.specs.declared.account.Account.TheVariants as account
 use Rattle.stk_types.specs.declared.account.Module.{Module}
 use Rattle.stk_types.specs.declared.account.Module.TheVariants as holder
-use Rattle.stk_types.specs.declared.status.BondStatus.{BondStatus}
-use Rattle.stk_types.specs.Modules.{module_number}
 use Rattle.stk_coins.specs.Coins.{Money, fractions}
-use Rattle.stk_shares.specs.Shares.{amount_out, value_cut_of}
+use Rattle.stk_shares.specs.Shares.{value_cut_of}
 use Rattle.stk_keep.specs.declared.entities.Validator.{Validator}
 use Rattle.stk_keep.specs.declared.facts.Fact.{Fact}
 use Rattle.stk_keep.specs.declared.facts.Fact.TheVariants as fact
-use Rattle.stk_keep.specs.declared.refusal.Refusal.{Refusal}
-use Rattle.stk_keep.specs.declared.refusal.Refusal.TheVariants.{InsufficientFunds, Overflow}
-use Rattle.stk_keep.specs.Holdings.{is_short, transfer_told, burn_told}
+use Rattle.stk_keep.specs.Holdings.{transfer_told, burn_told}
 use Rattle.stk_keep.specs.Log.{Log}
 use Rattle.stk_keep.specs.Log as log
-use Rattle.stk_keep.specs.Staked.{Staked, validator_at, delegation, put_validator, is_unbonded}
-use Rattle.stk_keep.specs.Steps.{◌>>=◌, ◌>>◌, stop_if, stopping}
-use Rattle.stk_keep.specs.World.{View, World, gives, call, modifying, modified, noted, sent, over_view, over_mine, logged}
-use Rattle.stk_keep.specs.World as hook
-use Rattle.stk_rules.specs.Amounts.{bond_coins, is_empty, over_facts}
-use Rattle.stk_rules.specs.Chain.{Hooks, State, chain_told, staked_in}
-use Rattle.stk_rules.specs.Delegating.{Origin, wallet, pool, shares_given, paid_in, hook_before, delegated}
-use Rattle.stk_rules.specs.Distribution.{Shared, distribution_told, ended, started, current_taken, reward_withdrawn, records_removed, payee_of, paid_to, told_of, unlogged}
-use Rattle.stk_rules.specs.Periods.{Periods, periods_of, with_periods, without_periods, period_ended, last_ended}
-use Rattle.stk_rules.specs.Purses.{Purses, closed, pooled_told}
-use Rattle.stk_rules.specs.Stakes.{put_delegation, without_shares, without_validator, pool_of}
-use Rattle.stk_rules.specs.Unbonding.{put_in_jail, falls_below_minimum, left_standing, removed_if_empty, validator_removed, unbonded_shares}
+use Rattle.stk_keep.specs.Staked.{validator_at, delegation}
+use Rattle.stk_keep.specs.Steps.{◌>>=◌}
+use Rattle.stk_keep.specs.World.{View, gives, noted}
+use Rattle.stk_rules.specs.Amounts.{is_empty, over_facts}
+use Rattle.stk_rules.specs.Chain.{State}
+use Rattle.stk_rules.specs.Delegating.{hook_before}
+use Rattle.stk_rules.specs.Distribution.{Shared, distribution_told, ended, started, current_taken, reward_withdrawn, payee_of}
+use Rattle.stk_rules.specs.Periods.{Periods, periods_of, with_periods, period_ended, last_ended}
+use Rattle.stk_rules.specs.Purses.{Purses, pooled_told}
 use Rattle.stk_bracket.specs.States.{AreReached}
 use Rattle.stk_bracket.specs.Withdrawals.{IsFairPayment, IsFairWithin, IsFairFact, IsFairWithdrawal}
 use Rattle.stk_bracket.proofs.Lists.{all_map}
 use Rattle.stk_bracket.proofs.Denominations.{step_parts}
 use Rattle.stk_bracket.proofs.Claims.{IsReady}
-use Rattle.stk_bracket.proofs.Beginnings.{went_on}
-use Rattle.stk_bracket.proofs.Quiet.{same_ok, passed}
-use Rattle.stk_bracket.proofs.Hooked.{hook_gave, call_parts, answer_of, same_told, before_is_idle}
+use Rattle.stk_bracket.proofs.Quiet.{same_ok}
+use Rattle.stk_bracket.proofs.Hooked.{answer_of}
 use Rattle.stk_bracket.proofs.Withdrawing.{fair_withdrawal, fair_payment}
 
 -- ---- facts and entries one behind the other

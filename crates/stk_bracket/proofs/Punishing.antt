@@ -1,6 +1,6 @@
 -- A slash since a height, of what was unbonded and redelegated and of the validator itself, and jailing: a vote and a piece of
 -- evidence keep accounts reached.
-use Rattle.std.proofs.Common.{◌≡◌, ℕ, ◌+◌, ◌-◌, ◌*◌, ◌^◌, ◌≤◌, ◌==◌, Bool, true, false, cond, List, [], ◌∷◌, ◌++◌, map, filter, refl, arith, sym, ap, subst, ◌∙◌, Option, Some, None, Result, Ok, min}
+use Rattle.std.proofs.Common.{◌≡◌, ℕ, ◌+◌, ◌-◌, ◌*◌, ◌^◌, ◌≤◌, ◌==◌, Bool, true, false, cond, List, [], ◌∷◌, map, filter, refl, arith, sym, ap, subst, ◌∙◌, Option, Some, None, Result, Ok, min}
 use Rattle.std.specs.Prelude.{unwrap_or, if◌then◌else◌, not, find, sum, ◌||◌, ⊤}
 use Rattle.std.specs.List.{AllByRecursion}
 use Rattle.std.specs.Map.{values_of}
@@ -19,17 +19,17 @@ use Rattle.stk_keep.specs.declared.params.Ctx.{Ctx}
 use Rattle.stk_keep.specs.Entries.{with}
 use Rattle.stk_keep.specs.Lent.{jail_told}
 use Rattle.stk_keep.specs.Orders.{same_addr}
-use Rattle.stk_keep.specs.Staked.{Staked, validator_at, validator_by_cons, delegation, put_validator, is_unbonded}
+use Rattle.stk_keep.specs.Staked.{Staked, validator_at, validator_by_cons, delegation, is_unbonded}
 use Rattle.stk_keep.specs.Steps.{◌>>=◌}
 use Rattle.stk_keep.specs.World.{View, World, burnt, noted, over_view, over_mine}
 use Rattle.stk_rules.proofs.EntryLemmas.{to_all}
 use Rattle.stk_rules.proofs.OrderLemmas.{addr_total}
-use Rattle.stk_rules.specs.Chain.{Hooks, Stakes, State, chain_told, staked_in, with_staked, beside_window, with_window, vote_step, evidence_step}
+use Rattle.stk_rules.specs.Chain.{Stakes, State, chain_told, beside_window, with_window, vote_step, evidence_step}
 use Rattle.stk_rules.specs.Distribution.{Shared, distribution_told}
 use Rattle.stk_rules.specs.EntrySlashes.{is_hit, counted, counted_of, all_counted, redelegation_made, burned_of, entry_slashed, entries_slashed, burned_at_target, shares_hit, targets_slashed, sources_slashed, redelegations_slashed}
 use Rattle.stk_rules.specs.Evidence.{forever, banned, window_bans, is_too_old, jailed_if_not, evidence_weighed, equivocation_handled}
 use Rattle.stk_rules.specs.Redelegations.{RedelegationLists}
-use Rattle.stk_rules.specs.Slashing.{Core, plain_slash, slash_amount, staked_unbonds, rest_slashed, slashed_at, slashed, jailed_of, core_slashes, jail_lent}
+use Rattle.stk_rules.specs.Slashing.{plain_slash, slash_amount, staked_unbonds, rest_slashed, slashed_at, slashed, jailed_of, core_slashes, jail_lent}
 use Rattle.stk_rules.specs.Sound.{IsSound}
 use Rattle.stk_rules.specs.Stakes.{pool_of}
 use Rattle.stk_rules.specs.Unbonding.{unbonded_shares, unbonded_of, shares_unbonded}
@@ -41,7 +41,7 @@ use Rattle.stk_bracket.proofs.Denominations.{step_parts}
 use Rattle.stk_bracket.proofs.Beginnings.{if_ok}
 use Rattle.stk_bracket.proofs.Edits.{standing_reached}
 use Rattle.stk_bracket.proofs.Quiet.{same_ok, viewed_reached}
-use Rattle.stk_bracket.proofs.Fits.{Fits, AllFits, nobody, fits_sound, put_fits, unbonded_fits, unbonded_then}
+use Rattle.stk_bracket.proofs.Fits.{Fits, nobody, fits_sound, put_fits, unbonded_fits, unbonded_then}
 use Rattle.stk_bracket.proofs.Beside.{raised, raised_answer, unbonded_same}
 use Rattle.stk_bracket.proofs.Slashing.{Going, whole_of, rest_going}
 

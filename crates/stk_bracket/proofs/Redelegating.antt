@@ -1,8 +1,7 @@
 -- Redelegating keeps accounts reached: shares leave the source, whose target still has its records, and come to that.
-use Rattle.std.proofs.Common.{◌≡◌, ℕ, ◌≤◌, ◌==◌, Bool, false, List, ◌++◌, length, refl, sym, ap, subst, ◌∙◌, Some, Result, Ok, Err}
+use Rattle.std.proofs.Common.{◌≡◌, ℕ, ◌≤◌, ◌==◌, Bool, false, List, length, sym, ap, subst, ◌∙◌, Some, Result, Ok, Err}
 use Rattle.std.specs.Prelude.{nat_le, is_none, ⊤}
 use Rattle.stk_coins.specs.declared.coin.Coin.{Coin}
-use Rattle.stk_dec.specs.declared.over.Over.{Over}
 use Rattle.stk_shares.specs.Shares.{amount_out}
 use Rattle.stk_keep.specs.declared.entities.Validator.{Validator}
 use Rattle.stk_keep.specs.declared.refusal.Refusal.{Refusal}

@@ -1,7 +1,6 @@
 -- The last ratio of a reached account is all increments of its history together.
-use Rattle.std.proofs.Common.{◌≡◌, ℕ, ◌+◌, ◌-◌, ◌<◌, List, [], ◌∷◌, ◌++◌, map, refl, arith, subst}
-use Rattle.std.specs.Prelude.{sum}
-use Rattle.stk_coins.specs.Coins.{Money, amount_of}
+use Rattle.std.proofs.Common.{◌≡◌, ℕ, ◌+◌, ◌<◌, List, [], ◌∷◌, ◌++◌, map, refl, arith, subst}
+use Rattle.stk_coins.specs.Coins.{Money}
 use Rattle.stk_keep.specs.Log.{LogEntry}
 use Rattle.stk_keep.specs.Log as log
 use Rattle.stk_shares.specs.Shares.{value_cut_of}

@@ -1,12 +1,11 @@
 -- The slash of a validator that has tokens is its deed; every other account stays.
-use Rattle.std.proofs.Common.{◌≡◌, ℕ, ◌+◌, ◌-◌, ◌^◌, ◌<◌, ◌≤◌, ◌==◌, Bool, true, false, List, [], ◌∷◌, ◌++◌, refl, arith, sym, ap, subst, ◌∙◌, Option, Some, None, Result, Ok, Err, min}
+use Rattle.std.proofs.Common.{◌≡◌, ℕ, ◌-◌, ◌^◌, ◌<◌, ◌≤◌, ◌==◌, Bool, true, false, List, [], ◌∷◌, ◌++◌, refl, arith, sym, ap, subst, ◌∙◌, Option, Some, None, Result, Ok, Err, min}
 use Rattle.std.specs.Prelude.{unwrap_or, is_some, if◌then◌else◌}
 use Rattle.std.specs.List.Sorted.{IsStrictlySortedBy}
 use Rattle.std.specs.Map.{keys_of}
 use Rattle.std.proofs.lemmas.Bool.Decides.{nat_tests}
 use Rattle.stk_dec.specs.declared.over.Over.{Over}
 use Rattle.stk_types.specs.Orders.{addr_cmp}
-use Rattle.stk_coins.specs.Coins.{amount_of}
 use Rattle.stk_keep.specs.declared.entities.Validator.{Validator}
 use Rattle.stk_keep.specs.declared.facts.Fact.TheVariants as fact
 use Rattle.stk_keep.specs.Entries.{at, with}
@@ -16,9 +15,8 @@ use Rattle.stk_keep.specs.Orders.{pair_cmp, same_addr}
 use Rattle.stk_keep.specs.Staked.{Staked, validator_at, put_validator}
 use Rattle.stk_keep.specs.Steps.{◌>>=◌}
 use Rattle.stk_keep.specs.World.{View, Hook, Told, gives, exceeds, World, hooked, call, slashing, noted, burnt, over_view, over_mine, logged}
-use Rattle.stk_rules.specs.Chain.{Hooks, Stakes, State, with_staked}
+use Rattle.stk_rules.specs.Chain.{Stakes, State, with_staked}
 use Rattle.stk_rules.specs.Distribution.{Shared, distribution_told, ended, slash_recorded, told_of}
-use Rattle.stk_rules.specs.Ideal.{history_of}
 use Rattle.stk_rules.specs.Periods.{Periods, initial_records, periods_of, with_periods, event_recorded}
 use Rattle.stk_rules.specs.Slashing.{slash_fraction, slash_told, validator_slashed, rest_slashed}
 use Rattle.stk_rules.specs.Stakes.{pool_of}

@@ -1,5 +1,5 @@
 -- Delegating, unbonding and removing a validator tell fair payments alone.
-use Rattle.std.proofs.Common.{◌≡◌, ℕ, ◌+◌, ◌-◌, ◌≤◌, ◌==◌, Bool, true, false, List, [], ◌∷◌, ◌++◌, refl, sym, ap, subst, ◌∙◌, Option, Some, None, Result, Ok, Err}
+use Rattle.std.proofs.Common.{◌≡◌, ℕ, ◌+◌, ◌-◌, ◌==◌, Bool, true, false, List, [], ◌∷◌, ◌++◌, refl, sym, ap, subst, ◌∙◌, Option, Some, Result, Ok, Err}
 use Rattle.std.specs.Prelude.{unwrap_or, if◌then◌else◌, ◌&&◌, ◌||◌}
 use Rattle.stk_dec.specs.declared.over.Over.{Over}
 use Rattle.stk_types.specs.declared.account.Account.TheVariants as account
@@ -9,7 +9,6 @@ use Rattle.stk_types.specs.Modules.{module_number}
 use Rattle.stk_coins.specs.Coins.{Money}
 use Rattle.stk_shares.specs.Shares.{amount_out}
 use Rattle.stk_keep.specs.declared.entities.Validator.{Validator}
-use Rattle.stk_keep.specs.declared.facts.Fact.{Fact}
 use Rattle.stk_keep.specs.declared.facts.Fact.TheVariants as fact
 use Rattle.stk_keep.specs.declared.refusal.Refusal.{Refusal}
 use Rattle.stk_keep.specs.declared.refusal.Refusal.TheVariants.{InsufficientFunds, Overflow}
@@ -17,13 +16,13 @@ use Rattle.stk_keep.specs.Holdings.{is_short}
 use Rattle.stk_keep.specs.Log.{Log}
 use Rattle.stk_keep.specs.Log as log
 use Rattle.stk_keep.specs.Staked.{Staked, validator_at, delegation, put_validator, is_unbonded}
-use Rattle.stk_keep.specs.Steps.{◌>>=◌, ◌>>◌, stop_if, stopping}
+use Rattle.stk_keep.specs.Steps.{◌>>=◌, stopping}
 use Rattle.stk_keep.specs.World.{View, World, gives, call, modifying, modified, noted, sent, over_view, over_mine, logged}
 use Rattle.stk_keep.specs.World as hook
 use Rattle.stk_rules.specs.Amounts.{bond_coins, is_empty, over_facts}
 use Rattle.stk_rules.specs.Chain.{Hooks, State, chain_told, staked_in}
 use Rattle.stk_rules.specs.Delegating.{Origin, wallet, pool, shares_given, paid_in, hook_before, delegated}
-use Rattle.stk_rules.specs.Distribution.{Shared, distribution_told, started, reward_withdrawn, records_removed, payee_of, paid_to, told_of, unlogged}
+use Rattle.stk_rules.specs.Distribution.{Shared, distribution_told, records_removed, payee_of, paid_to, told_of, unlogged}
 use Rattle.stk_rules.specs.Periods.{without_periods}
 use Rattle.stk_rules.specs.Purses.{Purses, closed, pooled_told}
 use Rattle.stk_rules.specs.Stakes.{put_delegation, without_shares, without_validator, pool_of}
@@ -33,11 +32,11 @@ use Rattle.stk_bracket.proofs.Denominations.{step_parts}
 use Rattle.stk_bracket.proofs.Claims.{IsReady}
 use Rattle.stk_bracket.proofs.Beginnings.{went_on}
 use Rattle.stk_bracket.proofs.Quiet.{same_ok, passed}
-use Rattle.stk_bracket.proofs.Hooked.{hook_gave, call_parts, answer_of, same_told, before_is_idle}
+use Rattle.stk_bracket.proofs.Hooked.{hook_gave, call_parts, same_told, before_is_idle}
 use Rattle.stk_bracket.proofs.Growing.{more_of, more_world, behind_hook, start_told}
 use Rattle.stk_bracket.proofs.Leaving.{less_of}
 use Rattle.stk_bracket.proofs.Undelegating.{left_then, leaving}
-use Rattle.stk_bracket.proofs.Paying.{Pays, pays_then, pays_nothing, pays_logged, pays_noted, pays_sent, pays_pooled, pays_started, pays_withdrawn, pays_before}
+use Rattle.stk_bracket.proofs.Paying.{Pays, pays_then, pays_nothing, pays_logged, pays_noted, pays_sent, pays_pooled, pays_started, pays_before}
 
 -- what one world tells and logs behind another
 abbrev pub PaysIn : {S T H G : Type 0} → World S H → World T G → Type 0

@@ -1,8 +1,7 @@
 -- In a sound state whose accounts are reached, the payments that a message tells are fair.
 use Rattle.std.proofs.Common.{◌≡◌, ℕ, ◌≤◌, ◌==◌, Bool, true, false, List, [], ◌∷◌, ◌++◌, length, refl, sym, ap, subst, ◌∙◌, Option, Some, None, Result, Ok, Err, append_assoc}
-use Rattle.std.specs.Prelude.{IfOk, if◌then◌else◌, not, nat_lt, nat_le, find, is_none, is_some, ⊤}
+use Rattle.std.specs.Prelude.{IfOk, if◌then◌else◌, not, nat_lt, nat_le, find, is_some, ⊤}
 use Rattle.std.proofs.lemmas.List.Elements.{All-from_recursion}
-use Rattle.stk_dec.specs.declared.over.Over.{Over}
 use Rattle.stk_dec.specs.Decimals.{trunc_of}
 use Rattle.stk_types.specs.declared.account.Account.{Account as Holder}
 use Rattle.stk_types.specs.declared.account.Account.TheVariants as account
@@ -12,7 +11,6 @@ use Rattle.stk_types.specs.Orders.{addr_cmp}
 use Rattle.stk_coins.specs.declared.coin.Coin.{Coin}
 use Rattle.stk_coins.specs.Coins.{Money}
 use Rattle.stk_shares.specs.Shares.{amount_out, has_invalid_rate, value_even_of}
-use Rattle.stk_keep.specs.declared.entities.Purse.{Purse}
 use Rattle.stk_keep.specs.declared.entities.Validator.{Validator}
 use Rattle.stk_keep.specs.declared.facts.Fact.{Fact}
 use Rattle.stk_keep.specs.declared.facts.Fact.TheVariants as fact

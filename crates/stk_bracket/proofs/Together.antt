@@ -1,6 +1,6 @@
 -- Every message keeps accounts reached.
 use Rattle.stk_bracket.specs.Changes.{MessagesKeepReached}
-use Rattle.stk_bracket.specs.States.{RewardMessagesKeepReached, QuietMessagesKeepReached, StandingMessagesKeepReached}
+use Rattle.stk_bracket.specs.States.{QuietMessagesKeepReached, StandingMessagesKeepReached}
 use Rattle.stk_bracket.proofs.Beginnings.{reward_messages_keep_reached}
 use Rattle.stk_bracket.proofs.Quiet.{quiet_messages_keep_reached}
 use Rattle.stk_bracket.proofs.Edits.{standing_messages_keep_reached}

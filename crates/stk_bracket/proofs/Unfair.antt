@@ -1,5 +1,5 @@
 -- Payments that are not fair: of nothing, and of twice as much.
-use Rattle.std.proofs.Common.{◌≡◌, ℕ, ◌+◌, ◌-◌, ◌*◌, ◌^◌, ◌≤◌, Bool, false, List, [], refl, arith, sym, ap, subst, ◌∙◌, Option, Some, None, min, mul-le-mul_right}
+use Rattle.std.proofs.Common.{◌≡◌, ℕ, ◌-◌, ◌*◌, ◌^◌, ◌≤◌, false, List, [], refl, arith, sym, ap, subst, ◌∙◌, Option, Some, None, min, mul-le-mul_right}
 use Rattle.std.specs.Prelude.{nat_le}
 use Rattle.std.proofs.lemmas.Bool.Decides.{nat_tests}
 use Rattle.stk_coins.specs.Coins.{Money, IsMoney, amount_of, smaller_of}

@@ -23,7 +23,7 @@ use Rattle.stk_bracket.specs.Account.{Start, Account, IsReached, reward_now}
 use Rattle.stk_bracket.specs.Account as deed
 use Rattle.stk_bracket.specs.Laws.{IsStartBracketed, IsCutWithin, overclaim}
 use Rattle.stk_bracket.specs.States.{starts_in, account_in, AreReached}
-use Rattle.stk_bracket.specs.Withdrawals.{raised_in, overclaim_in, IsFairWithdrawal, IsFairPayment, WithdrawalsAreFair}
+use Rattle.stk_bracket.specs.Withdrawals.{raised_in, IsFairWithdrawal, IsFairPayment, WithdrawalsAreFair}
 use Rattle.stk_bracket.proofs.Denominations.{step_parts}
 use Rattle.stk_bracket.proofs.Reached.{deeds_lead_on, rewards_are_bracketed, cut_is_bounded}
 use Rattle.stk_bracket.proofs.Claims.{IsReady, ready_in, IsEnded, closed_account, closed_history, closed_full, due_parts, some_of, start_with, own_start}
