@@ -84,7 +84,7 @@ no_starts op (e ∷ es) none =
 
 -- ---- the new validator
 
-abbrev state_made : State → Validator → State
+abbrev pub state_made : State → Validator → State
 state_made w v = record { mine = record w.mine { staked = put_validator v w.mine.staked }; hooks = (records_made v w.hooks.0, w.hooks.1); view = w.view; log = w.log ++ (v.operator, log.made) ∷ [] }
 
 made_account : (d : List ℕ) (w : State) (m : CreateValidator) → IsSound w → validator_at w.mine.staked m.validator ≡ None
@@ -118,7 +118,7 @@ made_other d w v u apart =
     refl
     (history_elsewhere op v.operator w.log log.made [] (apart_back op v.operator apart))
 
-made_at : (d : List ℕ) (w : State) (m : CreateValidator) (u : Validator) → IsSound w → validator_at w.mine.staked m.validator ≡ None → AreReached w
+pub made_at : (d : List ℕ) (w : State) (m : CreateValidator) (u : Validator) → IsSound w → validator_at w.mine.staked m.validator ≡ None → AreReached w
     → validator_at (put_validator (new_validator m w.view.ctx.time) w.mine.staked) u.operator ≡ Some u → (b : Bool) → same_addr u.operator m.validator ≡ b → IsReached d (account_in d (state_made w (new_validator m w.view.ctx.time)) u)
 made_at d w m u sound none reached there true is =
     let v : Validator = new_validator m w.view.ctx.time in
@@ -129,7 +129,7 @@ made_at d w m u sound none reached there false is =
     let v : Validator = new_validator m w.view.ctx.time in
     subst (λ a. IsReached d a) (sym (made_other d w v u is)) (reached d u (sym (put_elsewhere m.validator u.operator v w.mine.staked.validators is) ∙ there))
 
-made_ready : (w : State) (v : Validator) → IsSound w → IsReady (state_made w v) v.operator
+pub made_ready : (w : State) (v : Validator) → IsSound w → IsReady (state_made w v) v.operator
 made_ready w v sound = record {
   current = subst (λ o. IsMoney (unwrap_or o no_purse).current) (sym (put_there v.operator no_purse w.hooks.0.purses.purses)) money-nil;
   outstanding = subst (λ o. IsMoney (unwrap_or o no_purse).outstanding) (sym (put_there v.operator no_purse w.hooks.0.purses.purses)) money-nil;

@@ -217,11 +217,11 @@ start_told v who shares w y e =
     ap (hook_gave w) (told_is (started v who shares w.hooks.0 w.view) last.0 last.1) ∙ last.2
 
 -- the world in which tokens and shares have come
-abbrev more_world : World Staked Hooks → Validator → List ℕ → ℕ → ℕ → ℕ → View → World Staked Hooks
+abbrev pub more_world : World Staked Hooks → Validator → List ℕ → ℕ → ℕ → ℕ → View → World Staked Hooks
 more_world w1 v who amount issued held u = over_view (λ y. u) (over_mine (λ s. put_delegation who v.operator (held + issued) (put_validator (more_of v amount issued) s)) w1)
 
 -- what is done behind the hook
-abbrev behind_hook : Validator → List ℕ → ℕ → Origin → ℕ → ℕ → World Staked Hooks → Result (ℕ × World Staked Hooks) Refusal
+abbrev pub behind_hook : Validator → List ℕ → ℕ → Origin → ℕ → ℕ → World Staked Hooks → Result (ℕ × World Staked Hooks) Refusal
 behind_hook v who amount origin issued held w1 =
     paid_in origin who v.status amount w1.view >>= λ u. stopping Overflow (call chain_told (modified (more_of v amount issued) who (held + issued)) (more_world w1 v who amount issued held u)) >>= λ w3. Ok (issued, w3)
 

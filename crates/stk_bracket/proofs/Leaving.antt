@@ -193,11 +193,11 @@ less_reached x v j part k some d u there = less_at d x v u j part k some there (
 -- ---- a validator that goes
 
 -- what is left of distribution's records
-record RecordsGo (s : Shared) (u : View) (op : List ℕ) (z : Shared × View × Log) : Type 0 where
-  rewards : z.0.rewards ≡ without_periods op s.rewards
-  purses : z.0.purses.purses ≡ without addr_cmp s.purses.purses op
-  height : z.1.ctx.height ≡ u.ctx.height
-  logged : z.2 ≡ []
+pub record RecordsGo (s : Shared) (u : View) (op : List ℕ) (z : Shared × View × Log) : Type 0 where
+  pub rewards : z.0.rewards ≡ without_periods op s.rewards
+  pub purses : z.0.purses.purses ≡ without addr_cmp s.purses.purses op
+  pub height : z.1.ctx.height ≡ u.ctx.height
+  pub logged : z.2 ≡ []
 
 closed_purses : (op : List ℕ) (p : Purses) (y : Money × Money × Purses) → closed op p ≡ Ok y → y.2.purses ≡ without addr_cmp p.purses op
 closed_purses op p y e =
@@ -223,7 +223,7 @@ removed_height v s u y = by (is_empty y.0)
     by true = refl
     by false = refl
 
-removed_is : (v : Validator) (s : Shared) (u : View) (z : Shared × View × Log) → told_of (unlogged (records_removed v s u)) ≡ gives z.0 z.1 z.2 → RecordsGo s u v.operator z
+pub removed_is : (v : Validator) (s : Shared) (u : View) (z : Shared × View × Log) → told_of (unlogged (records_removed v s u)) ≡ gives z.0 z.1 z.2 → RecordsGo s u v.operator z
 removed_is v s u z h = by (closed v.operator s.purses) refl h
   where
     by : (r : Result (Money × Money × Purses) Over) → closed v.operator s.purses ≡ r → told_of (unlogged (r >>= λ y. Ok (removed_with v s u y))) ≡ gives z.0 z.1 z.2 → RecordsGo s u v.operator z

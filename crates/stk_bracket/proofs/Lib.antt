@@ -31,3 +31,17 @@ pub mod Creating
 pub mod Bonding
 pub mod Maturing
 pub mod Allocating
+pub mod Fits
+pub mod Redelegating
+pub mod Beside
+pub mod Slashing
+pub mod Punishing
+pub mod Rising
+pub mod Withdrawing
+pub mod Paying
+pub mod Staking
+pub mod Telling
+pub mod Hitting
+pub mod Closing
+pub mod Together
+pub mod Unfair

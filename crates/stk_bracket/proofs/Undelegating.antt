@@ -86,10 +86,10 @@ left_is x v j who held part y found k within reached e = by (held - part == 0) r
       validators = refl;
     }
 
-abbrev left_then : Validator → Bool → ℕ → World Staked Hooks → Result (ℕ × World Staked Hooks) Over
+abbrev pub left_then : Validator → Bool → ℕ → World Staked Hooks → Result (ℕ × World Staked Hooks) Over
 left_then v j part w2 = removed_if_empty chain_told (less_of v j part) (logged v.operator log.left (over_mine (put_validator (less_of v j part)) w2)) >>= λ w3. Ok (amount_out v.tokens v.shares part, w3)
 
-abbrev leaving : Validator → Bool → List ℕ → ℕ → ℕ → World Staked Hooks → Result (ℕ × World Staked Hooks) Over
+abbrev pub leaving : Validator → Bool → List ℕ → ℕ → ℕ → World Staked Hooks → Result (ℕ × World Staked Hooks) Over
 leaving v j who held part w1 = left_standing chain_told (record v { jailed = j }) who (held - part) w1 >>= λ w2. left_then v j part w2
 
 leaving_reached : (x : State) (v : Validator) (j : Bool) (who : List ℕ) (held part : ℕ) (y : ℕ × World Staked Hooks) → validator_at x.mine.staked v.operator ≡ Some v → ((d : List ℕ) → IsOpen d x v who held) → 0 < held → part ≤ held

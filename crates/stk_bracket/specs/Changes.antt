@@ -5,13 +5,14 @@ use Rattle.stk_types.specs.declared.account.Module.TheVariants as holder
 use Rattle.stk_coins.specs.declared.coin.Coin.{Coin}
 use Rattle.stk_coins.specs.Coins.{IsMoney}
 use Rattle.stk_keep.specs.Holdings.{coins_of}
+use Rattle.stk_keep.specs.declared.messages.Evidence.{Evidence}
 use Rattle.stk_keep.specs.declared.messages.Vote.{Vote}
 use Rattle.stk_rules.specs.Amounts.{in_units}
 use Rattle.stk_rules.specs.Sound.{IsSound}
 use Rattle.stk_keep.specs.declared.messages.CreateValidator.{CreateValidator}
-use Rattle.stk_rules.specs.Chain.{State, allocation_step, set_step, maturing_step, unbondings_step, redelegations_step}
-use Rattle.stk_rules.specs.Effects.{create_validator, delegate, undelegate, cancel_unbonding}
-use Rattle.stk_rules.specs.Laws.{KeptByStep, next_block}
+use Rattle.stk_rules.specs.Chain.{State, allocation_step, vote_step, evidence_step, set_step, maturing_step, unbondings_step, redelegations_step}
+use Rattle.stk_rules.specs.Effects.{create_validator, delegate, undelegate, begin_redelegate, cancel_unbonding}
+use Rattle.stk_rules.specs.Laws.{KeptByStep, KeptByMessages, next_block}
 use Rattle.stk_bracket.specs.States.{ReachedStays, NoneStartedHere}
 
 -- delegating keeps accounts reached
@@ -29,6 +30,14 @@ CreatingKeepsReached = (m : CreateValidator) → KeptByStep ReachedStays (create
 -- and so does undelegating
 abbrev pub UndelegatingKeepsReached : Type 0
 UndelegatingKeepsReached = (who operator : List ℕ) (coin : Coin) → KeptByStep ReachedStays (undelegate who operator coin)
+
+-- and so does redelegating
+abbrev pub RedelegatingKeepsReached : Type 0
+RedelegatingKeepsReached = (who source target : List ℕ) (coin : Coin) → KeptByStep ReachedStays (begin_redelegate who source target coin)
+
+-- So each message that is not refused keeps accounts reached, and so does the fee.
+abbrev pub MessagesKeepReached : Type 0
+MessagesKeepReached = KeptByMessages ReachedStays
 
 -- and so do the mature entries of a block: unbondings that are paid, and redelegations that go
 abbrev pub UnbondingsStepKeepsReached : Type 0
@@ -60,3 +69,11 @@ abbrev pub BlockBeginKeepsReached : Type 0
 BlockBeginKeepsReached =
     (votes : List Vote) (height time : ℕ) (w : State) → IsSound w → IsSound (next_block height time w) → w.view.ctx.height < height
     → IsMoney (in_units (coins_of w.view.bank (account.Module holder.FeeCollector))) → IfOk (allocation_step votes (next_block height time w)) (ReachedStays w)
+
+-- and so does a vote, with the slash and the jailing that a missed one may bring
+abbrev pub VotesKeepReached : Type 0
+VotesKeepReached = (t : Vote) → KeptByStep ReachedStays (vote_step t)
+
+-- and so does a piece of evidence, with its slash
+abbrev pub EvidenceKeepsReached : Type 0
+EvidenceKeepsReached = (e : Evidence) → KeptByStep ReachedStays (evidence_step e)

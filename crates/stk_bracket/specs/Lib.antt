@@ -3,3 +3,4 @@ pub mod Laws
 pub mod Rows
 pub mod States
 pub mod Changes
+pub mod Withdrawals

@@ -1,13 +1,16 @@
 -- Worked rows: two histories of a validator, each of fitting deeds, and what they come to.
-use Rattle.std.specs.Prelude.{◌≡◌, ℕ, ◌*◌, ◌^◌, List, [], ◌∷◌, ◌++◌, map, Option, Some, None}
+use Rattle.std.specs.Prelude.{◌≡◌, ℕ, ◌*◌, ◌^◌, ◌≤◌, List, [], ◌∷◌, ◌++◌, map, Option, Some, None}
 use Rattle.stk_dec.specs.Fractions.{Fraction, IsAtMost}
-use Rattle.stk_coins.specs.Coins.{Money}
+use Rattle.stk_coins.specs.Coins.{Money, amount_of}
+use Rattle.stk_keep.specs.Log.{Log}
+use Rattle.stk_keep.specs.Log as log
 use Rattle.stk_shares.specs.Burns.{ratio_of}
 use Rattle.stk_rules.specs.Fixtures.{addr, uatom, decimals}
 use Rattle.stk_rules.specs.Ideal.{Span, span_of, ideal_reward}
 use Rattle.stk_bracket.specs.Account.{Account, Deed, AreFitting, new_account, account_of, reward_now}
 use Rattle.stk_bracket.specs.Account as deed
 use Rattle.stk_bracket.specs.Laws.{overclaim}
+use Rattle.stk_bracket.specs.Withdrawals.{IsFairPayment}
 
 -- the end of a period without rewards
 abbrev pub quiet_end : Deed
@@ -122,3 +125,23 @@ pub record LastPaymentIsCut : Type 0 where
   pub last : rewards_of cut_account ≡ 73144396551724137932974137931034463 ∷ []
   pub outstanding : cut_account.outstanding ≡ 73144396551724137931034482758620912
   pub over : overclaim uatom cut_account ≡ 11637931034482758620689655172413790
+
+-- ---- payments that are not fair
+
+-- A validator with 100 tokens, all of one delegation, which the fees of 50 went to; then a withdrawal ends the period.
+abbrev pub shared_fees : Log
+shared_fees =
+    (addr 1, log.made)
+    ∷ (addr 1, log.ended 1 [])
+    ∷ (addr 1, log.started (addr 2) (100 * 10 ^ 18) 100 (100 * 10 ^ 18) (100 * 10 ^ 18))
+    ∷ (addr 1, log.allocated ((uatom, 50 * 10 ^ 18) ∷ []) 100)
+    ∷ (addr 1, log.ended 2 ((uatom, 5 * 10 ^ 17) ∷ []))
+    ∷ []
+
+-- There a payment of nothing is not fair,
+abbrev pub NothingIsUnfair : Type 0
+NothingIsUnfair = (coins : Money) → IsFairPayment shared_fees (addr 2) (addr 1) [] coins → ⊥
+
+-- nor is one of twice as much.
+abbrev pub TwiceIsUnfair : Type 0
+TwiceIsUnfair = (reward coins : Money) → 100 * 10 ^ 18 ≤ amount_of reward uatom → IsFairPayment shared_fees (addr 2) (addr 1) reward coins → ⊥

@@ -11,3 +11,4 @@ pub mod changes;
 pub mod laws;
 pub mod rows;
 pub mod states;
+pub mod withdrawals;

@@ -1,7 +1,7 @@
 //! Worked rows of accounts, each a theorem that its function's contract names: histories of fitting deeds, and what they
 //! come to. So the premises of the laws can be met.
 
-ghost use Rattle.stk_bracket.specs.Rows.{SlashedTwice, LastPaymentIsCut};
+ghost use Rattle.stk_bracket.specs.Rows.{SlashedTwice, LastPaymentIsCut, NothingIsUnfair, TwiceIsUnfair};
 
 /// A delegation that was redelegated is slashed for both validators; its reward and its ideal reward.
 #[tactic(auto, using(crate::proofs::RowLemmas::slashed_twice))]
@@ -13,4 +13,10 @@ pub fn slashed_twice()
 #[tactic(auto, using(crate::proofs::RowLemmas::last_payment_is_cut))]
 pub fn last_payment_is_cut()
     ensures { LastPaymentIsCut }
+{}
+
+/// Where fees were shared, a payment of nothing is not fair, and neither is one of twice as much.
+pub fn unfair_payments()
+    ensures nothing { NothingIsUnfair }
+    ensures twice { TwiceIsUnfair }
 {}
