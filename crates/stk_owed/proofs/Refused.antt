@@ -77,7 +77,7 @@ rewards_refused who operator w s =
 -- ---- shares that are given
 
 -- The conditions against issuing shares, before other steps: no rate, shares that are over, none at all.
-given_refused : {A : Type 0} (v : Validator) (amount : ℕ) (f : ℕ → Result A Refusal) (rest : List (Option Refusal)) → ((issued : ℕ) → refused_in (f issued) ≡ first_of rest)
+pub given_refused : {A : Type 0} (v : Validator) (amount : ℕ) (f : ℕ → Result A Refusal) (rest : List (Option Refusal)) → ((issued : ℕ) → refused_in (f issued) ≡ first_of rest)
     → refused_in (shares_given v amount >>= f)
     ≡ first_of (when (has_invalid_rate v.tokens v.shares) RateInvalid ∷ issue_over v (issued_shares v.tokens v.shares amount) ∷ when (is_nothing (issued_shares v.tokens v.shares amount)) TinyDelegation ∷ rest)
 given_refused {A} v amount f rest h = by (has_invalid_rate v.tokens v.shares) (v.shares == 0) (whole_of amount) (mul_int_quo_int_of v.shares amount v.tokens)

@@ -28,7 +28,7 @@ use Rattle.stk_keep.specs.Orders.{pair_cmp, same_addr}
 use Rattle.stk_keep.specs.Staked.{Staked, is_bonded, is_unbonded, lists_of, of_bond, tokens_where, validator_at}
 use Rattle.stk_keep.specs.declared.facts.Fact.{Fact}
 use Rattle.stk_owed.proofs.Burns.{IsQuiet, quiet_behind, quiet_pooled}
-use Rattle.stk_owed.proofs.Hooking.{IfTold, hook_gave, on_call, stake_hooks}
+use Rattle.stk_owed.proofs.Hooking.{hook_gave, on_call, stake_hooks, unlogged_if}
 use Rattle.stk_owed.proofs.Lists.{all_taken, ascend_taken, weaker}
 use Rattle.stk_owed.proofs.Moves.{HooksFit, Leaves, stake_left, user_is_other, ground_told}
 use Rattle.stk_owed.proofs.Names.{IsKnown, known_added, known_fractions, known_smaller, known_taken, known_whole}
@@ -220,10 +220,6 @@ module _ (P : List ℕ → Type 0) (T : List ℕ → ℕ) where
       same_bank : (b : Bool) (f : Fact) (u : View) → (if b then u else noted f u).bank ≡ u.bank
       same_bank true f u = refl
       same_bank false f u = refl
-
-  unlogged_if : (r : Result (Shared × View) Over) (R : Shared → View → Type 0) → IfOk r (λ z. R z.0 z.1) → IfTold (told_of (unlogged r)) R
-  unlogged_if (Ok z) R h = h
-  unlogged_if (Err over) R h = tt
 
   -- ---- a validator goes where it is unbonded and has no shares
 

@@ -236,7 +236,7 @@ module _ (P : List ℕ → Type 0) (T : List ℕ → ℕ) where
       }
 
   -- what is due is known, and the period has ended
-  due_leaves : (val : Validator) (who : List ℕ) (shares : ℕ) (v : View) (l : Lists) (d : Shared) → HooksFit P T v l d → l.operators val.operator ≡ true
+  pub due_leaves : (val : Validator) (who : List ℕ) (shares : ℕ) (v : View) (l : Lists) (d : Shared) → HooksFit P T v l d → l.operators val.operator ≡ true
       → IfOk (reward_due val who shares d v) (λ z. IsKnown P z.0 × Leaves P T v l z.1 z.2)
   due_leaves val who shares v l d h there =
       on_then (ended val d v) _ (EndFits val v l d) _ (end_fits val v l d h there) (λ x k.

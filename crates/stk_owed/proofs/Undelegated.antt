@@ -122,7 +122,7 @@ module _ (P : List ℕ → Type 0) (T : List ℕ → ℕ) where
           ap (λ (r : Result (ℕ × World Staked Hooks) Over). refused_in (stopping Overflow r)) e
 
 -- a hook is over in a state as in what is of staking there
-same_over : (w : State) (t : Told Hooks) → over_in (hooked t (staked_in w)) ≡ first_of (over_in (hooked t w) ∷ [])
+pub same_over : (w : State) (t : Told Hooks) → over_in (hooked t (staked_in w)) ≡ first_of (over_in (hooked t w) ∷ [])
 same_over w (gives h u l) = refl
 same_over w (exceeds over) = refl
 

@@ -1,6 +1,7 @@
 -- What keeps a sound state sound, step by step: the statement `SoundIsKept` of `stk_rules` in parts; and how funding the
 -- community pool is refused.
-use Rattle.std.specs.Prelude.{List, length, map, sum, ℕ, IfOk, ◌≡◌, ◌+◌, ◌<◌, ◌≤◌, ◌^◌}
+use Rattle.std.specs.Prelude.{◌⊎◌, All, Result, Ok, Err, List, length, map, sum, ℕ, IfOk, ◌≡◌, ◌+◌, ◌<◌, ◌≤◌, ◌^◌}
+use Rattle.stk_dec.specs.declared.over.Over.{Over}
 use Rattle.stk_types.specs.declared.account.Account.{Account}
 use Rattle.stk_coins.specs.declared.coin.Coin.{Coin}
 use Rattle.stk_coins.specs.Coins.{Money, IsMoney}
@@ -10,15 +11,18 @@ use Rattle.stk_keep.specs.declared.messages.Evidence.{Evidence}
 use Rattle.stk_keep.specs.declared.messages.Vote.{Vote}
 use Rattle.stk_keep.specs.Ground.{end_of_blocks}
 use Rattle.stk_keep.specs.Holdings.{supply_of}
-use Rattle.stk_rules.specs.Chain.{State, vote_step, evidence_step, allocation_step, set_step, maturing_step, unbondings_step, redelegations_step}
+use Rattle.stk_rules.specs.Chain.{State, begin_block, vote_step, evidence_step, allocation_step, set_step, maturing_step, unbondings_step, redelegations_step}
 use Rattle.stk_rules.specs.Effects.{send, begin_redelegate, undelegate, cancel_unbonding, create_validator, delegate, withdraw_reward, edit_validator, unjail, withdraw_commission, set_withdraw_address, fund_community_pool, community_pool_spend, fee_paid}
 use Rattle.stk_rules.specs.Laws.{KeptByStep, AreWhole, AreVotes, IsPower, CountsBelow, next_block, burned_in}
-use Rattle.stk_rules.specs.RefusalOrder.{IsRefusedBy, against_cancel, against_delegate, against_fund, against_reward, against_undelegate}
+use Rattle.stk_rules.specs.RefusalOrder.{IsRefusedBy, against_cancel, against_create, against_delegate, against_fund, against_redelegate, against_reward, against_undelegate}
 use Rattle.stk_rules.specs.Sound.{IsSound}
 use Rattle.stk_msgs.specs.declared.block.Block.{Block}
 use Rattle.stk_msgs.specs.declared.block.Tx.{Tx}
+use Rattle.stk_msgs.specs.declared.faults.BlockFault.{BlockFault}
+use Rattle.stk_msgs.specs.declared.faults.BlockFault.TheVariants.{RatioLimit}
 use Rattle.stk_msgs.specs.declared.message.Msg.{Msg}
-use Rattle.stk_machine.specs.Machine.{tx_applied, run_of}
+use Rattle.stk_machine.specs.GenesisState.{without_facts}
+use Rattle.stk_machine.specs.Machine.{Step, block_checked, step, tx_applied, run_of}
 use Rattle.stk_machine.specs.Messages.{effect_of}
 use Rattle.stk_machine.specs.Promises.{MessageHasCoins, TxHasCoins, AreInput, facts_of}
 
@@ -145,3 +149,40 @@ CancellationsNameConditions = (who operator : List ℕ) (coin : Coin) (height : 
 -- So is undelegating.
 abbrev pub UndelegationsNameConditions : Type 0
 UndelegationsNameConditions = (who operator : List ℕ) (coin : Coin) → IsRefusedBy (undelegate who operator coin) (against_undelegate who operator coin)
+
+-- So is creating a validator.
+abbrev pub CreationsNameConditions : Type 0
+CreationsNameConditions = (m : CreateValidator) → IsRefusedBy (create_validator m) (against_create m)
+
+-- So is redelegating.
+abbrev pub RedelegationsNameConditions : Type 0
+RedelegationsNameConditions = (who source target : List ℕ) (coin : Coin) → IsRefusedBy (begin_redelegate who source target coin) (against_redelegate who source target coin)
+
+-- ---- blocks
+
+-- the state after a block's beginning, or the limit that it met
+abbrev pub begun_by : Block → State → Result State Over
+begun_by b w = begin_block b.votes b.evidence (without_facts (next_block b.height b.time w))
+
+-- no condition against a block held, and its beginning met no limit
+pub record IsBegun (b : Block) (w : State) : Type 0 where
+  pub checked : block_checked b w ≡ Ok tt
+  pub begun : State
+  pub begins : begun_by b w ≡ Ok begun
+
+-- no condition against it held, and its beginning met this limit
+pub record IsLimit (b : Block) (w : State) (fault : BlockFault) : Type 0 where
+  pub checked : block_checked b w ≡ Ok tt
+  pub over : Over
+  pub fault_is : fault ≡ RatioLimit over
+  pub begun : begun_by b w ≡ Err over
+
+-- what a block's answer says of it
+abbrev pub BlockIsAnswered : Block → State → Result Step BlockFault → Type 0
+BlockIsAnswered b w (Ok s) = IsBegun b w
+BlockIsAnswered b w (Err fault) = (block_checked b w ≡ Err fault) ⊎ IsLimit b w fault
+
+-- From a sound state each fault of a block is that of the first condition against it, or a limit that its beginning met, and
+-- where there is neither the block is answered: its end meets no limit.
+abbrev pub BlocksAreAnswered : Type 0
+BlocksAreAnswered = (b : Block) (w : State) → All TxHasCoins b.txs → IsSound w → w.view.ctx.height + 1 < 2 ^ 63 → BlockIsAnswered b w (step b w)
