@@ -124,7 +124,8 @@ facts_of b = b.begun ++ told_in b.txs ++ b.ended
     told_in [] = []
     told_in (t ∷ ts) = t.facts ++ told_in ts
 
--- Stated, not proved: of each denomination, what is there and what blocks say was burned come to what was there at the genesis.
+-- Of each denomination, what is there and what blocks say was burned come to what was there at the genesis. Proved:
+-- `supplies_fall_by_burns` of `stk_owed`.
 abbrev pub SuppliesFallByBurns : Type 0
 SuppliesFallByBurns = (r : Replayed) (d : List ℕ)
     → supply_of (run_in r).state.view.bank d + sum (map (λ b. burned_in d (facts_of b)) (run_in r).reports) ≡ supply_of r.start.state.view.bank d
@@ -144,8 +145,8 @@ is_plain _ = false
 abbrev pub PlainMessagesNameConditions : Type 0
 PlainMessagesNameConditions = (m : Msg) (w : State) → is_plain m ≡ true → refusal_of (effect_of m) w ≡ first_of (against m w)
 
--- Stated, not proved: every message is refused by the first of its conditions that holds of a sound state, and accepted
--- where none does.
+-- Every message is refused by the first of its conditions that holds of a sound state, and accepted where none does. Proved:
+-- `messages_name_conditions` of `stk_owed`.
 abbrev pub MessagesNameConditions : Type 0
 MessagesNameConditions = (m : Msg) → MessageHasCoins m → IsRefusedBy (effect_of m) (against m)
 

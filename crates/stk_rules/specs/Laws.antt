@@ -102,7 +102,8 @@ burned_in d facts = sum (map (burned_in_fact d) facts)
 abbrev pub SupplyFallsByBurns : State → State → Type 0
 SupplyFallsByBurns old new = (d : List ℕ) → supply_of new.view.bank d + burned_in d new.view.facts ≡ supply_of old.view.bank d + burned_in d old.view.facts
 
--- Stated, not proved: in each atomic step each supply falls by exactly the burns that its facts tell.
+-- In each atomic step each supply falls by exactly the burns that its facts tell. Proved: `only_burns_lower_supplies` of
+-- `stk_owed`.
 abbrev pub OnlyBurnsLowerSupplies : Type 0
 OnlyBurnsLowerSupplies = KeptByMessages SupplyFallsByBurns × KeptByBlocks SupplyFallsByBurns
 

@@ -218,7 +218,7 @@ pub record AreRefusedAnywhere : Type 0 where
 abbrev pub IsRefusedBy : Effect → Order → Type 0
 IsRefusedBy f order = (w : State) → IsSound w → refusal_of f w ≡ first_of (order w)
 
--- So are the others in every sound state: stated, not proved.
+-- So are the others in every sound state. Proved: `messages_name_conditions` of `stk_owed`.
 pub record RefusalsNameConditions : Type 0 where
   pub creates : (m : CreateValidator) → IsRefusedBy (create_validator m) (against_create m)
   pub delegates : (who operator : List ℕ) (coin : Coin) → IsRefusedBy (delegate who operator coin) (against_delegate who operator coin)
