@@ -31,10 +31,6 @@ use Rattle.stk_rules.specs.Delegating.{Origin, wallet, pool, paid_in}
 use Rattle.stk_rules.specs.Stakes.{pool_of}
 use Rattle.stk_book.specs.Calls.{PaysAs, CanPay}
 
--- ---- what can be undone after one step can be after two
-
-}
-
 -- ---- coins of the bond denomination
 
 pub bond_is : (v : View) (n : ℕ) → 0 < n → bond_coins v n ≡ (v.ctx.params.bond_denom, n) ∷ []

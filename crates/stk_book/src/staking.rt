@@ -48,7 +48,8 @@ impl Model for Staking {
 
     ghost view = { λ s. registered s.validators s.delegations s.spent s.power_reduction };
 
-    ghost invariant = { λ s. (s.marks.items ≡ range_with_len 0 (length s.validators.marks)) × AreInStep s.validators s.operators s.delegations };
+    ghost invariant = { λ s. (s.marks.items ≡ range_with_len 0 (length s.validators.marks))
+        × AreInStep s.validators s.operators s.delegations };
 }
 
 impl Staking {
@@ -76,7 +77,8 @@ impl Staking {
         after: Option<&Addr>,
         steps: &mut Steps<L>,
     ) -> Option<&Validator>
-        ensures validator { option_copied result ≡ option_map (λ e. e.1) (entry_above addr_cmp self.now.staked.validators (option_copied after.entry)) }
+        ensures validator { option_copied result ≡ option_map (λ e. e.1)
+            (entry_above addr_cmp self.now.staked.validators (option_copied after.entry)) }
         ensures cost { steps.new ≤ steps.old + 1 }
     {
         match self.validators.next(after, steps) {
@@ -89,7 +91,8 @@ impl Staking {
     pub(crate) fn known(&self)
         ensures validators { IsStrictlySortedBy addr_cmp (keys_of self.now.staked.validators) }
         ensures delegations { IsStrictlySortedBy pair_cmp (keys_of self.now.staked.delegations) }
-        ensures operators { (o : List ℕ) (v : Validator) → validator_at self.now.staked o ≡ Some v → v.operator ≡ o }
+        ensures operators { (o : List ℕ) (v : Validator)
+            → validator_at self.now.staked o ≡ Some v → v.operator ≡ o }
     {
         let _ = self.validators.len();
         let _delegations = self.delegations.len();
@@ -143,7 +146,8 @@ impl Staking {
         steps: &mut Steps<L>,
     ) -> Result<(), TableFault>
         requires stands { Stands v.now self.old.staked }
-        ensures ok { OnOk result (self.new ≡ holding (put_validator v.now self.old.staked) self.old) }
+        ensures ok { OnOk result
+            (self.new ≡ holding (put_validator v.now self.old.staked) self.old) }
         ensures err { OnErr result (self.new ≡ spent_now self.old) }
         ensures spent { self.old.spent ≡ true → IsErr result }
         ensures cost { steps.new ≤ steps.old + 1 }
@@ -169,7 +173,8 @@ impl Staking {
         steps: &mut Steps<L>,
     ) -> Result<(), TableFault>
         requires new { validator_at self.old.staked v.now.operator ≡ None }
-        ensures ok { OnOk result (self.new ≡ holding (put_validator v.now self.old.staked) self.old) }
+        ensures ok { OnOk result
+            (self.new ≡ holding (put_validator v.now self.old.staked) self.old) }
         ensures err { OnErr result (self.new ≡ spent_now self.old) }
         ensures spent { self.old.spent ≡ true → IsErr result }
     {
@@ -192,8 +197,10 @@ impl Staking {
         steps: &mut Steps<L>,
     ) -> Result<(), TableFault>
         requires stands { validator_at self.old.staked v.now.operator ≡ Some v.now }
-        requires alone { operator_by_cons (without addr_cmp self.old.staked.validators v.now.operator) v.now.cons ≡ None }
-        ensures ok { OnOk result (self.new ≡ holding (without_validator v.now.operator self.old.staked) self.old) }
+        requires alone { operator_by_cons
+            (without addr_cmp self.old.staked.validators v.now.operator) v.now.cons ≡ None }
+        ensures ok { OnOk result
+            (self.new ≡ holding (without_validator v.now.operator self.old.staked) self.old) }
         ensures err { OnErr result (self.new ≡ spent_now self.old) }
         ensures spent { self.old.spent ≡ true → IsErr result }
     {
@@ -217,7 +224,8 @@ impl Staking {
         shares: Dec,
         steps: &mut Steps<L>,
     ) -> Result<(), TableFault>
-        ensures ok { OnOk result (self.new ≡ holding (put_delegation who.now operator.now shares self.old.staked) self.old) }
+        ensures ok { OnOk result (self.new
+            ≡ holding (put_delegation who.now operator.now shares self.old.staked) self.old) }
         ensures err { OnErr result (self.new ≡ spent_now self.old) }
         ensures spent { self.old.spent ≡ true → IsErr result }
     {
@@ -243,7 +251,8 @@ impl Staking {
         operator: &Addr,
         steps: &mut Steps<L>,
     ) -> Result<(), TableFault>
-        ensures ok { OnOk result (self.new ≡ holding (without_shares who.now operator.now self.old.staked) self.old) }
+        ensures ok { OnOk result
+            (self.new ≡ holding (without_shares who.now operator.now self.old.staked) self.old) }
         ensures err { OnErr result (self.new ≡ spent_now self.old) }
         ensures spent { self.old.spent ≡ true → IsErr result }
     {
