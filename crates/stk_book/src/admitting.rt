@@ -1,13 +1,12 @@
 //! Admitting a validator of a genesis.
 
-ghost use Rattle.std.specs.Prelude.{◌≡◌, None, true, OnOk, IsErr};
-ghost use Rattle.stk_keep.specs.Ground.{seen, CanBeUndone};
-ghost use Rattle.stk_keep.specs.Hooks.{Stands};
-ghost use Rattle.stk_keep.specs.Staked.{validator_at, validator_by_cons, lists_of, bonded_tokens, other_tokens, HoldsStake};
+ghost use Rattle.std.specs.Prelude.{◌≡◌, None, OnOk};
+ghost use Rattle.stk_keep.specs.Ground.{seen};
+ghost use Rattle.stk_keep.specs.Staked.{validator_at, validator_by_cons};
 ghost use Rattle.stk_rules.specs.Answers.{Leaves};
 ghost use Rattle.stk_rules.specs.Validators.{new_validator, stored};
-ghost use Rattle.stk_book.specs.Registered.{behind};
-ghost use Rattle.stk_book.specs.Calls.{IsSoundStake, HasRates, over};
+ghost use Rattle.stk_book.specs.Calls.{HasRates, over};
+ghost use Rattle.stk_book.specs.Scenes.{IsScene, GoesOn};
 
 use crate::creating::new_validator;
 use crate::staking::Staking;
@@ -32,23 +31,19 @@ impl Staking {
         requires new { validator_at self.old.staked m.now.validator ≡ None }
         requires new_cons { validator_by_cons self.old.staked m.now.cons ≡ None }
         requires rates { HasRates m.now }
-        requires sound { IsSoundStake self.old.staked }
-        requires stand { Stands (H.holds hooks.old) H.tells (seen B.holdings g.old) (lists_of self.old.staked) }
-        requires accounts { HoldsStake (seen B.holdings g.old) (bonded_tokens self.old.staked) (other_tokens self.old.staked) }
+        requires scene { IsScene H.tells (H.holds hooks.old)
+            (seen B.holdings g.old) self.old.staked }
 
-        ensures told { (h : H.Held) → H.holds hooks.old h → Leaves (stored H.tells.told (new_validator m.now g.old.ctx.time) (over self.old.staked h (seen B.holdings g.old))) self.new.staked (H.holds hooks.new) (seen B.holdings g.new) result }
-        ensures sound { OnOk result (IsSoundStake self.new.staked) }
-        ensures stand { OnOk result (Stands (H.holds hooks.new) H.tells (seen B.holdings g.new) (lists_of self.new.staked)) }
-        ensures accounts { OnOk result (HoldsStake (seen B.holdings g.new) (bonded_tokens self.new.staked) (other_tokens self.new.staked)) }
+        ensures told { (h : H.Held) → H.holds hooks.old h
+            → Leaves (stored H.tells.told (new_validator m.now g.old.ctx.time)
+            (over self.old.staked h (seen B.holdings g.old)))
+            self.new.staked (H.holds hooks.new) (seen B.holdings g.new) result }
+        ensures scene { OnOk result (IsScene H.tells (H.holds hooks.new)
+            (seen B.holdings g.new) self.new.staked) }
 
         // Whatever the answer.
-        ensures undone { CanBeUndone B.marks g.old g.new }
-        ensures bank { B.touches g.new.bank ≡ B.touches g.old.bank }
-        ensures behind { behind self.new ≡ behind self.old }
-        ensures hook_marks { H.marks hooks.new ≡ H.marks hooks.old }
-        ensures spent { self.old.spent ≡ true → self.new.spent ≡ true }
-        ensures spent_answer { self.old.spent ≡ true → IsErr result }
-        ensures unspent { OnOk result (self.new.spent ≡ self.old.spent) }
+        ensures goes_on { GoesOn B.marks B.touches H.marks
+            g.old g.new hooks.old hooks.new self.old self.new result }
     {
         self.known();
         let v = new_validator(m, g.ctx.time);

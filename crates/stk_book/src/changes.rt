@@ -1,18 +1,18 @@
 //! Changes of a validator that other modules bring about: its jail, its status, a burn, and its removal.
 
-ghost use Rattle.std.specs.Prelude.{◌≡◌, ℕ, ◌+◌, ◌-◌, ◌≤◌, ◌++◌, ◌∷◌, [], List, true, false, Some, IsSome, OnOk, IfErr, IsErr};
+ghost use Rattle.std.specs.Prelude.{◌≡◌, ℕ, ◌+◌, ◌-◌, ◌≤◌, ◌++◌, ◌∷◌, [], List, true, false, Some, IsSome, OnOk, IfErr};
 ghost use Rattle.stk_keep.specs.declared.entities.Validator.{Validator};
 ghost use Rattle.stk_keep.specs.declared.facts.Fact.{Fact};
 ghost use Rattle.stk_keep.specs.declared.facts.Fact.TheVariants as fact;
 ghost use Rattle.stk_keep.specs.declared.faults.HookFault.TheVariants.{NoMemory};
-ghost use Rattle.stk_keep.specs.Ground.{seen, CanBeUndone};
-ghost use Rattle.stk_keep.specs.Hooks.{Stand, Stands, Keeps};
+ghost use Rattle.stk_keep.specs.Ground.{seen};
+ghost use Rattle.stk_keep.specs.Hooks.{Stand};
 ghost use Rattle.stk_keep.specs.Log.{Log};
 ghost use Rattle.stk_keep.specs.Staked.{validator_at, lists_of, is_unbonded};
 ghost use Rattle.stk_rules.specs.Answers.{Leaves};
 ghost use Rattle.stk_rules.specs.Unbonding.{validator_removed};
-ghost use Rattle.stk_book.specs.Registered.{behind};
 ghost use Rattle.stk_book.specs.Calls.{IsSoundStake, over, behind_log, changed_at};
+ghost use Rattle.stk_book.specs.Scenes.{IsHooked, RegisterGoesOn, GoesOn, KeepsAccounts};
 
 use crate::staking::Staking;
 use std::alloc::Global;
@@ -30,15 +30,13 @@ impl Staking {
     ) -> Result<(), HookFault>
         requires known { IsSome (validator_at self.old.staked operator.now) }
         requires sound { IsSoundStake self.old.staked }
-        ensures jailed { OnOk result (self.new.staked ≡ changed_at (λ v. record v { jailed = true }) operator.now self.old.staked) }
+        ensures jailed { OnOk result (self.new.staked
+            ≡ changed_at (λ v. record v { jailed = true }) operator.now self.old.staked) }
         ensures told { OnOk result (facts.new ≡ facts.old ++ fact.Jailed operator.now ∷ []) }
         ensures sound { OnOk result (IsSoundStake self.new.staked) }
         ensures fault { IfErr result (λ fault. fault ≡ NoMemory) }
         ensures grown { (more : List Fact) × (facts.new ≡ facts.old ++ more) }
-        ensures behind { behind self.new ≡ behind self.old }
-        ensures spent { self.old.spent ≡ true → self.new.spent ≡ true }
-        ensures spent_answer { self.old.spent ≡ true → IsErr result }
-        ensures unspent { OnOk result (self.new.spent ≡ self.old.spent) }
+        ensures register { RegisterGoesOn self.old self.new result }
         ensures cost { steps.new ≤ steps.old + 2 }
     {
         self.known();
@@ -61,15 +59,13 @@ impl Staking {
     ) -> Result<(), HookFault>
         requires known { IsSome (validator_at self.old.staked operator.now) }
         requires sound { IsSoundStake self.old.staked }
-        ensures cleared { OnOk result (self.new.staked ≡ changed_at (λ v. record v { jailed = false }) operator.now self.old.staked) }
+        ensures cleared { OnOk result (self.new.staked
+            ≡ changed_at (λ v. record v { jailed = false }) operator.now self.old.staked) }
         ensures told { OnOk result (facts.new ≡ facts.old ++ fact.Unjailed operator.now ∷ []) }
         ensures sound { OnOk result (IsSoundStake self.new.staked) }
         ensures fault { IfErr result (λ fault. fault ≡ NoMemory) }
         ensures grown { (more : List Fact) × (facts.new ≡ facts.old ++ more) }
-        ensures behind { behind self.new ≡ behind self.old }
-        ensures spent { self.old.spent ≡ true → self.new.spent ≡ true }
-        ensures spent_answer { self.old.spent ≡ true → IsErr result }
-        ensures unspent { OnOk result (self.new.spent ≡ self.old.spent) }
+        ensures register { RegisterGoesOn self.old self.new result }
         ensures cost { steps.new ≤ steps.old + 2 }
     {
         self.known();
@@ -96,15 +92,15 @@ impl Staking {
     ) -> Result<(), HookFault>
         requires known { IsSome (validator_at self.old.staked operator.now) }
         requires sound { IsSoundStake self.old.staked }
-        ensures changed { OnOk result (self.new.staked ≡ changed_at (λ v. record v { status = status; unbonding_height = height; unbonding_time = time }) operator.now self.old.staked) }
-        ensures told { OnOk result (facts.new ≡ facts.old ++ fact.Changed operator.now status ∷ []) }
+        ensures changed { OnOk result (self.new.staked ≡ changed_at
+            (λ v. record v { status = status; unbonding_height = height; unbonding_time = time })
+            operator.now self.old.staked) }
+        ensures told { OnOk result
+            (facts.new ≡ facts.old ++ fact.Changed operator.now status ∷ []) }
         ensures sound { OnOk result (IsSoundStake self.new.staked) }
         ensures fault { IfErr result (λ fault. fault ≡ NoMemory) }
         ensures grown { (more : List Fact) × (facts.new ≡ facts.old ++ more) }
-        ensures behind { behind self.new ≡ behind self.old }
-        ensures spent { self.old.spent ≡ true → self.new.spent ≡ true }
-        ensures spent_answer { self.old.spent ≡ true → IsErr result }
-        ensures unspent { OnOk result (self.new.spent ≡ self.old.spent) }
+        ensures register { RegisterGoesOn self.old self.new result }
         ensures cost { steps.new ≤ steps.old + 2 }
     {
         self.known();
@@ -128,15 +124,15 @@ impl Staking {
         amount: u128,
         steps: &mut Steps<L>,
     ) -> Result<(), HookFault>
-        requires known { (v : Validator) × ((validator_at self.old.staked operator.now ≡ Some v) × (amount ≤ v.tokens)) }
+        requires known { (v : Validator)
+            × ((validator_at self.old.staked operator.now ≡ Some v) × (amount ≤ v.tokens)) }
         requires sound { IsSoundStake self.old.staked }
-        ensures burned { OnOk result (self.new.staked ≡ changed_at (λ v. record v { tokens = v.tokens - amount }) operator.now self.old.staked) }
+        ensures burned { OnOk result (self.new.staked
+            ≡ changed_at (λ v. record v { tokens = v.tokens - amount })
+            operator.now self.old.staked) }
         ensures sound { OnOk result (IsSoundStake self.new.staked) }
         ensures fault { IfErr result (λ fault. fault ≡ NoMemory) }
-        ensures behind { behind self.new ≡ behind self.old }
-        ensures spent { self.old.spent ≡ true → self.new.spent ≡ true }
-        ensures spent_answer { self.old.spent ≡ true → IsErr result }
-        ensures unspent { OnOk result (self.new.spent ≡ self.old.spent) }
+        ensures register { RegisterGoesOn self.old self.new result }
         ensures cost { steps.new ≤ steps.old + 2 }
     {
         self.known();
@@ -158,25 +154,27 @@ impl Staking {
         operator: &Addr,
         steps: &mut Steps<L>,
     ) -> Result<(), HookFault>
-        requires known { (v : Validator) × ((validator_at self.old.staked operator.now ≡ Some v) × (v.shares ≡ 0) × (is_unbonded v.status ≡ true)) }
-        requires sound { IsSoundStake self.old.staked }
-        requires stand { Stands (H.holds hooks.old) H.tells (seen B.holdings g.old) (lists_of self.old.staked) }
+        requires known { (v : Validator) × ((validator_at self.old.staked operator.now ≡ Some v)
+            × (v.shares ≡ 0) × (is_unbonded v.status ≡ true)) }
+        requires hooked { IsHooked H.tells (H.holds hooks.old)
+            (seen B.holdings g.old) self.old.staked }
 
-        ensures told { (h : H.Held) → H.holds hooks.old h → (v : Validator) → validator_at self.old.staked operator.now ≡ Some v
-            → Leaves (validator_removed H.tells.told v (over self.old.staked h (seen B.holdings g.old))) self.new.staked (H.holds hooks.new) (seen B.holdings g.new) result }
-        ensures sure { (h : H.Held) → H.holds hooks.old h → Stand H.tells h (seen B.holdings g.old) (lists_of self.old.staked) → H.tells.sure h ≡ true → IfErr result (λ fault. fault ≡ NoMemory) }
-        ensures sound { OnOk result (IsSoundStake self.new.staked) }
-        ensures stand { OnOk result (Stands (H.holds hooks.new) H.tells (seen B.holdings g.new) (lists_of self.new.staked)) }
-        ensures keeps { (h : H.Held) → H.holds hooks.old h → Stand H.tells h (seen B.holdings g.old) (lists_of self.old.staked) → OnOk result (Keeps (H.tells.owes h ≡ None) (seen B.holdings g.old) (seen B.holdings g.new)) }
+        ensures told { (h : H.Held) → H.holds hooks.old h
+            → (v : Validator) → validator_at self.old.staked operator.now ≡ Some v
+            → Leaves (validator_removed H.tells.told v
+            (over self.old.staked h (seen B.holdings g.old)))
+            self.new.staked (H.holds hooks.new) (seen B.holdings g.new) result }
+        ensures sure { (h : H.Held) → H.holds hooks.old h
+            → Stand H.tells h (seen B.holdings g.old) (lists_of self.old.staked)
+            → H.tells.sure h ≡ true → IfErr result (λ fault. fault ≡ NoMemory) }
+        ensures hooked { OnOk result (IsHooked H.tells (H.holds hooks.new)
+            (seen B.holdings g.new) self.new.staked) }
+        ensures keeps { KeepsAccounts H.tells (H.holds hooks.old) self.old.staked
+            (seen B.holdings g.old) (seen B.holdings g.new) result }
 
         // Whatever the answer.
-        ensures undone { CanBeUndone B.marks g.old g.new }
-        ensures bank { B.touches g.new.bank ≡ B.touches g.old.bank }
-        ensures behind { behind self.new ≡ behind self.old }
-        ensures hook_marks { H.marks hooks.new ≡ H.marks hooks.old }
-        ensures spent { self.old.spent ≡ true → self.new.spent ≡ true }
-        ensures spent_answer { self.old.spent ≡ true → IsErr result }
-        ensures unspent { OnOk result (self.new.spent ≡ self.old.spent) }
+        ensures goes_on { GoesOn B.marks B.touches H.marks
+            g.old g.new hooks.old hooks.new self.old self.new result }
     {
         self.known();
         let v = *self.at(operator, steps).unwrap();
@@ -194,23 +192,24 @@ impl Staking {
     ) -> Result<(), HookFault>
         requires stands { validator_at self.old.staked v.now.operator ≡ Some v.now }
         requires empty { v.now.shares ≡ 0 }
-        requires sound { IsSoundStake self.old.staked }
-        requires stand { Stands (H.holds hooks.old) H.tells (seen B.holdings g.old) (lists_of self.old.staked) }
+        requires hooked { IsHooked H.tells (H.holds hooks.old)
+            (seen B.holdings g.old) self.old.staked }
 
-        ensures told { (h : H.Held) → H.holds hooks.old h → (log : Log) → Leaves (validator_removed H.tells.told v.now (behind_log log self.old.staked h (seen B.holdings g.old))) self.new.staked (H.holds hooks.new) (seen B.holdings g.new) result }
-        ensures sure { (h : H.Held) → H.holds hooks.old h → Stand H.tells h (seen B.holdings g.old) (lists_of self.old.staked) → H.tells.sure h ≡ true → IfErr result (λ fault. fault ≡ NoMemory) }
-        ensures sound { OnOk result (IsSoundStake self.new.staked) }
-        ensures stand { OnOk result (Stands (H.holds hooks.new) H.tells (seen B.holdings g.new) (lists_of self.new.staked)) }
-        ensures keeps { (h : H.Held) → H.holds hooks.old h → Stand H.tells h (seen B.holdings g.old) (lists_of self.old.staked) → OnOk result (Keeps (H.tells.owes h ≡ None) (seen B.holdings g.old) (seen B.holdings g.new)) }
+        ensures told { (h : H.Held) → H.holds hooks.old h → (log : Log)
+            → Leaves (validator_removed H.tells.told v.now
+            (behind_log log self.old.staked h (seen B.holdings g.old)))
+            self.new.staked (H.holds hooks.new) (seen B.holdings g.new) result }
+        ensures sure { (h : H.Held) → H.holds hooks.old h
+            → Stand H.tells h (seen B.holdings g.old) (lists_of self.old.staked)
+            → H.tells.sure h ≡ true → IfErr result (λ fault. fault ≡ NoMemory) }
+        ensures hooked { OnOk result (IsHooked H.tells (H.holds hooks.new)
+            (seen B.holdings g.new) self.new.staked) }
+        ensures keeps { KeepsAccounts H.tells (H.holds hooks.old) self.old.staked
+            (seen B.holdings g.old) (seen B.holdings g.new) result }
 
         // Whatever the answer.
-        ensures undone { CanBeUndone B.marks g.old g.new }
-        ensures bank { B.touches g.new.bank ≡ B.touches g.old.bank }
-        ensures behind { behind self.new ≡ behind self.old }
-        ensures hook_marks { H.marks hooks.new ≡ H.marks hooks.old }
-        ensures spent { self.old.spent ≡ true → self.new.spent ≡ true }
-        ensures spent_answer { self.old.spent ≡ true → IsErr result }
-        ensures unspent { OnOk result (self.new.spent ≡ self.old.spent) }
+        ensures goes_on { GoesOn B.marks B.touches H.marks
+            g.old g.new hooks.old hooks.new self.old self.new result }
     {
         self.take(v, steps)?;
         match hooks.after_validator_removed(alloc, g, v, steps) {

@@ -1,15 +1,13 @@
 //! Creating a validator.
 
-ghost use Rattle.std.specs.Prelude.{◌≡◌, not, true, OnOk, IsErr};
+ghost use Rattle.std.specs.Prelude.{◌≡◌, not, OnOk};
 ghost use Rattle.std.specs.BTreeMap.{is_at};
 ghost use Rattle.stk_types.specs.Orders.{denom_cmp};
 ghost use Rattle.stk_keep.specs.Answers.{AnswersAs};
-ghost use Rattle.stk_keep.specs.Ground.{seen, CanBeUndone};
-ghost use Rattle.stk_keep.specs.Hooks.{Stands};
-ghost use Rattle.stk_keep.specs.Staked.{lists_of, bonded_tokens, other_tokens, HoldsStake};
+ghost use Rattle.stk_keep.specs.Ground.{seen};
 ghost use Rattle.stk_rules.specs.Validators.{are_out_of_range, created, new_validator};
-ghost use Rattle.stk_book.specs.Registered.{behind};
-ghost use Rattle.stk_book.specs.Calls.{IsSoundStake, over, create_formed};
+ghost use Rattle.stk_book.specs.Calls.{over, create_formed};
+ghost use Rattle.stk_book.specs.Scenes.{IsScene, GoesOn};
 
 use crate::origin::Origin;
 use crate::staking::Staking;
@@ -40,23 +38,19 @@ impl Staking {
         m: &CreateValidator,
         steps: &mut Steps<L>,
     ) -> Result<(), Stop>
-        requires sound { IsSoundStake self.old.staked }
-        requires stand { Stands (H.holds hooks.old) H.tells (seen B.holdings g.old) (lists_of self.old.staked) }
-        requires accounts { HoldsStake (seen B.holdings g.old) (bonded_tokens self.old.staked) (other_tokens self.old.staked) }
+        requires scene { IsScene H.tells (H.holds hooks.old)
+            (seen B.holdings g.old) self.old.staked }
 
-        ensures told { (h : H.Held) → H.holds hooks.old h → AnswersAs (created H.tells.told m.now (over self.old.staked h (seen B.holdings g.old))) self.new.staked (H.holds hooks.new) (seen B.holdings g.new) result }
-        ensures sound { OnOk result (IsSoundStake self.new.staked) }
-        ensures stand { OnOk result (Stands (H.holds hooks.new) H.tells (seen B.holdings g.new) (lists_of self.new.staked)) }
-        ensures accounts { OnOk result (HoldsStake (seen B.holdings g.new) (bonded_tokens self.new.staked) (other_tokens self.new.staked)) }
+        ensures told { (h : H.Held) → H.holds hooks.old h
+            → AnswersAs (created H.tells.told m.now
+            (over self.old.staked h (seen B.holdings g.old)))
+            self.new.staked (H.holds hooks.new) (seen B.holdings g.new) result }
+        ensures scene { OnOk result (IsScene H.tells (H.holds hooks.new)
+            (seen B.holdings g.new) self.new.staked) }
 
         // Whatever the answer.
-        ensures undone { CanBeUndone B.marks g.old g.new }
-        ensures bank { B.touches g.new.bank ≡ B.touches g.old.bank }
-        ensures behind { behind self.new ≡ behind self.old }
-        ensures hook_marks { H.marks hooks.new ≡ H.marks hooks.old }
-        ensures spent { self.old.spent ≡ true → self.new.spent ≡ true }
-        ensures spent_answer { self.old.spent ≡ true → IsErr result }
-        ensures unspent { OnOk result (self.new.spent ≡ self.old.spent) }
+        ensures goes_on { GoesOn B.marks B.touches H.marks
+            g.old g.new hooks.old hooks.new self.old self.new result }
     {
         self.known();
         form_create(m, g.ctx.params.min_commission_rate)?;

@@ -1,16 +1,16 @@
 //! Delegating to a validator.
 
-ghost use Rattle.std.specs.Prelude.{◌≡◌, ℕ, ◌+◌, ◌*◌, ◌^◌, ◌<◌, ◌≤◌, true, unwrap_or, Some, None, IsSome, OnOk, IsErr};
+ghost use Rattle.std.specs.Prelude.{◌≡◌, ℕ, ◌+◌, ◌*◌, ◌^◌, ◌<◌, ◌≤◌, unwrap_or, Some, None, IsSome, OnOk};
 ghost use Rattle.stk_keep.specs.declared.entities.Validator.{Validator};
 ghost use Rattle.stk_keep.specs.Answers.{Answers, AnswersAs};
 ghost use Rattle.stk_keep.specs.Ground.{seen, CanBeUndone};
-ghost use Rattle.stk_keep.specs.Hooks.{Stands, MayCall};
+ghost use Rattle.stk_keep.specs.Hooks.{MayCall};
 ghost use Rattle.stk_keep.specs.Log.{Log};
-ghost use Rattle.stk_keep.specs.Staked.{validator_at, lists_of, bonded_tokens, other_tokens, HoldsStake};
+ghost use Rattle.stk_keep.specs.Staked.{validator_at};
 ghost use Rattle.stk_rules.specs.Delegating.{shares_given, hook_before, delegated};
 ghost use Rattle.stk_rules.specs.Stakes.{refusal_of_shares};
-ghost use Rattle.stk_book.specs.Registered.{behind};
-ghost use Rattle.stk_book.specs.Calls.{IsSoundStake, over, behind_log, origin_of, HasOrigin};
+ghost use Rattle.stk_book.specs.Calls.{over, behind_log, origin_of, HasOrigin};
+ghost use Rattle.stk_book.specs.Scenes.{IsScene, GoesOn};
 
 use crate::origin::Origin;
 use crate::paying::pay_in;
@@ -44,25 +44,22 @@ impl Staking {
     ) -> Result<Dec, Stop>
         requires known { IsSome (validator_at self.old.staked operator.now) }
         requires some { 0 < amount }
-        requires sound { IsSoundStake self.old.staked }
-        requires stand { Stands (H.holds hooks.old) H.tells (seen B.holdings g.old) (lists_of self.old.staked) }
-        requires accounts { HoldsStake (seen B.holdings g.old) (bonded_tokens self.old.staked) (other_tokens self.old.staked) }
-        requires origin { HasOrigin (origin_of origin) amount self.old.staked (seen B.holdings g.old) }
+        requires scene { IsScene H.tells (H.holds hooks.old)
+            (seen B.holdings g.old) self.old.staked }
+        requires origin { HasOrigin (origin_of origin) amount
+            self.old.staked (seen B.holdings g.old) }
 
-        ensures told { (h : H.Held) → H.holds hooks.old h → (v : Validator) → validator_at self.old.staked operator.now ≡ Some v
-            → AnswersAs (delegated H.tells.told v who.now amount (origin_of origin) (over self.old.staked h (seen B.holdings g.old))) self.new.staked (H.holds hooks.new) (seen B.holdings g.new) result }
-        ensures sound { OnOk result (IsSoundStake self.new.staked) }
-        ensures stand { OnOk result (Stands (H.holds hooks.new) H.tells (seen B.holdings g.new) (lists_of self.new.staked)) }
-        ensures accounts { OnOk result (HoldsStake (seen B.holdings g.new) (bonded_tokens self.new.staked) (other_tokens self.new.staked)) }
+        ensures told { (h : H.Held) → H.holds hooks.old h
+            → (v : Validator) → validator_at self.old.staked operator.now ≡ Some v
+            → AnswersAs (delegated H.tells.told v who.now amount (origin_of origin)
+            (over self.old.staked h (seen B.holdings g.old)))
+            self.new.staked (H.holds hooks.new) (seen B.holdings g.new) result }
+        ensures scene { OnOk result (IsScene H.tells (H.holds hooks.new)
+            (seen B.holdings g.new) self.new.staked) }
 
         // Whatever the answer.
-        ensures undone { CanBeUndone B.marks g.old g.new }
-        ensures bank { B.touches g.new.bank ≡ B.touches g.old.bank }
-        ensures behind { behind self.new ≡ behind self.old }
-        ensures hook_marks { H.marks hooks.new ≡ H.marks hooks.old }
-        ensures spent { self.old.spent ≡ true → self.new.spent ≡ true }
-        ensures spent_answer { self.old.spent ≡ true → IsErr result }
-        ensures unspent { OnOk result (self.new.spent ≡ self.old.spent) }
+        ensures goes_on { GoesOn B.marks B.touches H.marks
+            g.old g.new hooks.old hooks.new self.old self.new result }
     {
         self.known();
         let v = *self.at(operator, steps).unwrap();
@@ -83,24 +80,21 @@ impl Staking {
     ) -> Result<Dec, Stop>
         requires stands { validator_at self.old.staked v.now.operator ≡ Some v.now }
         requires some { 0 < amount }
-        requires sound { IsSoundStake self.old.staked }
-        requires stand { Stands (H.holds hooks.old) H.tells (seen B.holdings g.old) (lists_of self.old.staked) }
-        requires accounts { HoldsStake (seen B.holdings g.old) (bonded_tokens self.old.staked) (other_tokens self.old.staked) }
-        requires origin { HasOrigin (origin_of origin) amount self.old.staked (seen B.holdings g.old) }
+        requires scene { IsScene H.tells (H.holds hooks.old)
+            (seen B.holdings g.old) self.old.staked }
+        requires origin { HasOrigin (origin_of origin) amount
+            self.old.staked (seen B.holdings g.old) }
 
-        ensures told { (h : H.Held) → H.holds hooks.old h → (log : Log) → AnswersAs (delegated H.tells.told v.now who.now amount (origin_of origin) (behind_log log self.old.staked h (seen B.holdings g.old))) self.new.staked (H.holds hooks.new) (seen B.holdings g.new) result }
-        ensures sound { OnOk result (IsSoundStake self.new.staked) }
-        ensures stand { OnOk result (Stands (H.holds hooks.new) H.tells (seen B.holdings g.new) (lists_of self.new.staked)) }
-        ensures accounts { OnOk result (HoldsStake (seen B.holdings g.new) (bonded_tokens self.new.staked) (other_tokens self.new.staked)) }
+        ensures told { (h : H.Held) → H.holds hooks.old h → (log : Log)
+            → AnswersAs (delegated H.tells.told v.now who.now amount (origin_of origin)
+            (behind_log log self.old.staked h (seen B.holdings g.old)))
+            self.new.staked (H.holds hooks.new) (seen B.holdings g.new) result }
+        ensures scene { OnOk result (IsScene H.tells (H.holds hooks.new)
+            (seen B.holdings g.new) self.new.staked) }
 
         // Whatever the answer.
-        ensures undone { CanBeUndone B.marks g.old g.new }
-        ensures bank { B.touches g.new.bank ≡ B.touches g.old.bank }
-        ensures behind { behind self.new ≡ behind self.old }
-        ensures hook_marks { H.marks hooks.new ≡ H.marks hooks.old }
-        ensures spent { self.old.spent ≡ true → self.new.spent ≡ true }
-        ensures spent_answer { self.old.spent ≡ true → IsErr result }
-        ensures unspent { OnOk result (self.new.spent ≡ self.old.spent) }
+        ensures goes_on { GoesOn B.marks B.touches H.marks
+            g.old g.new hooks.old hooks.new self.old self.new result }
     {
         let issued = shares_given(v, amount)?;
         let held = self.held(who, &v.operator, steps);
@@ -170,8 +164,11 @@ fn call_before<B: Bank, H: StakingHooks, L: Ledger>(
     held: &Option<Dec>,
     steps: &mut Steps<L>,
 ) -> Result<(), HookFault>
-    requires { MayCall (H.holds hooks.old) H.tells (hook_before v.now who.now held.now) (seen B.holdings g.old) }
-    ensures told { (h : H.Held) → H.holds hooks.old h → Answers (H.tells.told h (hook_before v.now who.now held.now) (seen B.holdings g.old)) (H.holds hooks.new) (seen B.holdings g.new) result }
+    requires { MayCall (H.holds hooks.old) H.tells (hook_before v.now who.now held.now)
+        (seen B.holdings g.old) }
+    ensures told { (h : H.Held) → H.holds hooks.old h
+        → Answers (H.tells.told h (hook_before v.now who.now held.now) (seen B.holdings g.old))
+        (H.holds hooks.new) (seen B.holdings g.new) result }
     ensures undone { CanBeUndone B.marks g.old g.new }
     ensures bank { B.touches g.new.bank ≡ B.touches g.old.bank }
     ensures marks { H.marks hooks.new ≡ H.marks hooks.old }

@@ -1,11 +1,11 @@
 //! Editing a validator.
 
-ghost use Rattle.std.specs.Prelude.{◌≡◌, ◌+◌, ◌<◌, ◌≤◌, OnOk, IsErr, true};
+ghost use Rattle.std.specs.Prelude.{◌≡◌, ◌+◌, ◌<◌, ◌≤◌, OnOk};
 ghost use Rattle.stk_keep.specs.Ground.{seen};
 ghost use Rattle.stk_rules.specs.Answers.{AnswersHeld};
 ghost use Rattle.stk_rules.specs.Validators.{edit_formed, rate_edited, minimum_edited};
-ghost use Rattle.stk_book.specs.Registered.{behind};
 ghost use Rattle.stk_book.specs.Calls.{IsSoundStake, edited_over};
+ghost use Rattle.stk_book.specs.Scenes.{RegisterGoesOn};
 
 use crate::staking::Staking;
 use std::sync::ledger::Ledger;
@@ -34,13 +34,11 @@ impl Staking {
         steps: &mut Steps<L>,
     ) -> Result<(), Stop>
         requires sound { IsSoundStake self.old.staked }
-        ensures told { AnswersHeld (edited_over m.now self.old.staked (seen B.holdings g.old)) self.new.staked (seen B.holdings g.new) result }
+        ensures told { AnswersHeld (edited_over m.now self.old.staked (seen B.holdings g.old))
+            self.new.staked (seen B.holdings g.new) result }
         ensures ground { g.new ≡ g.old }
         ensures sound { OnOk result (IsSoundStake self.new.staked) }
-        ensures behind { behind self.new ≡ behind self.old }
-        ensures spent { self.old.spent ≡ true → self.new.spent ≡ true }
-        ensures spent_answer { self.old.spent ≡ true → IsErr result }
-        ensures unspent { OnOk result (self.new.spent ≡ self.old.spent) }
+        ensures register { RegisterGoesOn self.old self.new result }
         ensures cost { steps.new ≤ steps.old + 2 }
     {
         self.known();

@@ -25,7 +25,8 @@ pub(crate) fn put_both<L: Ledger>(
 ) -> Result<(), TableFault>
     requires new { value_at addr_cmp validators.old.entries v.now.operator ≡ None }
     requires index { IsIndex validators.old.entries operators.old.entries }
-    ensures validators { OnOk result (validators.new ≡ with_value addr_cmp validators.old v.now.operator v.now) }
+    ensures validators { OnOk result
+        (validators.new ≡ with_value addr_cmp validators.old v.now.operator v.now) }
     ensures index { OnOk result (IsIndex validators.new.entries operators.new.entries) }
     ensures marks { OnOk result (operators.new.marks ≡ operators.old.marks) }
     ensures validators_stay { OnErr result (Stays validators.old validators.new) }
@@ -62,9 +63,11 @@ pub(crate) fn take_both<L: Ledger>(
     steps: &mut Steps<L>,
 ) -> Result<(), TableFault>
     requires stands { value_at addr_cmp validators.old.entries v.now.operator ≡ Some v.now }
-    requires alone { operator_by_cons (without addr_cmp validators.old.entries v.now.operator) v.now.cons ≡ None }
+    requires alone { operator_by_cons (without addr_cmp validators.old.entries v.now.operator)
+        v.now.cons ≡ None }
     requires index { IsIndex validators.old.entries operators.old.entries }
-    ensures validators { OnOk result (validators.new ≡ without_key addr_cmp validators.old v.now.operator) }
+    ensures validators { OnOk result
+        (validators.new ≡ without_key addr_cmp validators.old v.now.operator) }
     ensures index { OnOk result (IsIndex validators.new.entries operators.new.entries) }
     ensures marks { OnOk result (operators.new.marks ≡ operators.old.marks) }
     ensures validators_stay { OnErr result (Stays validators.old validators.new) }

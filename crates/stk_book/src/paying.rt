@@ -42,7 +42,8 @@ pub(crate) fn pay_in<B: Bank, L: Ledger>(
     requires some { 0 < amount }
     requires backed { IsBacked (B.holdings g.old.bank) }
     requires enough { CanPay (origin_of origin) amount (seen B.holdings g.old) }
-    ensures paid { PaysAs (paid_in (origin_of origin) who.now status amount (seen B.holdings g.old)) (seen B.holdings g.new) result }
+    ensures paid { PaysAs (paid_in (origin_of origin) who.now status amount (seen B.holdings g.old))
+        (seen B.holdings g.new) result }
     ensures backed { IsBacked (B.holdings g.new.bank) }
     ensures undone { CanBeUndone B.marks g.old g.new }
     ensures bank { B.touches g.new.bank ≡ B.touches g.old.bank }
@@ -77,8 +78,10 @@ fn send_bond<B: Bank, L: Ledger>(
 ) -> Result<(), BankFault>
     requires some { 0 < amount }
     requires backed { IsBacked (B.holdings g.old.bank) }
-    requires enough { amount ≤ balance_of (B.holdings g.old.bank) from.now g.old.ctx.params.bond_denom }
-    ensures sent { OnOk result (seen B.holdings g.new ≡ sent from.now (account.Module to) (bond_coins (seen B.holdings g.old) amount) (seen B.holdings g.old)) }
+    requires enough { amount
+        ≤ balance_of (B.holdings g.old.bank) from.now g.old.ctx.params.bond_denom }
+    ensures sent { OnOk result (seen B.holdings g.new ≡ sent from.now (account.Module to)
+        (bond_coins (seen B.holdings g.old) amount) (seen B.holdings g.old)) }
     ensures fault { IfErr result (λ fault. fault ≡ NoMemory) }
     ensures backed { IsBacked (B.holdings g.new.bank) }
     ensures undone { CanBeUndone B.marks g.old g.new }

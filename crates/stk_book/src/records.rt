@@ -133,8 +133,14 @@ type StakeKinds<'a> = Both<One<'a, ValidatorKind>, One<'a, DelegationKind>>;
 impl Staking {
     /// Validators and delegations, to be listed.
     fn kinds(&self) -> StakeKinds<'_>
-        ensures held { record { validators = result.first.table.now.entries; delegations = result.second.table.now.entries } ≡ self.now.staked }
-        ensures settled { record { validators = result.first.table.now.settled; delegations = result.second.table.now.settled } ≡ self.now.settled }
+        ensures held { record {
+          validators = result.first.table.now.entries;
+          delegations = result.second.table.now.entries;
+        } ≡ self.now.staked }
+        ensures settled { record {
+          validators = result.first.table.now.settled;
+          delegations = result.second.table.now.settled;
+        } ≡ self.now.settled }
         ensures keyed { AreFit FitsOperator result.first.table.now.entries }
         ensures keyed_then { AreFit FitsOperator result.first.table.now.settled }
     {

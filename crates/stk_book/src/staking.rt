@@ -72,7 +72,8 @@ impl Staking {
         after: Option<&Addr>,
         steps: &mut Steps<L>,
     ) -> Option<&Validator>
-        ensures validator { option_copied result ≡ option_map (λ e. e.1) (entry_above addr_cmp self.now.staked.validators (option_copied after.entry)) }
+        ensures validator { option_copied result ≡ option_map (λ e. e.1)
+            (entry_above addr_cmp self.now.staked.validators (option_copied after.entry)) }
         ensures cost { steps.new ≤ steps.old + 1 }
     {
         match self.validators.next(after, steps) {
@@ -85,7 +86,8 @@ impl Staking {
     pub(crate) fn known(&self)
         ensures validators { IsStrictlySortedBy addr_cmp (keys_of self.now.staked.validators) }
         ensures delegations { IsStrictlySortedBy pair_cmp (keys_of self.now.staked.delegations) }
-        ensures operators { (o : List ℕ) (v : Validator) → validator_at self.now.staked o ≡ Some v → v.operator ≡ o }
+        ensures operators { (o : List ℕ) (v : Validator)
+            → validator_at self.now.staked o ≡ Some v → v.operator ≡ o }
     {
         self.validators.known();
         self.delegations.known();
@@ -138,7 +140,8 @@ impl Staking {
         steps: &mut Steps<L>,
     ) -> Result<(), TableFault>
         requires stands { Stands v.now self.old.staked }
-        ensures ok { OnOk result (self.new ≡ holding (put_validator v.now self.old.staked) self.old) }
+        ensures ok { OnOk result
+            (self.new ≡ holding (put_validator v.now self.old.staked) self.old) }
         ensures err { OnErr result (self.new ≡ spent_now self.old) }
         ensures spent { self.old.spent ≡ true → IsErr result }
         ensures cost { steps.new ≤ steps.old + 1 }
@@ -163,7 +166,8 @@ impl Staking {
         steps: &mut Steps<L>,
     ) -> Result<(), TableFault>
         requires new { validator_at self.old.staked v.now.operator ≡ None }
-        ensures ok { OnOk result (self.new ≡ holding (put_validator v.now self.old.staked) self.old) }
+        ensures ok { OnOk result
+            (self.new ≡ holding (put_validator v.now self.old.staked) self.old) }
         ensures err { OnErr result (self.new ≡ spent_now self.old) }
         ensures spent { self.old.spent ≡ true → IsErr result }
     {
@@ -186,8 +190,10 @@ impl Staking {
         steps: &mut Steps<L>,
     ) -> Result<(), TableFault>
         requires stands { validator_at self.old.staked v.now.operator ≡ Some v.now }
-        requires alone { operator_by_cons (without addr_cmp self.old.staked.validators v.now.operator) v.now.cons ≡ None }
-        ensures ok { OnOk result (self.new ≡ holding (without_validator v.now.operator self.old.staked) self.old) }
+        requires alone { operator_by_cons
+            (without addr_cmp self.old.staked.validators v.now.operator) v.now.cons ≡ None }
+        ensures ok { OnOk result
+            (self.new ≡ holding (without_validator v.now.operator self.old.staked) self.old) }
         ensures err { OnErr result (self.new ≡ spent_now self.old) }
         ensures spent { self.old.spent ≡ true → IsErr result }
     {
@@ -211,7 +217,8 @@ impl Staking {
         shares: Dec,
         steps: &mut Steps<L>,
     ) -> Result<(), TableFault>
-        ensures ok { OnOk result (self.new ≡ holding (put_delegation who.now operator.now shares self.old.staked) self.old) }
+        ensures ok { OnOk result (self.new
+            ≡ holding (put_delegation who.now operator.now shares self.old.staked) self.old) }
         ensures err { OnErr result (self.new ≡ spent_now self.old) }
         ensures spent { self.old.spent ≡ true → IsErr result }
     {
@@ -237,7 +244,8 @@ impl Staking {
         operator: &Addr,
         steps: &mut Steps<L>,
     ) -> Result<(), TableFault>
-        ensures ok { OnOk result (self.new ≡ holding (without_shares who.now operator.now self.old.staked) self.old) }
+        ensures ok { OnOk result
+            (self.new ≡ holding (without_shares who.now operator.now self.old.staked) self.old) }
         ensures err { OnErr result (self.new ≡ spent_now self.old) }
         ensures spent { self.old.spent ≡ true → IsErr result }
     {

@@ -1,10 +1,10 @@
 //! Look-ups, and unbonding shares of a delegation, as other modules use them.
 
-ghost use Rattle.std.specs.Prelude.{◌≡◌, ℕ, ◌-◌, ◌<◌, ◌≤◌, ◌^◌, ◌||◌, true, None, Some, IfOk, OnOk, IfErr, IsErr, refl};
+ghost use Rattle.std.specs.Prelude.{◌≡◌, ℕ, ◌-◌, ◌<◌, ◌≤◌, ◌^◌, ◌||◌, true, Some, IfOk, OnOk, IfErr, refl};
 ghost use Rattle.stk_keep.specs.Answers.{Follows};
 ghost use Rattle.stk_keep.specs.Ground.{seen, CanBeUndone};
 ghost use Rattle.stk_keep.specs.declared.faults.HookFault.TheVariants.{NoMemory};
-ghost use Rattle.stk_keep.specs.Hooks.{Stand, Stands, MayCall, Keeps};
+ghost use Rattle.stk_keep.specs.Hooks.{Stands, MayCall};
 ghost use Rattle.stk_keep.specs.Log.{Log};
 ghost use Rattle.stk_keep.specs.Orders.{same_addr};
 ghost use Rattle.stk_keep.specs.World.{modified};
@@ -13,6 +13,7 @@ ghost use Rattle.stk_rules.specs.Answers.{Leaves};
 ghost use Rattle.stk_rules.specs.Unbonding.{shares_unbonded, unbonded_shares, falls_below_minimum, left_standing, removed_if_empty};
 ghost use Rattle.stk_book.specs.Registered.{behind, holding, Behind};
 ghost use Rattle.stk_book.specs.Calls.{IsSoundStake, over, behind_log, jailed_if, jail_noted};
+ghost use Rattle.stk_book.specs.Scenes.{IsHooked, GoesOn, KeepsAccounts};
 
 use crate::staking::Staking;
 use std::alloc::Global;
@@ -71,22 +72,24 @@ impl Unbonder for Staking {
     ) -> Result<u128, HookFault>
         requires shares { HasShares self.old.staked who.now operator.now shares }
         requires sound { IsSoundStake self.old.staked }
-        requires stand { Stands (H.holds hooks.old) H.tells (seen B.holdings g.old) (lists_of self.old.staked) }
+        requires stand { Stands (H.holds hooks.old) H.tells
+            (seen B.holdings g.old) (lists_of self.old.staked) }
 
-        ensures told { (h : H.Held) → H.holds hooks.old h → Follows (shares_unbonded H.tells.told who.now operator.now shares (over self.old.staked h (seen B.holdings g.old))) self.new.staked (H.holds hooks.new) (seen B.holdings g.new) result }
-        ensures unbonded { IfOk result (λ out. IsUnbonded who.now operator.now shares out self.old.staked self.new.staked) }
+        ensures told { (h : H.Held) → H.holds hooks.old h
+            → Follows (shares_unbonded H.tells.told who.now operator.now shares
+            (over self.old.staked h (seen B.holdings g.old)))
+            self.new.staked (H.holds hooks.new) (seen B.holdings g.new) result }
+        ensures unbonded { IfOk result (λ out.
+            IsUnbonded who.now operator.now shares out self.old.staked self.new.staked) }
         ensures sound { OnOk result (IsSoundStake self.new.staked) }
-        ensures stand { OnOk result (Stands (H.holds hooks.new) H.tells (seen B.holdings g.new) (lists_of self.new.staked)) }
-        ensures keeps { (h : H.Held) → H.holds hooks.old h → Stand H.tells h (seen B.holdings g.old) (lists_of self.old.staked) → OnOk result (Keeps (H.tells.owes h ≡ None) (seen B.holdings g.old) (seen B.holdings g.new)) }
+        ensures stand { OnOk result (Stands (H.holds hooks.new) H.tells
+            (seen B.holdings g.new) (lists_of self.new.staked)) }
+        ensures keeps { KeepsAccounts H.tells (H.holds hooks.old) self.old.staked
+            (seen B.holdings g.old) (seen B.holdings g.new) result }
 
         // Whatever the answer.
-        ensures undone { CanBeUndone B.marks g.old g.new }
-        ensures bank { B.touches g.new.bank ≡ B.touches g.old.bank }
-        ensures marks { behind self.new ≡ behind self.old }
-        ensures hook_marks { H.marks hooks.new ≡ H.marks hooks.old }
-        ensures spent { self.old.spent ≡ true → self.new.spent ≡ true }
-        ensures spent_answer { self.old.spent ≡ true → IsErr result }
-        ensures unspent { OnOk result (self.new.spent ≡ self.old.spent) }
+        ensures goes_on { GoesOn B.marks B.touches H.marks
+            g.old g.new hooks.old hooks.new self.old self.new result }
     {
         self.known();
         let v = *self.at(operator, steps).unwrap();
@@ -115,23 +118,24 @@ impl Staking {
         requires stands { validator_at self.old.staked v.now.operator ≡ Some v.now }
         requires holds { delegation self.old.staked who.now v.now.operator ≡ Some held }
         requires part { part ≤ held }
-        requires sound { IsSoundStake self.old.staked }
-        requires stand { Stands (H.holds hooks.old) H.tells (seen B.holdings g.old) (lists_of self.old.staked) }
+        requires hooked { IsHooked H.tells (H.holds hooks.old)
+            (seen B.holdings g.old) self.old.staked }
 
-        ensures told { (h : H.Held) → H.holds hooks.old h → Follows (unbonded_shares H.tells.told v.now who.now held part (over self.old.staked h (seen B.holdings g.old))) self.new.staked (H.holds hooks.new) (seen B.holdings g.new) result }
-        ensures unbonded { IfOk result (λ out. IsUnbonded who.now v.now.operator part out self.old.staked self.new.staked) }
+        ensures told { (h : H.Held) → H.holds hooks.old h
+            → Follows (unbonded_shares H.tells.told v.now who.now held part
+            (over self.old.staked h (seen B.holdings g.old)))
+            self.new.staked (H.holds hooks.new) (seen B.holdings g.new) result }
+        ensures unbonded { IfOk result (λ out.
+            IsUnbonded who.now v.now.operator part out self.old.staked self.new.staked) }
         ensures sound { OnOk result (IsSoundStake self.new.staked) }
-        ensures stand { OnOk result (Stands (H.holds hooks.new) H.tells (seen B.holdings g.new) (lists_of self.new.staked)) }
-        ensures keeps { (h : H.Held) → H.holds hooks.old h → Stand H.tells h (seen B.holdings g.old) (lists_of self.old.staked) → OnOk result (Keeps (H.tells.owes h ≡ None) (seen B.holdings g.old) (seen B.holdings g.new)) }
+        ensures stand { OnOk result (Stands (H.holds hooks.new) H.tells
+            (seen B.holdings g.new) (lists_of self.new.staked)) }
+        ensures keeps { KeepsAccounts H.tells (H.holds hooks.old) self.old.staked
+            (seen B.holdings g.old) (seen B.holdings g.new) result }
 
         // Whatever the answer.
-        ensures undone { CanBeUndone B.marks g.old g.new }
-        ensures bank { B.touches g.new.bank ≡ B.touches g.old.bank }
-        ensures behind { behind self.new ≡ behind self.old }
-        ensures hook_marks { H.marks hooks.new ≡ H.marks hooks.old }
-        ensures spent { self.old.spent ≡ true → self.new.spent ≡ true }
-        ensures spent_answer { self.old.spent ≡ true → IsErr result }
-        ensures unspent { OnOk result (self.new.spent ≡ self.old.spent) }
+        ensures goes_on { GoesOn B.marks B.touches H.marks
+            g.old g.new hooks.old hooks.new self.old self.new result }
     {
         hooks.before_shares_modified(alloc, g, v, who, held, steps)?;
         let left = held.sub(part);
@@ -167,9 +171,12 @@ impl Staking {
         requires tokens { v.now.tokens ≤ 10 ^ 18 }
         requires some { 0 < v.now.shares }
         requires left { left ≤ v.now.shares }
-        ensures now { IfOk result (λ now. now ≡ record v.now { jailed = v.now.jailed || falls_below_minimum v.now who.now left }) }
-        ensures staked { OnOk result (self.new ≡ holding (jailed_if (falls_below_minimum v.now who.now left) v.now self.old.staked) self.old) }
-        ensures ground { OnOk result (seen B.holdings g.new ≡ jail_noted (falls_below_minimum v.now who.now left) v.now (seen B.holdings g.old)) }
+        ensures now { IfOk result (λ now. now
+            ≡ record v.now { jailed = v.now.jailed || falls_below_minimum v.now who.now left }) }
+        ensures staked { OnOk result (self.new ≡ holding
+            (jailed_if (falls_below_minimum v.now who.now left) v.now self.old.staked) self.old) }
+        ensures ground { OnOk result (seen B.holdings g.new ≡ jail_noted
+            (falls_below_minimum v.now who.now left) v.now (seen B.holdings g.old)) }
         ensures fault { IfErr result (λ fault. fault ≡ NoMemory) }
 
         // Whatever the answer.
@@ -201,17 +208,16 @@ impl Staking {
         left: Dec,
         steps: &mut Steps<L>,
     ) -> Result<(), HookFault>
-        requires ready { 0 < left → MayCall (H.holds hooks.old) H.tells (modified v.now who.now left) (seen B.holdings g.old) }
-        ensures told { (h : H.Held) → H.holds hooks.old h → (log : Log) → Leaves (left_standing H.tells.told v.now who.now left (behind_log log self.old.staked h (seen B.holdings g.old))) self.new.staked (H.holds hooks.new) (seen B.holdings g.new) result }
+        requires ready { 0 < left → MayCall (H.holds hooks.old) H.tells
+            (modified v.now who.now left) (seen B.holdings g.old) }
+        ensures told { (h : H.Held) → H.holds hooks.old h → (log : Log)
+            → Leaves (left_standing H.tells.told v.now who.now left
+            (behind_log log self.old.staked h (seen B.holdings g.old)))
+            self.new.staked (H.holds hooks.new) (seen B.holdings g.new) result }
 
         // Whatever the answer.
-        ensures undone { CanBeUndone B.marks g.old g.new }
-        ensures bank { B.touches g.new.bank ≡ B.touches g.old.bank }
-        ensures behind { behind self.new ≡ behind self.old }
-        ensures hook_marks { H.marks hooks.new ≡ H.marks hooks.old }
-        ensures spent { self.old.spent ≡ true → self.new.spent ≡ true }
-        ensures spent_answer { self.old.spent ≡ true → IsErr result }
-        ensures unspent { OnOk result (self.new.spent ≡ self.old.spent) }
+        ensures goes_on { GoesOn B.marks B.touches H.marks
+            g.old g.new hooks.old hooks.new self.old self.new result }
     {
         if left.raw() == 0 {
             self.take_shares(who, &v.operator, steps)?;
@@ -231,12 +237,16 @@ impl Staking {
         steps: &mut Steps<L>,
     ) -> Result<(), HookFault>
         requires stands { validator_at self.old.staked v.now.operator ≡ Some v.now }
-        requires sound { IsSoundStake self.old.staked }
-        requires stand { Stands (H.holds hooks.old) H.tells (seen B.holdings g.old) (lists_of self.old.staked) }
-        ensures told { (h : H.Held) → H.holds hooks.old h → (log : Log) → Leaves (removed_if_empty H.tells.told v.now (behind_log log self.old.staked h (seen B.holdings g.old))) self.new.staked (H.holds hooks.new) (seen B.holdings g.new) result }
-        ensures sound { OnOk result (IsSoundStake self.new.staked) }
-        ensures stand { OnOk result (Stands (H.holds hooks.new) H.tells (seen B.holdings g.new) (lists_of self.new.staked)) }
-        ensures keeps { (h : H.Held) → H.holds hooks.old h → Stand H.tells h (seen B.holdings g.old) (lists_of self.old.staked) → OnOk result (Keeps (H.tells.owes h ≡ None) (seen B.holdings g.old) (seen B.holdings g.new)) }
+        requires hooked { IsHooked H.tells (H.holds hooks.old)
+            (seen B.holdings g.old) self.old.staked }
+        ensures told { (h : H.Held) → H.holds hooks.old h → (log : Log)
+            → Leaves (removed_if_empty H.tells.told v.now
+            (behind_log log self.old.staked h (seen B.holdings g.old)))
+            self.new.staked (H.holds hooks.new) (seen B.holdings g.new) result }
+        ensures hooked { OnOk result (IsHooked H.tells (H.holds hooks.new)
+            (seen B.holdings g.new) self.new.staked) }
+        ensures keeps { KeepsAccounts H.tells (H.holds hooks.old) self.old.staked
+            (seen B.holdings g.old) (seen B.holdings g.new) result }
 
         // Whatever the answer.
         ensures undone { CanBeUndone B.marks g.old g.new }

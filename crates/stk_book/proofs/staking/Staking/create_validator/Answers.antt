@@ -21,47 +21,37 @@ delegate_to-delegated-requires-clause-stands g c =
     let v = c.new_validator-v.result in
     ap (λ r. validator_at r.staked v.operator) c.in_ok-add.ensures.ok ∙ found_itself c.args.self.now.staked v
 
-pub delegate_to-delegated-requires-clause-sound : goal.delegate_to-delegated-requires-clause-sound
-delegate_to-delegated-requires-clause-sound g c =
+pub delegate_to-delegated-requires-clause-scene : goal.delegate_to-delegated-requires-clause-scene
+delegate_to-delegated-requires-clause-scene g c =
     let s = c.args.self.now.staked in
-    let h = to_points c.requires.sound.0 s c.requires.sound.1 in
-    let v = c.new_validator-v.result in (
-      c.requires.sound.0,
-      from_points c.requires.sound.0 c.add.new.self.staked (subst (IsSoundAt c.requires.sound.0) (sym (ap (λ r. r.staked) c.in_ok-add.ensures.ok))
-          (sound-created c.requires.sound.0 s h c.args.m.now c.args.g.now.ctx.time v c.new_validator-v.ensures (rates c.args.m.now c.args.g.now.ctx.params.min_commission_rate (sym c.in_ok-form_create.ensures)) (sym c.in-None.ensures.value) (sym c.in-None-at_cons.ensures.value))),
-    )
-
-pub delegate_to-delegated-requires-clause-stand : goal.delegate_to-delegated-requires-clause-stand
-delegate_to-delegated-requires-clause-stand g c =
-    let s = c.args.self.now.staked in
+    let h = to_points c.requires.scene.hooked.sound.0 s c.requires.scene.hooked.sound.1 in
     let v = c.new_validator-v.result in
     let t = g.H.StakingHooks.tells in
-    let hs = c.requires.stand.0 in
+    let hs = c.requires.scene.hooked.stand.0 in
     let u = seen g.B.Bank.holdings c.args.g.now in
     let u2 = seen g.B.Bank.holdings c.after_validator_created.new.g in
-    let p = picked (t.told hs (created v) u) (g.H.StakingHooks.holds c.after_validator_created.new.self) u2 (c.in_ok-after_validator_created.ensures.told hs c.requires.stand.1.0) in
-    let ready = ready-created s c.args.m.now c.args.g.now.ctx.time v c.new_validator-v.ensures (sym c.in-None.ensures.value) t hs u c.requires.stand.1.1 in (
-      p.0,
-      (
-        p.1.0,
-        subst (Stand t p.0 u2) (sym (lists-joined s v) ∙ ap lists_of (sym (ap (λ r. r.staked) c.in_ok-add.ensures.ok)))
-            (Stand-after_ok t g.met.H.StakingHooks.lawful hs p.0 (created v) u u2 (lists_of s) ready p.1.1),
-      ),
-    )
-
-pub delegate_to-delegated-requires-clause-accounts : goal.delegate_to-delegated-requires-clause-accounts
-delegate_to-delegated-requires-clause-accounts g c =
-    let s = c.args.self.now.staked in
-    let v = c.new_validator-v.result in
-    let t = g.H.StakingHooks.tells in
-    let hs = c.requires.stand.0 in
-    let u = seen g.B.Bank.holdings c.args.g.now in
-    let u2 = seen g.B.Bank.holdings c.after_validator_created.new.g in
-    let p = picked (t.told hs (created v) u) (g.H.StakingHooks.holds c.after_validator_created.new.self) u2 (c.in_ok-after_validator_created.ensures.told hs c.requires.stand.1.0) in
-    let ready = ready-created s c.args.m.now c.args.g.now.ctx.time v c.new_validator-v.ensures (sym c.in-None.ensures.value) t hs u c.requires.stand.1.1 in
+    let p = picked (t.told hs (created v) u) (g.H.StakingHooks.holds c.after_validator_created.new.self) u2 (c.in_ok-after_validator_created.ensures.told hs c.requires.scene.hooked.stand.1.0) in
+    let ready = ready-created s c.args.m.now c.args.g.now.ctx.time v c.new_validator-v.ensures (sym c.in-None.ensures.value) t hs u c.requires.scene.hooked.stand.1.1 in
     let keeps = keeps-ok t g.met.H.StakingHooks.lawful hs p.0 (created v) u u2 (lists_of s) ready p.1.1 in
-    subst (λ x. HoldsStake u2 (bonded_tokens x) (other_tokens x)) (sym (ap (λ r. r.staked) c.in_ok-add.ensures.ok))
-    (joined_tokens s c.args.m.now c.args.g.now.ctx.time v c.new_validator-v.ensures (sym c.in-None.ensures.value) u2 (holds-kept _ u u2 _ _ keeps c.requires.accounts))
+    record {
+      hooked = record {
+        sound = (
+          c.requires.scene.hooked.sound.0,
+          from_points c.requires.scene.hooked.sound.0 c.add.new.self.staked (subst (IsSoundAt c.requires.scene.hooked.sound.0) (sym (ap (λ r. r.staked) c.in_ok-add.ensures.ok))
+              (sound-created c.requires.scene.hooked.sound.0 s h c.args.m.now c.args.g.now.ctx.time v c.new_validator-v.ensures (rates c.args.m.now c.args.g.now.ctx.params.min_commission_rate (sym c.in_ok-form_create.ensures)) (sym c.in-None.ensures.value) (sym c.in-None-at_cons.ensures.value))),
+        );
+        stand = (
+          p.0,
+          (
+            p.1.0,
+            subst (Stand t p.0 u2) (sym (lists-joined s v) ∙ ap lists_of (sym (ap (λ r. r.staked) c.in_ok-add.ensures.ok)))
+                (Stand-after_ok t g.met.H.StakingHooks.lawful hs p.0 (created v) u u2 (lists_of s) ready p.1.1),
+          ),
+        );
+      };
+      accounts = subst (λ x. HoldsStake u2 (bonded_tokens x) (other_tokens x)) (sym (ap (λ r. r.staked) c.in_ok-add.ensures.ok))
+          (joined_tokens s c.args.m.now c.args.g.now.ctx.time v c.new_validator-v.ensures (sym c.in-None.ensures.value) u2 (holds-kept _ u u2 _ _ keeps c.requires.scene.accounts));
+    }
 
 pub returns-in-Ok-clause-told : goal.returns-in-Ok-clause-told
 returns-in-Ok-clause-told g c = λ hs o.

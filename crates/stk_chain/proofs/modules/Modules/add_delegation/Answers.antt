@@ -11,8 +11,11 @@ delegate-delegated-requires-clause-known g c = ap is_some (one c.args.d.now c.re
 pub delegate-delegated-requires-clause-some : goal.delegate-delegated-requires-clause-some
 delegate-delegated-requires-clause-some g c = (one c.args.d.now c.requires.next.0 c.args.self.now c.requires.next.1).some
 
-pub delegate-delegated-requires-clause-stand : goal.delegate-delegated-requires-clause-stand
-delegate-delegated-requires-clause-stand g c = idle_stand (ground_of c.args.self.now) c.args.self.now.staking.staked c.requires.rest.steady.in_order
+pub delegate-delegated-requires-clause-scene : goal.delegate-delegated-requires-clause-scene
+delegate-delegated-requires-clause-scene g c =
+    let m = c.args.self.now in
+    let steady = c.requires.rest.steady in
+    record { hooked = record { sound = steady.sound; stand = idle_stand (ground_of m) m.staking.staked steady.in_order }; accounts = steady.accounts }
 
 pub delegate-delegated-requires-clause-origin : goal.delegate-delegated-requires-clause-origin
 delegate-delegated-requires-clause-origin g c = (one c.args.d.now c.requires.next.0 c.args.self.now c.requires.next.1).funded
@@ -26,7 +29,7 @@ pub returns-in-Ok-clause-rest : goal.returns-in-Ok-clause-rest
 returns-in-Ok-clause-rest g c =
     let m2 : Modules = record { ground = c.delegate-delegated.new.g; staking = c.delegate-delegated.new.self } in
     rests_next c.args.self.now m2 c.requires.rest (delegated_view c.args.d.now c.requires.next.0 c.args.self.now c.requires.next.1 m2.staking.staked (ground_of m2) c.in-Ok.field-0 (c.in-Ok.ensures.told tt tt))
-    c.in-Ok.ensures.undone.marks c.in-Ok.ensures.behind c.in-Ok.ensures.sound c.in-Ok.ensures.accounts
+    c.in-Ok.ensures.goes_on.undone.marks c.in-Ok.ensures.goes_on.register.behind c.in-Ok.ensures.scene.hooked.sound c.in-Ok.ensures.scene.accounts
 
 pub never_refused-requires : goal.never_refused-requires
 never_refused-requires g c = never_refused c.args.d.now c.requires.next.0 c.args.self.now c.requires.next.1 c.delegate-delegated.new.self.staked (ground_of (record { ground = c.delegate-delegated.new.g; staking = c.delegate-delegated.new.self })) c.in-Err.why (c.in-Err.ensures.told tt tt)

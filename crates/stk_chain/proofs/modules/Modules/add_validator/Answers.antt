@@ -20,8 +20,11 @@ admit-requires-clause-new_cons g c = ap (λ (m : CreateValidator). validator_by_
 pub admit-requires-clause-rates : goal.admit-requires-clause-rates
 admit-requires-clause-rates g c = subst HasRates (sym c.creation_of-m.ensures) c.requires.rates
 
-pub admit-requires-clause-stand : goal.admit-requires-clause-stand
-admit-requires-clause-stand g c = idle_stand (ground_of c.args.self.now) c.args.self.now.staking.staked c.requires.rest.steady.in_order
+pub admit-requires-clause-scene : goal.admit-requires-clause-scene
+admit-requires-clause-scene g c =
+    let m = c.args.self.now in
+    let steady = c.requires.rest.steady in
+    record { hooked = record { sound = steady.sound; stand = idle_stand (ground_of m) m.staking.staked steady.in_order }; accounts = steady.accounts }
 
 pub unreachable-requires : goal.unreachable-requires
 unreachable-requires g c = subst WantsMemory c.in-Err-Over.field-0-is (c.in-Err-Over.ensures.told tt tt)
@@ -41,4 +44,4 @@ returns-in-Ok-clause-rest g c =
     let told : AdmittedAs c.args.v.now m.ground.ctx.params.bond_denom m.ground.ctx.time m.staking.staked (ground_of m) m2.staking.staked (ground_of m2) (Ok tt)
     = subst (λ (x : CreateValidator). Leaves (stored nothing_told.told (new_validator x m.ground.ctx.time) (over tt m.staking.staked (ground_of m))) m2.staking.staked (λ y. Unit {0}) (ground_of m2) (Ok tt)) c.creation_of-m.ensures (c.in-Ok.ensures.told tt tt) in
     rests_next m m2 c.requires.rest (admitted_view c.args.v.now m.ground.ctx.params.bond_denom m.ground.ctx.time m.staking.staked (ground_of m) m2.staking.staked (ground_of m2) told)
-    c.in-Ok.ensures.undone.marks c.in-Ok.ensures.behind c.in-Ok.ensures.sound c.in-Ok.ensures.accounts
+    c.in-Ok.ensures.goes_on.undone.marks c.in-Ok.ensures.goes_on.register.behind c.in-Ok.ensures.scene.hooked.sound c.in-Ok.ensures.scene.accounts

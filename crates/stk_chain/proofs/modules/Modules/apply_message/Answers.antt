@@ -24,4 +24,4 @@ returns-in-EditValidator-clause-ends g c =
 pub returns-in-EditValidator-clause-steady : goal.returns-in-EditValidator-clause-steady
 returns-in-EditValidator-clause-steady g c =
     let after = c.edit_validator.new in
-    steady_edited c.in-EditValidator.m c.args.self.now (record { ground = after.g; staking = after.self }) c.edit_validator.result c.edit_validator.ensures.told c.edit_validator.ensures.ground c.edit_validator.ensures.sound (ap (λ b. b.power_reduction) c.edit_validator.ensures.behind) c.requires.steady
+    steady_edited c.in-EditValidator.m c.args.self.now (record { ground = after.g; staking = after.self }) c.edit_validator.result c.edit_validator.ensures.told c.edit_validator.ensures.ground c.edit_validator.ensures.sound (ap (λ b. b.power_reduction) c.edit_validator.ensures.register.behind) c.requires.steady
