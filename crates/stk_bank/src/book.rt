@@ -77,7 +77,8 @@ impl Book {
         steps: &mut Steps<L>,
     ) -> Result<(), Stop>
         requires { IsBacked self.old.holdings }
-        ensures transfers { Transfers from.now to.now coins.now self.old.holdings facts.old self.new.holdings facts.new result }
+        ensures transfers { Transfers from.now to.now coins.now self.old.holdings facts.old
+            self.new.holdings facts.new result }
         ensures backed { IsBacked self.new.holdings }
         ensures behind { behind self.new ≡ behind self.old }
         ensures spent { self.old.spent ≡ true → self.new.spent ≡ true }
@@ -193,7 +194,8 @@ fn tell_transfer(
     to: &Account,
     coins: &Coins,
 ) -> Result<(), BankFault>
-    ensures ok { OnOk result (facts.new ≡ facts.old ++ fact.Transfer from.now to.now coins.now ∷ []) }
+    ensures ok { OnOk result
+        (facts.new ≡ facts.old ++ fact.Transfer from.now to.now coins.now ∷ []) }
     ensures err { OnErr result (facts.new ≡ facts.old) }
 {
     facts.push(Fact::Transfer {

@@ -43,7 +43,8 @@ impl Tables {
     ) -> Result<(), TableFault>
         requires backed { IsBacked self.old.holdings }
         requires enough { is_short self.old.holdings from.now coins.now ≡ false }
-        ensures ok { OnOk result (self.new ≡ holding (moved from.now to.now coins.now self.old.holdings) self.old) }
+        ensures ok { OnOk result
+            (self.new ≡ holding (moved from.now to.now coins.now self.old.holdings) self.old) }
         ensures err { OnErr result (self.new ≡ spent_now self.old) }
         ensures cost { steps.new ≤ steps.old + 4 * length coins.now }
     {
@@ -69,7 +70,8 @@ impl Tables {
     ) -> Result<(), TableFault>
         requires backed { IsBacked self.old.holdings }
         requires enough { amount ≤ balance_of self.old.holdings place.now.0 place.now.1 }
-        ensures ok { OnOk result (self.new ≡ holding (coin_burned place.now.0 place.now.1 amount self.old.holdings) self.old) }
+        ensures ok { OnOk result (self.new
+            ≡ holding (coin_burned place.now.0 place.now.1 amount self.old.holdings) self.old) }
         ensures err { OnErr result (self.new ≡ spent_now self.old) }
     {
         match self.mark() {
@@ -92,10 +94,13 @@ impl Tables {
         steps: &mut Steps<L>,
     ) -> Result<(), TableFault>
         requires backed { IsBacked self.old.holdings }
-        requires bounded { (d : List ℕ) → supply_of self.old.holdings d + amount_of coins.now d ≤ 10 ^ 18 }
-        ensures ok { OnOk result (self.new ≡ holding (coins_given who.now coins.now self.old.holdings) self.old) }
+        requires bounded
+            { (d : List ℕ) → supply_of self.old.holdings d + amount_of coins.now d ≤ 10 ^ 18 }
+        ensures ok { OnOk result
+            (self.new ≡ holding (coins_given who.now coins.now self.old.holdings) self.old) }
         ensures backed { OnOk result (IsBacked self.new.holdings) }
-        ensures supplies { OnOk result ((d : List ℕ) → supply_of self.new.holdings d ≡ supply_of self.old.holdings d + amount_of coins.now d) }
+        ensures supplies { OnOk result ((d : List ℕ) → supply_of self.new.holdings d
+            ≡ supply_of self.old.holdings d + amount_of coins.now d) }
     {
         for place in 0..coins.len() {
             let coin = coin_at(coins, place);
@@ -128,8 +133,10 @@ impl Tables {
     ) -> Result<(), TableFault>
         requires backed { IsBacked self.old.holdings }
         requires enough { is_short self.old.holdings from.now coins.now ≡ false }
-        ensures ok { OnOk result (self.new ≡ holding (moved from.now to.now coins.now self.old.holdings) self.old) }
-        ensures err { OnErr result (self.new ≡ record self.old { holdings = self.new.holdings; spent = true }) }
+        ensures ok { OnOk result
+            (self.new ≡ holding (moved from.now to.now coins.now self.old.holdings) self.old) }
+        ensures err { OnErr result
+            (self.new ≡ record self.old { holdings = self.new.holdings; spent = true }) }
         ensures cost { steps.new ≤ steps.old + 4 * length coins.now }
     {
         for place in 0..coins.len() {
@@ -148,8 +155,10 @@ impl Tables {
     ) -> Result<(), TableFault>
         requires backed { IsBacked self.old.holdings }
         requires enough { coin.now.amount ≤ balance_of self.old.holdings from.now coin.now.denom }
-        ensures ok { OnOk result (self.new ≡ holding (coin_moved from.now to.now coin.now.denom coin.now.amount self.old.holdings) self.old) }
-        ensures err { OnErr result (self.new ≡ record self.old { holdings = self.new.holdings; spent = true }) }
+        ensures ok { OnOk result (self.new ≡ holding (coin_moved from.now to.now coin.now.denom
+            coin.now.amount self.old.holdings) self.old) }
+        ensures err { OnErr result
+            (self.new ≡ record self.old { holdings = self.new.holdings; spent = true }) }
         ensures cost { steps.new ≤ steps.old + 4 }
     {
         let source = (*from, coin.denom);
@@ -169,8 +178,10 @@ impl Tables {
     ) -> Result<(), TableFault>
         requires backed { IsBacked self.old.holdings }
         requires enough { amount ≤ balance_of self.old.holdings place.now.0 place.now.1 }
-        ensures ok { OnOk result (self.new ≡ holding (coin_burned place.now.0 place.now.1 amount self.old.holdings) self.old) }
-        ensures err { OnErr result (self.new ≡ record self.old { holdings = self.new.holdings; spent = true }) }
+        ensures ok { OnOk result (self.new
+            ≡ holding (coin_burned place.now.0 place.now.1 amount self.old.holdings) self.old) }
+        ensures err { OnErr result
+            (self.new ≡ record self.old { holdings = self.new.holdings; spent = true }) }
     {
         let held = self.balance(place, steps);
         let supply = self.supply(&place.1, steps);
@@ -187,7 +198,8 @@ impl Tables {
     ) -> Result<(), TableFault>
         requires backed { IsBacked self.old.holdings }
         requires bounded { supply_of self.old.holdings place.now.1 + amount ≤ 10 ^ 18 }
-        ensures ok { OnOk result (self.new ≡ holding (coin_given place.now.0 place.now.1 amount self.old.holdings) self.old) }
+        ensures ok { OnOk result (self.new
+            ≡ holding (coin_given place.now.0 place.now.1 amount self.old.holdings) self.old) }
     {
         let held = self.balance(place, steps);
         let supply = self.supply(&place.1, steps);

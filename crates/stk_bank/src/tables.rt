@@ -94,7 +94,9 @@ impl Tables {
         amount: u128,
         steps: &mut Steps<L>,
     ) -> Result<(), TableFault>
-        ensures ok { OnOk result (self.new ≡ holding (record { balances = insert_entry place_cmp self.old.holdings.balances place.now amount; supplies = self.old.holdings.supplies }) self.old) }
+        ensures ok { OnOk result (self.new ≡ holding (record { balances = insert_entry place_cmp
+            self.old.holdings.balances place.now amount; supplies = self.old.holdings.supplies })
+            self.old) }
         ensures err { OnErr result (self.new ≡ spent_now self.old) }
         ensures ordered { IsStrictlySortedBy place_cmp (keys_of self.old.holdings.balances) }
         ensures cost { steps.new ≡ steps.old + 1 }
@@ -118,7 +120,10 @@ impl Tables {
         amount: u128,
         steps: &mut Steps<L>,
     ) -> Result<(), TableFault>
-        ensures ok { OnOk result (self.new ≡ holding (record { balances = self.old.holdings.balances; supplies = insert_entry denom_cmp self.old.holdings.supplies denom.now amount }) self.old) }
+        ensures ok { OnOk result (self.new
+            ≡ holding (record { balances = self.old.holdings.balances;
+            supplies = insert_entry denom_cmp self.old.holdings.supplies denom.now amount })
+            self.old) }
         ensures err { OnErr result (self.new ≡ spent_now self.old) }
         ensures ordered { IsStrictlySortedBy denom_cmp (keys_of self.old.holdings.supplies) }
         ensures cost { steps.new ≡ steps.old + 1 }
@@ -141,7 +146,8 @@ impl Tables {
         amount: u128,
         steps: &mut Steps<L>,
     ) -> Result<(), TableFault>
-        ensures ok { OnOk result (self.new ≡ holding (with_balance self.old.holdings place.now.0 place.now.1 amount) self.old) }
+        ensures ok { OnOk result (self.new
+            ≡ holding (with_balance self.old.holdings place.now.0 place.now.1 amount) self.old) }
         ensures err { OnErr result (self.new ≡ spent_now self.old) }
         ensures cost { steps.new ≡ steps.old + 1 }
     {
@@ -165,7 +171,8 @@ impl Tables {
         amount: u128,
         steps: &mut Steps<L>,
     ) -> Result<(), TableFault>
-        ensures ok { OnOk result (self.new ≡ holding (with_supply self.old.holdings denom.now amount) self.old) }
+        ensures ok { OnOk result
+            (self.new ≡ holding (with_supply self.old.holdings denom.now amount) self.old) }
         ensures err { OnErr result (self.new ≡ spent_now self.old) }
         ensures cost { steps.new ≡ steps.old + 1 }
     {
@@ -200,8 +207,10 @@ impl Tables {
 
     /// Both tables, to be listed.
     pub(crate) fn kinds(&self) -> BankKinds<'_>
-        ensures held { record { balances = result.first.table.now.entries; supplies = result.second.table.now.entries } ≡ self.now.holdings }
-        ensures settled { record { balances = result.first.table.now.settled; supplies = result.second.table.now.settled } ≡ self.now.settled }
+        ensures held { record { balances = result.first.table.now.entries;
+            supplies = result.second.table.now.entries } ≡ self.now.holdings }
+        ensures settled { record { balances = result.first.table.now.settled;
+            supplies = result.second.table.now.settled } ≡ self.now.settled }
     {
         Both {
             first: One {

@@ -21,7 +21,8 @@ impl Tables {
         who: &Account,
         steps: &mut Steps<L>,
     ) -> Result<Vec<Coin>, TableFault>
-        ensures { IfOk result (λ coins. map (λ c. (c.denom, c.amount)) coins.items ≡ coins_of self.now.holdings who.now) }
+        ensures { IfOk result (λ coins. map (λ c. (c.denom, c.amount)) coins.items
+            ≡ coins_of self.now.holdings who.now) }
     {
         self.balances().known();
         let mut coins = Vec::new(alloc);
@@ -40,7 +41,8 @@ impl Tables {
         after: Option<Denom>,
         steps: &mut Steps<L>,
     ) -> Option<Coin>
-        ensures { option_map (λ c. (c.denom, c.amount)) result ≡ entry_above denom_cmp (coins_of self.now.holdings who.now) after }
+        ensures { option_map (λ c. (c.denom, c.amount)) result
+            ≡ entry_above denom_cmp (coins_of self.now.holdings who.now) after }
     {
         let balances = self.balances();
         balances.known();
@@ -53,7 +55,8 @@ impl Tables {
 
 /// The coin of an entry, where there is one and it is the account's.
 fn own_coin(who: &Account, entry: Option<(&(Account, Denom), &u128)>) -> Option<Coin>
-    ensures { option_map (λ c. (c.denom, c.amount)) result ≡ own_coin who.now (option_map (λ e. (e.0.now, e.1.now)) entry.entry) }
+    ensures { option_map (λ c. (c.denom, c.amount)) result
+        ≡ own_coin who.now (option_map (λ e. (e.0.now, e.1.now)) entry.entry) }
 {
     let (place, amount) = entry?;
     if *who != place.0 {

@@ -232,7 +232,8 @@ fn made<L: Ledger>(
 ) -> Result<(), Fail>
     requires fit { IsFit scene.old.staking.staked (seen (λ b. b.holdings) scene.old.g) }
     requires marks { scene.old.staking.marks ≡ [] }
-    ensures fit { OnOk result (IsFit scene.new.staking.staked (seen (λ b. b.holdings) scene.new.g)) }
+    ensures fit { OnOk result
+        (IsFit scene.new.staking.staked (seen (λ b. b.holdings) scene.new.g)) }
     ensures marks { OnOk result (scene.new.staking.marks ≡ []) }
 {
     create(rt, scene, &message(rt, 1, 1, 1, 100), steps)?;

@@ -94,7 +94,8 @@ pub(crate) fn opened<L: Ledger>(
     steps: &mut Steps<L>,
 ) -> Result<Scene, Fail>
     ensures marks { IfOk result (λ scene. scene.staking.marks ≡ []) }
-    ensures fit { IfOk result (λ scene. IsFit scene.staking.staked (seen (λ b. b.holdings) scene.g)) }
+    ensures fit { IfOk result
+        (λ scene. IsFit scene.staking.staked (seen (λ b. b.holdings) scene.g)) }
 {
     let accounts = [
         (Account::User(addr(rt, 1)), purse(rt, 1_000)?),
@@ -147,7 +148,8 @@ pub(crate) fn create<L: Ledger>(
     steps: &mut Steps<L>,
 ) -> Result<(), Stop>
     requires { IsFit scene.old.staking.staked (seen (λ b. b.holdings) scene.old.g) }
-    ensures fit { OnOk result (IsFit scene.new.staking.staked (seen (λ b. b.holdings) scene.new.g)) }
+    ensures fit { OnOk result
+        (IsFit scene.new.staking.staked (seen (λ b. b.holdings) scene.new.g)) }
     ensures behind { behind scene.new.staking ≡ behind scene.old.staking }
 {
     scene

@@ -36,8 +36,10 @@ impl Coins {
     pub fn of(list: Vec<Coin>) -> Result<Coins, CoinFault>
         requires { All (λ c. c.amount < 10 ^ 38) list.items }
 
-        ensures coins { IfOk result (λ coins. coins ≡ sorted_coins (map (λ c. (c.denom, c.amount)) list.items)) }
-        ensures once { IfOk result (λ _. stands_twice (map (λ c. (c.denom, c.amount)) list.items) ≡ false) }
+        ensures coins { IfOk result
+            (λ coins. coins ≡ sorted_coins (map (λ c. (c.denom, c.amount)) list.items)) }
+        ensures once
+            { IfOk result (λ _. stands_twice (map (λ c. (c.denom, c.amount)) list.items) ≡ false) }
         ensures twice { IfErr result (λ fault. (fault ≡ CoinFault.Repeated)
             × (stands_twice (map (λ c. (c.denom, c.amount)) list.items) ≡ true)) }
     {
@@ -72,7 +74,8 @@ impl Coins {
 
     /// The coin at a place, or None exactly where the place is not below the length.
     pub fn at(&self, place: usize) -> Option<&Coin>
-        ensures { option_map (λ coin. (coin.now.denom, coin.now.amount)) result ≡ slice_get self.now place }
+        ensures { option_map (λ coin. (coin.now.denom, coin.now.amount)) result
+            ≡ slice_get self.now place }
     {
         self.list.get(place)
     }

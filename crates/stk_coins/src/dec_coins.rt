@@ -46,8 +46,10 @@ impl DecCoins {
     /// The only error is `Repeated`, exactly where a denomination stands twice, also where one of its amounts
     /// is 0. Takes no memory.
     pub fn of(list: Vec<DecCoin>) -> Result<DecCoins, CoinFault>
-        ensures coins { IfOk result (λ coins. coins ≡ sorted_coins (map (λ c. (c.denom, c.amount)) list.items)) }
-        ensures once { IfOk result (λ _. stands_twice (map (λ c. (c.denom, c.amount)) list.items) ≡ false) }
+        ensures coins { IfOk result
+            (λ coins. coins ≡ sorted_coins (map (λ c. (c.denom, c.amount)) list.items)) }
+        ensures once
+            { IfOk result (λ _. stands_twice (map (λ c. (c.denom, c.amount)) list.items) ≡ false) }
         ensures twice { IfErr result (λ fault. (fault ≡ CoinFault.Repeated)
             × (stands_twice (map (λ c. (c.denom, c.amount)) list.items) ≡ true)) }
     {
@@ -87,7 +89,8 @@ impl DecCoins {
 
     /// The coin at a place, or None exactly where the place is not below the length.
     pub fn at(&self, place: usize) -> Option<&DecCoin>
-        ensures { option_map (λ coin. (coin.now.denom, coin.now.amount)) result ≡ slice_get self.now place }
+        ensures { option_map (λ coin. (coin.now.denom, coin.now.amount)) result
+            ≡ slice_get self.now place }
     {
         self.list.get(place)
     }

@@ -35,7 +35,8 @@ fn sum_of_numbers(a: u128, b: u128) -> Result<u128, Over>
 /// Puts a coin at the end of a list, where its number is not 0.
 pub(crate) fn put<E: Entry>(list: &mut Vec<E>, denom: Denom, number: u128) -> Result<(), CoinFault>
     requires { number < 10 ^ 38 }
-    ensures coin { IfOk result (λ _. map E.seen list.new.items ≡ map E.seen list.old.items ++ coin_then denom number []) }
+    ensures coin { IfOk result
+        (λ _. map E.seen list.new.items ≡ map E.seen list.old.items ++ coin_then denom number []) }
     ensures fault { IfErr result (λ fault. fault ≡ CoinFault.NoMemory) }
 {
     if number != 0 {
@@ -48,9 +49,11 @@ pub(crate) fn put<E: Entry>(list: &mut Vec<E>, denom: Denom, number: u128) -> Re
 pub(crate) fn sum<E: Entry>(alloc: Global, left: &[E], right: &[E]) -> Result<Vec<E>, CoinFault>
     requires left { IsMoney (map E.seen left.now) }
     requires right { IsMoney (map E.seen right.now) }
-    ensures sum { IfOk result (λ sum. coins_added (map E.seen left.now) (map E.seen right.now) ≡ Ok (map E.seen sum.items)) }
+    ensures sum { IfOk result (λ sum. coins_added (map E.seen left.now) (map E.seen right.now)
+        ≡ Ok (map E.seen sum.items)) }
     ensures money { IfOk result (λ sum. IsMoney (map E.seen sum.items)) }
-    ensures fault { IfErr result (IsOverOf (coins_added (map E.seen left.now) (map E.seen right.now))) }
+    ensures fault
+        { IfErr result (IsOverOf (coins_added (map E.seen left.now) (map E.seen right.now))) }
 {
     let mut list = Vec::new(alloc);
     let mut pairs = Pairs { left, right };
@@ -69,10 +72,13 @@ pub(crate) fn difference<E: Entry>(
 ) -> Result<Vec<E>, CoinFault>
     requires left { IsMoney (map E.seen left.now) }
     requires right { IsMoney (map E.seen right.now) }
-    ensures rest { IfOk result (λ rest. map E.seen rest.items ≡ coins_taken (map E.seen left.now) (map E.seen right.now)) }
-    ensures enough { IfOk result (λ _. first_short (map E.seen left.now) (map E.seen right.now) ≡ None) }
+    ensures rest { IfOk result
+        (λ rest. map E.seen rest.items ≡ coins_taken (map E.seen left.now) (map E.seen right.now)) }
+    ensures enough
+        { IfOk result (λ _. first_short (map E.seen left.now) (map E.seen right.now) ≡ None) }
     ensures money { IfOk result (λ rest. IsMoney (map E.seen rest.items)) }
-    ensures fault { IfErr result (IsShortAt (first_short (map E.seen left.now) (map E.seen right.now))) }
+    ensures fault
+        { IfErr result (IsShortAt (first_short (map E.seen left.now) (map E.seen right.now))) }
 {
     let mut list = Vec::new(alloc);
     let mut pairs = Pairs { left, right };
@@ -93,7 +99,8 @@ pub(crate) fn difference<E: Entry>(
 pub(crate) fn smaller<E: Entry>(alloc: Global, left: &[E], right: &[E]) -> Result<Vec<E>, CoinFault>
     requires left { IsMoney (map E.seen left.now) }
     requires right { IsMoney (map E.seen right.now) }
-    ensures smaller { IfOk result (λ smaller. map E.seen smaller.items ≡ smaller_of (map E.seen left.now) (map E.seen right.now)) }
+    ensures smaller { IfOk result (λ smaller. map E.seen smaller.items
+        ≡ smaller_of (map E.seen left.now) (map E.seen right.now)) }
     ensures money { IfOk result (λ smaller. IsMoney (map E.seen smaller.items)) }
     ensures fault { IfErr result (λ fault. fault ≡ CoinFault.NoMemory) }
 {
@@ -108,10 +115,12 @@ pub(crate) fn smaller<E: Entry>(alloc: Global, left: &[E], right: &[E]) -> Resul
 /// Coins in any order as a list. Takes no memory.
 pub(crate) fn in_order<E: Entry>(mut list: Vec<E>) -> Result<Vec<E>, CoinFault>
     requires { All E.fits list.items }
-    ensures coins { IfOk result (λ coins. map E.seen coins.items ≡ sorted_coins (map E.seen list.items)) }
+    ensures coins
+        { IfOk result (λ coins. map E.seen coins.items ≡ sorted_coins (map E.seen list.items)) }
     ensures once { IfOk result (λ _. stands_twice (map E.seen list.items) ≡ false) }
     ensures money { IfOk result (λ coins. IsMoney (map E.seen coins.items)) }
-    ensures twice { IfErr result (λ fault. (fault ≡ CoinFault.Repeated) × (stands_twice (map E.seen list.items) ≡ true)) }
+    ensures twice { IfErr result
+        (λ fault. (fault ≡ CoinFault.Repeated) × (stands_twice (map E.seen list.items) ≡ true)) }
 {
     list.sort_unstable_by(|a, b| a.denom().cmp(b.denom()));
     if !list.is_sorted_by(|a, b| a.denom() < b.denom()) {
@@ -124,7 +133,8 @@ pub(crate) fn in_order<E: Entry>(mut list: Vec<E>) -> Result<Vec<E>, CoinFault>
 /// The entry of a denomination, found by halves.
 pub(crate) fn found<'a, E: Entry>(list: &'a [E], denom: &Denom) -> Option<&'a E>
     requires { IsMoney (map E.seen list.now) }
-    ensures { option_map (λ coin. (E.seen coin.now).1) result ≡ lookup (is_at (denom_cmp denom.now)) (map E.seen list.now) }
+    ensures { option_map (λ coin. (E.seen coin.now).1) result
+        ≡ lookup (is_at (denom_cmp denom.now)) (map E.seen list.now) }
 {
     match list.binary_search_by(|coin| coin.denom().cmp(denom)) {
         Ok(place) => Some(&list[place]),

@@ -62,7 +62,8 @@ impl<'a, E: Entry> Pairs<'a, E> {
         requires left { IsMoney (map E.seen self.old.left.now) }
         requires right { IsMoney (map E.seen self.old.right.now) }
 
-        ensures pairs { let before = side_by_side (map E.seen self.old.left.now) (map E.seen self.old.right.now) in
+        ensures pairs { let before = side_by_side (map E.seen self.old.left.now)
+            (map E.seen self.old.right.now) in
             let after = side_by_side (map E.seen self.new.left.now) (map E.seen self.new.right.now) in
             MatchOption result (before ≡ []) (λ pair. before ≡ pair ∷ after) }
         ensures limit { IfSome result (λ pair. (pair.left < 10 ^ 38) × (pair.right < 10 ^ 38)) }

@@ -45,10 +45,12 @@ pub(crate) fn scaled(
 ) -> Result<Vec<DecCoin>, CoinFault>
     requires possible { IsPossible scaling by }
     requires money { IsMoney (map (λ c. (c.denom, c.amount)) list.now) }
-    ensures scaled { IfOk result (λ scaled. by_coin (scaled_by scaling by) (map (λ c. (c.denom, c.amount)) list.now)
+    ensures scaled { IfOk result
+        (λ scaled. by_coin (scaled_by scaling by) (map (λ c. (c.denom, c.amount)) list.now)
         ≡ Ok (map (λ c. (c.denom, c.amount)) scaled.items)) }
     ensures money { IfOk result (λ scaled. IsMoney (map (λ c. (c.denom, c.amount)) scaled.items)) }
-    ensures fault { IfErr result (IsOverOf (by_coin (scaled_by scaling by) (map (λ c. (c.denom, c.amount)) list.now))) }
+    ensures fault { IfErr result
+        (IsOverOf (by_coin (scaled_by scaling by) (map (λ c. (c.denom, c.amount)) list.now))) }
 {
     let mut amounts = Vec::new(alloc);
     for coin in list {
@@ -61,10 +63,13 @@ pub(crate) fn scaled(
 /// Whole amounts as decimals.
 pub(crate) fn decimals(alloc: Global, list: &[Coin]) -> Result<Vec<DecCoin>, CoinFault>
     requires { IsMoney (map (λ c. (c.denom, c.amount)) list.now) }
-    ensures decimals { IfOk result (λ decimals. as_decimals (map (λ c. (c.denom, c.amount)) list.now)
+    ensures decimals
+        { IfOk result (λ decimals. as_decimals (map (λ c. (c.denom, c.amount)) list.now)
         ≡ Ok (map (λ c. (c.denom, c.amount)) decimals.items)) }
-    ensures money { IfOk result (λ decimals. IsMoney (map (λ c. (c.denom, c.amount)) decimals.items)) }
-    ensures fault { IfErr result (IsOverOf (as_decimals (map (λ c. (c.denom, c.amount)) list.now))) }
+    ensures money
+        { IfOk result (λ decimals. IsMoney (map (λ c. (c.denom, c.amount)) decimals.items)) }
+    ensures fault
+        { IfErr result (IsOverOf (as_decimals (map (λ c. (c.denom, c.amount)) list.now))) }
 {
     let mut decimals = Vec::new(alloc);
     for coin in list {

@@ -18,7 +18,8 @@ impl Tables {
         operator: &Addr,
         steps: &mut Steps<L>,
     ) -> Result<(), TableFault>
-        ensures ok { OnOk result (self.new ≡ keeping (without_operator operator.now self.old.kept) self.old) }
+        ensures ok { OnOk result
+            (self.new ≡ keeping (without_operator operator.now self.old.kept) self.old) }
         ensures behind { behind self.new ≡ behind self.old }
         ensures spent { self.old.spent ≡ true → self.new.spent ≡ true }
         ensures spent_answer { self.old.spent ≡ true → IsErr result }
@@ -41,7 +42,8 @@ impl Tables {
         operator: &Addr,
         steps: &mut Steps<L>,
     ) -> Result<(), TableFault>
-        ensures ok { OnOk result (self.new ≡ keeping (without_operator operator.now self.old.kept) self.old) }
+        ensures ok { OnOk result
+            (self.new ≡ keeping (without_operator operator.now self.old.kept) self.old) }
         ensures behind { behind self.new ≡ behind self.old }
         ensures spent { self.new.spent ≡ self.old.spent }
     {
@@ -57,7 +59,8 @@ fn take_out<K: Keyed, V: Copied, L: Ledger>(
     operator: &Addr,
     steps: &mut Steps<L>,
 ) -> Result<(), TableFault>
-    ensures ok { OnOk result (table.new.entries ≡ others K.operator_of operator.now table.old.entries) }
+    ensures ok { OnOk result
+        (table.new.entries ≡ others K.operator_of operator.now table.old.entries) }
     ensures marks { table.new.marks ≡ table.old.marks }
     ensures settled { table.new.settled ≡ table.old.settled }
 {
@@ -73,9 +76,12 @@ fn first_of<K: Keyed, V: Copied, L: Ledger>(
     operator: &Addr,
     steps: &mut Steps<L>,
 ) -> Result<Option<K>, TableFault>
-    ensures found { IfOk result (λ found. IfSome found (λ key. is_some (value_at K.cmp table.now.entries key) ≡ true)) }
-    ensures own { IfOk result (λ found. IfSome found (λ key. same_addr (K.operator_of key) operator.now ≡ true)) }
-    ensures none { IfOk result (λ found. IfNone found (others K.operator_of operator.now table.now.entries ≡ table.now.entries)) }
+    ensures found { IfOk result
+        (λ found. IfSome found (λ key. is_some (value_at K.cmp table.now.entries key) ≡ true)) }
+    ensures own { IfOk result
+        (λ found. IfSome found (λ key. same_addr (K.operator_of key) operator.now ≡ true)) }
+    ensures none { IfOk result (λ found. IfNone found
+        (others K.operator_of operator.now table.now.entries ≡ table.now.entries)) }
 {
     table.known();
     let first = K::first(operator);

@@ -27,8 +27,10 @@ impl Tables {
         period: u64,
         steps: &mut Steps<L>,
     ) -> Result<(), TableFault>
-        requires few { (h : Historical) → record_of self.old.kept operator.now period ≡ Some h → h.count + 1 < 2 ^ 128 }
-        ensures ok { OnOk result (self.new ≡ keeping (referred operator.now period self.old.kept) self.old) }
+        requires few { (h : Historical) → record_of self.old.kept operator.now period ≡ Some h
+            → h.count + 1 < 2 ^ 128 }
+        ensures ok { OnOk result
+            (self.new ≡ keeping (referred operator.now period self.old.kept) self.old) }
         ensures behind { behind self.new ≡ behind self.old }
         ensures spent { self.old.spent ≡ true → self.new.spent ≡ true }
         ensures cost { steps.new ≤ steps.old + 2 }
@@ -51,7 +53,8 @@ impl Tables {
         period: u64,
         steps: &mut Steps<L>,
     ) -> Result<(), TableFault>
-        ensures ok { OnOk result (self.new ≡ keeping (released operator.now period self.old.kept) self.old) }
+        ensures ok { OnOk result
+            (self.new ≡ keeping (released operator.now period self.old.kept) self.old) }
         ensures behind { behind self.new ≡ behind self.old }
         ensures spent { self.old.spent ≡ true → self.new.spent ≡ true }
         ensures cost { steps.new ≤ steps.old + 2 }
@@ -70,7 +73,8 @@ impl Tables {
         operator: &Addr,
         steps: &mut Steps<L>,
     ) -> Result<(), TableFault>
-        ensures ok { OnOk result (self.new ≡ keeping (made_kept operator.now self.old.kept) self.old) }
+        ensures ok { OnOk result
+            (self.new ≡ keeping (made_kept operator.now self.old.kept) self.old) }
         ensures behind { behind self.new ≡ behind self.old }
         ensures spent { self.old.spent ≡ true → self.new.spent ≡ true }
         ensures spent_answer { self.old.spent ≡ true → IsErr result }
@@ -94,11 +98,14 @@ impl Tables {
     ) -> Result<(u64, DecCoins), HookFault>
         requires initialised { is_some (current_of self.now.kept operator.now) ≡ true }
         requires running { 1 ≤ running self.now.kept operator.now }
-        requires record { is_some (record_of self.now.kept operator.now (running self.now.kept operator.now - 1)) ≡ true }
+        requires record { is_some
+            (record_of self.now.kept operator.now (running self.now.kept operator.now - 1)) ≡ true }
         ensures period { IfOk result (λ next. next.0 ≡ running self.now.kept operator.now) }
         ensures below { IfOk result (λ next. next.0 ≢ 10 ^ 18) }
-        ensures ratio { IfOk result (λ next. next_ratio increment.now operator.now self.now.kept ≡ Ok next.1) }
-        ensures fault { IfErr result (IsExcessOf (next_ratio increment.now operator.now self.now.kept)) }
+        ensures ratio { IfOk result
+            (λ next. next_ratio increment.now operator.now self.now.kept ≡ Ok next.1) }
+        ensures fault
+            { IfErr result (IsExcessOf (next_ratio increment.now operator.now self.now.kept)) }
         ensures cost { steps.new ≤ steps.old + 2 }
     {
         let period = self.current(operator, steps).unwrap();
@@ -127,7 +134,8 @@ impl Tables {
         requires period { period ≡ running self.old.kept operator.now }
         requires running { 1 ≤ period }
         requires room { period + 1 < 2 ^ 64 }
-        ensures ok { OnOk result (self.new ≡ keeping (ended_kept ratio operator.now self.old.kept) self.old) }
+        ensures ok { OnOk result
+            (self.new ≡ keeping (ended_kept ratio operator.now self.old.kept) self.old) }
         ensures behind { behind self.new ≡ behind self.old }
         ensures spent { self.old.spent ≡ true → self.new.spent ≡ true }
         ensures spent_answer { self.old.spent ≡ true → IsErr result }

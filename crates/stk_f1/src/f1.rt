@@ -59,7 +59,8 @@ impl F1 {
     ) -> Result<(), HookFault>
         requires kept { IsKept self.old.kept }
         requires new { current_of self.old.kept operator.now ≡ None }
-        ensures made { (r : Rewards) → KeepsRewards self.old.kept r → OnOk result (KeepsRewards self.new.kept (with_periods operator.now initial_records r)) }
+        ensures made { (r : Rewards) → KeepsRewards self.old.kept r → OnOk result
+            (KeepsRewards self.new.kept (with_periods operator.now initial_records r)) }
         ensures fault { IfErr result (λ fault. fault ≡ NoMemory) }
         ensures behind { behind self.new ≡ behind self.old }
         ensures spent { self.old.spent ≡ true → self.new.spent ≡ true }
@@ -204,7 +205,8 @@ impl F1 {
     ) -> Result<(), HookFault>
         requires kept { IsKept self.old.kept }
         requires started { is_some (info_of self.old.kept who.now operator.now) ≡ true }
-        ensures stopped { (r : Rewards) → KeepsRewards self.old.kept r → OnOk result (KeepsRewards self.new.kept (without_start who.now operator.now r)) }
+        ensures stopped { (r : Rewards) → KeepsRewards self.old.kept r
+            → OnOk result (KeepsRewards self.new.kept (without_start who.now operator.now r)) }
         ensures fault { IfErr result (λ fault. fault ≡ NoMemory) }
         ensures behind { behind self.new ≡ behind self.old }
         ensures spent { self.old.spent ≡ true → self.new.spent ≡ true }
@@ -249,7 +251,8 @@ impl F1 {
         period: u64,
         steps: &mut Steps<L>,
     ) -> Option<u128>
-        ensures count { (r : Rewards) → KeepsRewards self.now.kept r → result ≡ if_some (references_at r operator.now period) }
+        ensures count { (r : Rewards) → KeepsRewards self.now.kept r
+            → result ≡ if_some (references_at r operator.now period) }
         ensures cost { steps.new ≤ steps.old + 1 }
     {
         match self.tables.record(operator, period, steps) {

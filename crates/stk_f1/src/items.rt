@@ -216,7 +216,8 @@ fn same_coins(coins: &DecCoins, others: &DecCoins) -> bool
 }
 
 fn same_coin(coin: &DecCoin, other: &DecCoin) -> bool
-    ensures { result ≡ same_coin (coin.now.denom, coin.now.amount) (other.now.denom, other.now.amount) }
+    ensures { result
+        ≡ same_coin (coin.now.denom, coin.now.amount) (other.now.denom, other.now.amount) }
 {
     coin.denom == other.denom && coin.amount.raw() == other.amount.raw()
 }

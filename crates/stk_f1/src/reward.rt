@@ -38,7 +38,8 @@ impl Tables {
             → IfOk result (λ reward. kept_reward self.now.kept operator.now info ending ratio.now value ≡ Ok reward) }
         ensures fault { (ending : ℕ) → CanEarn self.now.kept operator.now info ending ratio.now
             → IfErr result (IsExcessOf (kept_reward self.now.kept operator.now info ending ratio.now value)) }
-        ensures cost { steps.new ≤ steps.old + (2 * length (events_since info.height (events_of self.now.kept operator.now)) + 2) }
+        ensures cost { steps.new ≤ steps.old
+            + (2 * length (events_since info.height (events_of self.now.kept operator.now)) + 2) }
     {
         let events = self.events_since(alloc, operator, info.height, steps)?;
         let mut begin = self.record(operator, info.period, steps).unwrap();

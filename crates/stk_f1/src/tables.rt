@@ -55,7 +55,8 @@ impl Model for Tables {
       spent = t.spent;
     } };
 
-    ghost invariant = { λ t. AreInStep t.current.marks t.historical.marks t.starts.marks t.events.marks };
+    ghost invariant = { λ t. AreInStep t.current.marks t.historical.marks t.starts.marks
+        t.events.marks };
 }
 
 impl Tables {
@@ -96,8 +97,14 @@ impl Tables {
 
     /// The four tables, to be listed.
     pub(crate) fn kinds(&self) -> F1Kinds<'_>
-        ensures held { record { current = result.first.table.now.entries; historical = result.second.first.table.now.entries; starts = result.second.second.first.table.now.entries; events = result.second.second.second.table.now.entries } ≡ self.now.kept }
-        ensures settled { record { current = result.first.table.now.settled; historical = result.second.first.table.now.settled; starts = result.second.second.first.table.now.settled; events = result.second.second.second.table.now.settled } ≡ self.now.settled }
+        ensures held { record { current = result.first.table.now.entries;
+            historical = result.second.first.table.now.entries;
+            starts = result.second.second.first.table.now.entries;
+            events = result.second.second.second.table.now.entries } ≡ self.now.kept }
+        ensures settled { record { current = result.first.table.now.settled;
+            historical = result.second.first.table.now.settled;
+            starts = result.second.second.first.table.now.settled;
+            events = result.second.second.second.table.now.settled } ≡ self.now.settled }
     {
         let later = Both {
             first: One {
@@ -162,7 +169,8 @@ impl Tables {
         period: u64,
         steps: &mut Steps<L>,
     ) -> Result<(), TableFault>
-        ensures ok { OnOk result (self.new ≡ keeping (with_current operator.now period self.old.kept) self.old) }
+        ensures ok { OnOk result
+            (self.new ≡ keeping (with_current operator.now period self.old.kept) self.old) }
         ensures err { OnErr result (self.new ≡ spent_now self.old) }
         ensures spent { self.old.spent ≡ true → IsErr result }
         ensures cost { steps.new ≤ steps.old + 1 }
@@ -187,7 +195,8 @@ impl Tables {
         history: Historical,
         steps: &mut Steps<L>,
     ) -> Result<(), TableFault>
-        ensures ok { OnOk result (self.new ≡ keeping (with_record operator.now period history.ratio history.count self.old.kept) self.old) }
+        ensures ok { OnOk result (self.new ≡ keeping
+            (with_record operator.now period history.ratio history.count self.old.kept) self.old) }
         ensures err { OnErr result (self.new ≡ spent_now self.old) }
         ensures spent { self.old.spent ≡ true → IsErr result }
         ensures cost { steps.new ≤ steps.old + 1 }
@@ -212,7 +221,8 @@ impl Tables {
         history: &Historical,
         steps: &mut Steps<L>,
     ) -> Result<(), TableFault>
-        ensures ok { OnOk result (self.new ≡ keeping (with_history operator.now period history.now self.old.kept) self.old) }
+        ensures ok { OnOk result (self.new
+            ≡ keeping (with_history operator.now period history.now self.old.kept) self.old) }
         ensures err { OnErr result (self.new ≡ spent_now self.old) }
         ensures cost { steps.new ≤ steps.old + 1 }
     {
@@ -233,7 +243,8 @@ impl Tables {
         info: StartingInfo,
         steps: &mut Steps<L>,
     ) -> Result<(), TableFault>
-        ensures ok { OnOk result (self.new ≡ keeping (with_info who.now operator.now info self.old.kept) self.old) }
+        ensures ok { OnOk result
+            (self.new ≡ keeping (with_info who.now operator.now info self.old.kept) self.old) }
         ensures err { OnErr result (self.new ≡ spent_now self.old) }
         ensures spent { self.old.spent ≡ true → IsErr result }
         ensures cost { steps.new ≤ steps.old + 1 }
@@ -258,7 +269,8 @@ impl Tables {
         steps: &mut Steps<L>,
     ) -> Result<Option<StartingInfo>, TableFault>
         ensures info { IfOk result (λ info. info ≡ info_of self.old.kept who.now operator.now) }
-        ensures ok { OnOk result (self.new ≡ keeping (without_info who.now operator.now self.old.kept) self.old) }
+        ensures ok { OnOk result
+            (self.new ≡ keeping (without_info who.now operator.now self.old.kept) self.old) }
         ensures err { OnErr result (self.new ≡ spent_now self.old) }
         ensures spent { self.old.spent ≡ true → IsErr result }
         ensures cost { steps.new ≤ steps.old + 1 }
@@ -282,7 +294,8 @@ impl Tables {
         event: SlashEvent,
         steps: &mut Steps<L>,
     ) -> Result<(), TableFault>
-        ensures ok { OnOk result (self.new ≡ keeping (with_event operator.now event self.old.kept) self.old) }
+        ensures ok { OnOk result
+            (self.new ≡ keeping (with_event operator.now event self.old.kept) self.old) }
         ensures err { OnErr result (self.new ≡ spent_now self.old) }
         ensures spent { self.old.spent ≡ true → IsErr result }
         ensures cost { steps.new ≤ steps.old + 1 }
@@ -399,8 +412,10 @@ fn put_copy<L: Ledger>(
     history: &Historical,
     steps: &mut Steps<L>,
 ) -> Result<(), TableFault>
-    ensures ok { OnOk result (historical.new ≡ with_value period_cmp historical.old key.now history.now) }
-    ensures err { OnErr result (historical.new ≡ record historical.old { spent = historical.new.spent }) }
+    ensures ok { OnOk result
+        (historical.new ≡ with_value period_cmp historical.old key.now history.now) }
+    ensures err { OnErr result
+        (historical.new ≡ record historical.old { spent = historical.new.spent }) }
     ensures cost { steps.new ≤ steps.old + 1 }
 {
     let copy = history.copied()?;

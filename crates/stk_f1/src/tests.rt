@@ -126,7 +126,8 @@ fn stop<L: Ledger>(
 
 /// Whether no slash event is at this period, nor above this height.
 fn is_free(events: &[SlashEvent], height: u64, period: u64) -> bool
-    ensures { result ≡ list_all (λ (e : SlashEvent). not (e.period == period) && nat_le e.height height) events.now }
+    ensures { result ≡ list_all
+        (λ (e : SlashEvent). not (e.period == period) && nat_le e.height height) events.now }
 {
     events
         .iter()

@@ -21,9 +21,11 @@ impl Tables {
         height: u64,
         steps: &mut Steps<L>,
     ) -> Result<Vec<SlashEvent>, HookFault>
-        ensures events { IfOk result (λ events. events.items ≡ events_since height (events_of self.now.kept operator.now)) }
+        ensures events { IfOk result
+            (λ events. events.items ≡ events_since height (events_of self.now.kept operator.now)) }
         ensures fault { IfErr result (λ fault. fault ≡ NoMemory) }
-        ensures cost { steps.new ≤ steps.old + (length (events_since height (events_of self.now.kept operator.now)) + 1) }
+        ensures cost { steps.new ≤ steps.old
+            + (length (events_since height (events_of self.now.kept operator.now)) + 1) }
     {
         self.events.known();
         let mut events = Vec::new(alloc);

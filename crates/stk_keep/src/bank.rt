@@ -63,7 +63,8 @@ pub trait Bank {
     ) -> Result<(), BankFault>
         requires { IsBacked (holdings self.old) }
 
-        ensures sends { Sends from.now to.now coins.now (holdings self.old) facts.old (holdings self.new) facts.new result }
+        ensures sends { Sends from.now to.now coins.now (holdings self.old) facts.old
+            (holdings self.new) facts.new result }
         ensures backed { IsBacked (holdings self.new) }
 
         ensures spent { spent self.old ≡ true → result ≡ Err NoMemory }
@@ -89,7 +90,8 @@ pub trait Bank {
     ) -> Result<(), BankFault>
         requires { IsBacked (holdings self.old) }
 
-        ensures burns { Burns from coin.now (holdings self.old) facts.old (holdings self.new) facts.new result }
+        ensures burns { Burns from coin.now (holdings self.old) facts.old (holdings self.new)
+            facts.new result }
         ensures backed { IsBacked (holdings self.new) }
 
         ensures spent { spent self.old ≡ true → result ≡ Err NoMemory }

@@ -43,7 +43,8 @@ pub trait StakingHooks {
         steps: &mut Steps<L>,
     ) -> Result<(), HookFault>
         requires { MayCall (holds self.old) tells (created v.now) (seen B.holdings g.old) }
-        ensures told { (h : Held) → holds self.old h → Answers (tells.told h (created v.now) (seen B.holdings g.old)) (holds self.new) (seen B.holdings g.new) result }
+        ensures told { (h : Held) → holds self.old h → Answers (tells.told h (created v.now)
+            (seen B.holdings g.old)) (holds self.new) (seen B.holdings g.new) result }
         ensures undone { CanBeUndone B.marks g.old g.new }
         ensures bank { B.touches g.new.bank ≡ B.touches g.old.bank }
         ensures marks { marks self.new ≡ marks self.old };
@@ -57,7 +58,8 @@ pub trait StakingHooks {
         steps: &mut Steps<L>,
     ) -> Result<(), HookFault>
         requires { MayCall (holds self.old) tells (removed v.now) (seen B.holdings g.old) }
-        ensures told { (h : Held) → holds self.old h → Answers (tells.told h (removed v.now) (seen B.holdings g.old)) (holds self.new) (seen B.holdings g.new) result }
+        ensures told { (h : Held) → holds self.old h → Answers (tells.told h (removed v.now)
+            (seen B.holdings g.old)) (holds self.new) (seen B.holdings g.new) result }
         ensures undone { CanBeUndone B.marks g.old g.new }
         ensures bank { B.touches g.new.bank ≡ B.touches g.old.bank }
         ensures marks { marks self.new ≡ marks self.old };
@@ -71,7 +73,8 @@ pub trait StakingHooks {
         steps: &mut Steps<L>,
     ) -> Result<(), HookFault>
         requires { MayCall (holds self.old) tells (bonded v.now) (seen B.holdings g.old) }
-        ensures told { (h : Held) → holds self.old h → Answers (tells.told h (bonded v.now) (seen B.holdings g.old)) (holds self.new) (seen B.holdings g.new) result }
+        ensures told { (h : Held) → holds self.old h → Answers (tells.told h (bonded v.now)
+            (seen B.holdings g.old)) (holds self.new) (seen B.holdings g.new) result }
         ensures undone { CanBeUndone B.marks g.old g.new }
         ensures bank { B.touches g.new.bank ≡ B.touches g.old.bank }
         ensures marks { marks self.new ≡ marks self.old }
@@ -87,7 +90,9 @@ pub trait StakingHooks {
         steps: &mut Steps<L>,
     ) -> Result<(), HookFault>
         requires { MayCall (holds self.old) tells (starting v.now who.now) (seen B.holdings g.old) }
-        ensures told { (h : Held) → holds self.old h → Answers (tells.told h (starting v.now who.now) (seen B.holdings g.old)) (holds self.new) (seen B.holdings g.new) result }
+        ensures told { (h : Held) → holds self.old h → Answers (tells.told h
+            (starting v.now who.now) (seen B.holdings g.old)) (holds self.new)
+            (seen B.holdings g.new) result }
         ensures undone { CanBeUndone B.marks g.old g.new }
         ensures bank { B.touches g.new.bank ≡ B.touches g.old.bank }
         ensures marks { marks self.new ≡ marks self.old };
@@ -102,8 +107,11 @@ pub trait StakingHooks {
         shares: Dec,
         steps: &mut Steps<L>,
     ) -> Result<(), HookFault>
-        requires { MayCall (holds self.old) tells (modifying v.now who.now shares) (seen B.holdings g.old) }
-        ensures told { (h : Held) → holds self.old h → Answers (tells.told h (modifying v.now who.now shares) (seen B.holdings g.old)) (holds self.new) (seen B.holdings g.new) result }
+        requires { MayCall (holds self.old) tells (modifying v.now who.now shares)
+            (seen B.holdings g.old) }
+        ensures told { (h : Held) → holds self.old h → Answers (tells.told h
+            (modifying v.now who.now shares) (seen B.holdings g.old)) (holds self.new)
+            (seen B.holdings g.new) result }
         ensures undone { CanBeUndone B.marks g.old g.new }
         ensures bank { B.touches g.new.bank ≡ B.touches g.old.bank }
         ensures marks { marks self.new ≡ marks self.old };
@@ -118,8 +126,11 @@ pub trait StakingHooks {
         shares: Dec,
         steps: &mut Steps<L>,
     ) -> Result<(), HookFault>
-        requires { MayCall (holds self.old) tells (modified v.now who.now shares) (seen B.holdings g.old) }
-        ensures told { (h : Held) → holds self.old h → Answers (tells.told h (modified v.now who.now shares) (seen B.holdings g.old)) (holds self.new) (seen B.holdings g.new) result }
+        requires { MayCall (holds self.old) tells (modified v.now who.now shares)
+            (seen B.holdings g.old) }
+        ensures told { (h : Held) → holds self.old h → Answers (tells.told h
+            (modified v.now who.now shares) (seen B.holdings g.old)) (holds self.new)
+            (seen B.holdings g.new) result }
         ensures undone { CanBeUndone B.marks g.old g.new }
         ensures bank { B.touches g.new.bank ≡ B.touches g.old.bank }
         ensures marks { marks self.new ≡ marks self.old };
@@ -133,8 +144,11 @@ pub trait StakingHooks {
         fraction: Dec,
         steps: &mut Steps<L>,
     ) -> Result<(), HookFault>
-        requires { MayCall (holds self.old) tells (slashing v.now fraction) (seen B.holdings g.old) }
-        ensures told { (h : Held) → holds self.old h → Answers (tells.told h (slashing v.now fraction) (seen B.holdings g.old)) (holds self.new) (seen B.holdings g.new) result }
+        requires { MayCall (holds self.old) tells (slashing v.now fraction)
+            (seen B.holdings g.old) }
+        ensures told { (h : Held) → holds self.old h → Answers (tells.told h
+            (slashing v.now fraction) (seen B.holdings g.old)) (holds self.new)
+            (seen B.holdings g.new) result }
         ensures undone { CanBeUndone B.marks g.old g.new }
         ensures bank { B.touches g.new.bank ≡ B.touches g.old.bank }
         ensures marks { marks self.new ≡ marks self.old };

@@ -83,7 +83,9 @@ pub trait Records {
         out: &mut Vec<(Item, bool)>,
         steps: &mut Steps<L>,
     ) -> Result<(), RecordFault>
-        ensures changes { OnOk result ((changes : List (Item × Bool)) × ((out.new.items ≡ out.old.items ++ changes) × AreChanges (items (settled self.now)) (items (kept self.now)) changes)) }
+        ensures changes { OnOk result ((changes : List (Item × Bool))
+            × ((out.new.items ≡ out.old.items ++ changes)
+            × AreChanges (items (settled self.now)) (items (kept self.now)) changes)) }
         ensures err { (some : List (Item × Bool)) × (out.new.items ≡ out.old.items ++ some) };
 
     /// Adds an item, of whose key none stands; answers false exactly where it is of no kind of this module, and
@@ -96,7 +98,8 @@ pub trait Records {
     ) -> Result<bool, RecordFault>
         requires room { HasRoom (items (kept self.old)) item.now }
         ensures kind { IfOk result (λ added. added ≡ is_kind item.now) }
-        ensures added { is_kind item.now ≡ true → OnOk result (IsAdded (items (kept self.old)) item.now (items (kept self.new))) }
+        ensures added { is_kind item.now ≡ true
+            → OnOk result (IsAdded (items (kept self.old)) item.now (items (kept self.new))) }
         ensures other { is_kind item.now ≡ false → kept self.new ≡ kept self.old }
         ensures marks { marks self.new ≡ marks self.old }
         ensures settled { settled self.new ≡ settled self.old }

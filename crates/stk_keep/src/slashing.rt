@@ -64,9 +64,11 @@ pub trait UnbondingSlash {
         requires in_order { IsInOrder (seen B.holdings g.old) }
         requires account { HoldsStake (seen B.holdings g.old) 0 (owed (held self.old)) }
 
-        ensures told { IfOk result (IsAsTold (slashes operator.now infraction factor (held self.old) (seen B.holdings g.old)) (held self.new) (seen B.holdings g.new)) }
+        ensures told { IfOk result (IsAsTold (slashes operator.now infraction factor (held self.old)
+            (seen B.holdings g.old)) (held self.new) (seen B.holdings g.new)) }
         ensures most { IfOk result (λ counted. counted ≤ 10 ^ 18) }
-        ensures burned { OnOk result (IsBurned (seen B.holdings g.old) (seen B.holdings g.new) (owed (held self.old)) (owed (held self.new))) }
+        ensures burned { OnOk result (IsBurned (seen B.holdings g.old) (seen B.holdings g.new)
+            (owed (held self.old)) (owed (held self.new))) }
         ensures sound { OnOk result (sound (held self.new)) }
         ensures in_order { OnOk result (IsInOrder (seen B.holdings g.new)) }
         ensures fault { IfErr result (λ fault. fault ≡ NoMemory) }
@@ -89,7 +91,8 @@ pub trait RedelegationSlash {
 
     /// What a slash of the entries from an operator since a height by a factor gives, over delegations of
     /// which it is told what unbonding gives: what was counted, and what stands then; or an excess.
-    ghost slashes: { (D H : Type 0) → Unbonds D H → List ℕ → ℕ → ℕ → Held → World D H → Result (ℕ × Held × World D H) Over };
+    ghost slashes: { (D H : Type 0) → Unbonds D H → List ℕ → ℕ → ℕ → Held → World D H
+        → Result (ℕ × Held × World D H) Over };
 
     /// What its open marks would give back.
     ghost Marks: { Type 0 };
@@ -113,16 +116,28 @@ pub trait RedelegationSlash {
         requires factor { factor ≤ 10 ^ 18 }
         requires sound { sound (held self.old) }
         requires delegations { D.sound (D.held delegations.old) }
-        requires stand { Stands (H.holds hooks.old) H.tells (seen B.holdings g.old) (lists_of (D.stake (D.held delegations.old))) }
-        requires accounts { HoldsStake (seen B.holdings g.old) (bonded_tokens (D.stake (D.held delegations.old))) (other_tokens (D.stake (D.held delegations.old))) }
+        requires stand { Stands (H.holds hooks.old) H.tells (seen B.holdings g.old)
+            (lists_of (D.stake (D.held delegations.old))) }
+        requires accounts { HoldsStake (seen B.holdings g.old) (bonded_tokens
+            (D.stake (D.held delegations.old))) (other_tokens (D.stake (D.held delegations.old))) }
 
-        ensures told { (h : H.Held) → H.holds hooks.old h → FollowsLent (slashes D.Held H.Held (record { stake = D.stake; unbond = D.unbonds H.Held H.tells.told }) operator.now infraction factor (held self.old) (record { mine = D.held delegations.old; hooks = h; view = seen B.holdings g.old; log = [] })) (held self.new) (D.held delegations.new) (H.holds hooks.new) (seen B.holdings g.new) result }
+        ensures told { (h : H.Held) → H.holds hooks.old h → FollowsLent
+            (slashes D.Held H.Held (record { stake = D.stake; unbond = D.unbonds H.Held
+            H.tells.told }) operator.now infraction factor (held self.old)
+            (record { mine = D.held delegations.old; hooks = h; view = seen B.holdings g.old;
+            log = [] })) (held self.new) (D.held delegations.new) (H.holds hooks.new)
+            (seen B.holdings g.new) result }
         ensures most { IfOk result (λ counted. counted ≤ 10 ^ 18) }
-        ensures falls { OnOk result (StakeFalls (seen B.holdings g.old) (seen B.holdings g.new) (bonded_tokens (D.stake (D.held delegations.old))) (other_tokens (D.stake (D.held delegations.old))) (bonded_tokens (D.stake (D.held delegations.new))) (other_tokens (D.stake (D.held delegations.new)))) }
-        ensures still { OnOk result (StillStand (D.stake (D.held delegations.old)) (D.stake (D.held delegations.new))) }
+        ensures falls { OnOk result (StakeFalls (seen B.holdings g.old) (seen B.holdings g.new)
+            (bonded_tokens (D.stake (D.held delegations.old))) (other_tokens
+            (D.stake (D.held delegations.old))) (bonded_tokens (D.stake (D.held delegations.new)))
+            (other_tokens (D.stake (D.held delegations.new)))) }
+        ensures still { OnOk result
+            (StillStand (D.stake (D.held delegations.old)) (D.stake (D.held delegations.new))) }
         ensures sound { OnOk result (sound (held self.new)) }
         ensures delegations { OnOk result (D.sound (D.held delegations.new)) }
-        ensures stand { OnOk result (Stands (H.holds hooks.new) H.tells (seen B.holdings g.new) (lists_of (D.stake (D.held delegations.new)))) }
+        ensures stand { OnOk result (Stands (H.holds hooks.new) H.tells (seen B.holdings g.new)
+            (lists_of (D.stake (D.held delegations.new)))) }
 
         // Whatever the answer.
         ensures undone { CanBeUndone B.marks g.old g.new }
@@ -151,7 +166,8 @@ pub trait Slasher: ValidatorView {
 
     /// What a slash gives of a consensus address since a height, by a power and a factor, over hooks of which
     /// it is told what they give: what was burned from the validator, and what stands then; or an excess.
-    ghost slashes: { (H : Type 0) → (H → Hook → View → Told H) → List ℕ → ℕ → ℕ → ℕ → World Held H → Result (ℕ × World Held H) Over };
+    ghost slashes: { (H : Type 0) → (H → Hook → View → Told H) → List ℕ → ℕ → ℕ → ℕ → World Held H
+        → Result (ℕ × World Held H) Over };
 
     /// What jailing a consensus address leaves.
     ghost jails: { List ℕ → Held → Held };
@@ -178,15 +194,25 @@ pub trait Slasher: ValidatorView {
         requires factor { factor ≤ 10 ^ 18 }
         requires power { power * g.old.ctx.params.power_reduction ≤ 10 ^ 18 }
         requires sound { sound (held self.old) }
-        requires stand { Stands (H.holds hooks.old) H.tells (seen B.holdings g.old) (lists_of (stake (held self.old))) }
-        requires accounts { HoldsStake (seen B.holdings g.old) (bonded_tokens (stake (held self.old))) (other_tokens (stake (held self.old)) + owed (held self.old)) }
+        requires stand { Stands (H.holds hooks.old) H.tells (seen B.holdings g.old)
+            (lists_of (stake (held self.old))) }
+        requires accounts { HoldsStake (seen B.holdings g.old) (bonded_tokens
+            (stake (held self.old))) (other_tokens (stake (held self.old)) + owed (held self.old)) }
 
-        ensures told { (h : H.Held) → H.holds hooks.old h → Follows (slashes H.Held H.tells.told cons.now infraction power factor (record { mine = held self.old; hooks = h; view = seen B.holdings g.old; log = [] })) (held self.new) (H.holds hooks.new) (seen B.holdings g.new) result }
-        ensures falls { OnOk result (StakeFalls (seen B.holdings g.old) (seen B.holdings g.new) (bonded_tokens (stake (held self.old))) (other_tokens (stake (held self.old)) + owed (held self.old)) (bonded_tokens (stake (held self.new))) (other_tokens (stake (held self.new)) + owed (held self.new))) }
+        ensures told { (h : H.Held) → H.holds hooks.old h → Follows (slashes H.Held H.tells.told
+            cons.now infraction power factor (record { mine = held self.old; hooks = h;
+            view = seen B.holdings g.old; log = [] })) (held self.new) (H.holds hooks.new)
+            (seen B.holdings g.new) result }
+        ensures falls { OnOk result (StakeFalls (seen B.holdings g.old) (seen B.holdings g.new)
+            (bonded_tokens (stake (held self.old))) (other_tokens (stake (held self.old))
+            + owed (held self.old)) (bonded_tokens (stake (held self.new)))
+            (other_tokens (stake (held self.new)) + owed (held self.new))) }
         ensures still { OnOk result (StillStand (stake (held self.old)) (stake (held self.new))) }
-        ensures still_by_cons { OnOk result (StillStandByCons (stake (held self.old)) (stake (held self.new))) }
+        ensures still_by_cons
+            { OnOk result (StillStandByCons (stake (held self.old)) (stake (held self.new))) }
         ensures sound { OnOk result (sound (held self.new)) }
-        ensures stand { OnOk result (Stands (H.holds hooks.new) H.tells (seen B.holdings g.new) (lists_of (stake (held self.new)))) }
+        ensures stand { OnOk result (Stands (H.holds hooks.new) H.tells (seen B.holdings g.new)
+            (lists_of (stake (held self.new)))) }
 
         // Whatever the answer.
         ensures undone { CanBeUndone B.marks g.old g.new }
@@ -208,14 +234,21 @@ pub trait Slasher: ValidatorView {
         requires sound { sound (held self.old) }
 
         ensures told { OnOk result (held self.new ≡ jails cons.now (held self.old)) }
-        ensures jailed { OnOk result (IsJailed cons.now (stake (held self.old)) (stake (held self.new))) }
-        ensures lists { OnOk result (lists_of (stake (held self.new)) ≡ lists_of (stake (held self.old))) }
-        ensures bonded { OnOk result (bonded_tokens (stake (held self.new)) ≡ bonded_tokens (stake (held self.old))) }
-        ensures other { OnOk result (other_tokens (stake (held self.new)) ≡ other_tokens (stake (held self.old))) }
-        ensures still { OnOk result (SameButJailed (stake (held self.old)) (stake (held self.new))) }
-        ensures still_by_cons { OnOk result (SameButJailedByCons (stake (held self.old)) (stake (held self.new))) }
+        ensures jailed
+            { OnOk result (IsJailed cons.now (stake (held self.old)) (stake (held self.new))) }
+        ensures lists
+            { OnOk result (lists_of (stake (held self.new)) ≡ lists_of (stake (held self.old))) }
+        ensures bonded { OnOk result
+            (bonded_tokens (stake (held self.new)) ≡ bonded_tokens (stake (held self.old))) }
+        ensures other { OnOk result
+            (other_tokens (stake (held self.new)) ≡ other_tokens (stake (held self.old))) }
+        ensures still
+            { OnOk result (SameButJailed (stake (held self.old)) (stake (held self.new))) }
+        ensures still_by_cons
+            { OnOk result (SameButJailedByCons (stake (held self.old)) (stake (held self.new))) }
         ensures owed { OnOk result (owed (held self.new) ≡ owed (held self.old)) }
-        ensures facts { OnOk result (facts.new ≡ jail_told (validator_by_cons (stake (held self.old)) cons.now) facts.old) }
+        ensures facts { OnOk result
+            (facts.new ≡ jail_told (validator_by_cons (stake (held self.old)) cons.now) facts.old) }
         ensures sound { OnOk result (sound (held self.new)) }
         ensures fault { IfErr result (λ fault. fault ≡ NoMemory) }
 
@@ -265,7 +298,8 @@ pub trait Signers {
         requires sound { sound (held self.old) }
 
         ensures told { OnOk result (held self.new ≡ bans cons.now until (held self.old)) }
-        ensures banned { OnOk result (IsBanned cons.now until (infos (held self.old)) (infos (held self.new))) }
+        ensures banned { OnOk result
+            (IsBanned cons.now until (infos (held self.old)) (infos (held self.new))) }
         ensures sound { OnOk result (sound (held self.new)) }
         ensures fault { IfErr result (λ fault. fault ≡ NoMemory) }
 

@@ -49,7 +49,8 @@ pub trait Unbonder: ValidatorView {
 
     /// What unbonding these shares of this delegator and operator gives: the amount that goes out, and what
     /// stands then; or an excess.
-    ghost unbonds: { (H : Type 0) → (H → Hook → View → Told H) → List ℕ → List ℕ → ℕ → World Held H → Result (ℕ × World Held H) Over };
+    ghost unbonds: { (H : Type 0) → (H → Hook → View → Told H) → List ℕ → List ℕ → ℕ → World Held H
+        → Result (ℕ × World Held H) Over };
 
     /// What its open marks would give back.
     ghost Marks: { Type 0 };
@@ -74,13 +75,21 @@ pub trait Unbonder: ValidatorView {
     ) -> Result<u128, HookFault>
         requires shares { HasShares (stake (held self.old)) who.now operator.now shares }
         requires sound { sound (held self.old) }
-        requires stand { Stands (H.holds hooks.old) H.tells (seen B.holdings g.old) (lists_of (stake (held self.old))) }
+        requires stand { Stands (H.holds hooks.old) H.tells (seen B.holdings g.old)
+            (lists_of (stake (held self.old))) }
 
-        ensures told { (h : H.Held) → H.holds hooks.old h → Follows (unbonds H.Held H.tells.told who.now operator.now shares (record { mine = held self.old; hooks = h; view = seen B.holdings g.old; log = [] })) (held self.new) (H.holds hooks.new) (seen B.holdings g.new) result }
-        ensures unbonded { IfOk result (λ out. IsUnbonded who.now operator.now shares out (stake (held self.old)) (stake (held self.new))) }
+        ensures told { (h : H.Held) → H.holds hooks.old h → Follows (unbonds H.Held H.tells.told
+            who.now operator.now shares (record { mine = held self.old; hooks = h;
+            view = seen B.holdings g.old; log = [] })) (held self.new) (H.holds hooks.new)
+            (seen B.holdings g.new) result }
+        ensures unbonded { IfOk result (λ out. IsUnbonded who.now operator.now shares out
+            (stake (held self.old)) (stake (held self.new))) }
         ensures sound { OnOk result (sound (held self.new)) }
-        ensures stand { OnOk result (Stands (H.holds hooks.new) H.tells (seen B.holdings g.new) (lists_of (stake (held self.new)))) }
-        ensures keeps { (h : H.Held) → H.holds hooks.old h → Stand H.tells h (seen B.holdings g.old) (lists_of (stake (held self.old))) → OnOk result (Keeps (H.tells.owes h ≡ None) (seen B.holdings g.old) (seen B.holdings g.new)) }
+        ensures stand { OnOk result (Stands (H.holds hooks.new) H.tells (seen B.holdings g.new)
+            (lists_of (stake (held self.new)))) }
+        ensures keeps { (h : H.Held) → H.holds hooks.old h → Stand H.tells h (seen B.holdings g.old)
+            (lists_of (stake (held self.old))) → OnOk result
+            (Keeps (H.tells.owes h ≡ None) (seen B.holdings g.old) (seen B.holdings g.new)) }
 
         // Whatever the answer.
         ensures undone { CanBeUndone B.marks g.old g.new }

@@ -32,10 +32,13 @@ pub fn send_between_hooks<B: Bank, H: StakingHooks, L: Ledger>(
     shares: Dec,
     steps: &mut Steps<L>,
 ) -> Result<(), Stop>
-    requires ready { MayCall (H.holds hooks.old) H.tells (starting v.now who.now) (seen B.holdings g.old) }
+    requires ready
+        { MayCall (H.holds hooks.old) H.tells (starting v.now who.now) (seen B.holdings g.old) }
     requires some { 0 < shares }
     requires most { shares ≤ v.now.shares }
-    ensures { (h : H.Held) → H.holds hooks.old h → AnswersAs (sent_between_hooks H.tells.told v.now who.now coins.now shares (record { mine = tt; hooks = h; view = seen B.holdings g.old; log = [] })) tt (H.holds hooks.new) (seen B.holdings g.new) result }
+    ensures { (h : H.Held) → H.holds hooks.old h → AnswersAs (sent_between_hooks H.tells.told v.now
+        who.now coins.now shares (record { mine = tt; hooks = h; view = seen B.holdings g.old;
+        log = [] })) tt (H.holds hooks.new) (seen B.holdings g.new) result }
 {
     hooks.before_delegation_created(alloc, g, v, who, steps)?;
     let to = Account::Module(Module::NotBonded);
@@ -59,11 +62,17 @@ pub fn slash_jail_and_slash<B: Bank, H: StakingHooks, S: Slasher, L: Ledger>(
     requires factor { factor ≤ 10 ^ 18 }
     requires power { power * g.old.ctx.params.power_reduction ≤ 10 ^ 18 }
     requires sound { S.sound (S.held slasher.old) }
-    requires stand { Stands (H.holds hooks.old) H.tells (seen B.holdings g.old) (lists_of (S.stake (S.held slasher.old))) }
-    requires accounts { HoldsStake (seen B.holdings g.old) (bonded_tokens (S.stake (S.held slasher.old))) (other_tokens (S.stake (S.held slasher.old)) + S.owed (S.held slasher.old)) }
+    requires stand { Stands (H.holds hooks.old) H.tells (seen B.holdings g.old)
+        (lists_of (S.stake (S.held slasher.old))) }
+    requires accounts { HoldsStake (seen B.holdings g.old) (bonded_tokens
+        (S.stake (S.held slasher.old)))
+        (other_tokens (S.stake (S.held slasher.old)) + S.owed (S.held slasher.old)) }
     ensures sound { OnOk result (S.sound (S.held slasher.new)) }
-    ensures stand { OnOk result (Stands (H.holds hooks.new) H.tells (seen B.holdings g.new) (lists_of (S.stake (S.held slasher.new)))) }
-    ensures accounts { OnOk result (HoldsStake (seen B.holdings g.new) (bonded_tokens (S.stake (S.held slasher.new))) (other_tokens (S.stake (S.held slasher.new)) + S.owed (S.held slasher.new))) }
+    ensures stand { OnOk result (Stands (H.holds hooks.new) H.tells (seen B.holdings g.new)
+        (lists_of (S.stake (S.held slasher.new)))) }
+    ensures accounts { OnOk result (HoldsStake (seen B.holdings g.new)
+        (bonded_tokens (S.stake (S.held slasher.new)))
+        (other_tokens (S.stake (S.held slasher.new)) + S.owed (S.held slasher.new))) }
 {
     if !can_be_jailed(slasher.by_cons(cons, steps)) {
         return Ok(0);
@@ -91,12 +100,18 @@ pub fn punish<B: Bank, H: StakingHooks, S: Slasher, N: Signers, L: Ledger>(
     requires power { power * g.old.ctx.params.power_reduction ≤ 10 ^ 18 }
     requires sound { S.sound (S.held slasher.old) }
     requires signers { N.sound (N.held signers.old) }
-    requires stand { Stands (H.holds hooks.old) H.tells (seen B.holdings g.old) (lists_of (S.stake (S.held slasher.old))) }
-    requires accounts { HoldsStake (seen B.holdings g.old) (bonded_tokens (S.stake (S.held slasher.old))) (other_tokens (S.stake (S.held slasher.old)) + S.owed (S.held slasher.old)) }
+    requires stand { Stands (H.holds hooks.old) H.tells (seen B.holdings g.old)
+        (lists_of (S.stake (S.held slasher.old))) }
+    requires accounts { HoldsStake (seen B.holdings g.old) (bonded_tokens
+        (S.stake (S.held slasher.old)))
+        (other_tokens (S.stake (S.held slasher.old)) + S.owed (S.held slasher.old)) }
     ensures sound { OnOk result (S.sound (S.held slasher.new)) }
     ensures signers { OnOk result (N.sound (N.held signers.new)) }
-    ensures stand { OnOk result (Stands (H.holds hooks.new) H.tells (seen B.holdings g.new) (lists_of (S.stake (S.held slasher.new)))) }
-    ensures accounts { OnOk result (HoldsStake (seen B.holdings g.new) (bonded_tokens (S.stake (S.held slasher.new))) (other_tokens (S.stake (S.held slasher.new)) + S.owed (S.held slasher.new))) }
+    ensures stand { OnOk result (Stands (H.holds hooks.new) H.tells (seen B.holdings g.new)
+        (lists_of (S.stake (S.held slasher.new)))) }
+    ensures accounts { OnOk result (HoldsStake (seen B.holdings g.new)
+        (bonded_tokens (S.stake (S.held slasher.new)))
+        (other_tokens (S.stake (S.held slasher.new)) + S.owed (S.held slasher.new))) }
 {
     if !can_be_banned(signers.info(cons, steps)) {
         return Ok(false);
@@ -136,12 +151,16 @@ pub fn slash_through_entries<
     requires unbondings { U.sound (U.held unbondings.old) }
     requires redelegations { R.sound (R.held redelegations.old) }
     requires delegations { D.sound (D.held delegations.old) }
-    requires stand { Stands (H.holds hooks.old) H.tells (seen B.holdings g.old) (lists_of (D.stake (D.held delegations.old))) }
-    requires accounts { HoldsStake (seen B.holdings g.old) (bonded_tokens (D.stake (D.held delegations.old))) (other_tokens (D.stake (D.held delegations.old)) + U.owed (U.held unbondings.old)) }
+    requires stand { Stands (H.holds hooks.old) H.tells (seen B.holdings g.old)
+        (lists_of (D.stake (D.held delegations.old))) }
+    requires accounts { HoldsStake (seen B.holdings g.old) (bonded_tokens
+        (D.stake (D.held delegations.old)))
+        (other_tokens (D.stake (D.held delegations.old)) + U.owed (U.held unbondings.old)) }
     ensures unbondings { OnOk result (U.sound (U.held unbondings.new)) }
     ensures redelegations { OnOk result (R.sound (R.held redelegations.new)) }
     ensures delegations { OnOk result (D.sound (D.held delegations.new)) }
-    ensures stand { OnOk result (Stands (H.holds hooks.new) H.tells (seen B.holdings g.new) (lists_of (D.stake (D.held delegations.new)))) }
+    ensures stand { OnOk result (Stands (H.holds hooks.new) H.tells (seen B.holdings g.new)
+        (lists_of (D.stake (D.held delegations.new)))) }
 {
     let some = unbondings.slash_unbondings(alloc, g, operator, infraction, factor, steps)?;
     let more = redelegations.slash_redelegations(
@@ -166,7 +185,8 @@ fn burn_known<B: Bank, L: Ledger>(
     steps: &mut Steps<L>,
 ) -> Result<(), HookFault>
     requires { IsBacked (B.holdings g.old.bank) }
-    ensures { OnOk result (IsBurntIfKnown (option_copied v.entry) (seen B.holdings g.old) (seen B.holdings g.new)) }
+    ensures { OnOk result
+        (IsBurntIfKnown (option_copied v.entry) (seen B.holdings g.old) (seen B.holdings g.new)) }
 {
     match v {
         Some(v) => burn_own(alloc, g, v, steps),
@@ -218,9 +238,12 @@ fn jail_if_not<S: Slasher, L: Ledger>(
     requires known { IsSome (validator_by_cons (S.stake (S.held slasher.old)) cons.now) }
     requires sound { S.sound (S.held slasher.old) }
     ensures sound { OnOk result (S.sound (S.held slasher.new)) }
-    ensures lists { OnOk result (lists_of (S.stake (S.held slasher.new)) ≡ lists_of (S.stake (S.held slasher.old))) }
-    ensures bonded { OnOk result (bonded_tokens (S.stake (S.held slasher.new)) ≡ bonded_tokens (S.stake (S.held slasher.old))) }
-    ensures other { OnOk result (other_tokens (S.stake (S.held slasher.new)) ≡ other_tokens (S.stake (S.held slasher.old))) }
+    ensures lists { OnOk result
+        (lists_of (S.stake (S.held slasher.new)) ≡ lists_of (S.stake (S.held slasher.old))) }
+    ensures bonded { OnOk result (bonded_tokens (S.stake (S.held slasher.new))
+        ≡ bonded_tokens (S.stake (S.held slasher.old))) }
+    ensures other { OnOk result (other_tokens (S.stake (S.held slasher.new))
+        ≡ other_tokens (S.stake (S.held slasher.old))) }
     ensures owed { OnOk result (S.owed (S.held slasher.new) ≡ S.owed (S.held slasher.old)) }
     ensures grown { (more : List Fact) × (facts.new ≡ facts.old ++ more) }
 {

@@ -24,7 +24,8 @@ use stk_types::{Account, Addr, ConsAddr, Denom};
 
 /// Puts an entry at its key.
 fn put<K: Ord + Drop, V: Drop>(found: &mut BTreeMap<K, V>, entry: (K, V)) -> Result<(), LineFault>
-    ensures ok { OnOk result (found.new.entries ≡ insert_entry K.cmp found.old.entries entry.0 entry.1) }
+    ensures ok { OnOk result
+        (found.new.entries ≡ insert_entry K.cmp found.old.entries entry.0 entry.1) }
     ensures fault { IfErr result (λ fault. fault ≡ LineFault.NoMemory) }
 {
     found.insert(entry.0, entry.1)?;

@@ -66,7 +66,9 @@ pub trait Kinds {
         steps: &mut Steps<L>,
     ) -> Result<(), RecordFault>
         requires told { AreTold self.now }
-        ensures changes { OnOk result ((changes : List (Item × Bool)) × ((out.new.items ≡ out.old.items ++ changes) × AreChanges (items (settled self.now)) (items (held self.now)) changes)) }
+        ensures changes { OnOk result ((changes : List (Item × Bool))
+            × ((out.new.items ≡ out.old.items ++ changes)
+            × AreChanges (items (settled self.now)) (items (held self.now)) changes)) }
         ensures err { (some : List (Item × Bool)) × (out.new.items ≡ out.old.items ++ some) };
 }
 
@@ -89,7 +91,8 @@ impl<'a, R: Row> Kinds for One<'a, R> {
 
     ghost is_kind = { λ i. is_some (R.entry_of i) };
 
-    ghost AreTold = { λ one. AreFit R.Fits one.table.now.entries × AreFit R.Fits one.table.now.settled };
+    ghost AreTold = { λ one. AreFit R.Fits one.table.now.entries
+        × AreFit R.Fits one.table.now.settled };
 
     fn known(&self) {
         self.table.known();
@@ -136,7 +139,8 @@ impl<A: Kinds, B: Kinds> Kinds for Both<A, B> {
 
     ghost is_kind = { either A.is_kind B.is_kind };
 
-    ghost AreTold = { λ both. A.AreTold both.first × B.AreTold both.second × AreApart A.is_kind B.is_kind };
+    ghost AreTold = { λ both. A.AreTold both.first × B.AreTold both.second
+        × AreApart A.is_kind B.is_kind };
 
     fn known(&self) {
         self.first.known();

@@ -21,7 +21,8 @@ pub(crate) fn rows_into<R: Row, L: Ledger>(
     out: &mut Vec<Item>,
     steps: &mut Steps<L>,
 ) -> Result<(), RecordFault>
-    ensures rows { OnOk result (out.new.items ≡ out.old.items ++ rows_of R.item_of table.now.entries) }
+    ensures rows
+        { OnOk result (out.new.items ≡ out.old.items ++ rows_of R.item_of table.now.entries) }
     ensures ordered { IsStrictlySortedBy R.Key.cmp (keys_of table.now.entries) }
     ensures err { (some : List Item) × (out.new.items ≡ out.old.items ++ some) }
 {
@@ -43,7 +44,8 @@ pub(crate) fn changes_into<R: Row, L: Ledger>(
     out: &mut Vec<(Item, bool)>,
     steps: &mut Steps<L>,
 ) -> Result<(), RecordFault>
-    ensures changes { OnOk result (out.new.items ≡ out.old.items ++ changes_of R.Key.cmp R.item_of R.gone_of R.same table.now.touched table.now.entries) }
+    ensures changes { OnOk result (out.new.items ≡ out.old.items
+        ++ changes_of R.Key.cmp R.item_of R.gone_of R.same table.now.touched table.now.entries) }
     ensures settled { TellsSettled R.Key.cmp table.now }
     ensures ordered { IsStrictlySortedBy R.Key.cmp (keys_of table.now.entries) }
     ensures err { (some : List (Item × Bool)) × (out.new.items ≡ out.old.items ++ some) }
@@ -65,7 +67,8 @@ fn change_of<R: Row>(
     was: &Option<R::Value>,
     now: Option<&R::Value>,
 ) -> Result<Option<(Item, bool)>, TableFault>
-    ensures { IfOk result (λ change. change ≡ change_of R.item_of R.gone_of R.same key.now was.now (option_copied now.entry)) }
+    ensures { IfOk result (λ change. change
+        ≡ change_of R.item_of R.gone_of R.same key.now was.now (option_copied now.entry)) }
 {
     match (was, now) {
         (None, None) => Ok(None),

@@ -18,9 +18,12 @@ pub(crate) fn write<K: Ord + Hash + Copied, V: Copied>(
     key: &K,
     value: V,
 ) -> Result<(), TableFault>
-    ensures places { OnOk result (places.new ≡ record places.old { entries = insert_entry K.cmp places.old.entries key.now value }) }
-    ensures touched { OnOk result (touched.new.entries ≡ touched_with K.cmp touched.old.entries (restored K.cmp touched.old.entries places.old.entries) key.now) }
-    ensures settled { OnOk result (KeepsSettled K.cmp touched.old.entries places.old.entries touched.new.entries places.new.entries) }
+    ensures places { OnOk result (places.new
+        ≡ record places.old { entries = insert_entry K.cmp places.old.entries key.now value }) }
+    ensures touched { OnOk result (touched.new.entries ≡ touched_with K.cmp touched.old.entries
+        (restored K.cmp touched.old.entries places.old.entries) key.now) }
+    ensures settled { OnOk result (KeepsSettled K.cmp touched.old.entries places.old.entries
+        touched.new.entries places.new.entries) }
     ensures places_err { OnErr result (places.new ≡ places.old) }
     ensures touched_err { OnErr result (touched.new.entries ≡ touched.old.entries) }
 {
@@ -41,9 +44,12 @@ pub(crate) fn take_out<K: Ord + Hash + Copied, V: Copied>(
     key: &K,
 ) -> Result<Option<V>, TableFault>
     ensures value { IfOk result (λ value. value ≡ value_at K.cmp places.old.entries key.now) }
-    ensures places { OnOk result (places.new ≡ record places.old { entries = remove_entry (is_at (K.cmp key.now)) places.old.entries }) }
-    ensures touched { OnOk result (touched.new.entries ≡ touched_with K.cmp touched.old.entries (restored K.cmp touched.old.entries places.old.entries) key.now) }
-    ensures settled { OnOk result (KeepsSettled K.cmp touched.old.entries places.old.entries touched.new.entries places.new.entries) }
+    ensures places { OnOk result (places.new
+        ≡ record places.old { entries = remove_entry (is_at (K.cmp key.now)) places.old.entries }) }
+    ensures touched { OnOk result (touched.new.entries ≡ touched_with K.cmp touched.old.entries
+        (restored K.cmp touched.old.entries places.old.entries) key.now) }
+    ensures settled { OnOk result (KeepsSettled K.cmp touched.old.entries places.old.entries
+        touched.new.entries places.new.entries) }
     ensures places_err { OnErr result (places.new ≡ places.old) }
     ensures touched_err { OnErr result (touched.new.entries ≡ touched.old.entries) }
 {
@@ -63,7 +69,8 @@ fn touch<K: Ord + Hash + Copied, V: Copied>(
     places: &Places<K, V>,
     key: &K,
 ) -> Result<(), TableFault>
-    ensures ok { OnOk result (touched.new.entries ≡ touched_with K.cmp touched.old.entries places.now.entries key.now) }
+    ensures ok { OnOk result
+        (touched.new.entries ≡ touched_with K.cmp touched.old.entries places.now.entries key.now) }
     ensures err { OnErr result (touched.new.entries ≡ touched.old.entries) }
 {
     if touched.contains_key(key) {
@@ -79,7 +86,8 @@ fn present<K: Ord + Hash + Copied, V: Copied>(
     places: &Places<K, V>,
     key: &K,
 ) -> Result<(K, Option<V>), TableFault>
-    ensures { IfOk result (λ pair. pair ≡ (key_in K.cmp places.now.entries key.now, value_at K.cmp places.now.entries key.now)) }
+    ensures { IfOk result (λ pair. pair
+        ≡ (key_in K.cmp places.now.entries key.now, value_at K.cmp places.now.entries key.now)) }
 {
     match places.get(key) {
         Some((key, value)) => Ok((key.copied()?, Some(value.copied()?))),

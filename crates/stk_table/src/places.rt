@@ -38,7 +38,8 @@ impl<K: Ord + Copied, V: Copied> Model for Places<K, V> {
 
     ghost Value = { Marked K V };
 
-    ghost view = { λ p. record { entries = filled p.tree.entries; marks = marks_of K.cmp p.log.items p.here.marks p.tree.entries } };
+    ghost view = { λ p. record { entries = filled p.tree.entries;
+        marks = marks_of K.cmp p.log.items p.here.marks p.tree.entries } };
 
     ghost invariant = { λ p. IsKept K.cmp p.log.items p.here p.depth p.tree.entries };
 }
@@ -69,29 +70,34 @@ impl<K: Ord + Copied, V: Copied> Places<K, V> {
 
     /// The entry under a key.
     pub(crate) fn get(&self, key: &K) -> Option<(&K, &V)>
-        ensures key { option_map (λ entry. entry.0.now) result ≡ lookup_key (is_at (K.cmp key.now)) self.now.entries }
-        ensures value { option_map (λ entry. entry.1.now) result ≡ value_at K.cmp self.now.entries key.now }
+        ensures key { option_map (λ entry. entry.0.now) result
+            ≡ lookup_key (is_at (K.cmp key.now)) self.now.entries }
+        ensures value
+            { option_map (λ entry. entry.1.now) result ≡ value_at K.cmp self.now.entries key.now }
     {
         find(&self.tree, key)
     }
 
     /// The entry of the least key above `after`, or of the least key of all for None.
     pub(crate) fn next(&self, after: Option<&K>) -> Option<(&K, &V)>
-        ensures { option_map (λ entry. (entry.0.now, entry.1.now)) result ≡ entry_above K.cmp self.now.entries (option_copied after.entry) }
+        ensures { option_map (λ entry. (entry.0.now, entry.1.now)) result
+            ≡ entry_above K.cmp self.now.entries (option_copied after.entry) }
     {
         first_from(&self.tree, start_above(after))
     }
 
     /// The entry of the least key at or above `from`.
     pub(crate) fn seek(&self, from: &K) -> Option<(&K, &V)>
-        ensures { option_map (λ entry. (entry.0.now, entry.1.now)) result ≡ entry_from K.cmp self.now.entries from.now }
+        ensures { option_map (λ entry. (entry.0.now, entry.1.now)) result
+            ≡ entry_from K.cmp self.now.entries from.now }
     {
         first_from(&self.tree, Bound::Included(from))
     }
 
     /// Puts a value under a key. Where memory is wanting, nothing changes.
     pub(crate) fn insert(&mut self, key: &K, value: V) -> Result<(), TableFault>
-        ensures ok { OnOk result (self.new ≡ record self.old { entries = insert_entry K.cmp self.old.entries key.now value }) }
+        ensures ok { OnOk result (self.new
+            ≡ record self.old { entries = insert_entry K.cmp self.old.entries key.now value }) }
         ensures err { OnErr result (self.new ≡ self.old) }
     {
         // It tells that the keys ascend.
@@ -115,7 +121,8 @@ impl<K: Ord + Copied, V: Copied> Places<K, V> {
 
     /// The same, whatever stands at the place of the key, if it has one.
     fn insert_elsewhere(&mut self, key: &K, value: V) -> Result<(), TableFault>
-        ensures ok { OnOk result (self.new ≡ record self.old { entries = insert_entry K.cmp self.old.entries key.now value }) }
+        ensures ok { OnOk result (self.new
+            ≡ record self.old { entries = insert_entry K.cmp self.old.entries key.now value }) }
         ensures err { OnErr result (self.new ≡ self.old) }
     {
         // It tells that the keys ascend.
@@ -138,7 +145,8 @@ impl<K: Ord + Copied, V: Copied> Places<K, V> {
     /// wanting, nothing changes.
     pub(crate) fn remove(&mut self, key: &K) -> Result<Option<V>, TableFault>
         ensures value { IfOk result (λ value. value ≡ value_at K.cmp self.old.entries key.now) }
-        ensures ok { OnOk result (self.new ≡ record self.old { entries = remove_entry (is_at (K.cmp key.now)) self.old.entries }) }
+        ensures ok { OnOk result (self.new
+            ≡ record self.old { entries = remove_entry (is_at (K.cmp key.now)) self.old.entries }) }
         ensures err { OnErr result (self.new ≡ self.old) }
     {
         // It tells that the keys ascend.
@@ -162,7 +170,8 @@ impl<K: Ord + Copied, V: Copied> Places<K, V> {
     /// Opens a mark above those that are open. It takes no memory, and fails only where as many marks are open
     /// as a `usize` counts.
     pub(crate) fn mark(&mut self) -> Result<(), TableFault>
-        ensures ok { OnOk result (self.new ≡ record self.old { marks = self.old.marks ++ self.old.entries ∷ [] }) }
+        ensures ok { OnOk result
+            (self.new ≡ record self.old { marks = self.old.marks ++ self.old.entries ∷ [] }) }
         ensures err { OnErr result (self.new ≡ self.old) }
         ensures succeeds { length self.old.marks < usize.MAX → IsOk result }
     {
@@ -215,7 +224,8 @@ fn len_with<K: Ord + Copied, V: Copied>(
 ) -> usize
     requires named { AreNamed K.cmp tree.now.entries }
     requires len { len ≡ length (filled tree.now.entries) }
-    ensures { (value : V) → result ≡ length (insert_entry K.cmp (filled tree.now.entries) key.now value) }
+    ensures { (value : V)
+        → result ≡ length (insert_entry K.cmp (filled tree.now.entries) key.now value) }
 {
     // It tells that the keys ascend, and that one more can be counted.
     let _ = tree.len();
@@ -251,7 +261,8 @@ fn filling<K: Ord + Copied, V: Copied>(
 ) -> Result<Slot<K, V>, TableFault>
     requires { AreNamed K.cmp tree.now.entries }
     ensures named { IfOk result (λ slot. IsNamed K.cmp key.now slot) }
-    ensures shows { IfOk result (λ slot. entry_of (key_in K.cmp tree.now.entries key.now) slot ≡ Some (key_in K.cmp (filled tree.now.entries) key.now, value)) }
+    ensures shows { IfOk result (λ slot. entry_of (key_in K.cmp tree.now.entries key.now) slot
+        ≡ Some (key_in K.cmp (filled tree.now.entries) key.now, value)) }
 {
     // It tells that the keys ascend.
     let _ = tree.len();
@@ -269,7 +280,8 @@ fn renamed<K: Ord + Copied, V: Copied>(
     name: &K,
     value: V,
 ) -> Result<Slot<K, V>, TableFault>
-    ensures named { IfOk result (λ slot. (key : K) → is_at (K.cmp key) name.now ≡ true → IsNamed K.cmp key slot) }
+    ensures named { IfOk result
+        (λ slot. (key : K) → is_at (K.cmp key) name.now ≡ true → IsNamed K.cmp key slot) }
     ensures shows { IfOk result (λ slot. (key : K) → entry_of key slot ≡ Some (name.now, value)) }
 {
     let name = Box::new(alloc, name.copied()?)?;
@@ -286,11 +298,15 @@ fn vacate<K: Ord + Copied, V: Copied>(
     key: &K,
 ) -> Result<Option<V>, TableFault>
     requires { AreNamed K.cmp tree.old.entries }
-    ensures value { IfOk result (λ value. value ≡ value_at K.cmp (filled tree.old.entries) key.now) }
-    ensures entries { OnOk result (filled tree.new.entries ≡ remove_entry (is_at (K.cmp key.now)) (filled tree.old.entries)) }
+    ensures value
+        { IfOk result (λ value. value ≡ value_at K.cmp (filled tree.old.entries) key.now) }
+    ensures entries { OnOk result
+        (filled tree.new.entries ≡ remove_entry (is_at (K.cmp key.now)) (filled tree.old.entries)) }
     ensures named { OnOk result (AreNamed K.cmp tree.new.entries) }
-    ensures undone { OnOk result (marked ≡ true → put_back_slot K.cmp key.now (lookup (is_at (K.cmp key.now)) tree.old.entries) tree.new.entries ≡ tree.old.entries) }
-    ensures log { OnOk result (log.new.items ≡ (if marked then log.old.items ++ undo_of K.cmp tree.old.entries here key.now ∷ [] else log.old.items)) }
+    ensures undone { OnOk result (marked ≡ true → put_back_slot K.cmp key.now
+        (lookup (is_at (K.cmp key.now)) tree.old.entries) tree.new.entries ≡ tree.old.entries) }
+    ensures log { OnOk result (log.new.items ≡ (if marked then log.old.items
+        ++ undo_of K.cmp tree.old.entries here key.now ∷ [] else log.old.items)) }
     ensures tree_err { OnErr result (tree.new.entries ≡ tree.old.entries) }
     ensures log_err { OnErr result (log.new.items ≡ log.old.items) }
 {

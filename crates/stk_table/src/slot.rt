@@ -18,7 +18,8 @@ pub(crate) enum Slot<K, V> {
 impl<K, V> Slot<K, V> {
     /// The entry that is seen of the place of this key.
     pub(crate) fn entry<'a>(&'a self, key: &'a K) -> Option<(&'a K, &'a V)>
-        ensures { option_map (λ entry. (entry.0.now, entry.1.now)) result ≡ entry_of key.now self.now }
+        ensures { option_map (λ entry. (entry.0.now, entry.1.now)) result
+            ≡ entry_of key.now self.now }
     {
         match self {
             Slot::Empty => None,

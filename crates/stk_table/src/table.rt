@@ -33,9 +33,12 @@ impl<K: Ord + Hash + Copied, V: Copied> Model for Table<K, V> {
 
     ghost Value = { Tabled K V };
 
-    ghost view = { λ t. record { entries = t.places.entries; marks = t.places.marks; touched = t.touched.entries; settled = restored K.cmp t.touched.entries t.places.entries; spent = t.spent } };
+    ghost view = { λ t. record { entries = t.places.entries; marks = t.places.marks;
+        touched = t.touched.entries; settled = restored K.cmp t.touched.entries t.places.entries;
+        spent = t.spent } };
 
-    ghost invariant = { λ t. MarksRestore K.cmp t.touched.entries (restored K.cmp t.touched.entries t.places.entries) t.places.marks };
+    ghost invariant = { λ t. MarksRestore K.cmp t.touched.entries
+        (restored K.cmp t.touched.entries t.places.entries) t.places.marks };
 }
 
 impl<K: Ord + Hash + Copied, V: Copied> Table<K, V> {
@@ -142,7 +145,8 @@ impl<K: Ord + Hash + Copied, V: Copied> Table<K, V> {
     /// The entry of the least key above `after`, or of the least key of all for None. It answers None where
     /// there is none, and counts one step for an entry.
     pub fn next<L: Ledger>(&self, after: Option<&K>, steps: &mut Steps<L>) -> Option<(&K, &V)>
-        ensures above { option_map (λ entry. (entry.0.now, entry.1.now)) result ≡ entry_above K.cmp self.now.entries (option_copied after.entry) }
+        ensures above { option_map (λ entry. (entry.0.now, entry.1.now)) result
+            ≡ entry_above K.cmp self.now.entries (option_copied after.entry) }
         ensures cost { steps.new ≡ steps.old + (if is_some result then 1 else 0) }
     {
         let entry = self.places.next(after);
@@ -153,7 +157,8 @@ impl<K: Ord + Hash + Copied, V: Copied> Table<K, V> {
     /// The entry of the least key at or above `from`. It answers None where there is none, and counts one
     /// step for an entry.
     pub fn seek<L: Ledger>(&self, from: &K, steps: &mut Steps<L>) -> Option<(&K, &V)>
-        ensures from { option_map (λ entry. (entry.0.now, entry.1.now)) result ≡ entry_from K.cmp self.now.entries from.now }
+        ensures from { option_map (λ entry. (entry.0.now, entry.1.now)) result
+            ≡ entry_from K.cmp self.now.entries from.now }
         ensures cost { steps.new ≡ steps.old + (if is_some result then 1 else 0) }
     {
         let entry = self.places.seek(from);
@@ -168,7 +173,8 @@ impl<K: Ord + Hash + Copied, V: Copied> Table<K, V> {
         ensures ok { OnOk result (self.new ≡ with_mark self.old) }
         ensures err { OnErr result (self.new ≡ self.old) }
         ensures spent { IsErrOf result TableFault.Spent ↔ IsTrue self.old.spent }
-        ensures succeeds { self.old.spent ≡ false → length self.old.marks < usize.MAX → IsOk result }
+        ensures succeeds
+            { self.old.spent ≡ false → length self.old.marks < usize.MAX → IsOk result }
     {
         if self.spent {
             return Err(TableFault::Spent);

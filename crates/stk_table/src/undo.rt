@@ -41,8 +41,10 @@ pub(crate) fn set<K: Ord + Copied, V: Copied>(
     key: &K,
     slot: Slot<K, V>,
 ) -> Result<(), TableFault>
-    ensures entries { OnOk result (tree.new.entries ≡ insert_entry K.cmp tree.old.entries key.now slot) }
-    ensures log { OnOk result (log.new.items ≡ (if marked then log.old.items ++ undo_of K.cmp tree.old.entries here key.now ∷ [] else log.old.items)) }
+    ensures entries
+        { OnOk result (tree.new.entries ≡ insert_entry K.cmp tree.old.entries key.now slot) }
+    ensures log { OnOk result (log.new.items ≡ (if marked then log.old.items
+        ++ undo_of K.cmp tree.old.entries here key.now ∷ [] else log.old.items)) }
     ensures tree_err { OnErr result (tree.new.entries ≡ tree.old.entries) }
     ensures log_err { OnErr result (log.new.items ≡ log.old.items) }
 {
@@ -67,9 +69,11 @@ pub(crate) fn refill<K: Ord + Copied, V: Copied>(
     key: &K,
     value: V,
 ) -> Result<Slot<K, V>, V>
-    ensures found { IfOk result (λ before. lookup (is_at (K.cmp key.now)) tree.old.entries ≡ Some before) }
+    ensures found
+        { IfOk result (λ before. lookup (is_at (K.cmp key.now)) tree.old.entries ≡ Some before) }
     ensures filled { IfOk result (λ before. is_filled before ≡ true) }
-    ensures entries { OnOk result (tree.new.entries ≡ set_value (is_at (K.cmp key.now)) tree.old.entries (Slot.Filled value)) }
+    ensures entries { OnOk result (tree.new.entries
+        ≡ set_value (is_at (K.cmp key.now)) tree.old.entries (Slot.Filled value)) }
     ensures given { IfErr result (λ given. given ≡ value) }
     ensures same { OnErr result (tree.new.entries ≡ tree.old.entries) }
 {
@@ -95,10 +99,14 @@ pub(crate) fn rewrite<K: Ord + Copied, V: Copied>(
     key: &K,
     value: V,
 ) -> Result<Option<V>, TableFault>
-    ensures done { IfOk result (λ left. left ≡ None → (before : V) × (lookup (is_at (K.cmp key.now)) tree.old.entries ≡ Some (Slot.Filled before))) }
-    ensures entries { IfOk result (λ left. left ≡ None → tree.new.entries ≡ set_value (is_at (K.cmp key.now)) tree.old.entries (Slot.Filled value)) }
-    ensures log { IfOk result (λ left. left ≡ None → log.new.items ≡ (if marked then log.old.items ++ undo_of K.cmp tree.old.entries here key.now ∷ [] else log.old.items)) }
-    ensures left { IfOk result (λ left. IfSome left (λ given. (given ≡ value) × (tree.new.entries ≡ tree.old.entries) × (log.new.items ≡ log.old.items))) }
+    ensures done { IfOk result (λ left. left ≡ None → (before : V)
+        × (lookup (is_at (K.cmp key.now)) tree.old.entries ≡ Some (Slot.Filled before))) }
+    ensures entries { IfOk result (λ left. left ≡ None → tree.new.entries
+        ≡ set_value (is_at (K.cmp key.now)) tree.old.entries (Slot.Filled value)) }
+    ensures log { IfOk result (λ left. left ≡ None → log.new.items ≡ (if marked then log.old.items
+        ++ undo_of K.cmp tree.old.entries here key.now ∷ [] else log.old.items)) }
+    ensures left { IfOk result (λ left. IfSome left (λ given. (given ≡ value)
+        × (tree.new.entries ≡ tree.old.entries) × (log.new.items ≡ log.old.items))) }
     ensures tree_err { OnErr result (tree.new.entries ≡ tree.old.entries) }
     ensures log_err { OnErr result (log.new.items ≡ log.old.items) }
 {
@@ -161,7 +169,8 @@ pub(crate) fn rewind<K: Ord + Copied, V: Copied>(
     requires marked { 0 < length (marks_of K.cmp log.old.items here.old.marks tree.old.entries) }
     requires fits { Fits K.cmp here.old tree.old.entries }
     requires below { FitBelow K.cmp log.old.items tree.old.entries }
-    ensures marks { marks_of K.cmp log.new.items here.new.marks tree.new.entries ≡ marks_of K.cmp log.old.items here.old.marks tree.old.entries }
+    ensures marks { marks_of K.cmp log.new.items here.new.marks tree.new.entries
+        ≡ marks_of K.cmp log.old.items here.old.marks tree.old.entries }
     ensures fits { Fits K.cmp here.new tree.new.entries }
     ensures below { FitBelow K.cmp log.new.items tree.new.entries }
     ensures opened { 0 < here.new.marks }
@@ -178,8 +187,11 @@ pub(crate) fn rewind<K: Ord + Copied, V: Copied>(
 
 /// Closes the latest mark: it counts no more at the point where it was opened.
 pub(crate) fn close<K: Ord + Copied, V: Copied>(log: &mut Vec<Undo<K, V>>, here: &mut Point)
-    ensures closed { (ps : List (K × Slot K V)) → 0 < length (marks_of K.cmp log.old.items here.old.marks ps) → (last : List (K × V)) × (marks_of K.cmp log.new.items here.new.marks ps ++ last ∷ [] ≡ marks_of K.cmp log.old.items here.old.marks ps) }
-    ensures below { (ps : List (K × Slot K V)) → FitBelow K.cmp log.old.items ps → FitBelow K.cmp log.new.items ps }
+    ensures closed { (ps : List (K × Slot K V)) → 0 < length (marks_of K.cmp log.old.items
+        here.old.marks ps) → (last : List (K × V)) × (marks_of K.cmp log.new.items here.new.marks ps
+        ++ last ∷ [] ≡ marks_of K.cmp log.old.items here.old.marks ps) }
+    ensures below { (ps : List (K × Slot K V)) → FitBelow K.cmp log.old.items ps
+        → FitBelow K.cmp log.new.items ps }
     ensures here { here.new.len ≡ here.old.len }
 {
     if here.marks > 0 {
@@ -206,7 +218,8 @@ pub(crate) fn clear<K: Ord + Copied, V: Copied>(
 )
     ensures entries { filled tree.new.entries ≡ filled tree.old.entries }
     ensures named { AreNamed K.cmp tree.old.entries → AreNamed K.cmp tree.new.entries }
-    ensures open { 0 < depth → (tree.new.entries ≡ tree.old.entries) × (log.new.items ≡ log.old.items) }
+    ensures open
+        { 0 < depth → (tree.new.entries ≡ tree.old.entries) × (log.new.items ≡ log.old.items) }
     ensures log { depth ≡ 0 → log.new.items ≡ [] }
 {
     if depth > 0 {

@@ -20,7 +20,8 @@ pub(crate) fn find<'a, K: Ord + Copied, V: Copied>(
     key: &K,
 ) -> Option<(&'a K, &'a V)>
     requires { AreNamed K.cmp tree.now.entries }
-    ensures { option_map (λ entry. (entry.0.now, entry.1.now)) result ≡ lookup_entry (is_at (K.cmp key.now)) (filled tree.now.entries) }
+    ensures { option_map (λ entry. (entry.0.now, entry.1.now)) result
+        ≡ lookup_entry (is_at (K.cmp key.now)) (filled tree.now.entries) }
 {
     // It tells that the keys ascend.
     let _ = tree.len();
@@ -36,7 +37,9 @@ pub(crate) fn first_from<'a, K: Ord + Copied, V: Copied>(
     start: Bound<&K>,
 ) -> Option<(&'a K, &'a V)>
     requires { AreNamed K.cmp tree.now.entries }
-    ensures { option_map (λ entry. (entry.0.now, entry.1.now)) result ≡ first_of (entries_between K.cmp (bound_map (λ key. key.now) start.entry) Unbounded (filled tree.now.entries)) }
+    ensures { option_map (λ entry. (entry.0.now, entry.1.now)) result
+        ≡ first_of (entries_between K.cmp (bound_map (λ key. key.now) start.entry) Unbounded
+        (filled tree.now.entries)) }
 {
     for (place, slot) in tree.range((start, Bound::Unbounded)) {
         let entry = slot.entry(place);

@@ -142,7 +142,8 @@ impl Ord for Addr {
 impl PartialOrd for Addr {
     ghost partial_cmp = { as_partial_cmp addr_cmp };
 
-    ghost laws = { partial_order_from_own_ties (Prim.search (comparing, rules)) (Prim.search (comparing, rules)) };
+    ghost laws = { partial_order_from_own_ties (Prim.search (comparing, rules))
+        (Prim.search (comparing, rules)) };
 
     fn partial_cmp(&self, other: &Addr) -> Option<Ordering> {
         Some(self.cmp(other))

@@ -74,7 +74,8 @@ impl Ord for ConsAddr {
 impl PartialOrd for ConsAddr {
     ghost partial_cmp = { as_partial_cmp cons_cmp };
 
-    ghost laws = { partial_order_from_own_ties (Prim.search (comparing, rules)) (Prim.search (comparing, rules)) };
+    ghost laws = { partial_order_from_own_ties (Prim.search (comparing, rules))
+        (Prim.search (comparing, rules)) };
 
     fn partial_cmp(&self, other: &ConsAddr) -> Option<Ordering> {
         Some(self.cmp(other))

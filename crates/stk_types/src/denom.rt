@@ -38,7 +38,8 @@ impl Model for Denom {
 
     ghost inverse = { λ name. record { bytes = padded name; len = length name } };
 
-    ghost inverse_ok = { λ d h. λ i. record { bytes = padded_again d.bytes d.len h.0 i; len = length_of_taken d.bytes d.len h.0 i } };
+    ghost inverse_ok = { λ d h. λ i. record
+        { bytes = padded_again d.bytes d.len h.0 i; len = length_of_taken d.bytes d.len h.0 i } };
 }
 
 fn is_letter(c: u8) -> bool
@@ -143,7 +144,8 @@ impl Ord for Denom {
 impl PartialOrd for Denom {
     ghost partial_cmp = { as_partial_cmp denom_cmp };
 
-    ghost laws = { partial_order_from_own_ties (Prim.search (comparing, rules)) (Prim.search (comparing, rules)) };
+    ghost laws = { partial_order_from_own_ties (Prim.search (comparing, rules))
+        (Prim.search (comparing, rules)) };
 
     fn partial_cmp(&self, other: &Denom) -> Option<Ordering> {
         Some(self.cmp(other))
@@ -164,7 +166,8 @@ impl Hash for Denom {
 /// Reads a denomination. `BadDenom` comes exactly where the text is none. Takes no memory.
 pub fn read_denom(text: &str) -> Result<Denom, TextFault>
     ensures found { IfOk result (λ denom. denom_of text.now ≡ Some denom) }
-    ensures only { IfErr result (λ fault. (fault ≡ TextFault.BadDenom) × (denom_of text.now ≡ None)) }
+    ensures only
+        { IfErr result (λ fault. (fault ≡ TextFault.BadDenom) × (denom_of text.now ≡ None)) }
 {
     match Denom::of(text.as_bytes()) {
         Some(denom) => Ok(denom),

@@ -32,7 +32,8 @@ fn push_date(out: &mut String, year: u32, month: u32, day: u32) -> Result<(), Al
     requires year { year < 10000 }
     requires month { month < 100 }
     requires day { day < 100 }
-    ensures { OnOk result (string_bytes out.new ≡ string_bytes out.old ++ date_text (year, month, day)) }
+    ensures { OnOk result
+        (string_bytes out.new ≡ string_bytes out.old ++ date_text (year, month, day)) }
 {
     push_two(out, year / 100)?;
     push_two(out, year % 100)?;
