@@ -1,8 +1,8 @@
 use crate::samples::*;
-use stk_app::{Status, run};
 use std::alloc::{AllocError, Global};
 use std::process::Abort;
 use std::test::Fail;
+use stk_app::{Status, run};
 use stk_io::{SureSink, SureSource};
 
 /// What a replay writes that comes to its end, and nothing of another.

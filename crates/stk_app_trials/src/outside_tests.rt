@@ -1,10 +1,10 @@
 ghost use Rattle.std.specs.Prelude.{◌≤◌};
 
 use crate::samples::*;
-use stk_app::{Status, run};
 use std::alloc::{AllocError, Global};
 use std::process::Abort;
 use std::test::Fail;
+use stk_app::{Status, run};
 use stk_io::{MemSink, MemSource, StdSink, StdSource};
 
 /// The input of three blocks: 100 uatom are sent, 991 are refused, and nothing happens.

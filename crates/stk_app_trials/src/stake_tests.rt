@@ -1,10 +1,10 @@
 //! Runs with validators and delegations.
 
 use crate::samples::*;
-use stk_app::{InputFault, Status, run};
 use std::alloc::{AllocError, Global};
 use std::process::Abort;
 use std::test::Fail;
+use stk_app::{InputFault, Status, run};
 use stk_io::{SureSink, SureSource};
 
 /// What a replay of these lines writes that comes to its end, and nothing of another.

@@ -1,8 +1,8 @@
 use crate::samples::*;
-use stk_app::{InputFault, LimitKind, Status, run};
 use std::alloc::{AllocError, Global};
 use std::process::Abort;
 use std::test::Fail;
+use stk_app::{InputFault, LimitKind, Status, run};
 use stk_io::{SureSink, SureSource};
 use stk_msgs::BlockFault;
 use stk_types::read_moment;

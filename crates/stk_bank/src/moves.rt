@@ -94,8 +94,8 @@ impl Tables {
         steps: &mut Steps<L>,
     ) -> Result<(), TableFault>
         requires backed { IsBacked self.old.holdings }
-        requires bounded
-            { (d : List ℕ) → supply_of self.old.holdings d + amount_of coins.now d ≤ 10 ^ 18 }
+        requires bounded { (d : List ℕ)
+            → supply_of self.old.holdings d + amount_of coins.now d ≤ 10 ^ 18 }
         ensures ok { OnOk result
             (self.new ≡ holding (coins_given who.now coins.now self.old.holdings) self.old) }
         ensures backed { OnOk result (IsBacked self.new.holdings) }

@@ -94,8 +94,11 @@ impl Tables {
         amount: u128,
         steps: &mut Steps<L>,
     ) -> Result<(), TableFault>
-        ensures ok { OnOk result (self.new ≡ holding (record { balances = insert_entry place_cmp
-            self.old.holdings.balances place.now amount; supplies = self.old.holdings.supplies })
+        ensures ok { OnOk result (self.new ≡ holding (record {
+          balances = insert_entry place_cmp
+              self.old.holdings.balances place.now amount;
+          supplies = self.old.holdings.supplies;
+        })
             self.old) }
         ensures err { OnErr result (self.new ≡ spent_now self.old) }
         ensures ordered { IsStrictlySortedBy place_cmp (keys_of self.old.holdings.balances) }
@@ -121,8 +124,10 @@ impl Tables {
         steps: &mut Steps<L>,
     ) -> Result<(), TableFault>
         ensures ok { OnOk result (self.new
-            ≡ holding (record { balances = self.old.holdings.balances;
-            supplies = insert_entry denom_cmp self.old.holdings.supplies denom.now amount })
+            ≡ holding (record {
+              balances = self.old.holdings.balances;
+              supplies = insert_entry denom_cmp self.old.holdings.supplies denom.now amount;
+            })
             self.old) }
         ensures err { OnErr result (self.new ≡ spent_now self.old) }
         ensures ordered { IsStrictlySortedBy denom_cmp (keys_of self.old.holdings.supplies) }
@@ -207,10 +212,14 @@ impl Tables {
 
     /// Both tables, to be listed.
     pub(crate) fn kinds(&self) -> BankKinds<'_>
-        ensures held { record { balances = result.first.table.now.entries;
-            supplies = result.second.table.now.entries } ≡ self.now.holdings }
-        ensures settled { record { balances = result.first.table.now.settled;
-            supplies = result.second.table.now.settled } ≡ self.now.settled }
+        ensures held { record {
+          balances = result.first.table.now.entries;
+          supplies = result.second.table.now.entries;
+        } ≡ self.now.holdings }
+        ensures settled { record {
+          balances = result.first.table.now.settled;
+          supplies = result.second.table.now.settled;
+        } ≡ self.now.settled }
     {
         Both {
             first: One {

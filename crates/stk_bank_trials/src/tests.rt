@@ -3,12 +3,12 @@ ghost use Rattle.stk_coins.specs.Coins.{amount_of};
 ghost use Rattle.stk_keep.specs.Holdings.{IsBacked};
 ghost use Rattle.stk_bank.specs.Booked.{behind};
 
-use stk_bank::Book;
 use std::alloc::Global;
 use std::marker::Brand;
 use std::process::Abort;
 use std::sync::ledger::{Blank, Ledger};
 use std::test::Fail;
+use stk_bank::Book;
 use stk_coins::{Coin, Coins};
 use stk_keep::{Bank, BankFault, Facts, Item, Records, Refusal, Stop};
 use stk_types::{Account, Addr, Denom, Module, Steps};

@@ -5,9 +5,9 @@ ghost use Rattle.std.specs.Prelude.{◌^◌, ◌<◌};
 use crate::tests::{
     NEW_YEAR, atoms, dec, fails, is_balance, items_of, moment, ones, params, started, user,
 };
-use stk_chain::{Chain, Genesis};
 use std::process::Abort;
 use std::test::Fail;
+use stk_chain::{Chain, Genesis};
 use stk_keep::{Item, Listed};
 use stk_msgs::{GenesisAccount, GenesisDelegation, GenesisValidator};
 use stk_types::{Account, ConsAddr, Module};

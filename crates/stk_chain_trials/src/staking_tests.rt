@@ -7,9 +7,9 @@ use crate::tests::{
     NEW_YEAR, accounts_of, atom, atoms, dec, ends, has_head, is_balance, items_after, items_of,
     moment, ones, params, started, supply_of, twos, user,
 };
-use stk_chain::{Block, Chain, Genesis, Outcome};
 use std::process::Abort;
 use std::test::Fail;
+use stk_chain::{Block, Chain, Genesis, Outcome};
 use stk_coins::Coin;
 use stk_dec::Dec;
 use stk_keep::{Commission, CreateValidator, EditValidator, Item, Listed, Refusal, Validator};

@@ -2,9 +2,9 @@ ghost use Rattle.std.specs.Prelude.{◌≡◌, ◌^◌, ◌<◌, true, IfOk};
 ghost use Rattle.stk_machine.specs.Built.{IsBuilt};
 ghost use Rattle.stk_machine.specs.Built.{is_built};
 
-use stk_chain::{Block, BlockFault, Chain, ChainFault, Genesis, Outcome};
 use std::process::Abort;
 use std::test::Fail;
+use stk_chain::{Block, BlockFault, Chain, ChainFault, Genesis, Outcome};
 use stk_coins::{Coin, Coins};
 use stk_dec::Dec;
 use stk_keep::{Item, Listed, Params, Refusal};

@@ -38,8 +38,8 @@ impl Coins {
 
         ensures coins { IfOk result
             (λ coins. coins ≡ sorted_coins (map (λ c. (c.denom, c.amount)) list.items)) }
-        ensures once
-            { IfOk result (λ _. stands_twice (map (λ c. (c.denom, c.amount)) list.items) ≡ false) }
+        ensures once { IfOk result
+            (λ _. stands_twice (map (λ c. (c.denom, c.amount)) list.items) ≡ false) }
         ensures twice { IfErr result (λ fault. (fault ≡ CoinFault.Repeated)
             × (stands_twice (map (λ c. (c.denom, c.amount)) list.items) ≡ true)) }
     {

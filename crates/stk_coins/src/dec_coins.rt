@@ -48,8 +48,8 @@ impl DecCoins {
     pub fn of(list: Vec<DecCoin>) -> Result<DecCoins, CoinFault>
         ensures coins { IfOk result
             (λ coins. coins ≡ sorted_coins (map (λ c. (c.denom, c.amount)) list.items)) }
-        ensures once
-            { IfOk result (λ _. stands_twice (map (λ c. (c.denom, c.amount)) list.items) ≡ false) }
+        ensures once { IfOk result
+            (λ _. stands_twice (map (λ c. (c.denom, c.amount)) list.items) ≡ false) }
         ensures twice { IfErr result (λ fault. (fault ≡ CoinFault.Repeated)
             × (stands_twice (map (λ c. (c.denom, c.amount)) list.items) ≡ true)) }
     {

@@ -52,8 +52,8 @@ pub(crate) fn sum<E: Entry>(alloc: Global, left: &[E], right: &[E]) -> Result<Ve
     ensures sum { IfOk result (λ sum. coins_added (map E.seen left.now) (map E.seen right.now)
         ≡ Ok (map E.seen sum.items)) }
     ensures money { IfOk result (λ sum. IsMoney (map E.seen sum.items)) }
-    ensures fault
-        { IfErr result (IsOverOf (coins_added (map E.seen left.now) (map E.seen right.now))) }
+    ensures fault { IfErr result
+        (IsOverOf (coins_added (map E.seen left.now) (map E.seen right.now))) }
 {
     let mut list = Vec::new(alloc);
     let mut pairs = Pairs { left, right };
@@ -74,11 +74,11 @@ pub(crate) fn difference<E: Entry>(
     requires right { IsMoney (map E.seen right.now) }
     ensures rest { IfOk result
         (λ rest. map E.seen rest.items ≡ coins_taken (map E.seen left.now) (map E.seen right.now)) }
-    ensures enough
-        { IfOk result (λ _. first_short (map E.seen left.now) (map E.seen right.now) ≡ None) }
+    ensures enough { IfOk result
+        (λ _. first_short (map E.seen left.now) (map E.seen right.now) ≡ None) }
     ensures money { IfOk result (λ rest. IsMoney (map E.seen rest.items)) }
-    ensures fault
-        { IfErr result (IsShortAt (first_short (map E.seen left.now) (map E.seen right.now))) }
+    ensures fault { IfErr result
+        (IsShortAt (first_short (map E.seen left.now) (map E.seen right.now))) }
 {
     let mut list = Vec::new(alloc);
     let mut pairs = Pairs { left, right };
@@ -115,8 +115,8 @@ pub(crate) fn smaller<E: Entry>(alloc: Global, left: &[E], right: &[E]) -> Resul
 /// Coins in any order as a list. Takes no memory.
 pub(crate) fn in_order<E: Entry>(mut list: Vec<E>) -> Result<Vec<E>, CoinFault>
     requires { All E.fits list.items }
-    ensures coins
-        { IfOk result (λ coins. map E.seen coins.items ≡ sorted_coins (map E.seen list.items)) }
+    ensures coins { IfOk result
+        (λ coins. map E.seen coins.items ≡ sorted_coins (map E.seen list.items)) }
     ensures once { IfOk result (λ _. stands_twice (map E.seen list.items) ≡ false) }
     ensures money { IfOk result (λ coins. IsMoney (map E.seen coins.items)) }
     ensures twice { IfErr result

@@ -63,13 +63,13 @@ pub(crate) fn scaled(
 /// Whole amounts as decimals.
 pub(crate) fn decimals(alloc: Global, list: &[Coin]) -> Result<Vec<DecCoin>, CoinFault>
     requires { IsMoney (map (λ c. (c.denom, c.amount)) list.now) }
-    ensures decimals
-        { IfOk result (λ decimals. as_decimals (map (λ c. (c.denom, c.amount)) list.now)
+    ensures decimals { IfOk result
+        (λ decimals. as_decimals (map (λ c. (c.denom, c.amount)) list.now)
         ≡ Ok (map (λ c. (c.denom, c.amount)) decimals.items)) }
-    ensures money
-        { IfOk result (λ decimals. IsMoney (map (λ c. (c.denom, c.amount)) decimals.items)) }
-    ensures fault
-        { IfErr result (IsOverOf (as_decimals (map (λ c. (c.denom, c.amount)) list.now))) }
+    ensures money { IfOk result
+        (λ decimals. IsMoney (map (λ c. (c.denom, c.amount)) decimals.items)) }
+    ensures fault { IfErr result
+        (IsOverOf (as_decimals (map (λ c. (c.denom, c.amount)) list.now))) }
 {
     let mut decimals = Vec::new(alloc);
     for coin in list {

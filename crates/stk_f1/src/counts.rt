@@ -104,8 +104,8 @@ impl Tables {
         ensures below { IfOk result (λ next. next.0 ≢ 10 ^ 18) }
         ensures ratio { IfOk result
             (λ next. next_ratio increment.now operator.now self.now.kept ≡ Ok next.1) }
-        ensures fault
-            { IfErr result (IsExcessOf (next_ratio increment.now operator.now self.now.kept)) }
+        ensures fault { IfErr result
+            (IsExcessOf (next_ratio increment.now operator.now self.now.kept)) }
         ensures cost { steps.new ≤ steps.old + 2 }
     {
         let period = self.current(operator, steps).unwrap();

@@ -97,14 +97,18 @@ impl Tables {
 
     /// The four tables, to be listed.
     pub(crate) fn kinds(&self) -> F1Kinds<'_>
-        ensures held { record { current = result.first.table.now.entries;
-            historical = result.second.first.table.now.entries;
-            starts = result.second.second.first.table.now.entries;
-            events = result.second.second.second.table.now.entries } ≡ self.now.kept }
-        ensures settled { record { current = result.first.table.now.settled;
-            historical = result.second.first.table.now.settled;
-            starts = result.second.second.first.table.now.settled;
-            events = result.second.second.second.table.now.settled } ≡ self.now.settled }
+        ensures held { record {
+          current = result.first.table.now.entries;
+          historical = result.second.first.table.now.entries;
+          starts = result.second.second.first.table.now.entries;
+          events = result.second.second.second.table.now.entries;
+        } ≡ self.now.kept }
+        ensures settled { record {
+          current = result.first.table.now.settled;
+          historical = result.second.first.table.now.settled;
+          starts = result.second.second.first.table.now.settled;
+          events = result.second.second.second.table.now.settled;
+        } ≡ self.now.settled }
     {
         let later = Both {
             first: One {

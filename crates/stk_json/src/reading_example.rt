@@ -19,16 +19,16 @@ pub fn lines_read_by_example()
         example.create_validator_members ≡ Ok example.create_validator }
     ensures edit_validator { example.message_in (codes "edit_validator")
         example.edit_validator_members ≡ Ok example.edit_validator }
-    ensures delegate
-        { example.message_in (codes "delegate") example.delegate_members ≡ Ok example.delegate }
-    ensures undelegate
-        { example.message_in (codes "undelegate") example.delegate_members ≡ Ok example.undelegate }
+    ensures delegate { example.message_in (codes "delegate") example.delegate_members
+        ≡ Ok example.delegate }
+    ensures undelegate { example.message_in (codes "undelegate") example.delegate_members
+        ≡ Ok example.undelegate }
     ensures begin_redelegate { example.message_in (codes "begin_redelegate")
         example.begin_redelegate_members ≡ Ok example.begin_redelegate }
     ensures cancel_unbonding { example.message_in (codes "cancel_unbonding")
         example.cancel_unbonding_members ≡ Ok example.cancel_unbonding }
-    ensures unjail
-        { example.message_in (codes "unjail") example.unjail_members ≡ Ok example.unjail }
+    ensures unjail { example.message_in (codes "unjail") example.unjail_members
+        ≡ Ok example.unjail }
     ensures withdraw_reward { example.message_in (codes "withdraw_reward")
         example.withdraw_reward_members ≡ Ok example.withdraw_reward }
     ensures withdraw_commission { example.message_in (codes "withdraw_commission")
@@ -44,8 +44,8 @@ pub fn lines_read_by_example()
     ensures empty { block_of [] ≡ Err LineFault.NotJson }
     ensures of_genesis { block_of (codes "{\"kind\":\"genesis\"}") ≡ Err (LineFault.BadShape 60) }
     ensures no_height { block_of (codes "{\"kind\":\"block\"}") ≡ Err (LineFault.BadShape 61) }
-    ensures twice
-        { example.message_in (codes "send") example.twice_members ≡ Err (LineFault.BadShape 93) }
+    ensures twice { example.message_in (codes "send") example.twice_members
+        ≡ Err (LineFault.BadShape 93) }
     ensures no_kind { example.message_in (codes "jail") [] ≡ Err (LineFault.BadShape 90) }
     ensures no_rate { example.message_in (codes "edit_validator")
         (example.unjail_members ++ codes ",\"rate\":null") ≡ Err (LineFault.BadShape 101) }

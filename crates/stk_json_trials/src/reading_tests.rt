@@ -1,7 +1,7 @@
-use stk_json::{read_block, read_genesis};
 use json::Scratch;
 use std::alloc::{AllocError, Global};
 use std::test::Fail;
+use stk_json::{read_block, read_genesis};
 use stk_msgs::{Block, LineFault, Msg};
 
 const GENESIS: &str =

@@ -1,9 +1,9 @@
-use stk_json::{push_line_of_genesis, push_lines_of_block};
 use std::alloc::Global;
 use std::process::Abort;
 use std::test::Fail;
 use stk_coins::{Coin, Coins, DecCoin, DecCoins};
 use stk_dec::{Dec, Over, OverKind};
+use stk_json::{push_line_of_genesis, push_lines_of_block};
 use stk_keep::{Fact, Facts, Listed, Refusal};
 use stk_msgs::{BlockReport, Outcome, TxReport};
 use stk_types::{Account, Addr, BondStatus, Denom, Module, Moment};

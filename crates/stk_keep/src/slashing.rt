@@ -122,10 +122,17 @@ pub trait RedelegationSlash {
             (D.stake (D.held delegations.old))) (other_tokens (D.stake (D.held delegations.old))) }
 
         ensures told { (h : H.Held) → H.holds hooks.old h → FollowsLent
-            (slashes D.Held H.Held (record { stake = D.stake; unbond = D.unbonds H.Held
-            H.tells.told }) operator.now infraction factor (held self.old)
-            (record { mine = D.held delegations.old; hooks = h; view = seen B.holdings g.old;
-            log = [] })) (held self.new) (D.held delegations.new) (H.holds hooks.new)
+            (slashes D.Held H.Held (record {
+              stake = D.stake;
+              unbond = D.unbonds H.Held
+                  H.tells.told;
+            }) operator.now infraction factor (held self.old)
+            (record {
+              mine = D.held delegations.old;
+              hooks = h;
+              view = seen B.holdings g.old;
+              log = [];
+            })) (held self.new) (D.held delegations.new) (H.holds hooks.new)
             (seen B.holdings g.new) result }
         ensures most { IfOk result (λ counted. counted ≤ 10 ^ 18) }
         ensures falls { OnOk result (StakeFalls (seen B.holdings g.old) (seen B.holdings g.new)
@@ -200,16 +207,20 @@ pub trait Slasher: ValidatorView {
             (stake (held self.old))) (other_tokens (stake (held self.old)) + owed (held self.old)) }
 
         ensures told { (h : H.Held) → H.holds hooks.old h → Follows (slashes H.Held H.tells.told
-            cons.now infraction power factor (record { mine = held self.old; hooks = h;
-            view = seen B.holdings g.old; log = [] })) (held self.new) (H.holds hooks.new)
+            cons.now infraction power factor (record {
+              mine = held self.old;
+              hooks = h;
+              view = seen B.holdings g.old;
+              log = [];
+            })) (held self.new) (H.holds hooks.new)
             (seen B.holdings g.new) result }
         ensures falls { OnOk result (StakeFalls (seen B.holdings g.old) (seen B.holdings g.new)
             (bonded_tokens (stake (held self.old))) (other_tokens (stake (held self.old))
             + owed (held self.old)) (bonded_tokens (stake (held self.new)))
             (other_tokens (stake (held self.new)) + owed (held self.new))) }
         ensures still { OnOk result (StillStand (stake (held self.old)) (stake (held self.new))) }
-        ensures still_by_cons
-            { OnOk result (StillStandByCons (stake (held self.old)) (stake (held self.new))) }
+        ensures still_by_cons { OnOk result
+            (StillStandByCons (stake (held self.old)) (stake (held self.new))) }
         ensures sound { OnOk result (sound (held self.new)) }
         ensures stand { OnOk result (Stands (H.holds hooks.new) H.tells (seen B.holdings g.new)
             (lists_of (stake (held self.new)))) }
@@ -234,18 +245,18 @@ pub trait Slasher: ValidatorView {
         requires sound { sound (held self.old) }
 
         ensures told { OnOk result (held self.new ≡ jails cons.now (held self.old)) }
-        ensures jailed
-            { OnOk result (IsJailed cons.now (stake (held self.old)) (stake (held self.new))) }
-        ensures lists
-            { OnOk result (lists_of (stake (held self.new)) ≡ lists_of (stake (held self.old))) }
+        ensures jailed { OnOk result
+            (IsJailed cons.now (stake (held self.old)) (stake (held self.new))) }
+        ensures lists { OnOk result
+            (lists_of (stake (held self.new)) ≡ lists_of (stake (held self.old))) }
         ensures bonded { OnOk result
             (bonded_tokens (stake (held self.new)) ≡ bonded_tokens (stake (held self.old))) }
         ensures other { OnOk result
             (other_tokens (stake (held self.new)) ≡ other_tokens (stake (held self.old))) }
-        ensures still
-            { OnOk result (SameButJailed (stake (held self.old)) (stake (held self.new))) }
-        ensures still_by_cons
-            { OnOk result (SameButJailedByCons (stake (held self.old)) (stake (held self.new))) }
+        ensures still { OnOk result
+            (SameButJailed (stake (held self.old)) (stake (held self.new))) }
+        ensures still_by_cons { OnOk result
+            (SameButJailedByCons (stake (held self.old)) (stake (held self.new))) }
         ensures owed { OnOk result (owed (held self.new) ≡ owed (held self.old)) }
         ensures facts { OnOk result
             (facts.new ≡ jail_told (validator_by_cons (stake (held self.old)) cons.now) facts.old) }

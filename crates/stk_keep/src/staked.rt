@@ -79,8 +79,12 @@ pub trait Unbonder: ValidatorView {
             (lists_of (stake (held self.old))) }
 
         ensures told { (h : H.Held) → H.holds hooks.old h → Follows (unbonds H.Held H.tells.told
-            who.now operator.now shares (record { mine = held self.old; hooks = h;
-            view = seen B.holdings g.old; log = [] })) (held self.new) (H.holds hooks.new)
+            who.now operator.now shares (record {
+              mine = held self.old;
+              hooks = h;
+              view = seen B.holdings g.old;
+              log = [];
+            })) (held self.new) (H.holds hooks.new)
             (seen B.holdings g.new) result }
         ensures unbonded { IfOk result (λ out. IsUnbonded who.now operator.now shares out
             (stake (held self.old)) (stake (held self.new))) }

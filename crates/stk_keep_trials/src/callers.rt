@@ -32,13 +32,17 @@ pub fn send_between_hooks<B: Bank, H: StakingHooks, L: Ledger>(
     shares: Dec,
     steps: &mut Steps<L>,
 ) -> Result<(), Stop>
-    requires ready
-        { MayCall (H.holds hooks.old) H.tells (starting v.now who.now) (seen B.holdings g.old) }
+    requires ready { MayCall (H.holds hooks.old) H.tells (starting v.now who.now)
+        (seen B.holdings g.old) }
     requires some { 0 < shares }
     requires most { shares ≤ v.now.shares }
     ensures { (h : H.Held) → H.holds hooks.old h → AnswersAs (sent_between_hooks H.tells.told v.now
-        who.now coins.now shares (record { mine = tt; hooks = h; view = seen B.holdings g.old;
-        log = [] })) tt (H.holds hooks.new) (seen B.holdings g.new) result }
+        who.now coins.now shares (record {
+          mine = tt;
+          hooks = h;
+          view = seen B.holdings g.old;
+          log = [];
+        })) tt (H.holds hooks.new) (seen B.holdings g.new) result }
 {
     hooks.before_delegation_created(alloc, g, v, who, steps)?;
     let to = Account::Module(Module::NotBonded);

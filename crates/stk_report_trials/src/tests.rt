@@ -1,4 +1,3 @@
-use stk_report::{Query, query, report};
 use std::alloc::Global;
 use std::process::Abort;
 use std::test::Fail;
@@ -8,6 +7,7 @@ use stk_keep::{
     Commission, Item, Listed, Purse, RedelegationEntry, SigningInfo, UnbondingEntry, Validator,
 };
 use stk_msgs::Pending;
+use stk_report::{Query, query, report};
 use stk_types::{Account, Addr, BondStatus, ConsAddr, Denom, Module, Moment};
 
 const ONES_LINE: &str =

@@ -21,8 +21,8 @@ pub(crate) fn rows_into<R: Row, L: Ledger>(
     out: &mut Vec<Item>,
     steps: &mut Steps<L>,
 ) -> Result<(), RecordFault>
-    ensures rows
-        { OnOk result (out.new.items ≡ out.old.items ++ rows_of R.item_of table.now.entries) }
+    ensures rows { OnOk result
+        (out.new.items ≡ out.old.items ++ rows_of R.item_of table.now.entries) }
     ensures ordered { IsStrictlySortedBy R.Key.cmp (keys_of table.now.entries) }
     ensures err { (some : List Item) × (out.new.items ≡ out.old.items ++ some) }
 {

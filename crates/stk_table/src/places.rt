@@ -38,8 +38,10 @@ impl<K: Ord + Copied, V: Copied> Model for Places<K, V> {
 
     ghost Value = { Marked K V };
 
-    ghost view = { λ p. record { entries = filled p.tree.entries;
-        marks = marks_of K.cmp p.log.items p.here.marks p.tree.entries } };
+    ghost view = { λ p. record {
+      entries = filled p.tree.entries;
+      marks = marks_of K.cmp p.log.items p.here.marks p.tree.entries;
+    } };
 
     ghost invariant = { λ p. IsKept K.cmp p.log.items p.here p.depth p.tree.entries };
 }
@@ -72,8 +74,8 @@ impl<K: Ord + Copied, V: Copied> Places<K, V> {
     pub(crate) fn get(&self, key: &K) -> Option<(&K, &V)>
         ensures key { option_map (λ entry. entry.0.now) result
             ≡ lookup_key (is_at (K.cmp key.now)) self.now.entries }
-        ensures value
-            { option_map (λ entry. entry.1.now) result ≡ value_at K.cmp self.now.entries key.now }
+        ensures value { option_map (λ entry. entry.1.now) result
+            ≡ value_at K.cmp self.now.entries key.now }
     {
         find(&self.tree, key)
     }
@@ -298,8 +300,8 @@ fn vacate<K: Ord + Copied, V: Copied>(
     key: &K,
 ) -> Result<Option<V>, TableFault>
     requires { AreNamed K.cmp tree.old.entries }
-    ensures value
-        { IfOk result (λ value. value ≡ value_at K.cmp (filled tree.old.entries) key.now) }
+    ensures value { IfOk result
+        (λ value. value ≡ value_at K.cmp (filled tree.old.entries) key.now) }
     ensures entries { OnOk result
         (filled tree.new.entries ≡ remove_entry (is_at (K.cmp key.now)) (filled tree.old.entries)) }
     ensures named { OnOk result (AreNamed K.cmp tree.new.entries) }

@@ -33,9 +33,13 @@ impl<K: Ord + Hash + Copied, V: Copied> Model for Table<K, V> {
 
     ghost Value = { Tabled K V };
 
-    ghost view = { λ t. record { entries = t.places.entries; marks = t.places.marks;
-        touched = t.touched.entries; settled = restored K.cmp t.touched.entries t.places.entries;
-        spent = t.spent } };
+    ghost view = { λ t. record {
+      entries = t.places.entries;
+      marks = t.places.marks;
+      touched = t.touched.entries;
+      settled = restored K.cmp t.touched.entries t.places.entries;
+      spent = t.spent;
+    } };
 
     ghost invariant = { λ t. MarksRestore K.cmp t.touched.entries
         (restored K.cmp t.touched.entries t.places.entries) t.places.marks };
@@ -173,8 +177,8 @@ impl<K: Ord + Hash + Copied, V: Copied> Table<K, V> {
         ensures ok { OnOk result (self.new ≡ with_mark self.old) }
         ensures err { OnErr result (self.new ≡ self.old) }
         ensures spent { IsErrOf result TableFault.Spent ↔ IsTrue self.old.spent }
-        ensures succeeds
-            { self.old.spent ≡ false → length self.old.marks < usize.MAX → IsOk result }
+        ensures succeeds { self.old.spent ≡ false → length self.old.marks < usize.MAX
+            → IsOk result }
     {
         if self.spent {
             return Err(TableFault::Spent);

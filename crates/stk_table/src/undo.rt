@@ -41,8 +41,8 @@ pub(crate) fn set<K: Ord + Copied, V: Copied>(
     key: &K,
     slot: Slot<K, V>,
 ) -> Result<(), TableFault>
-    ensures entries
-        { OnOk result (tree.new.entries ≡ insert_entry K.cmp tree.old.entries key.now slot) }
+    ensures entries { OnOk result
+        (tree.new.entries ≡ insert_entry K.cmp tree.old.entries key.now slot) }
     ensures log { OnOk result (log.new.items ≡ (if marked then log.old.items
         ++ undo_of K.cmp tree.old.entries here key.now ∷ [] else log.old.items)) }
     ensures tree_err { OnErr result (tree.new.entries ≡ tree.old.entries) }
@@ -69,8 +69,8 @@ pub(crate) fn refill<K: Ord + Copied, V: Copied>(
     key: &K,
     value: V,
 ) -> Result<Slot<K, V>, V>
-    ensures found
-        { IfOk result (λ before. lookup (is_at (K.cmp key.now)) tree.old.entries ≡ Some before) }
+    ensures found { IfOk result
+        (λ before. lookup (is_at (K.cmp key.now)) tree.old.entries ≡ Some before) }
     ensures filled { IfOk result (λ before. is_filled before ≡ true) }
     ensures entries { OnOk result (tree.new.entries
         ≡ set_value (is_at (K.cmp key.now)) tree.old.entries (Slot.Filled value)) }
@@ -218,8 +218,8 @@ pub(crate) fn clear<K: Ord + Copied, V: Copied>(
 )
     ensures entries { filled tree.new.entries ≡ filled tree.old.entries }
     ensures named { AreNamed K.cmp tree.old.entries → AreNamed K.cmp tree.new.entries }
-    ensures open
-        { 0 < depth → (tree.new.entries ≡ tree.old.entries) × (log.new.items ≡ log.old.items) }
+    ensures open { 0 < depth → (tree.new.entries ≡ tree.old.entries)
+        × (log.new.items ≡ log.old.items) }
     ensures log { depth ≡ 0 → log.new.items ≡ [] }
 {
     if depth > 0 {

@@ -12,8 +12,8 @@ use std::alloc::Global;
 /// `BadAddress` comes exactly at any other text. Takes no memory.
 pub fn read_account(text: &str) -> Result<Account, TextFault>
     ensures found { IfOk result (λ account. account_of text.now ≡ Some account) }
-    ensures only
-        { IfErr result (λ fault. (fault ≡ TextFault.BadAddress) × (account_of text.now ≡ None)) }
+    ensures only { IfErr result
+        (λ fault. (fault ≡ TextFault.BadAddress) × (account_of text.now ≡ None)) }
 {
     match read_bytes(text) {
         Some(bytes) => Ok(Account::of(bytes)),
@@ -25,8 +25,8 @@ pub fn read_account(text: &str) -> Result<Account, TextFault>
 /// at any other text, and at a module's address. Takes no memory.
 pub fn read_addr(text: &str) -> Result<Addr, TextFault>
     ensures found { IfOk result (λ addr. user_of text.now ≡ Some addr) }
-    ensures only
-        { IfErr result (λ fault. (fault ≡ TextFault.BadAddress) × (user_of text.now ≡ None)) }
+    ensures only { IfErr result
+        (λ fault. (fault ≡ TextFault.BadAddress) × (user_of text.now ≡ None)) }
 {
     let Some(bytes) = read_bytes(text) else {
         return Err(TextFault::BadAddress);
@@ -41,8 +41,8 @@ pub fn read_addr(text: &str) -> Result<Addr, TextFault>
 /// any other text. Takes no memory.
 pub fn read_cons(text: &str) -> Result<ConsAddr, TextFault>
     ensures found { IfOk result (λ cons. address_of text.now ≡ Some cons) }
-    ensures only
-        { IfErr result (λ fault. (fault ≡ TextFault.BadAddress) × (address_of text.now ≡ None)) }
+    ensures only { IfErr result
+        (λ fault. (fault ≡ TextFault.BadAddress) × (address_of text.now ≡ None)) }
 {
     match read_bytes(text) {
         Some(bytes) => Ok(ConsAddr::of(bytes)),

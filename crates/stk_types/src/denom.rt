@@ -166,8 +166,8 @@ impl Hash for Denom {
 /// Reads a denomination. `BadDenom` comes exactly where the text is none. Takes no memory.
 pub fn read_denom(text: &str) -> Result<Denom, TextFault>
     ensures found { IfOk result (λ denom. denom_of text.now ≡ Some denom) }
-    ensures only
-        { IfErr result (λ fault. (fault ≡ TextFault.BadDenom) × (denom_of text.now ≡ None)) }
+    ensures only { IfErr result
+        (λ fault. (fault ≡ TextFault.BadDenom) × (denom_of text.now ≡ None)) }
 {
     match Denom::of(text.as_bytes()) {
         Some(denom) => Ok(denom),

@@ -32,8 +32,8 @@ pub fn addresses_read_back()
 /// only spelling.
 pub fn addresses_have_one_text()
     ensures address { (text bytes : List ℕ) → address_of text ≡ Some bytes → IsAddress bytes }
-    ensures text
-        { (text bytes : List ℕ) → address_of text ≡ Some bytes → text ≡ address_text bytes }
+    ensures text { (text bytes : List ℕ) → address_of text ≡ Some bytes
+        → text ≡ address_text bytes }
 {}
 
 /// An account keeps the bytes that it is made of, those of a module make that module, and a module's name
@@ -60,8 +60,8 @@ pub fn orders_of_keys()
 pub fn texts_by_example()
     ensures first { moment_text 0 ≡ codes "1970-01-01T00:00:00Z" }
     ensures leap_day { moment_text 1_709_208_000_500_000_000 ≡ codes "2024-02-29T12:00:00.5Z" }
-    ensures last
-        { moment_text 253_402_300_799_999_999_999 ≡ codes "9999-12-31T23:59:59.999999999Z" }
+    ensures last { moment_text 253_402_300_799_999_999_999
+        ≡ codes "9999-12-31T23:59:59.999999999Z" }
     ensures zeros { moment_of (codes "2024-02-29T12:00:00.500Z") ≡ Some 1_709_208_000_500_000_000 }
     ensures no_day { moment_of (codes "2023-02-29T12:00:00Z") ≡ None }
     ensures no_hour { moment_of (codes "2024-02-29T24:00:00Z") ≡ None }

@@ -149,8 +149,8 @@ fn moment_of(text: &[u8]) -> Option<u128>
 /// 60. `BadMoment` comes exactly at any other text. Takes no memory.
 pub fn read_moment(text: &str) -> Result<Moment, TextFault>
     ensures found { IfOk result (λ moment. moment_of text.now ≡ Some moment) }
-    ensures only
-        { IfErr result (λ fault. (fault ≡ TextFault.BadMoment) × (moment_of text.now ≡ None)) }
+    ensures only { IfErr result
+        (λ fault. (fault ≡ TextFault.BadMoment) × (moment_of text.now ≡ None)) }
 {
     match moment_of(text.as_bytes()) {
         Some(nanos) => Ok(Moment { nanos }),
