@@ -1,7 +1,8 @@
 -- A block that may follow is answered, and a fault has its cause: a condition against the block, or a limit that its beginning
 -- met. Its end meets none.
-use Rattle.std.proofs.Common.{◌≡◌, ◌∙◌, ℕ, ◌+◌, ◌^◌, ◌<◌, List, [], Result, Ok, Err, inl, inr, refl, sym, subst}
-use Rattle.std.specs.Prelude.{◌⊎◌, All, Contains, ⊤}
+use Rattle.std.proofs.Common.{◌≡◌, ℕ, suc, ◌+◌, ◌^◌, ◌<◌, ◌≤◌, List, [], ◌∷◌, length, Result, Ok, Err, inl, inr, refl, sym, subst, arith}
+use Rattle.std.specs.Prelude.{All, Contains, ⊤}
+use Rattle.std.proofs.lemmas.List.Elements.{All-head, All-tail}
 use Rattle.stk_dec.specs.declared.over.Over.{Over}
 use Rattle.stk_keep.specs.Steps.{◌>>=◌, ◌>>◌, stopping}
 use Rattle.stk_msgs.specs.declared.block.Block.{Block}
@@ -13,14 +14,13 @@ use Rattle.stk_machine.specs.Promises.{TxHasCoins}
 use Rattle.stk_owed.proofs.Bonding.{set_step_fits}
 use Rattle.stk_owed.proofs.Burns.{total_in}
 use Rattle.stk_owed.proofs.Giving.{Gives, gives_on, maturing_gives, set_step_gives}
-use Rattle.stk_owed.proofs.Points.{StateFits, StateLeft, to_fits}
-use Rattle.stk_owed.proofs.Running.{HasBegun, begun_fits, done_fits}
+use Rattle.stk_owed.proofs.Points.{StateFits, StateLeft, from_fits, to_fits}
+use Rattle.stk_owed.proofs.Running.{HasBegun, HaveCoins, StepFits, begun_fits, block_fits, done_fits}
+use Rattle.stk_owed.proofs.Starting.{room, started_well}
 use Rattle.stk_owed.proofs.Steps.{from_if}
 use Rattle.stk_owed.proofs.Transactions.{without_facts_fits}
-use Rattle.stk_owed.specs.Kept.{BlockIsAnswered, BlocksAreAnswered, begun_by}
-use Rattle.stk_rules.specs.Chain.{State, begin_block, end_block, maturing_step, redelegations_step, set_step, unbondings_step}
-use Rattle.stk_rules.specs.Laws.{next_block}
-use Rattle.stk_rules.specs.Sound.{IsSound}
+use Rattle.stk_owed.specs.Kept.{AnsweredAlong, BlockIsAnswered, BlocksAreAnswered, RunsAreAnswered, begun_by}
+use Rattle.stk_rules.specs.Chain.{State, end_block, maturing_step, redelegations_step, set_step, unbondings_step}
 
 module _ (P : List ℕ → Type 0) (T : List ℕ → ℕ) where
   -- the end of a block gives
@@ -61,3 +61,28 @@ blocks_are_answered b w coins s few = by (block_checked b w) (begun_by b w) refl
     by (Ok t) (Ok begun) e f =
         let (x, g) = ends begun e f in
         subst (BlockIsAnswered b w) (sym g) (record { checked = e; begun = begun; begins = f })
+
+-- ---- runs
+
+all_answered : (some : List (List ℕ)) (few : length some ≤ 1_000_000) (blocks : List Block) (T : List ℕ → ℕ) (w : State) → HaveCoins blocks → StateFits (Contains some) T w → w.view.ctx.height + length blocks < 2 ^ 63 → AnsweredAlong blocks w
+all_answered some few [] T w c h room = tt
+all_answered some few (b ∷ blocks) T w c h room = (
+  blocks_are_answered b w coins (from_fits w some T few h) (here (length blocks) room),
+  λ s e.
+      let k = from_if (StepFits (Contains some) w) (step b w) s e (block_fits (Contains some) b T w coins h (here (length blocks) room)) in
+      all_answered some few blocks (total_in s.state.view) s.state (All-tail (λ (x : Block). All TxHasCoins x.txs) b blocks c) k.fits (later (length blocks) s.state.view.ctx.height room k.height),
+)
+  where
+    coins : All TxHasCoins b.txs
+    coins = All-head (λ (x : Block). All TxHasCoins x.txs) b blocks c
+
+    here : (n : ℕ) → w.view.ctx.height + suc n < 2 ^ 63 → w.view.ctx.height + 1 < 2 ^ 63
+    here n l = omega (arith, l)
+
+    later : (n x : ℕ) → w.view.ctx.height + suc n < 2 ^ 63 → x ≡ w.view.ctx.height + 1 → x + n < 2 ^ 63
+    later n x l e = omega (arith, l, e)
+
+pub runs_are_answered : RunsAreAnswered
+runs_are_answered r =
+    let s = (started_well r).sound in
+    all_answered s.few.some s.few.few r.blocks (total_in r.start.state.view) r.start.state r.input.coins (to_fits r.start.state s) (room r.start.state.view.ctx.height (length r.blocks) (started_well r).height r.input.few)

@@ -1,21 +1,18 @@
 -- Creating a validator is refused by the first of its conditions that holds: its first period has nothing to share out, so no
 -- hook is over.
-use Rattle.std.proofs.Common.{◌≡◌, ◌∙◌, ℕ, ◌+◌, ◌*◌, ◌^◌, ◌<◌, ◌≤◌, ◌==◌, Bool, true, false, cond, List, [], ◌∷◌, Option, Some, None, Result, Ok, Err, refl, sym, ap, subst, arith}
+use Rattle.std.proofs.Common.{◌≡◌, ◌∙◌, ℕ, ◌+◌, ◌*◌, ◌^◌, ◌<◌, ◌≤◌, ◌==◌, Bool, true, false, List, [], ◌∷◌, Option, Some, None, Result, Ok, Err, refl, sym, ap, subst, arith}
 use Rattle.std.specs.Prelude.{Contains, IsOkAnd, if◌then◌else◌, is_none, is_some, nat_lt, not, unwrap_or, ⊤}
 use Rattle.std.proofs.lemmas.Bool.Decides.{nat_tests}
 use Rattle.stk_dec.specs.declared.over.Over.{Over}
 use Rattle.stk_dec.specs.Decimals.{add_of, quotient_over, whole_of}
 use Rattle.stk_types.specs.declared.account.Account.TheVariants as account
-use Rattle.stk_types.specs.Orders.{addr_cmp}
 use Rattle.stk_coins.proofs.Amounts.{add_fits}
 use Rattle.stk_coins.proofs.Parts.{whole_below}
 use Rattle.stk_coins.specs.Coins.{Money, coin_then, coins_quo_cut}
 use Rattle.stk_shares.specs.Shares.{or_over}
 use Rattle.stk_keep.specs.declared.entities.Validator.{Validator}
-use Rattle.stk_keep.specs.declared.messages.CreateValidator.{CreateValidator}
 use Rattle.stk_keep.specs.declared.refusal.Refusal.{Refusal}
 use Rattle.stk_keep.specs.declared.refusal.Refusal.TheVariants.{CommissionBelowMinimum, CommissionRange, ConsKeyExists, InsufficientFunds, MinSelfNotPositive, NonPositive, Overflow, SelfBelowMinimum, TinyDelegation, ValidatorExists, WrongDenom}
-use Rattle.stk_keep.specs.Entries.{at, with}
 use Rattle.stk_keep.specs.Holdings.{is_short}
 use Rattle.stk_keep.specs.Items.{no_purse}
 use Rattle.stk_keep.specs.Log.{Log}
@@ -25,15 +22,14 @@ use Rattle.stk_keep.specs.Staked.{Staked, delegation, put_validator, validator_a
 use Rattle.stk_keep.specs.Steps.{◌>>=◌, ◌>>◌, stop_if, stopping}
 use Rattle.stk_keep.specs.World.{View, World, call, hooked, over_mine, starting}
 use Rattle.stk_keep.specs.declared.entities.Purse.{Purse}
+use Rattle.stk_owed.proofs.Rewards.{put_found}
 use Rattle.stk_owed.proofs.Burns.{total_in}
-use Rattle.stk_owed.proofs.Creating.{none_started}
+use Rattle.stk_owed.proofs.Creating.{none_started, none_is}
 use Rattle.stk_owed.proofs.Founding.{period_sure, pooled_at, sure_then}
 use Rattle.stk_owed.proofs.Hooking.{hook_gave}
 use Rattle.stk_owed.proofs.Points.{StateFits, to_fits}
-use Rattle.stk_owed.proofs.Refused.{wallet_refused}
+use Rattle.stk_owed.proofs.Refused.{wallet_refused, stop_known}
 use Rattle.stk_owed.specs.Kept.{CreationsNameConditions}
-use Rattle.stk_rules.proofs.EntryLemmas.{at-put}
-use Rattle.stk_rules.proofs.OrderLemmas.{addr_total, same_itself}
 use Rattle.stk_rules.proofs.RefusalLemmas.{mapped, stop_step}
 use Rattle.stk_rules.specs.Amounts.{bond_coins}
 use Rattle.stk_rules.specs.Chain.{Hooks, State, chain_told, staked_in, with_staked}
@@ -46,19 +42,7 @@ use Rattle.stk_rules.specs.RefusalOrder.{refused_in}
 use Rattle.stk_rules.specs.Validators.{are_out_of_range, created, new_validator, stored}
 use Rattle.stk_rules.specs.Window.{window_told}
 
--- one condition, then the others, where it does not hold
-stop_known : {A : Type 0} (b : Bool) (why : Refusal) (next : Result A Refusal) (rest : List (Option Refusal)) → (b ≡ false → refused_in next ≡ first_of rest) → refused_in (stop_if b why >> next) ≡ first_of (when b why ∷ rest)
-stop_known true why next rest h = refl
-stop_known false why next rest h = h refl
-
-none_is : {X : Type 0} (r : Option X) → is_some r ≡ false → r ≡ None
-none_is None e = refl
-none_is (Some x) e = absurd cc
-
 -- ---- the first period
-
-pub put_found : {X : Type 0} (es : List (List ℕ × X)) (o : List ℕ) (x : X) → at addr_cmp (with addr_cmp es o x) o ≡ Some x
-put_found es o x = at-put addr_cmp addr_total es o o x ∙ ap (λ b. cond b (Some x) (at addr_cmp es o)) (same_itself o)
 
 -- an empty purse gives nothing to the ratio
 taken_at : (val : Validator) (p : Purses) → (purse_of p val.operator).current ≡ [] → IsOkAnd (current_taken val p) (λ z. z.0 ≡ [])

@@ -44,3 +44,5 @@ pub mod Limits
 pub mod Redelegated
 pub mod Named
 pub mod Answered
+pub mod Refusals
+pub mod Causes

@@ -26,18 +26,16 @@ use Rattle.stk_keep.specs.Pair.{and_then, given_with}
 use Rattle.stk_keep.specs.Staked.{Staked}
 use Rattle.stk_keep.specs.Steps.{◌>>=◌}
 use Rattle.stk_keep.specs.World.{View, World, call, hooked, modifying, noted, starting}
-use Rattle.stk_keep.specs.declared.params.Ctx.{Ctx}
 use Rattle.stk_owed.proofs.Apart.{ReadsSame}
-use Rattle.stk_owed.proofs.Created.{put_found}
 use Rattle.stk_owed.proofs.Giving.{Gives, gives_on, joins}
 use Rattle.stk_owed.proofs.Moves.{HooksFit, Leaves, fit_after}
 use Rattle.stk_owed.proofs.Names.{IsKnown, known_fractions, known_smaller}
 use Rattle.stk_owed.proofs.Periods.{Ordered, some_unwrap}
 use Rattle.stk_owed.proofs.Points.{PurseFits}
 use Rattle.stk_owed.proofs.Purses.{owed_of, own_purse}
-use Rattle.stk_owed.proofs.Rewards.{due_leaves}
+use Rattle.stk_owed.proofs.Rewards.{due_leaves, put_found}
 use Rattle.stk_owed.proofs.Steps.{from_if}
-use Rattle.stk_owed.proofs.Totals.{total, total_left}
+use Rattle.stk_owed.proofs.Totals.{total_left}
 use Rattle.stk_rules.proofs.OrderLemmas.{addr_total}
 use Rattle.stk_rules.specs.Amounts.{over_facts}
 use Rattle.stk_rules.specs.Chain.{Hooks, chain_told}

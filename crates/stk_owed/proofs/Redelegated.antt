@@ -1,24 +1,22 @@
 -- Redelegating is refused by the first of its conditions that holds: the hook before the delegation to the target is over in
 -- the same cases before and after the shares have left the source.
-use Rattle.std.proofs.Common.{◌≡◌, ◌∙◌, ℕ, ◌+◌, ◌==◌, ◌≤◌, Bool, true, false, cond, List, [], ◌∷◌, length, Option, Some, None, Result, Ok, Err, refl, sym, ap}
+use Rattle.std.proofs.Common.{◌≡◌, ◌∙◌, ℕ, ◌==◌, ◌≤◌, Bool, true, false, List, [], ◌∷◌, length, Option, Some, None, Result, Ok, Err, refl, sym, ap}
 use Rattle.std.specs.Prelude.{Contains, is_none, is_some, nat_le, option_map, unwrap_or, ⊤}
 use Rattle.stk_dec.specs.declared.over.Over.{Over}
-use Rattle.stk_coins.specs.declared.coin.Coin.{Coin}
 use Rattle.stk_shares.specs.Shares.{amount_out, has_invalid_rate, issued_shares, shares_for_amount}
 use Rattle.stk_keep.specs.declared.entities.Validator.{Validator}
-use Rattle.stk_keep.specs.declared.params.Ctx.{Ctx}
 use Rattle.stk_keep.specs.declared.refusal.Refusal.{Refusal}
 use Rattle.stk_keep.specs.declared.refusal.Refusal.TheVariants.{NoDelegation, NoTokens, NoValidator, NonPositive, Overflow, RateInvalid, RedelegationsFull, SelfRedelegation, TinyDelegation, TinyRedelegation, TooManyShares, Transitive, WrongDenom}
 use Rattle.stk_keep.specs.Orders.{same_addr}
-use Rattle.stk_keep.specs.Staked.{Staked, delegation, is_bonded, lists_of, validator_at}
+use Rattle.stk_keep.specs.Staked.{Staked, delegation, lists_of, validator_at}
 use Rattle.stk_keep.specs.Steps.{◌>>=◌, ◌>>◌, or_stop, stop_if, stopping}
 use Rattle.stk_keep.specs.World.{Told, World, call, exceeds, gives, hooked, modifying}
 use Rattle.stk_owed.proofs.Apart.{IsApart, unbonded_apart}
 use Rattle.stk_owed.proofs.Burns.{total_in}
 use Rattle.stk_owed.proofs.Hooking.{stake_hooks}
 use Rattle.stk_owed.proofs.Limits.{hook_reads, limit_alike, limit_before}
-use Rattle.stk_owed.proofs.Points.{StakeFits, StateFits, to_fits}
-use Rattle.stk_owed.proofs.Refused.{given_refused, pool_refused}
+use Rattle.stk_owed.proofs.Points.{StateFits, to_fits}
+use Rattle.stk_owed.proofs.Refused.{given_refused, pool_refused, stop_known}
 use Rattle.stk_owed.proofs.Standing.{own_place}
 use Rattle.stk_owed.proofs.Steps.{from_if}
 use Rattle.stk_owed.proofs.Unbonding.{HasUnbonded, unbonded_fits}
@@ -128,11 +126,6 @@ module _ (who source target : List ℕ) (w : State) (P : List ℕ → Type 0) (T
           ∙ none_first (over_in (after_hook who v w)) (over_in (after_hook who t w)) (sym (ap (λ q. refused_in (stopping Overflow q)) e) ∙ first)
 
 -- ---- the message
-
--- one condition, then the others, where it does not hold
-stop_known : {A : Type 0} (b : Bool) (why : Refusal) (next : Result A Refusal) (rest : List (Option Refusal)) → (b ≡ false → refused_in next ≡ first_of rest) → refused_in (stop_if b why >> next) ≡ first_of (when b why ∷ rest)
-stop_known true why next rest h = refl
-stop_known false why next rest h = h refl
 
 pub redelegations_refused : RedelegationsNameConditions
 redelegations_refused who source target coin w s =

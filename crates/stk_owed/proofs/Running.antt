@@ -34,7 +34,7 @@ use Rattle.stk_owed.proofs.Hooking.{stake_hooks}
 use Rattle.stk_owed.proofs.Lists.{weaker}
 use Rattle.stk_owed.proofs.Maturing.{maturing_fits}
 use Rattle.stk_owed.proofs.Moves.{Leaves, state_left}
-use Rattle.stk_owed.proofs.Points.{AreAllWhole, StateFits, StateLeft, WholeEntries, from_fits, to_fits}
+use Rattle.stk_owed.proofs.Points.{StateFits, StateLeft, WholeEntries, from_fits, to_fits}
 use Rattle.stk_owed.proofs.Steps.{on_lifted_then, on_next, on_then, weaker_if}
 use Rattle.stk_owed.proofs.Transactions.{TxsFit, WholeFits, burned_by, renewed, txs_fit, without_facts_fits}
 use Rattle.stk_owed.proofs.Voting.{EvidenceLeft, VoteLeft, evidence_fits, own_record, vote_fits}
@@ -52,7 +52,7 @@ next_ok : {A B E : Type 0} (r : Result A E) (next : Result B E) (b : B) → (r >
 next_ok (Ok a) next b e = e
 next_ok (Err d) next b e = absurd cc
 
-first_ok : {A B E : Type 0} (r : Result A E) (next : Result B E) (b : B) → (r >> next) ≡ Ok b → (a : A) × (r ≡ Ok a)
+pub first_ok : {A B E : Type 0} (r : Result A E) (next : Result B E) (b : B) → (r >> next) ≡ Ok b → (a : A) × (r ≡ Ok a)
 first_ok (Ok a) next b e = (a, refl)
 first_ok (Err d) next b e = absurd cc
 
@@ -222,7 +222,7 @@ said_by_block : (d : List ℕ) (height time : ℕ) (begun ended : List Fact) (ts
 said_by_block d height time begun ended = said_by_parts d begun ended _ refl (λ t us. refl)
 
 -- the coins of all blocks are lists of coins
-abbrev HaveCoins : List Block → Type 0
+abbrev pub HaveCoins : List Block → Type 0
 HaveCoins blocks = All (λ b. All TxHasCoins b.txs) blocks
 
 -- what blocks say was burned
@@ -231,10 +231,10 @@ burned_by_blocks d reports = sum (map (λ b. burned_in d (facts_of b)) reports)
 
 module _ (P : List ℕ → Type 0) where
   -- a block's state fits, at its height, and each supply is less by what the block says was burned
-  record StepFits (w : State) (s : Step) : Type 0 where
-    fits : StateFits P (total_in s.state.view) s.state
-    height : s.state.view.ctx.height ≡ w.view.ctx.height + 1
-    burns : (d : List ℕ) → supply_of s.state.view.bank d + burned_in d (facts_of s.report) ≡ supply_of w.view.bank d
+  pub record StepFits (w : State) (s : Step) : Type 0 where
+    pub fits : StateFits P (total_in s.state.view) s.state
+    pub height : s.state.view.ctx.height ≡ w.view.ctx.height + 1
+    pub burns : (d : List ℕ) → supply_of s.state.view.bank d + burned_in d (facts_of s.report) ≡ supply_of w.view.bank d
 
   -- what a block's beginning leaves: a state that fits, at the block's height, where no entry of it has lost anything
   pub record HasBegun (b : Block) (w begun : State) : Type 0 where
@@ -278,7 +278,7 @@ module _ (P : List ℕ → Type 0) where
   pub done_fits : (b : Block) (w begun : State) → All TxHasCoins b.txs → HasBegun b w begun → TxsFit P (next_block b.height b.time w).view.ctx begun (txs_applied b.txs begun)
   done_fits b w begun coins k = txs_fit P (total_in (without_facts (next_block b.height b.time w)).view) (next_block b.height b.time w).view.ctx b.txs begun coins k.fits
 
-  block_fits : (b : Block) (T : List ℕ → ℕ) (w : State) → All TxHasCoins b.txs → StateFits P T w → w.view.ctx.height + 1 < 2 ^ 63 → IfOk (step b w) (StepFits w)
+  pub block_fits : (b : Block) (T : List ℕ → ℕ) (w : State) → All TxHasCoins b.txs → StateFits P T w → w.view.ctx.height + 1 < 2 ^ 63 → IfOk (step b w) (StepFits w)
   block_fits b T w coins h few =
       on_next (block_checked b w) _ _ (λ t e.
       let w1 : State = without_facts (next_block b.height b.time w) in

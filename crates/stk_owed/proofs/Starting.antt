@@ -230,9 +230,9 @@ few_names g e =
     at_most k n b e f = grind (arith, nat_tests)
 
 -- what a good genesis starts, where it starts something
-record IsWellStarted (s : Start) : Type 0 where
-  sound : IsSound s.state
-  height : s.state.view.ctx.height ≡ 0
+pub record IsWellStarted (s : Start) : Type 0 where
+  pub sound : IsSound s.state
+  pub height : s.state.view.ctx.height ≡ 0
 
 well_started : (g : Genesis) → start_condition g ≡ None → IfOk (chain_started g) IsWellStarted
 well_started g e =
@@ -244,10 +244,10 @@ well_started g e =
 pub geneses_start_sound : (g : Genesis) → IsGoodGenesis g → IfOk (chain_started g) (λ s. IsSound s.state)
 geneses_start_sound g good = weaker_if (chain_started g) IsWellStarted (λ s. IsSound s.state) (well_started g good.no_condition) (λ s k. k.sound)
 
-started_well : (r : Replayed) → IsWellStarted r.start
+pub started_well : (r : Replayed) → IsWellStarted r.start
 started_well r = from_if IsWellStarted (chain_started r.genesis) r.start r.started (well_started r.genesis r.good.no_condition)
 
-room : (h n : ℕ) → h ≡ 0 → n < 2 ^ 63 → h + n < 2 ^ 63
+pub room : (h n : ℕ) → h ≡ 0 → n < 2 ^ 63 → h + n < 2 ^ 63
 room h n e l = omega (arith, e, l)
 
 pub runs_are_sound : RunsAreSound

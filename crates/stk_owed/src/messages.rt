@@ -1,4 +1,5 @@
-//! Fees and messages keep a state sound: laws as functions that do nothing, whose contracts are the laws.
+//! Fees and messages keep a state sound, and are refused by the first of their conditions: laws as functions that do nothing,
+//! whose contracts are the laws.
 
 ghost use Rattle.stk_rules.specs.RefusalOrder.{RefusalsNameConditions};
 ghost use Rattle.stk_machine.specs.Promises.{MessagesNameConditions};
