@@ -3,13 +3,13 @@ use Rattle.stk_book.specs.Registered.{registered}
 use Rattle.stk_book.proofs.StepLemmas.{in_step-marked, registered-marked}
 use Rattle.stk_book.proofs.records.StakingRecords.mark.Goals as goal
 
-pub invariant_of-self-in_ok-mark_all : goal.invariant_of-self-in_ok-mark_all
-invariant_of-self-in_ok-mark_all g c =
+pub invariant_of-self-2 : goal.invariant_of-self-2
+invariant_of-self-2 g c =
     rw (c.in_ok-mark_all.ensures.validators, c.in_ok-mark_all.ensures.operators, c.in_ok-mark_all.ensures.delegations)
     (in_step-marked c.self.inside.validators c.self.inside.operators c.self.inside.delegations c.self.invariant)
 
-pub returns-in_ok-mark_all-clause-opened : goal.returns-in_ok-mark_all-clause-opened
-returns-in_ok-mark_all-clause-opened g c =
+pub returns-clause-opened : goal.returns-clause-opened
+returns-clause-opened g c =
     let v = c.self.inside.validators in
     let o = c.self.inside.operators in
     let d = c.self.inside.delegations in
