@@ -1,5 +1,5 @@
 -- Allocating a block's fees keeps a state sound: what moves to the distribution account joins what it owes.
-use Rattle.std.proofs.Common.{◌≡◌, ◌∙◌, ℕ, ◌+◌, ◌*◌, ◌^◌, ◌<◌, ◌≤◌, ◌==◌, Bool, true, false, cond, List, [], ◌∷◌, ◌++◌, map, Some, Ok, Err, refl, sym, ap, subst, arith}
+use Rattle.std.proofs.Common.{◌≡◌, ◌∙◌, ℕ, ◌+◌, ◌*◌, ◌^◌, ◌<◌, ◌≤◌, ◌==◌, Bool, true, false, cond, List, [], ◌∷◌, ◌++◌, map, Option, Some, None, Ok, Err, refl, sym, ap, subst, arith}
 use Rattle.std.specs.Prelude.{◌-◌, nat_le, nat_lt, sum, find, if◌then◌else◌, IfOk, Contains, is_some}
 use Rattle.std.proofs.Math.Nat.{mul-le-mul_right, le_of_mul-le-mul_right}
 use Rattle.std.proofs.lemmas.Bool.Decides.{nat_tests}
@@ -19,7 +19,7 @@ use Rattle.stk_keep.specs.Log as log
 use Rattle.stk_keep.specs.Log.{Log}
 use Rattle.stk_keep.specs.Steps.{◌>>=◌}
 use Rattle.stk_keep.specs.World.{View, sent}
-use Rattle.stk_rules.specs.Allocation.{allocated, fees_allocated, shares_allocated, share_given}
+use Rattle.stk_rules.specs.Allocation.{allocated, fees_allocated, shares_allocated, share_given, sharing}
 use Rattle.std.specs.List.{AllByRecursion}
 use Rattle.std.specs.Map.{values_of}
 use Rattle.std.specs.Ordering.{is_eq}
@@ -38,16 +38,17 @@ use Rattle.stk_keep.specs.Items.{no_purse}
 use Rattle.stk_keep.specs.Staked.{Staked, lists_of, validator_by_cons, validator_at}
 use Rattle.stk_keep.specs.declared.facts.Fact.{Fact}
 use Rattle.stk_machine.proofs.PurseLemmas.{coins-amount, coins-rise}
+use Rattle.stk_owed.proofs.Burns.{total_in, SayNoMore, quiet_behind, quiet_pooled}
 use Rattle.stk_owed.proofs.Bank.{each_within, known_enough}
 use Rattle.stk_owed.proofs.Hooking.{stake_hooks}
 use Rattle.stk_owed.proofs.Lists.{weaker}
 use Rattle.stk_owed.proofs.Maturing.{values_stand}
-use Rattle.stk_owed.proofs.Moves.{HooksFit, Leaves, ground_sent, state_left}
+use Rattle.stk_owed.proofs.Moves.{HooksFit, Leaves, ground_sent, state_left, ground_told}
 use Rattle.stk_owed.proofs.Names.{IsKnown, amount_in_units, known_added, known_mul_cut, known_mul_even, known_taken, units_known}
 use Rattle.stk_owed.proofs.Periods.{Ordered, pool_after, some_unwrap}
 use Rattle.stk_owed.proofs.Points.{PurseFits, StateFits, StateLeft, from_fits, to_fits}
-use Rattle.stk_owed.proofs.Purses.{HasJoined, PursesFit, enough_held, ground_told, has_joined, owed_of, own_purse, purse_put, shared_purses}
-use Rattle.stk_owed.proofs.Steps.{and_also, on_bind, on_then, weaker_if}
+use Rattle.stk_owed.proofs.Purses.{HasJoined, PursesFit, enough_held, has_joined, owed_of, own_purse, purse_put, shared_purses}
+use Rattle.stk_owed.proofs.Steps.{and_also, on_bind, on_then, weaker_if, both_if}
 use Rattle.stk_owed.proofs.Totals.{total_put, total}
 use Rattle.stk_owed.specs.Kept.{AllocationKeepsSoundness, IsSoundAfter}
 use Rattle.stk_rules.proofs.OrderLemmas.{addr_total}
@@ -118,7 +119,32 @@ find_all test Q (y ∷ xs) x e h = by (test y) e (λ f. find_all test Q xs x f h
 pub found_by_cons : (height : ℕ) (s : Staked) (cons : List ℕ) (v : Validator) → IsSoundAt height s → validator_by_cons s cons ≡ Some v → validator_at s v.operator ≡ Some v
 found_by_cons height s cons v h e = find_all (λ v. is_eq (cons_cmp v.cons cons)) (λ v. validator_at s v.operator ≡ Some v) (values_of s.validators) v e (values_stand height s h)
 
-module _ (P : List ℕ → Type 0) where
+-- ---- facts
+
+-- fees that are shared say nothing of burns
+given_said : (v : Option Validator) (share : Money) (p : Purses) (facts : List Fact) → IfOk (share_given v share p facts) (λ z. SayNoMore facts z.1)
+given_said None share p facts = λ d. refl
+given_said (Some val) share p facts = by (is_empty share)
+  where
+    by : (b : Bool) → IfOk {T = Purses × List Fact × Log} {E = Over} (if b then Ok (p, facts, []) else (share_joined share val.commission.rate (purse_of p val.operator) >>= λ z.
+        Ok (with_purse val.operator z.1 p, facts ++ fact.Allocated val.operator share ∷ [], (val.operator, log.allocated z.0 val.tokens) ∷ []))) (λ z. SayNoMore facts z.1)
+    by true = λ d. refl
+    by false = on_bind (share_joined share val.commission.rate (purse_of p val.operator)) _ _ (λ z e. quiet_behind facts (fact.Allocated val.operator share) (λ d. refl))
+
+shares_said : (votes : List Vote) (s : Staked) (base : Money) (total : ℕ) (left : Money) (p : Purses) (facts : List Fact) (l : Log) → IfOk (shares_allocated s base total votes left p facts l) (λ z. SayNoMore facts z.1)
+shares_said [] s base total left p facts l = on_bind (pool_joined left p) _ _ (λ q e. quiet_pooled left facts)
+shares_said (t ∷ ts) s base total left p facts l =
+    on_bind (quo_cut_of (t.power * 10 ^ 18) (total * 10 ^ 18)) _ _ (λ part e. on_bind (coins_mul_cut base part) _ _ (λ share f.
+    on_then (share_given (validator_by_cons s t.cons) share p facts) _ (λ z. SayNoMore facts z.1) _ (given_said (validator_by_cons s t.cons) share p facts) (λ z g.
+    weaker_if (shares_allocated s base total ts (coins_taken left share) z.0 z.1 (l ++ z.2)) (λ y. SayNoMore z.1 y.1) (λ y. SayNoMore facts y.1)
+    (shares_said ts s base total (coins_taken left share) z.0 z.1 (l ++ z.2)) (λ y h d. h d ∙ g d))))
+
+allocated_said : (s : Staked) (params : Params) (fees : Money) (votes : List Vote) (p : Purses) (facts : List Fact) → IfOk (allocated s params fees votes p facts) (λ z. SayNoMore facts z.1)
+allocated_said s params fees votes p facts =
+    on_bind (coins_mul_cut (in_units fees) (10 ^ 18 - params.community_tax)) _ _ (λ base e.
+    shares_said (sharing (sum (map (λ t. t.power) votes)) votes) s base (sum (map (λ t. t.power) votes)) (in_units fees) p facts [])
+
+module _ (P : List ℕ → Type 0) (T : List ℕ → ℕ) where
   -- ---- a share
 
   -- a share has joined purses
@@ -241,7 +267,7 @@ module _ (P : List ℕ → Type 0) where
       by base own low false e =
           all_shared votes s base (powers votes) (in_units fees) p facts [] (positive (powers votes) e) own k o known (λ d. mul-le-mul_right (powers votes) (within (amount_of (in_units fees) d) (amount_of base d) params.community_tax (low d)))
 
-  pub fees_leave : (s : Staked) (votes : List Vote) (d : Shared) (v : View) (l : Lists) → HooksFit P v l d → AreKnownVotes s d.purses votes → IfOk (fees_allocated s votes d v) (λ z. Leaves P v l z.0 z.1)
+  pub fees_leave : (s : Staked) (votes : List Vote) (d : Shared) (v : View) (l : Lists) → HooksFit P T v l d → AreKnownVotes s d.purses votes → IfOk (fees_allocated s votes d v) (λ z. Leaves P T v l z.0 z.1)
   fees_leave s votes d v l h known = by (nat_le v.ctx.height 1)
     where
       from : Account
@@ -268,37 +294,40 @@ module _ (P : List ℕ → Type 0) where
       more : (b c a u o o2 : ℕ) → c + 0 ≡ b + a → u ≡ a * 10 ^ 18 → 10 ^ 18 * b ≡ o → o2 ≡ o + u → 10 ^ 18 * c ≡ o2
       more b c a u o o2 e f g i = omega (arith, e, f, g, i)
 
-      by : (b : Bool) → IfOk {T = Shared × View × Log} {E = Over} (if b then Ok (d, v, []) else (allocated s v.ctx.params fees votes d.purses (sent from to fees v).facts >>= λ z. Ok (record d { purses = z.0 }, record (sent from to fees v) { facts = z.1 }, z.2))) (λ z. Leaves P v l z.0 z.1)
+      by : (b : Bool) → IfOk {T = Shared × View × Log} {E = Over} (if b then Ok (d, v, []) else (allocated s v.ctx.params fees votes d.purses (sent from to fees v).facts >>= λ z. Ok (record d { purses = z.0 }, record (sent from to fees v) { facts = z.1 }, z.2))) (λ z. Leaves P T v l z.0 z.1)
       by true = record { ctx = refl; ground = h.ground; bonded = λ e. refl; not_bonded = λ e. refl; owed = h.owed; shared = h.shared }
       by false =
           let sorted = h.ground.order.bank.balances_ascend in
-          on_then (allocated s v.ctx.params fees votes d.purses (sent from to fees v).facts) _ (λ z. HasShared (in_units fees) d.purses z.0) _
+          on_then (allocated s v.ctx.params fees votes d.purses (sent from to fees v).facts) _ (λ z. HasShared (in_units fees) d.purses z.0 × SayNoMore (sent from to fees v).facts z.1) _
+          (both_if (allocated s v.ctx.params fees votes d.purses (sent from to fees v).facts) (λ z. HasShared (in_units fees) d.purses z.0) (λ z. SayNoMore (sent from to fees v).facts z.1)
           (allocated_fits s v.ctx.params fees votes d.purses (sent from to fees v).facts (units_known P fees (each_within fees v.bank from short h.ground.order.bank) (known_enough P fees v.bank from money short h.ground.held))
-          (h.shared.purses_ascend, h.shared.purses, h.shared.pool) known) (λ z k. record {
+          (h.shared.purses_ascend, h.shared.purses, h.shared.pool) known)
+          (allocated_said s v.ctx.params fees votes d.purses (sent from to fees v).facts)) (λ z k. record {
             ctx = refl;
-            ground = ground_told P (λ facts. z.1) (sent from to fees v) (ground_sent P from to fees v h.ground money short);
+            ground = ground_told P T (λ facts. z.1) (sent from to fees v) k.1 (ground_sent P T from to fees v h.ground money short);
             bonded = λ e. balance-moved_elsewhere fees v.bank from to (account.Module holder.Bonded) e sorted refl refl;
             not_bonded = λ e. balance-moved_elsewhere fees v.bank from to (account.Module holder.NotBonded) e sorted refl refl;
-            owed = λ e. more (balance_of v.bank to e) _ (amount_of fees e) (amount_of (in_units fees) e) (owed_of d.purses e) (owed_of z.0 e) (moves_by_amounts v.bank from to fees h.ground.order.bank money short to e) (amount_in_units e fees) (h.owed e) (k.owed e);
-            shared = shared_purses P v.ctx.height l d z.0 h.shared k.purses;
+            owed = λ e. more (balance_of v.bank to e) _ (amount_of fees e) (amount_of (in_units fees) e) (owed_of d.purses e) (owed_of z.0 e) (moves_by_amounts v.bank from to fees h.ground.order.bank money short to e) (amount_in_units e fees) (h.owed e) (k.0.owed e);
+            shared = shared_purses P v.ctx.height l d z.0 h.shared k.0.purses;
           })
 
   -- votes of validators that stand are of validators with purses
-  pub with_purses : (votes : List Vote) (w : State) → StateFits P w → AllByRecursion (λ t. (v : Validator) × (validator_by_cons w.mine.staked t.cons ≡ Some v)) votes → AreKnownVotes w.mine.staked w.hooks.0.purses votes
+  pub with_purses : (votes : List Vote) (w : State) → StateFits P T w → AllByRecursion (λ t. (v : Validator) × (validator_by_cons w.mine.staked t.cons ≡ Some v)) votes → AreKnownVotes w.mine.staked w.hooks.0.purses votes
   with_purses votes w h known =
       weaker (λ t. (v : Validator) × (validator_by_cons w.mine.staked t.cons ≡ Some v)) (λ t. (v : Validator) × (validator_by_cons w.mine.staked t.cons ≡ Some v) × (is_some (at addr_cmp w.hooks.0.purses.purses v.operator) ≡ true))
       (λ t k. (k.0, k.1, h.stake.shared.stands.purses k.0.operator ∙ ap is_some (found_by_cons w.view.ctx.height w.mine.staked t.cons k.0 h.stake.staked k.1))) votes known
 
-  pub allocation_fits : (votes : List Vote) (w : State) → StateFits P w → AllByRecursion (λ t. (v : Validator) × (validator_by_cons w.mine.staked t.cons ≡ Some v)) votes → IfOk (allocation_step votes w) (StateLeft P w)
+  pub allocation_fits : (votes : List Vote) (w : State) → StateFits P T w → AllByRecursion (λ t. (v : Validator) × (validator_by_cons w.mine.staked t.cons ≡ Some v)) votes → IfOk (allocation_step votes w) (StateLeft P T w)
   allocation_fits votes w h known =
       let s = w.mine.staked in
-      on_then (fees_allocated s votes w.hooks.0 w.view) _ (λ z. Leaves P w.view (lists_of s) z.0 z.1) _
-      (fees_leave s votes w.hooks.0 w.view (lists_of s) (stake_hooks P 0 _ (lists_of s) (staked_in w) h.stake)
+      on_then (fees_allocated s votes w.hooks.0 w.view) _ (λ z. Leaves P T w.view (lists_of s) z.0 z.1) _
+      (fees_leave s votes w.hooks.0 w.view (lists_of s) (stake_hooks P T 0 _ (lists_of s) (staked_in w) h.stake)
       (with_purses votes w h known))
-      (λ z k. state_left P w z.0 z.1 z.2 h k)
+      (λ z k. state_left P T w z.0 z.1 z.2 h k)
 
 pub allocation_keeps_soundness : AllocationKeepsSoundness
 allocation_keeps_soundness votes w s known =
     let P : List ℕ → Type 0 = Contains s.few.some in
-    weaker_if (allocation_step votes w) (StateLeft P w) (IsSoundAfter w) (allocation_fits P votes w (to_fits w s) (recursion_from_All (λ t. (v : Validator) × (validator_by_cons w.mine.staked t.cons ≡ Some v)) votes known.known))
-    (λ x k. from_fits x s.few.some s.few.few k.fits)
+    let T : List ℕ → ℕ = total_in w.view in
+    weaker_if (allocation_step votes w) (StateLeft P T w) (IsSoundAfter w) (allocation_fits P T votes w (to_fits w s) (recursion_from_All (λ t. (v : Validator) × (validator_by_cons w.mine.staked t.cons ≡ Some v)) votes known.known))
+    (λ x k. from_fits x s.few.some T s.few.few k.fits)

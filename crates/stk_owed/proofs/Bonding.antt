@@ -11,10 +11,12 @@ use Rattle.stk_types.specs.declared.account.Module.TheVariants as holder
 use Rattle.stk_types.specs.declared.status.BondStatus.{BondStatus}
 use Rattle.stk_types.specs.declared.status.BondStatus.TheVariants.{Bonded, Unbonding, Unbonded}
 use Rattle.stk_types.specs.Orders.{addr_cmp, cons_cmp}
+use Rattle.stk_keep.specs.declared.facts.Fact.TheVariants as fact
 use Rattle.stk_keep.specs.declared.entities.Validator.{Validator}
 use Rattle.stk_keep.specs.declared.params.Ctx.{Ctx}
 use Rattle.stk_keep.specs.Steps.{each}
 use Rattle.stk_keep.specs.World.{View, World, sent, over_view}
+use Rattle.stk_owed.proofs.Burns.{SayNoMore, quiet_behind}
 use Rattle.stk_owed.proofs.Delegating.{others}
 use Rattle.stk_rules.specs.BondedSet.{placed, by_power, joined_set, left_set, set_updated, joining_of, leaving_of, difference_moved, is_in_bonded_set, stands_before, tokens_of}
 use Rattle.std.specs.List.{AllByRecursion}
@@ -27,10 +29,10 @@ use Rattle.stk_keep.specs.Staked.{Staked, bonded_tokens, is_bonded, is_unbonded,
 use Rattle.stk_owed.proofs.Delegating.{bond_money, bond_moved, falls, has_enough, rises_to, same_sum, state_with, others}
 use Rattle.stk_owed.proofs.Lists.{all_put, filtered_all, looked_up, weaker}
 use Rattle.stk_owed.proofs.Maturing.{AllStand, AreApart, operators_are, stand_still, values_apart, values_stand}
-use Rattle.stk_owed.proofs.Moves.{ground_sent, keeps, same_bond}
+use Rattle.stk_owed.proofs.Moves.{ground_sent, keeps, same_bond, ground_told}
 use Rattle.stk_owed.proofs.Periods.{same_some}
 use Rattle.stk_owed.proofs.Points.{GroundFits, IsRecorded, SharedFits, StakeFits, StateFits, StateLeft}
-use Rattle.stk_owed.proofs.Purses.{ground_told, there_still}
+use Rattle.stk_owed.proofs.Purses.{there_still}
 use Rattle.stk_owed.proofs.Standing.{relisted}
 use Rattle.stk_owed.proofs.Steps.{and_also, on_then, weaker_if}
 use Rattle.stk_owed.specs.Kept.{BondingKeepsSoundness}
@@ -135,6 +137,7 @@ record HasShifted (w0 : World Staked Hooks) (up down : ℕ) (w : World Staked Ho
   shared : w.hooks.0 ≡ w0.hooks.0
   bank : w.view.bank ≡ w0.view.bank
   ctx : w.view.ctx ≡ w0.view.ctx
+  said : SayNoMore w0.view.facts w.view.facts
   window : WindowIsSound w0.view.ctx.height w.hooks.1
   recorded : AllByRecursion (IsRecorded w.hooks.1) w.mine.validators
   bonded : bonded_tokens w.mine + down ≡ bonded_tokens w0.mine + up
@@ -167,6 +170,7 @@ module _ (w0 : World Staked Hooks) (height_fits : w0.view.ctx.height < 2 ^ 63) w
           shared = h.shared;
           bank = h.bank;
           ctx = h.ctx;
+          said = λ d. quiet_behind w.view.facts (fact.Changed v.operator Bonded) (λ e. refl) d ∙ h.said d;
           window = subst (λ (c : Ctx). WindowIsSound w0.view.ctx.height (signing_started c.height v.cons w.hooks.1)) (sym h.ctx) (started_sound w0.view.ctx.height v.cons w.hooks.1 height_fits h.window);
           recorded = all_put (IsRecorded i) addr_cmp exact_addr v.operator u w.mine.validators (λ e. recorded_now height v.cons w.hooks.1)
               (weaker (IsRecorded w.hooks.1) (IsRecorded i) (λ e k s. recorded_still height v.cons e.1.cons w.hooks.1 (k s)) w.mine.validators h.recorded);
@@ -215,6 +219,7 @@ module _ (w0 : World Staked Hooks) (height_fits : w0.view.ctx.height < 2 ^ 63) w
           shared = h.shared;
           bank = h.bank;
           ctx = h.ctx;
+          said = λ d. quiet_behind w.view.facts (fact.Changed v.operator Unbonding) (λ e. refl) d ∙ h.said d;
           window = h.window;
           recorded = all_put (IsRecorded w.hooks.1) addr_cmp exact_addr v.operator u w.mine.validators
               (λ e. looked_up (IsRecorded w.hooks.1) (is_at (addr_cmp v.operator)) (λ x. IsRecorded w.hooks.1 (v.operator, x)) (λ o x t g. g) w.mine.validators v found h.recorded (bonded_is v.status yet)) h.recorded;
@@ -246,31 +251,31 @@ module _ (w0 : World Staked Hooks) (height_fits : w0.view.ctx.height < 2 ^ 63) w
       summed : (u t a b : ℕ) → b ≡ t + a → u + t + a ≡ u + b
       summed u t a b e = omega (arith, e)
 
-module _ (P : List ℕ → Type 0) where
-  ground_as : (u v : View) → u.bank ≡ v.bank → u.ctx ≡ v.ctx → GroundFits P v → GroundFits P u
-  ground_as u v b c g = subst (GroundFits P) (λ i. record { bank = sym b i; ctx = sym c i; facts = u.facts }) (ground_told P (λ facts. u.facts) v g)
+module _ (P : List ℕ → Type 0) (T : List ℕ → ℕ) where
+  ground_as : (u v : View) → u.bank ≡ v.bank → u.ctx ≡ v.ctx → SayNoMore v.facts u.facts → GroundFits P T v → GroundFits P T u
+  ground_as u v b c q g = subst (GroundFits P T) (λ i. record { bank = sym b i; ctx = sym c i; facts = u.facts }) (ground_told P T (λ facts. u.facts) v q g)
 
   -- ---- the difference moves
 
   -- the accounts hold what they owe again
-  moved_fits : (b n up down : ℕ) (w0 w : World Staked Hooks) → StakeFits P b n (lists_of w0.mine) w0 → HasShifted w0 up down w → StakeFits P b n (lists_of w.mine) (over_view (difference_moved up down) w)
+  moved_fits : (b n up down : ℕ) (w0 w : World Staked Hooks) → StakeFits P T b n (lists_of w0.mine) w0 → HasShifted w0 up down w → StakeFits P T b n (lists_of w.mine) (over_view (difference_moved up down) w)
   moved_fits b n up down w0 w h s = by (nat_lt down up) refl
     where
-      ground : GroundFits P w.view
-      ground = ground_as w.view w0.view s.bank s.ctx h.ground
+      ground : GroundFits P T w.view
+      ground = ground_as w.view w0.view s.bank s.ctx s.said h.ground
 
       bonded : (d : List ℕ) → balance_of w.view.bank (account.Module holder.Bonded) d ≡ of_bond w.view d (bonded_tokens w0.mine + b)
-      bonded d = ap (λ bank. balance_of bank (account.Module holder.Bonded) d) s.bank ∙ h.bonded d ∙ same_bond P w.view w0.view d (bonded_tokens w0.mine + b) s.ctx
+      bonded d = ap (λ bank. balance_of bank (account.Module holder.Bonded) d) s.bank ∙ h.bonded d ∙ same_bond P T w.view w0.view d (bonded_tokens w0.mine + b) s.ctx
 
       not_bonded : (d : List ℕ) → balance_of w.view.bank (account.Module holder.NotBonded) d ≡ of_bond w.view d (other_tokens w0.mine + n)
-      not_bonded d = ap (λ bank. balance_of bank (account.Module holder.NotBonded) d) s.bank ∙ h.not_bonded d ∙ same_bond P w.view w0.view d (other_tokens w0.mine + n) s.ctx
+      not_bonded d = ap (λ bank. balance_of bank (account.Module holder.NotBonded) d) s.bank ∙ h.not_bonded d ∙ same_bond P T w.view w0.view d (other_tokens w0.mine + n) s.ctx
 
       owed : (d : List ℕ) → 10 ^ 18 * balance_of w.view.bank (account.Module holder.Distribution) d ≡ owed_from_distribution w.hooks.0 d
       owed d = ap (λ bank. 10 ^ 18 * balance_of bank (account.Module holder.Distribution) d) s.bank ∙ h.owed d ∙ ap (λ x. owed_from_distribution x d) (sym s.shared)
 
       shared : SharedFits P w.view.ctx.height (lists_of w.mine) w.hooks.0
       shared =
-          relisted P w.view.ctx.height (lists_of w0.mine) (lists_of w.mine) w.hooks.0
+          relisted P T w.view.ctx.height (lists_of w0.mine) (lists_of w.mine) w.hooks.0
           (subst (λ x. SharedFits P w.view.ctx.height (lists_of w0.mine) x) (sym s.shared) (subst (λ (c : Ctx). SharedFits P c.height (lists_of w0.mine) w0.hooks.0) (sym s.ctx) h.shared))
           s.operators (λ who o. ap (λ ds. is_some (at pair_cmp ds (o, who))) s.delegations)
 
@@ -308,7 +313,7 @@ module _ (P : List ℕ → Type 0) where
       less_back x y u d l e = grind (arith, nat_tests)
 
       by : (c : Bool) → nat_lt down up ≡ c
-          → StakeFits P b n (lists_of w.mine) (over_view (λ v. if c then sent (account.Module holder.NotBonded) (account.Module holder.Bonded) (bond_coins v (up - down)) v
+          → StakeFits P T b n (lists_of w.mine) (over_view (λ v. if c then sent (account.Module holder.NotBonded) (account.Module holder.Bonded) (bond_coins v (up - down)) v
           else sent (account.Module holder.Bonded) (account.Module holder.NotBonded) (bond_coins v (down - up)) v) w)
       by true l =
           let m : ℕ = up - down in
@@ -317,13 +322,13 @@ module _ (P : List ℕ → Type 0) where
           let gain = takes (bonded_tokens w0.mine) (bonded_tokens w.mine) b m (more (bonded_tokens w0.mine) (bonded_tokens w.mine) up down l s.bonded) in
           let loss = gives_up (other_tokens w0.mine) (other_tokens w.mine) n m (less (other_tokens w0.mine) (other_tokens w.mine) up down l s.other) in
           let held : (d : List ℕ) → balance_of w.view.bank from d ≡ of_bond w.view d (other_tokens w.mine + (n + m)) = λ d. not_bonded d ∙ ap (of_bond w.view d) loss in
-          let e : is_short w.view.bank from (bond_coins w.view m) ≡ false = has_enough P w.view from (other_tokens w.mine) n m backed (most (other_tokens w.mine) (n + m) from held) held in
+          let e : is_short w.view.bank from (bond_coins w.view m) ≡ false = has_enough P T w.view from (other_tokens w.mine) n m backed (most (other_tokens w.mine) (n + m) from held) held in
           record {
-            ground = ground_sent P from to (bond_coins w.view m) w.view ground (bond_money w.view from m backed e) e;
+            ground = ground_sent P T from to (bond_coins w.view m) w.view ground (bond_money w.view from m backed e) e;
             staked = staked;
-            bonded = λ d. rises_to P w.view d (balance_of w.view.bank to d) _ (bonded_tokens w0.mine) b m (bond_moved w.view from to m backed e to d) (bonded d) ∙ ap (of_bond w.view d) gain;
-            not_bonded = λ d. falls P w.view d (balance_of w.view.bank from d) _ (other_tokens w.mine) n m (bond_moved w.view from to m backed e from d) (held d);
-            owed = λ d. ap (λ x. 10 ^ 18 * x) (same_sum P _ _ (bond_moved w.view from to m backed e (account.Module holder.Distribution) d)) ∙ owed d;
+            bonded = λ d. rises_to P T w.view d (balance_of w.view.bank to d) _ (bonded_tokens w0.mine) b m (bond_moved w.view from to m backed e to d) (bonded d) ∙ ap (of_bond w.view d) gain;
+            not_bonded = λ d. falls P T w.view d (balance_of w.view.bank from d) _ (other_tokens w.mine) n m (bond_moved w.view from to m backed e from d) (held d);
+            owed = λ d. ap (λ x. 10 ^ 18 * x) (same_sum P T _ _ (bond_moved w.view from to m backed e (account.Module holder.Distribution) d)) ∙ owed d;
             shared = shared;
             window = window;
             recorded = s.recorded;
@@ -335,13 +340,13 @@ module _ (P : List ℕ → Type 0) where
           let gain = takes (other_tokens w0.mine) (other_tokens w.mine) n m (more_back (other_tokens w0.mine) (other_tokens w.mine) up down l s.other) in
           let loss = gives_up (bonded_tokens w0.mine) (bonded_tokens w.mine) b m (less_back (bonded_tokens w0.mine) (bonded_tokens w.mine) up down l s.bonded) in
           let held : (d : List ℕ) → balance_of w.view.bank from d ≡ of_bond w.view d (bonded_tokens w.mine + (b + m)) = λ d. bonded d ∙ ap (of_bond w.view d) loss in
-          let e : is_short w.view.bank from (bond_coins w.view m) ≡ false = has_enough P w.view from (bonded_tokens w.mine) b m backed (most (bonded_tokens w.mine) (b + m) from held) held in
+          let e : is_short w.view.bank from (bond_coins w.view m) ≡ false = has_enough P T w.view from (bonded_tokens w.mine) b m backed (most (bonded_tokens w.mine) (b + m) from held) held in
           record {
-            ground = ground_sent P from to (bond_coins w.view m) w.view ground (bond_money w.view from m backed e) e;
+            ground = ground_sent P T from to (bond_coins w.view m) w.view ground (bond_money w.view from m backed e) e;
             staked = staked;
-            bonded = λ d. falls P w.view d (balance_of w.view.bank from d) _ (bonded_tokens w.mine) b m (bond_moved w.view from to m backed e from d) (held d);
-            not_bonded = λ d. rises_to P w.view d (balance_of w.view.bank to d) _ (other_tokens w0.mine) n m (bond_moved w.view from to m backed e to d) (not_bonded d) ∙ ap (of_bond w.view d) gain;
-            owed = λ d. ap (λ x. 10 ^ 18 * x) (same_sum P _ _ (bond_moved w.view from to m backed e (account.Module holder.Distribution) d)) ∙ owed d;
+            bonded = λ d. falls P T w.view d (balance_of w.view.bank from d) _ (bonded_tokens w.mine) b m (bond_moved w.view from to m backed e from d) (held d);
+            not_bonded = λ d. rises_to P T w.view d (balance_of w.view.bank to d) _ (other_tokens w0.mine) n m (bond_moved w.view from to m backed e to d) (not_bonded d) ∙ ap (of_bond w.view d) gain;
+            owed = λ d. ap (λ x. 10 ^ 18 * x) (same_sum P T _ _ (bond_moved w.view from to m backed e (account.Module holder.Distribution) d)) ∙ owed d;
             shared = shared;
             window = window;
             recorded = s.recorded;
@@ -364,7 +369,7 @@ module _ (P : List ℕ → Type 0) where
   not_true true e = absurd cc
   not_true false e = refl
 
-  pub set_fits : (b n : ℕ) (w : World Staked Hooks) → StakeFits P b n (lists_of w.mine) w → IfOk (set_updated chain_told w) (λ x. StakeFits P b n (lists_of x.mine) x × (x.view.ctx ≡ w.view.ctx))
+  pub set_fits : (b n : ℕ) (w : World Staked Hooks) → StakeFits P T b n (lists_of w.mine) w → IfOk (set_updated chain_told w) (λ x. StakeFits P T b n (lists_of x.mine) x × (x.view.ctx ≡ w.view.ctx))
   set_fits b n w h =
       let p = w.view.ctx.params in
       let vs = values_of w.mine.validators in
@@ -376,7 +381,7 @@ module _ (P : List ℕ → Type 0) where
       let leaves_if : Validator → Bool = λ v. is_bonded v.status && not (is_in_bonded_set p.power_reduction p.max_validators vs v) in
       let joining = joining_of p.power_reduction p.max_validators vs in
       let leaving = leaving_of p.power_reduction p.max_validators vs in
-      let start : HasShifted w 0 0 w = record { staked = h.staked; operators = λ o. refl; delegations = refl; shared = refl; bank = refl; ctx = refl; window = h.window; recorded = h.recorded; bonded = refl; other = refl } in
+      let start : HasShifted w 0 0 w = record { staked = h.staked; operators = λ o. refl; delegations = refl; shared = refl; bank = refl; ctx = refl; said = λ d. refl; window = h.window; recorded = h.recorded; bonded = refl; other = refl } in
       let of_joining : (Q : Validator → Type 0) → AllByRecursion (λ v. joins_if v ≡ true → Q v) vs → AllByRecursion Q joining = λ Q k. ordered_all p.power_reduction Q (filter joins_if vs) (filtered_all joins_if Q vs k) in
       let of_leaving : (Q : Validator → Type 0) → AllByRecursion (λ v. leaves_if v ≡ true → Q v) vs → AllByRecursion Q leaving = λ Q k. filtered_all leaves_if Q vs k in
       let each_one : (Q : Validator → Type 0) → ((v : Validator) → validator_at w.mine v.operator ≡ Some v → Q v) → AllByRecursion Q vs = λ Q f. weaker (λ v. validator_at w.mine v.operator ≡ Some v) Q f vs stand in
@@ -417,10 +422,10 @@ module _ (P : List ℕ → Type 0) where
       others_stand x us [] k s t a c = tt
       others_stand x us (v ∷ vs) k s t a c = (k v.operator (all_differ us v s t.0 a c.0) ∙ t.0, others_stand x us vs k s t.1 a c.1)
 
-  pub set_step_fits : (w : State) → StateFits P w → IfOk (set_step w) (StateLeft P w)
+  pub set_step_fits : (w : State) → StateFits P T w → IfOk (set_step w) (StateLeft P T w)
   set_step_fits w h =
-      on_then (set_updated chain_told (staked_in w)) _ (λ x. StakeFits P 0 (entry_balances w.mine.unbondings) (lists_of x.mine) x × (x.view.ctx ≡ w.view.ctx)) _ (set_fits 0 (entry_balances w.mine.unbondings) (staked_in w) h.stake)
-      (λ x k. state_with P w x h k.0 k.1)
+      on_then (set_updated chain_told (staked_in w)) _ (λ x. StakeFits P T 0 (entry_balances w.mine.unbondings) (lists_of x.mine) x × (x.view.ctx ≡ w.view.ctx)) _ (set_fits 0 (entry_balances w.mine.unbondings) (staked_in w) h.stake)
+      (λ x k. state_with P T w x h k.0 k.1)
 
 pub bonding_keeps_soundness : BondingKeepsSoundness
-bonding_keeps_soundness = keeps set_step (λ P w h. set_step_fits P w h)
+bonding_keeps_soundness = keeps set_step (λ P T w h. set_step_fits P T w h)

@@ -71,7 +71,7 @@ none_of r op a h =
         let both : true ≡ false = sym there ∙ h k.1 in
         absurd cc
 
-module _ (P : List ℕ → Type 0) where
+module _ (P : List ℕ → Type 0) (T : List ℕ → ℕ) where
   first_periods : (height : ℕ) → PeriodsFit P height initial_records
   first_periods height = record {
     first = omega arith;
@@ -95,8 +95,8 @@ module _ (P : List ℕ → Type 0) where
           omega (arith, x, y)
 
   -- the first hook: initial records and an empty purse
-  pub made_leaves : (val : Validator) (v : View) (l : Lists) (d : Shared) → HooksFit P v l d → l.operators val.operator ≡ false → ((who : List ℕ) → l.started who val.operator ≡ false)
-      → Leaves P v (with_operator val.operator true l) (records_made val d) v
+  pub made_leaves : (val : Validator) (v : View) (l : Lists) (d : Shared) → HooksFit P T v l d → l.operators val.operator ≡ false → ((who : List ℕ) → l.started who val.operator ≡ false)
+      → Leaves P T v (with_operator val.operator true l) (records_made val d) v
   made_leaves val v l d h new none =
       let s = h.shared in
       let op = val.operator in
@@ -134,9 +134,9 @@ module _ (P : List ℕ → Type 0) where
 
   -- ---- a validator joins
 
-  pub stake_joined : (b n : ℕ) (l : Lists) (w : World Staked Hooks) (v : Validator) → StakeFits P b n l w → validator_at w.mine v.operator ≡ None
+  pub stake_joined : (b n : ℕ) (l : Lists) (w : World Staked Hooks) (v : Validator) → StakeFits P T b n l w → validator_at w.mine v.operator ≡ None
       → ((p : List ℕ) (x : Validator) → validator_at w.mine p ≡ Some x → x.cons ≡ v.cons → ⊥) → ValidatorIsSound w.view.ctx.height v → v.tokens ≡ 0 → v.shares ≡ 0 → is_unbonded v.status ≡ true
-      → StakeFits P b n l (over_mine (put_validator v) w)
+      → StakeFits P T b n l (over_mine (put_validator v) w)
   stake_joined b n l w v s new apart ok tokens shares unbonded =
       let same = λ (test : BondStatus → Bool). no_more test in
       record {
@@ -161,45 +161,45 @@ module _ (P : List ℕ → Type 0) where
       no_more test = by (test v.status) _ _ (tokens-joined test v.operator v w.mine.validators new)
 
   -- nobody delegates to an operator that is none
-  none_started : (height : ℕ) (s : Staked) (op : List ℕ) → IsSoundAt height s → validator_at s op ≡ None → (who : List ℕ) → is_some (delegation s who op) ≡ false
+  pub none_started : (height : ℕ) (s : Staked) (op : List ℕ) → IsSoundAt height s → validator_at s op ≡ None → (who : List ℕ) → is_some (delegation s who op) ≡ false
   none_started height s op h new who = by (delegation s who op) refl
     where
       by : (r : Option ℕ) → delegation s who op ≡ r → is_some r ≡ false
       by None e = refl
       by (Some k) e = let there : is_some (validator_at s op) ≡ true = h.existing (op, who) k e in let both : true ≡ false = sym there ∙ ap is_some new in absurd cc
 
-  pub stored_fits : (b n : ℕ) (w : World Staked Hooks) (v : Validator) {B E : Type 0} (g : Over → E) (f : World Staked Hooks → Result B E) (Q : B → Type 0) → StakeFits P b n (lists_of w.mine) w → validator_at w.mine v.operator ≡ None
+  pub stored_fits : (b n : ℕ) (w : World Staked Hooks) (v : Validator) {B E : Type 0} (g : Over → E) (f : World Staked Hooks → Result B E) (Q : B → Type 0) → StakeFits P T b n (lists_of w.mine) w → validator_at w.mine v.operator ≡ None
       → ((p : List ℕ) (x : Validator) → validator_at w.mine p ≡ Some x → x.cons ≡ v.cons → ⊥) → ValidatorIsSound w.view.ctx.height v → v.tokens ≡ 0 → v.shares ≡ 0 → is_unbonded v.status ≡ true
-      → ((x : World Staked Hooks) → x.mine ≡ put_validator v w.mine → x.view ≡ w.view → StakeFits P b n (lists_of x.mine) x → IfOk (f x) Q)
+      → ((x : World Staked Hooks) → x.mine ≡ put_validator v w.mine → x.view ≡ w.view → StakeFits P T b n (lists_of x.mine) x → IfOk (f x) Q)
       → IfOk (stopping g (stored chain_told v w) >>= f) Q
   stored_fits b n w v g f Q s new apart ok tokens shares unbonded next =
       let l = lists_of w.mine in
       let w1 : World Staked Hooks = over_mine (put_validator v) w in
       let joined = stake_joined b n l w v s new apart ok tokens shares unbonded in
-      on_hook g (hook.created v) w1 f (λ d u. Leaves P w1.view (with_operator v.operator true l) d u × (u ≡ w.view)) Q (λ u. refl)
-      (made_leaves v w1.view l w1.hooks.0 (stake_hooks P b n l w1 joined) (ap is_some new) (none_started w.view.ctx.height w.mine v.operator s.staked new), refl)
+      on_hook g (hook.created v) w1 f (λ d u. Leaves P T w1.view (with_operator v.operator true l) d u × (u ≡ w.view)) Q (λ u. refl)
+      (made_leaves v w1.view l w1.hooks.0 (stake_hooks P T b n l w1 joined) (ap is_some new) (none_started w.view.ctx.height w.mine v.operator s.staked new), refl)
       (λ d u k left. next (hook_gave w1 d u k) refl left.1
-      (stake_relisted P b n (with_operator v.operator true l) (lists_of w1.mine) (hook_gave w1 d u k) (stake_left P b n l (with_operator v.operator true l) w1 d u (w1.log ++ k) joined left.0)
+      (stake_relisted P T b n (with_operator v.operator true l) (lists_of w1.mine) (hook_gave w1 d u k) (stake_left P T b n l (with_operator v.operator true l) w1 d u (w1.log ++ k) joined left.0)
       (λ o. joined_there w.mine.validators v.operator o v) (λ who o. refl)))
 
   -- ---- the message
 
-  created_fits : (m : CreateValidator) (w : World Staked Hooks) (n : ℕ) → StakeFits P 0 n (lists_of w.mine) w → IfOk (created chain_told m w) (λ x. StakeFits P 0 n (lists_of x.1.mine) x.1 × (x.1.view.ctx ≡ w.view.ctx))
+  created_fits : (m : CreateValidator) (w : World Staked Hooks) (n : ℕ) → StakeFits P T 0 n (lists_of w.mine) w → IfOk (created chain_told m w) (λ x. StakeFits P T 0 n (lists_of x.1.mine) x.1 × (x.1.view.ctx ≡ w.view.ctx))
   created_fits m w n h =
       on_stop (m.amount.amount == 0) NonPositive _ _ (λ a. on_stop (are_out_of_range m) CommissionRange _ _ (λ rates. on_stop (m.min_self_delegation == 0) MinSelfNotPositive _ _ (λ c.
       on_stop (nat_lt m.amount.amount m.min_self_delegation) SelfBelowMinimum _ _ (λ d. on_stop (nat_lt m.rate w.view.ctx.params.min_commission_rate) CommissionBelowMinimum _ _ (λ e.
       on_stop (is_some (validator_at w.mine m.validator)) ValidatorExists _ _ (λ new. on_stop (is_some (validator_by_cons w.mine m.cons)) ConsKeyExists _ _ (λ cons. on_stop (is_wrong m.amount w.view) WrongDenom _ _ (λ g.
       let v : Validator = new_validator m w.view.ctx.time in
-      stored_fits 0 n w v Overflow (λ w1. delegated chain_told v m.validator m.amount.amount wallet w1 >>= λ x. Ok (tt, x.1)) (λ x. StakeFits P 0 n (lists_of x.1.mine) x.1 × (x.1.view.ctx ≡ w.view.ctx)) h (is_none (validator_at w.mine m.validator) new)
+      stored_fits 0 n w v Overflow (λ w1. delegated chain_told v m.validator m.amount.amount wallet w1 >>= λ x. Ok (tt, x.1)) (λ x. StakeFits P T 0 n (lists_of x.1.mine) x.1 × (x.1.view.ctx ≡ w.view.ctx)) h (is_none (validator_at w.mine m.validator) new)
       (λ p x f k. nobody_has m.cons w.mine.validators p x (is_none (validator_by_cons w.mine m.cons) cons) f k) (new_is_sound w.view.ctx.height m w.view.ctx.time rates) refl refl refl
-      (λ x mine view k. on_then (delegated chain_told v m.validator m.amount.amount wallet x) (λ y. Ok (tt, y.1)) (λ y. StakeFits P 0 n (lists_of y.1.mine) y.1 × (y.1.view.ctx ≡ x.view.ctx)) _
-      (delegated_fits P v m.validator m.amount.amount wallet 0 n x k (ap (λ s. validator_at s m.validator) mine ∙ found_itself w.mine v))
+      (λ x mine view k. on_then (delegated chain_told v m.validator m.amount.amount wallet x) (λ y. Ok (tt, y.1)) (λ y. StakeFits P T 0 n (lists_of y.1.mine) y.1 × (y.1.view.ctx ≡ x.view.ctx)) _
+      (delegated_fits P T v m.validator m.amount.amount wallet 0 n x k (ap (λ s. validator_at s m.validator) mine ∙ found_itself w.mine v))
       (λ y j. and_also j.0 (j.1 ∙ ap (λ u. u.ctx) view)))))))))))
 
-  pub create_fits : (m : CreateValidator) (w : State) → StateFits P w → IfOk (create_validator m w) (StateLeft P w)
+  pub create_fits : (m : CreateValidator) (w : State) → StateFits P T w → IfOk (create_validator m w) (StateLeft P T w)
   create_fits m w h =
-      on_then (created chain_told m (staked_in w)) _ (λ x. StakeFits P 0 (entry_balances w.mine.unbondings) (lists_of x.1.mine) x.1 × (x.1.view.ctx ≡ w.view.ctx)) _ (created_fits m (staked_in w) (entry_balances w.mine.unbondings) h.stake)
-      (λ x k. state_with P w x.1 h k.0 k.1)
+      on_then (created chain_told m (staked_in w)) _ (λ x. StakeFits P T 0 (entry_balances w.mine.unbondings) (lists_of x.1.mine) x.1 × (x.1.view.ctx ≡ w.view.ctx)) _ (created_fits m (staked_in w) (entry_balances w.mine.unbondings) h.stake)
+      (λ x k. state_with P T w x.1 h k.0 k.1)
 
 pub creating_keeps_soundness : CreatingKeepsSoundness
-creating_keeps_soundness m = keeps (create_validator m) (λ P w h. create_fits P m w h)
+creating_keeps_soundness m = keeps (create_validator m) (λ P T w h. create_fits P T m w h)

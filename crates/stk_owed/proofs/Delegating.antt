@@ -119,14 +119,14 @@ shares_there s who op n x o = ap is_some (at-put pair_cmp pair_total s.delegatio
     by true = refl
     by false = refl
 
-module _ (P : List ℕ → Type 0) where
+module _ (P : List ℕ → Type 0) (T : List ℕ → ℕ) where
   -- what an account holds in all is at most 10^18
-  pub all_bonded : (b n : ℕ) (l : Lists) (w : World Staked Hooks) → StakeFits P b n l w → bonded_tokens w.mine + b ≤ 10 ^ 18
+  pub all_bonded : (b n : ℕ) (l : Lists) (w : World Staked Hooks) → StakeFits P T b n l w → bonded_tokens w.mine + b ≤ 10 ^ 18
   all_bonded b n l w s =
       let bond = w.view.ctx.params.bond_denom in
       subst (λ m. m ≤ 10 ^ 18) (s.bonded bond ∙ ap (λ t. cond t (bonded_tokens w.mine + b) 0) (same_itself bond)) (balance-most w.view.bank (account.Module holder.Bonded) bond s.ground.order.bank)
 
-  pub all_other : (b n : ℕ) (l : Lists) (w : World Staked Hooks) → StakeFits P b n l w → other_tokens w.mine + n ≤ 10 ^ 18
+  pub all_other : (b n : ℕ) (l : Lists) (w : World Staked Hooks) → StakeFits P T b n l w → other_tokens w.mine + n ≤ 10 ^ 18
   all_other b n l w s =
       let bond = w.view.ctx.params.bond_denom in
       subst (λ m. m ≤ 10 ^ 18) (s.not_bonded bond ∙ ap (λ t. cond t (other_tokens w.mine + n) 0) (same_itself bond)) (balance-most w.view.bank (account.Module holder.NotBonded) bond s.ground.order.bank)
@@ -150,8 +150,8 @@ module _ (P : List ℕ → Type 0) where
       within d p q = let more = bond_sum v d (t + b) a in let same : of_bond v d (t + b + a) ≡ of_bond v d (t + (b + a)) = ap (of_bond v d) (omega arith) in omega (arith, p, q, more, same)
 
   -- from a wallet
-  from_wallet : (b n : ℕ) (l : Lists) (w : World Staked Hooks) (who : List ℕ) (amount : ℕ) (s : Bool) → StakeFits P b n l w → is_short w.view.bank (account.User who) (bond_coins w.view amount) ≡ false
-      → StakeFits P (b + cond s amount 0) (n + cond s 0 amount) l (over_view (sent (account.User who) (stake_account s) (bond_coins w.view amount)) w)
+  from_wallet : (b n : ℕ) (l : Lists) (w : World Staked Hooks) (who : List ℕ) (amount : ℕ) (s : Bool) → StakeFits P T b n l w → is_short w.view.bank (account.User who) (bond_coins w.view amount) ≡ false
+      → StakeFits P T (b + cond s amount 0) (n + cond s 0 amount) l (over_view (sent (account.User who) (stake_account s) (bond_coins w.view amount)) w)
   from_wallet b n l w who amount s h e = by s
     where
       from : Account
@@ -166,9 +166,9 @@ module _ (P : List ℕ → Type 0) where
       stays : (v : View) (d : List ℕ) (x y t b : ℕ) → y + 0 ≡ x + 0 → x ≡ of_bond v d (t + b) → y ≡ of_bond v d (t + (b + 0))
       stays v d x y t b p q = let same : of_bond v d (t + b) ≡ of_bond v d (t + (b + 0)) = ap (of_bond v d) (omega arith) in omega (arith, p, q, same)
 
-      by : (s : Bool) → StakeFits P (b + cond s amount 0) (n + cond s 0 amount) l (over_view (sent from (stake_account s) (bond_coins w.view amount)) w)
+      by : (s : Bool) → StakeFits P T (b + cond s amount 0) (n + cond s 0 amount) l (over_view (sent from (stake_account s) (bond_coins w.view amount)) w)
       by true = record {
-        ground = ground_sent P from (stake_account true) (bond_coins w.view amount) w.view h.ground (bond_money w.view from amount backed e) e;
+        ground = ground_sent P T from (stake_account true) (bond_coins w.view amount) w.view h.ground (bond_money w.view from amount backed e) e;
         staked = h.staked;
         bonded = λ d. rises w.view d (balance_of w.view.bank (stake_account true) d) _ (bonded_tokens w.mine) b amount (bond_moved w.view from (stake_account true) amount backed e (stake_account true) d) (h.bonded d);
         not_bonded = λ d. stays w.view d (balance_of w.view.bank (stake_account false) d) _ (other_tokens w.mine) n (bond_moved w.view from (stake_account true) amount backed e (stake_account false) d) (h.not_bonded d);
@@ -178,7 +178,7 @@ module _ (P : List ℕ → Type 0) where
         recorded = h.recorded;
       }
       by false = record {
-        ground = ground_sent P from (stake_account false) (bond_coins w.view amount) w.view h.ground (bond_money w.view from amount backed e) e;
+        ground = ground_sent P T from (stake_account false) (bond_coins w.view amount) w.view h.ground (bond_money w.view from amount backed e) e;
         staked = h.staked;
         bonded = λ d. stays w.view d (balance_of w.view.bank (stake_account true) d) _ (bonded_tokens w.mine) b (bond_moved w.view from (stake_account false) amount backed e (stake_account true) d) (h.bonded d);
         not_bonded = λ d. rises w.view d (balance_of w.view.bank (stake_account false) d) _ (other_tokens w.mine) n amount (bond_moved w.view from (stake_account false) amount backed e (stake_account false) d) (h.not_bonded d);
@@ -189,15 +189,15 @@ module _ (P : List ℕ → Type 0) where
       }
 
   -- between the staking accounts
-  pub to_not_bonded : (b n : ℕ) (l : Lists) (w : World Staked Hooks) (amount : ℕ) → StakeFits P (b + amount) n l w
-      → StakeFits P b (n + amount) l (over_view (sent (stake_account true) (stake_account false) (bond_coins w.view amount)) w)
+  pub to_not_bonded : (b n : ℕ) (l : Lists) (w : World Staked Hooks) (amount : ℕ) → StakeFits P T (b + amount) n l w
+      → StakeFits P T b (n + amount) l (over_view (sent (stake_account true) (stake_account false) (bond_coins w.view amount)) w)
   to_not_bonded b n l w amount h =
       let from = stake_account true in
       let to = stake_account false in
       let backed = h.ground.order.bank in
       let e : is_short w.view.bank from (bond_coins w.view amount) ≡ false = has_enough w.view from (bonded_tokens w.mine) b amount backed (all_bonded (b + amount) n l w h) h.bonded in
       record {
-        ground = ground_sent P from to (bond_coins w.view amount) w.view h.ground (bond_money w.view from amount backed e) e;
+        ground = ground_sent P T from to (bond_coins w.view amount) w.view h.ground (bond_money w.view from amount backed e) e;
         staked = h.staked;
         bonded = λ d. falls w.view d (balance_of w.view.bank from d) _ (bonded_tokens w.mine) b amount (bond_moved w.view from to amount backed e from d) (h.bonded d);
         not_bonded = λ d. rises_to w.view d (balance_of w.view.bank to d) _ (other_tokens w.mine) n amount (bond_moved w.view from to amount backed e to d) (h.not_bonded d);
@@ -207,15 +207,15 @@ module _ (P : List ℕ → Type 0) where
         recorded = h.recorded;
       }
 
-  pub to_bonded : (b n : ℕ) (l : Lists) (w : World Staked Hooks) (amount : ℕ) → StakeFits P b (n + amount) l w
-      → StakeFits P (b + amount) n l (over_view (sent (stake_account false) (stake_account true) (bond_coins w.view amount)) w)
+  pub to_bonded : (b n : ℕ) (l : Lists) (w : World Staked Hooks) (amount : ℕ) → StakeFits P T b (n + amount) l w
+      → StakeFits P T (b + amount) n l (over_view (sent (stake_account false) (stake_account true) (bond_coins w.view amount)) w)
   to_bonded b n l w amount h =
       let from = stake_account false in
       let to = stake_account true in
       let backed = h.ground.order.bank in
       let e : is_short w.view.bank from (bond_coins w.view amount) ≡ false = has_enough w.view from (other_tokens w.mine) n amount backed (all_other b (n + amount) l w h) h.not_bonded in
       record {
-        ground = ground_sent P from to (bond_coins w.view amount) w.view h.ground (bond_money w.view from amount backed e) e;
+        ground = ground_sent P T from to (bond_coins w.view amount) w.view h.ground (bond_money w.view from amount backed e) e;
         staked = h.staked;
         bonded = λ d. rises_to w.view d (balance_of w.view.bank to d) _ (bonded_tokens w.mine) b amount (bond_moved w.view from to amount backed e to d) (h.bonded d);
         not_bonded = λ d. falls w.view d (balance_of w.view.bank from d) _ (other_tokens w.mine) n amount (bond_moved w.view from to amount backed e from d) (h.not_bonded d);
@@ -234,24 +234,24 @@ module _ (P : List ℕ → Type 0) where
   other_before wallet amount n = n
   other_before (pool from) amount n = n + cond (is_bonded from) 0 amount
 
-  paid_fits : (origin : Origin) (who : List ℕ) (status : BondStatus) (amount b n : ℕ) (l : Lists) (w : World Staked Hooks) → StakeFits P (bonded_before origin amount b) (other_before origin amount n) l w
-      → IfOk (paid_in origin who status amount w.view) (λ u. StakeFits P (b + cond (is_bonded status) amount 0) (n + cond (is_bonded status) 0 amount) l (over_view (λ x. u) w) × (u.ctx ≡ w.view.ctx))
+  paid_fits : (origin : Origin) (who : List ℕ) (status : BondStatus) (amount b n : ℕ) (l : Lists) (w : World Staked Hooks) → StakeFits P T (bonded_before origin amount b) (other_before origin amount n) l w
+      → IfOk (paid_in origin who status amount w.view) (λ u. StakeFits P T (b + cond (is_bonded status) amount 0) (n + cond (is_bonded status) 0 amount) l (over_view (λ x. u) w) × (u.ctx ≡ w.view.ctx))
   paid_fits wallet who status amount b n l w h = on_stop (is_short w.view.bank (account.User who) (bond_coins w.view amount)) InsufficientFunds _ _ (λ e. (from_wallet b n l w who amount (is_bonded status) h e, refl))
   paid_fits (pool from) who status amount b n l w h = by (is_bonded from) (is_bonded status) h
     where
-      by : (f s : Bool) → StakeFits P (b + cond f amount 0) (n + cond f 0 amount) l w
+      by : (f s : Bool) → StakeFits P T (b + cond f amount 0) (n + cond f 0 amount) l w
           → IfOk {E = Refusal} (if module_number (if f then holder.Bonded else holder.NotBonded) == module_number (if s then holder.Bonded else holder.NotBonded) then Ok w.view
-          else Ok (sent (stake_account f) (stake_account s) (bond_coins w.view amount) w.view)) (λ u. StakeFits P (b + cond s amount 0) (n + cond s 0 amount) l (over_view (λ x. u) w) × (u.ctx ≡ w.view.ctx))
+          else Ok (sent (stake_account f) (stake_account s) (bond_coins w.view amount) w.view)) (λ u. StakeFits P T (b + cond s amount 0) (n + cond s 0 amount) l (over_view (λ x. u) w) × (u.ctx ≡ w.view.ctx))
       by true true g = (g, refl)
       by false false g = (g, refl)
-      by true false g = (subst (λ m. StakeFits P m (n + amount) l (over_view (sent (stake_account true) (stake_account false) (bond_coins w.view amount)) w)) (none b) (to_not_bonded b n l w amount (subst (λ m. StakeFits P (b + amount) m l w) (some n) g)), refl)
+      by true false g = (subst (λ m. StakeFits P T m (n + amount) l (over_view (sent (stake_account true) (stake_account false) (bond_coins w.view amount)) w)) (none b) (to_not_bonded b n l w amount (subst (λ m. StakeFits P T (b + amount) m l w) (some n) g)), refl)
         where
           none : (m : ℕ) → m ≡ m + 0
           none m = omega arith
 
           some : (m : ℕ) → m + 0 ≡ m
           some m = omega arith
-      by false true g = (subst (λ m. StakeFits P (b + amount) m l (over_view (sent (stake_account false) (stake_account true) (bond_coins w.view amount)) w)) (none n) (to_bonded b n l w amount (subst (λ m. StakeFits P m (n + amount) l w) (some b) g)), refl)
+      by false true g = (subst (λ m. StakeFits P T (b + amount) m l (over_view (sent (stake_account false) (stake_account true) (bond_coins w.view amount)) w)) (none n) (to_bonded b n l w amount (subst (λ m. StakeFits P T m (n + amount) l w) (some b) g)), refl)
         where
           none : (m : ℕ) → m ≡ m + 0
           none m = omega arith
@@ -264,9 +264,9 @@ module _ (P : List ℕ → Type 0) where
   abbrev pub more_of : Validator → ℕ → ℕ → Validator
   more_of v amount issued = record v { tokens = v.tokens + amount; shares = v.shares + issued }
 
-  pub stake_grown : (b n : ℕ) (l : Lists) (w : World Staked Hooks) (v : Validator) (who : List ℕ) (amount issued : ℕ) → StakeFits P (b + cond (is_bonded v.status) amount 0) (n + cond (is_bonded v.status) 0 amount) l w
+  pub stake_grown : (b n : ℕ) (l : Lists) (w : World Staked Hooks) (v : Validator) (who : List ℕ) (amount issued : ℕ) → StakeFits P T (b + cond (is_bonded v.status) amount 0) (n + cond (is_bonded v.status) 0 amount) l w
       → validator_at w.mine v.operator ≡ Some v → 0 < issued
-      → StakeFits P b n l (over_mine (λ s. put_delegation who v.operator (unwrap_or (delegation w.mine who v.operator) 0 + issued) (put_validator (more_of v amount issued) s)) w)
+      → StakeFits P T b n l (over_mine (λ s. put_delegation who v.operator (unwrap_or (delegation w.mine who v.operator) 0 + issued) (put_validator (more_of v amount issued) s)) w)
   stake_grown b n l w v who amount issued h found some =
       let s = w.mine in
       let old = h.staked.validators v.operator v found in
@@ -297,8 +297,8 @@ module _ (P : List ℕ → Type 0) where
   anew false true x = refl
   anew false false x = refl
 
-  pub delegated_fits : (v : Validator) (who : List ℕ) (amount : ℕ) (origin : Origin) (b n : ℕ) (w : World Staked Hooks) → StakeFits P (bonded_before origin amount b) (other_before origin amount n) (lists_of w.mine) w
-      → validator_at w.mine v.operator ≡ Some v → IfOk (delegated chain_told v who amount origin w) (λ x. StakeFits P b n (lists_of x.1.mine) x.1 × (x.1.view.ctx ≡ w.view.ctx))
+  pub delegated_fits : (v : Validator) (who : List ℕ) (amount : ℕ) (origin : Origin) (b n : ℕ) (w : World Staked Hooks) → StakeFits P T (bonded_before origin amount b) (other_before origin amount n) (lists_of w.mine) w
+      → validator_at w.mine v.operator ≡ Some v → IfOk (delegated chain_told v who amount origin w) (λ x. StakeFits P T b n (lists_of x.1.mine) x.1 × (x.1.view.ctx ≡ w.view.ctx))
   delegated_fits v who amount origin b n w h found =
       let l = lists_of w.mine in
       let op = v.operator in
@@ -306,23 +306,23 @@ module _ (P : List ℕ → Type 0) where
       let l1 = lists_before who op held l in
       let there : is_some (validator_at w.mine op) ≡ true = ap is_some found in
       on_then (shares_given v amount) _ (λ issued. 0 < issued) _ (given_some v amount) (λ issued some.
-      on_hook Overflow (hook_before v who held) w _ (λ d u. Leaves P w.view l1 d u) _ (before_is_idle w v who held) (before_told P v who held w.view l w.hooks.0 (stake_hooks P _ _ l w h) there) (λ d u k left.
+      on_hook Overflow (hook_before v who held) w _ (λ d u. Leaves P T w.view l1 d u) _ (before_is_idle w v who held) (before_told P T v who held w.view l w.hooks.0 (stake_hooks P T _ _ l w h) there) (λ d u k left.
       let w1 : World Staked Hooks = hook_gave w d u k in
-      on_then (paid_in origin who v.status amount u) _ (λ x. StakeFits P (b + cond (is_bonded v.status) amount 0) (n + cond (is_bonded v.status) 0 amount) l1 (over_view (λ y. x) w1) × (x.ctx ≡ u.ctx)) _
-      (paid_fits origin who v.status amount b n l1 w1 (stake_left P _ _ l l1 w d u (w.log ++ k) h left)) (λ x paid.
+      on_then (paid_in origin who v.status amount u) _ (λ x. StakeFits P T (b + cond (is_bonded v.status) amount 0) (n + cond (is_bonded v.status) 0 amount) l1 (over_view (λ y. x) w1) × (x.ctx ≡ u.ctx)) _
+      (paid_fits origin who v.status amount b n l1 w1 (stake_left P T _ _ l l1 w d u (w.log ++ k) h left)) (λ x paid.
       let w2 : World Staked Hooks = over_view (λ y. x) (over_mine (λ s. put_delegation who op (unwrap_or held 0 + issued) (put_validator (more_of v amount issued) s)) w1) in
-      let grown : StakeFits P b n l1 w2 = stake_grown b n l1 (over_view (λ y. x) w1) v who amount issued paid.0 found some in
-      on_hook {B = ℕ × World Staked Hooks} Overflow (modified (more_of v amount issued) who (unwrap_or held 0 + issued)) w2 (λ y. Ok (issued, y)) (λ d u. Leaves P w2.view (with_started who op true l1) d u)
-      (λ y. StakeFits P b n (lists_of y.1.mine) y.1 × (y.1.view.ctx ≡ w.view.ctx)) (λ y. refl)
-      (start_leaves P (more_of v amount issued) who (unwrap_or held 0 + issued) w2.view l1 w2.hooks.0 (stake_hooks P b n l1 w2 grown) there) (λ d2 u2 k2 left2. and_also
-      (stake_relisted P b n (with_started who op true l1) (lists_of w2.mine) (hook_gave w2 d2 u2 k2) (stake_left P b n l1 (with_started who op true l1) w2 d2 u2 (w2.log ++ k2) grown left2)
+      let grown : StakeFits P T b n l1 w2 = stake_grown b n l1 (over_view (λ y. x) w1) v who amount issued paid.0 found some in
+      on_hook {B = ℕ × World Staked Hooks} Overflow (modified (more_of v amount issued) who (unwrap_or held 0 + issued)) w2 (λ y. Ok (issued, y)) (λ d u. Leaves P T w2.view (with_started who op true l1) d u)
+      (λ y. StakeFits P T b n (lists_of y.1.mine) y.1 × (y.1.view.ctx ≡ w.view.ctx)) (λ y. refl)
+      (start_leaves P T (more_of v amount issued) who (unwrap_or held 0 + issued) w2.view l1 w2.hooks.0 (stake_hooks P T b n l1 w2 grown) there) (λ d2 u2 k2 left2. and_also
+      (stake_relisted P T b n (with_started who op true l1) (lists_of w2.mine) (hook_gave w2 d2 u2 k2) (stake_left P T b n l1 (with_started who op true l1) w2 d2 u2 (w2.log ++ k2) grown left2)
       (λ o. there_still w.mine.validators op o v (more_of v amount issued) found)
       (λ y o. shares_there w.mine who op (unwrap_or held 0 + issued) y o ∙ anew (same_addr who y && same_addr op o) (is_some held) (is_some (delegation w.mine y o)))) (left2.ctx ∙ paid.1 ∙ left.ctx)))))
 
   -- ---- the message
 
   -- validators and delegations are put back into the state
-  pub state_with : (w : State) (x : World Staked Hooks) → StateFits P w → StakeFits P 0 (entry_balances w.mine.unbondings) (lists_of x.mine) x → x.view.ctx ≡ w.view.ctx → StateLeft P w (with_staked w.mine x)
+  pub state_with : (w : State) (x : World Staked Hooks) → StateFits P T w → StakeFits P T 0 (entry_balances w.mine.unbondings) (lists_of x.mine) x → x.view.ctx ≡ w.view.ctx → StateLeft P T w (with_staked w.mine x)
   state_with w x h k c = record {
     fits = record {
       stake = k;
@@ -333,14 +333,14 @@ module _ (P : List ℕ → Type 0) where
     ctx = c;
   }
 
-  pub delegate_fits : (who operator : List ℕ) (coin : Coin) (w : State) → StateFits P w → IfOk (delegate who operator coin w) (StateLeft P w)
+  pub delegate_fits : (who operator : List ℕ) (coin : Coin) (w : State) → StateFits P T w → IfOk (delegate who operator coin w) (StateLeft P T w)
   delegate_fits who operator coin w h =
-      on_then (delegated_by chain_told who operator coin (staked_in w)) _ (λ x. StateLeft P w (with_staked w.mine x.1)) _
+      on_then (delegated_by chain_told who operator coin (staked_in w)) _ (λ x. StateLeft P T w (with_staked w.mine x.1)) _
       (on_stop (coin.amount == 0) NonPositive _ _ (λ a. on_found (validator_at w.mine.staked operator) NoValidator _ _ (λ v found. on_stop (is_wrong coin w.view) WrongDenom _ _ (λ c.
       weaker_if (delegated chain_told v who coin.amount wallet (staked_in w)) _ _
-      (delegated_fits v who coin.amount wallet 0 (entry_balances w.mine.unbondings) (staked_in w) h.stake (own_place P w.view.ctx.height w.mine.staked operator v h.stake.staked found))
+      (delegated_fits v who coin.amount wallet 0 (entry_balances w.mine.unbondings) (staked_in w) h.stake (own_place P T w.view.ctx.height w.mine.staked operator v h.stake.staked found))
       (λ x k. state_with w x.1 h k.0 k.1)))))
       (λ x k. k)
 
 pub delegating_keeps_soundness : DelegatingKeepsSoundness
-delegating_keeps_soundness who operator coin = keeps (delegate who operator coin) (λ P w h. delegate_fits P who operator coin w h)
+delegating_keeps_soundness who operator coin = keeps (delegate who operator coin) (λ P T w h. delegate_fits P T who operator coin w h)

@@ -124,22 +124,22 @@ gone_triples height now (p ∷ ps) h =
     (filtered_all (λ e. not (nat_le e.completes now)) (RedelegationIsSound height) p.1 (weaker (RedelegationIsSound height) (λ e. not (nat_le e.completes now) ≡ true → RedelegationIsSound height e) (λ e k t. k) p.1 own.entries))
     (gone_triples height now ps h.1)
 
-module _ (P : List ℕ → Type 0) where
+module _ (P : List ℕ → Type 0) (T : List ℕ → ℕ) where
   -- ---- payments from the not-bonded account
 
-  pub from_not_bonded : (b n : ℕ) (l : Lists) (w : World Staked Hooks) (who : List ℕ) (amount : ℕ) → StakeFits P b (n + amount) l w
-      → StakeFits P b n l (over_view (sent (account.Module holder.NotBonded) (account.User who) (bond_coins w.view amount)) w)
+  pub from_not_bonded : (b n : ℕ) (l : Lists) (w : World Staked Hooks) (who : List ℕ) (amount : ℕ) → StakeFits P T b (n + amount) l w
+      → StakeFits P T b n l (over_view (sent (account.Module holder.NotBonded) (account.User who) (bond_coins w.view amount)) w)
   from_not_bonded b n l w who amount h =
       let from = account.Module holder.NotBonded in
       let to = account.User who in
       let backed = h.ground.order.bank in
-      let e : is_short w.view.bank from (bond_coins w.view amount) ≡ false = has_enough P w.view from (other_tokens w.mine) n amount backed (all_other P b (n + amount) l w h) h.not_bonded in
+      let e : is_short w.view.bank from (bond_coins w.view amount) ≡ false = has_enough P T w.view from (other_tokens w.mine) n amount backed (all_other P T b (n + amount) l w h) h.not_bonded in
       record {
-        ground = ground_sent P from to (bond_coins w.view amount) w.view h.ground (bond_money w.view from amount backed e) e;
+        ground = ground_sent P T from to (bond_coins w.view amount) w.view h.ground (bond_money w.view from amount backed e) e;
         staked = h.staked;
-        bonded = λ d. same_sum P _ _ (bond_moved w.view from to amount backed e (account.Module holder.Bonded) d) ∙ h.bonded d;
-        not_bonded = λ d. falls P w.view d (balance_of w.view.bank from d) _ (other_tokens w.mine) n amount (bond_moved w.view from to amount backed e from d) (h.not_bonded d);
-        owed = λ d. ap (λ x. 10 ^ 18 * x) (same_sum P _ _ (bond_moved w.view from to amount backed e (account.Module holder.Distribution) d)) ∙ h.owed d;
+        bonded = λ d. same_sum P T _ _ (bond_moved w.view from to amount backed e (account.Module holder.Bonded) d) ∙ h.bonded d;
+        not_bonded = λ d. falls P T w.view d (balance_of w.view.bank from d) _ (other_tokens w.mine) n amount (bond_moved w.view from to amount backed e from d) (h.not_bonded d);
+        owed = λ d. ap (λ x. 10 ^ 18 * x) (same_sum P T _ _ (bond_moved w.view from to amount backed e (account.Module holder.Distribution) d)) ∙ h.owed d;
         shared = h.shared;
         window = h.window;
         recorded = h.recorded;
@@ -149,8 +149,8 @@ module _ (P : List ℕ → Type 0) where
   abbrev pub under : View → World Staked Hooks → World Staked Hooks
   under v w = record { mine = w.mine; hooks = w.hooks; view = v; log = w.log }
 
-  paid_back_fits : (who : List ℕ) (es : Entries) (n : ℕ) (l : Lists) (w : World Staked Hooks) → StakeFits P 0 (n + balances_of es) l w
-      → StakeFits P 0 (n + balances_of (filter (λ e. not (is_mature w.view.ctx.time e)) es)) l (under (paid_back who es w.view) w) × ((paid_back who es w.view).ctx ≡ w.view.ctx)
+  paid_back_fits : (who : List ℕ) (es : Entries) (n : ℕ) (l : Lists) (w : World Staked Hooks) → StakeFits P T 0 (n + balances_of es) l w
+      → StakeFits P T 0 (n + balances_of (filter (λ e. not (is_mature w.view.ctx.time e)) es)) l (under (paid_back who es w.view) w) × ((paid_back who es w.view).ctx ≡ w.view.ctx)
   paid_back_fits who [] n l w h = (h, refl)
   paid_back_fits who (e ∷ es) n l w h =
       by (is_mature w.view.ctx.time e) (λ x m k. paid_back_fits who es m l x k)
@@ -164,27 +164,27 @@ module _ (P : List ℕ → Type 0) where
       apart : (a b x : ℕ) → a ≡ x + b → n + a ≡ n + x + b
       apart a b x f = omega (arith, f)
 
-      by : (b : Bool) → ((x : World Staked Hooks) (m : ℕ) → StakeFits P 0 (m + balances_of es) l x
-          → StakeFits P 0 (m + balances_of (filter (λ e. not (is_mature x.view.ctx.time e)) es)) l (under (paid_back who es x.view) x) × ((paid_back who es x.view).ctx ≡ x.view.ctx))
-          → StakeFits P 0 (n + balances_of (cond (not b) (e ∷ filter (λ e. not (is_mature w.view.ctx.time e)) es) (filter (λ e. not (is_mature w.view.ctx.time e)) es))) l
+      by : (b : Bool) → ((x : World Staked Hooks) (m : ℕ) → StakeFits P T 0 (m + balances_of es) l x
+          → StakeFits P T 0 (m + balances_of (filter (λ e. not (is_mature x.view.ctx.time e)) es)) l (under (paid_back who es x.view) x) × ((paid_back who es x.view).ctx ≡ x.view.ctx))
+          → StakeFits P T 0 (n + balances_of (cond (not b) (e ∷ filter (λ e. not (is_mature w.view.ctx.time e)) es) (filter (λ e. not (is_mature w.view.ctx.time e)) es))) l
           (under (if b then paid_back who es next.view else paid_back who es w.view) w) × ((if b then paid_back who es next.view else paid_back who es w.view).ctx ≡ w.view.ctx)
-      by true rest = rest next n (from_not_bonded 0 (n + balances_of es) l w who e.balance (subst (λ m. StakeFits P 0 m l w) (paid (balances_of (e ∷ es)) (balances_of es) e.balance (sum_more e es)) h))
+      by true rest = rest next n (from_not_bonded 0 (n + balances_of es) l w who e.balance (subst (λ m. StakeFits P T 0 m l w) (paid (balances_of (e ∷ es)) (balances_of es) e.balance (sum_more e es)) h))
       by false rest =
-          let k = rest w (n + e.balance) (subst (λ m. StakeFits P 0 m l w) (apart (balances_of (e ∷ es)) (balances_of es) e.balance (sum_more e es)) h) in
+          let k = rest w (n + e.balance) (subst (λ m. StakeFits P T 0 m l w) (apart (balances_of (e ∷ es)) (balances_of es) e.balance (sum_more e es)) h) in
           let kept = filter (λ e. not (is_mature w.view.ctx.time e)) es in
-          (subst (λ m. StakeFits P 0 m l (under (paid_back who es w.view) w)) (sym (apart (balances_of (e ∷ kept)) (balances_of kept) e.balance (sum_more e kept))) k.0, k.1)
+          (subst (λ m. StakeFits P T 0 m l (under (paid_back who es w.view) w)) (sym (apart (balances_of (e ∷ kept)) (balances_of kept) e.balance (sum_more e kept))) k.0, k.1)
 
-  completed_fits : (u : UnbondingLists) (n : ℕ) (l : Lists) (w : World Staked Hooks) → StakeFits P 0 (n + entry_balances u) l w
-      → StakeFits P 0 (n + entry_balances (completed u w.view).0) l (under (completed u w.view).1 w) × ((completed u w.view).1.ctx ≡ w.view.ctx)
+  completed_fits : (u : UnbondingLists) (n : ℕ) (l : Lists) (w : World Staked Hooks) → StakeFits P T 0 (n + entry_balances u) l w
+      → StakeFits P T 0 (n + entry_balances (completed u w.view).0) l (under (completed u w.view).1 w) × ((completed u w.view).1.ctx ≡ w.view.ctx)
   completed_fits [] n l w h = (h, refl)
   completed_fits (p ∷ ps) n l w h =
       let all = total_more pair_cmp pair_total balances_of p ps in
       let kept = filter (λ e. not (is_mature w.view.ctx.time e)) p.1 in
-      let first = paid_back_fits p.0.0 p.1 (n + entry_balances ps) l w (subst (λ m. StakeFits P 0 m l w) (turned n (entry_balances (p ∷ ps)) (entry_balances ps) (balances_of p.1) all) h) in
+      let first = paid_back_fits p.0.0 p.1 (n + entry_balances ps) l w (subst (λ m. StakeFits P T 0 m l w) (turned n (entry_balances (p ∷ ps)) (entry_balances ps) (balances_of p.1) all) h) in
       let w1 : World Staked Hooks = under (paid_back p.0.0 p.1 w.view) w in
-      let rest = completed_fits ps (n + balances_of kept) l w1 (subst (λ m. StakeFits P 0 m l w1) (swapped n (entry_balances ps) (balances_of kept)) first.0) in
+      let rest = completed_fits ps (n + balances_of kept) l w1 (subst (λ m. StakeFits P T 0 m l w1) (swapped n (entry_balances ps) (balances_of kept)) first.0) in
       let lists = (completed ps w1.view).0 in (
-        subst (λ m. StakeFits P 0 m l (under (completed ps w1.view).1 w)) (joined n (balances_of kept) (entry_balances lists) (entry_balances (key_then p.0 kept lists)) (then_balances p.0 kept lists)) rest.0,
+        subst (λ m. StakeFits P T 0 m l (under (completed ps w1.view).1 w)) (joined n (balances_of kept) (entry_balances lists) (entry_balances (key_then p.0 kept lists)) (then_balances p.0 kept lists)) rest.0,
         rest.1 ∙ first.1,
       )
     where
@@ -197,12 +197,12 @@ module _ (P : List ℕ → Type 0) where
       joined : (n x b a : ℕ) → a ≡ x + b → n + x + b ≡ n + a
       joined n x b a f = omega (arith, f)
 
-  pub unbondings_fit : (w : State) → StateFits P w → IfOk (unbondings_step w) (λ x. StateFits P x × (x.view.ctx ≡ w.view.ctx))
+  pub unbondings_fit : (w : State) → StateFits P T w → IfOk (unbondings_step w) (λ x. StateFits P T x × (x.view.ctx ≡ w.view.ctx))
   unbondings_fit w h =
-      let k = completed_fits w.mine.unbondings 0 (lists_of w.mine.staked) (staked_in w) (subst (λ m. StakeFits P 0 m (lists_of w.mine.staked) (staked_in w)) (none_first (entry_balances w.mine.unbondings)) h.stake) in
+      let k = completed_fits w.mine.unbondings 0 (lists_of w.mine.staked) (staked_in w) (subst (λ m. StakeFits P T 0 m (lists_of w.mine.staked) (staked_in w)) (none_first (entry_balances w.mine.unbondings)) h.stake) in
       let u = (completed w.mine.unbondings w.view).0 in (
         record {
-          stake = subst (λ m. StakeFits P 0 m (lists_of w.mine.staked) (under (completed w.mine.unbondings w.view).1 (staked_in w))) (sym (none_first (entry_balances u))) k.0;
+          stake = subst (λ m. StakeFits P T 0 m (lists_of w.mine.staked) (under (completed w.mine.unbondings w.view).1 (staked_in w))) (sym (none_first (entry_balances u))) k.0;
           unbondings = subst (λ (c : Ctx). UnbondingsAreSound c.height u) (sym k.1) (from_pairs w.view.ctx.height u (completed_fit w.view.ctx.height w.mine.unbondings w.view (to_pairs w.view.ctx.height w.mine.unbondings h.unbondings)));
           redelegations = subst (λ (c : Ctx). RedelegationsAreSound c.height w.mine.redelegations) (sym k.1) h.redelegations;
         },
@@ -212,7 +212,7 @@ module _ (P : List ℕ → Type 0) where
       none_first : (n : ℕ) → n ≡ 0 + n
       none_first n = omega arith
 
-  pub redelegations_fit : (w : State) → StateFits P w → IfOk (redelegations_step w) (λ x. StateFits P x × (x.view.ctx ≡ w.view.ctx))
+  pub redelegations_fit : (w : State) → StateFits P T w → IfOk (redelegations_step w) (λ x. StateFits P T x × (x.view.ctx ≡ w.view.ctx))
   redelegations_fit w h =
       let r = redelegations_completed w.view.ctx.time w.mine.redelegations in
       let k = to_triples w.view.ctx.height w.mine.redelegations h.redelegations in (
@@ -225,7 +225,7 @@ module _ (P : List ℕ → Type 0) where
       )
 
 pub unbondings_step_keeps_soundness : UnbondingsStepKeepsSoundness
-unbondings_step_keeps_soundness = keeps_fits unbondings_step (λ P w h. weaker_if (unbondings_step w) (λ x. StateFits P x × (x.view.ctx ≡ w.view.ctx)) (StateFits P) (unbondings_fit P w h) (λ x k. k.0))
+unbondings_step_keeps_soundness = keeps_fits unbondings_step (λ P T w h. weaker_if (unbondings_step w) (λ x. StateFits P T x × (x.view.ctx ≡ w.view.ctx)) (StateFits P T) (unbondings_fit P T w h) (λ x k. k.0))
 
 pub redelegations_step_keeps_soundness : RedelegationsStepKeepsSoundness
-redelegations_step_keeps_soundness = keeps_fits redelegations_step (λ P w h. weaker_if (redelegations_step w) (λ x. StateFits P x × (x.view.ctx ≡ w.view.ctx)) (StateFits P) (redelegations_fit P w h) (λ x k. k.0))
+redelegations_step_keeps_soundness = keeps_fits redelegations_step (λ P T w h. weaker_if (redelegations_step w) (λ x. StateFits P T x × (x.view.ctx ≡ w.view.ctx)) (StateFits P T) (redelegations_fit P T w h) (λ x k. k.0))

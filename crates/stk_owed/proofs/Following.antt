@@ -12,6 +12,7 @@ use Rattle.stk_keep.specs.Hooks.{Lists}
 use Rattle.stk_keep.specs.Entries.{at}
 use Rattle.stk_keep.specs.Ground.{end_of_blocks}
 use Rattle.stk_keep.specs.Staked.{lists_of}
+use Rattle.stk_owed.proofs.Burns.{total_in}
 use Rattle.stk_owed.proofs.Lists.{weaker}
 use Rattle.stk_owed.proofs.Points.{EventFits, PeriodsFit, SharedFits, StartFits, StateFits, from_fits, to_fits}
 use Rattle.stk_owed.specs.Kept.{NextBlockKeepsSoundness}
@@ -59,7 +60,7 @@ redelegations_later a b l r h = record {
       (λ p k. All-weaker (RedelegationIsSound a) (RedelegationIsSound b) (λ e j. record { initial = j.initial; created = within e.created a b j.created l }) p.1 k) r h.entries;
 }
 
-module _ (P : List ℕ → Type 0) where
+module _ (P : List ℕ → Type 0) (T : List ℕ → ℕ) where
   periods_later : (a b : ℕ) → a ≤ b → (p : Periods) → PeriodsFit P a p → PeriodsFit P b p
   periods_later a b l p h = record {
     first = h.first;
@@ -86,13 +87,13 @@ module _ (P : List ℕ → Type 0) where
     payees = s.payees;
   }
 
-  pub next_fits : (height time : ℕ) (w : State) → StateFits P w → w.view.ctx.height ≤ height → height < 2 ^ 63 → time < end_of_blocks → StateFits P (next_block height time w)
+  pub next_fits : (height time : ℕ) (w : State) → StateFits P T w → w.view.ctx.height ≤ height → height < 2 ^ 63 → time < end_of_blocks → StateFits P T (next_block height time w)
   next_fits height time w h le few before =
       let s = h.stake in
       let a = w.view.ctx.height in
       record {
         stake = record {
-          ground = record { order = record { params = s.ground.order.params; time = before; height = few; bank = s.ground.order.bank }; held = s.ground.held };
+          ground = record { order = record { params = s.ground.order.params; time = before; height = few; bank = s.ground.order.bank }; held = s.ground.held; total = s.ground.total };
           staked = later a height w.mine.staked le s.staked;
           bonded = s.bonded;
           not_bonded = s.not_bonded;
@@ -107,4 +108,4 @@ module _ (P : List ℕ → Type 0) where
 
 pub next_block_keeps_soundness : NextBlockKeepsSoundness
 next_block_keeps_soundness height time w s later few since before =
-    from_fits (next_block height time w) s.few.some s.few.few (next_fits (Contains s.few.some) height time w (to_fits w s) (omega (arith, later)) few before)
+    from_fits (next_block height time w) s.few.some (total_in w.view) s.few.few (next_fits (Contains s.few.some) (total_in w.view) height time w (to_fits w s) (omega (arith, later)) few before)

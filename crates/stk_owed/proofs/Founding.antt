@@ -46,7 +46,7 @@ use Rattle.stk_rules.specs.Stakes.{put_delegation}
 use Rattle.stk_rules.specs.Window.{window_told}
 use Rattle.stk_types.specs.Orders.{addr_cmp}
 
-sure_then : {A B E : Type 0} (r : Result A E) (f : A → Result B E) (R : A → Type 0) (Q : B → Type 0) → IsOkAnd r R → ((a : A) → R a → IsOkAnd (f a) Q) → IsOkAnd (r >>= f) Q
+pub sure_then : {A B E : Type 0} (r : Result A E) (f : A → Result B E) (R : A → Type 0) (Q : B → Type 0) → IsOkAnd r R → ((a : A) → R a → IsOkAnd (f a) Q) → IsOkAnd (r >>= f) Q
 sure_then (Ok a) f R Q p h = h a p
 sure_then (Err e) f R Q p h = absurd p
 
@@ -81,7 +81,7 @@ record TakenSo (z : Money × Money × Purses) : Type 0 where
   current : (o : List ℕ) → (purse_of z.2 o).current ≡ []
 
 -- the current rewards leave for the pool, as a rule of them alone
-abbrev pooled_at : List ℕ → Purses → Money → Result (Money × Purses) Over
+abbrev pub pooled_at : List ℕ → Purses → Money → Result (Money × Purses) Over
 pooled_at op p c =
     let purse = purse_of p op in
     let lost = smaller_of c purse.outstanding in
@@ -103,7 +103,7 @@ taken_sure val p h = by (val.tokens == 0)
     by true = subst (λ c. IsOkAnd (pooled_at op p c >>= pooled) TakenSo) (sym (h op)) (record { nothing = refl; current = current_put p op _ h refl })
     by false = subst (λ c. IsOkAnd (coins_quo_cut c (val.tokens * 10 ^ 18) >>= emptied) TakenSo) (sym (h op)) (record { nothing = refl; current = current_put p op _ h refl })
 
-period_sure : (i : Money) (ps : Periods) (k : ℕ) → i ≡ [] → ps.current ≤ k → k < 10 ^ 18 → IsOkAnd (period_ended i ps) (λ y. y.1.current ≤ k + 1)
+pub period_sure : (i : Money) (ps : Periods) (k : ℕ) → i ≡ [] → ps.current ≤ k → k < 10 ^ 18 → IsOkAnd (period_ended i ps) (λ y. y.1.current ≤ k + 1)
 period_sure i ps k e l m = subst (λ c. IsOkAnd (period_ended c ps) (λ y. y.1.current ≤ k + 1)) (sym e) (by (ps.current == 10 ^ 18) refl)
   where
     next : Money × Periods

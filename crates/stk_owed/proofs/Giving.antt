@@ -16,6 +16,7 @@ use Rattle.stk_keep.specs.Steps.{◌>>=◌, each}
 use Rattle.stk_keep.specs.World.{View, World, hooked, noted, over_mine, over_view}
 use Rattle.stk_keep.specs.declared.entities.Purse.{Purse}
 use Rattle.stk_keep.specs.declared.entities.Validator.{Validator}
+use Rattle.stk_owed.proofs.Burns.{total_in}
 use Rattle.stk_owed.proofs.Hooking.{stake_hooks}
 use Rattle.stk_owed.proofs.Maturing.{AllStand, AreApart, matured_fits, operators_are, stand_still, unbonded_fits, values_apart, values_stand}
 use Rattle.stk_owed.proofs.Moves.{HooksFit}
@@ -49,7 +50,7 @@ use Rattle.stk_keep.specs.declared.facts.Fact.TheVariants as fact
 abbrev pub Gives : {A E : Type 0} → Result A E → Type 0
 Gives {A} r = (a : A) × (r ≡ Ok a)
 
-gives_on : {A B E : Type 0} (r : Result A E) (f : A → Result B E) (a : A) → r ≡ Ok a → Gives (f a) → Gives (r >>= f)
+pub gives_on : {A B E : Type 0} (r : Result A E) (f : A → Result B E) (a : A) → r ≡ Ok a → Gives (f a) → Gives (r >>= f)
 gives_on {A} {B} {E} r f a e g = subst (λ (q : Result A E). Gives (q >>= f)) (sym e) g
 
 -- ---- the bonded set
@@ -81,7 +82,7 @@ set_step_gives w = let (x, e) = set_gives (staked_in w) in gives_on (set_updated
 joins : (c : Money) (p : Purses) (z : Money) → coins_added p.pool c ≡ Ok z → pool_joined c p ≡ Ok (record p { pool = z })
 joins c p z e = ap (λ (r : Result Money Over). r >>= λ x. Ok (record p { pool = x })) e
 
-module _ (P : List ℕ → Type 0) where
+module _ (P : List ℕ → Type 0) (T : List ℕ → ℕ) where
   closed_gives : (op : List ℕ) (p : Purses) → Ordered P p → is_some (at addr_cmp p.purses op) ≡ true → ((d : List ℕ) → owed_of p d ≤ 10 ^ 36) → Gives (closed op p)
   closed_gives op p o there most =
       let (rest, e) = added_fits (fractions due) (coins_taken purse.outstanding due) (rises_from_money (fractions due) part.money) (rises_from_money (coins_taken purse.outstanding due) left.money) (λ d. (within d).0) in
@@ -130,7 +131,7 @@ module _ (P : List ℕ → Type 0) where
           part_of : (t x all : ℕ) → t + x ≡ all → x ≤ all
           part_of t x all e = omega (arith, e)
 
-  removal_gives : (val : Validator) (v : View) (l : Lists) (d : Shared) → HooksFit P v l d → l.operators val.operator ≡ true → Gives (records_removed val d v)
+  removal_gives : (val : Validator) (v : View) (l : Lists) (d : Shared) → HooksFit P T v l d → l.operators val.operator ≡ true → Gives (records_removed val d v)
   removal_gives val v l d h there =
       let s = h.shared in
       let (z, e) = closed_gives val.operator d.purses (s.purses_ascend, s.purses, s.pool) (s.stands.purses val.operator ∙ there) (λ q. few _ _ (balance-most v.bank (account.Module holder.Distribution) q h.ground.order.bank) (h.owed q)) in
@@ -141,15 +142,15 @@ module _ (P : List ℕ → Type 0) where
 
   -- ---- mature validators
 
-  gone_gives : (b n : ℕ) (w : World Staked Hooks) (v : Validator) → StakeFits P b n (lists_of w.mine) w → validator_at w.mine v.operator ≡ Some v → v.shares ≡ 0 → Gives (validator_removed chain_told v w)
+  gone_gives : (b n : ℕ) (w : World Staked Hooks) (v : Validator) → StakeFits P T b n (lists_of w.mine) w → validator_at w.mine v.operator ≡ Some v → v.shares ≡ 0 → Gives (validator_removed chain_told v w)
   gone_gives b n w v h found none =
       let l = lists_of w.mine in
       let w1 : World Staked Hooks = over_mine (without_validator v.operator) w in
-      let gone = stake_removed P b n l w v h found none in
-      let (z, e) = removal_gives v w1.view l w1.hooks.0 (stake_hooks P b n l w1 gone) (ap is_some found) in
+      let gone = stake_removed P T b n l w v h found none in
+      let (z, e) = removal_gives v w1.view l w1.hooks.0 (stake_hooks P T b n l w1 gone) (ap is_some found) in
       subst (λ (r : Result (Shared × View) Over). Gives (hooked (and_then (told_of (unlogged r)) (λ d u k. given_with d k (window_told w1.hooks.1 (hook.removed v) u))) w1 >>= λ x. Ok (over_view (noted (fact.Removed v.operator)) x))) (sym e) (_, refl)
 
-  removed_gives : (b n : ℕ) (w : World Staked Hooks) (v : Validator) → StakeFits P b n (lists_of w.mine) w → validator_at w.mine v.operator ≡ Some v → Gives (removed_if_empty chain_told v w)
+  pub removed_gives : (b n : ℕ) (w : World Staked Hooks) (v : Validator) → StakeFits P T b n (lists_of w.mine) w → validator_at w.mine v.operator ≡ Some v → Gives (removed_if_empty chain_told v w)
   removed_gives b n w v h found = by (is_unbonded v.status) (v.shares == 0) refl
     where
       zero_is : (m : ℕ) → (m == 0) ≡ true → m ≡ 0
@@ -160,25 +161,25 @@ module _ (P : List ℕ → Type 0) where
       by true false e = (w, refl)
       by false z e = (w, refl)
 
-  matured_gives : (b n : ℕ) (w : World Staked Hooks) (v : Validator) → StakeFits P b n (lists_of w.mine) w → validator_at w.mine v.operator ≡ Some v → Gives (matured chain_told v w)
+  matured_gives : (b n : ℕ) (w : World Staked Hooks) (v : Validator) → StakeFits P T b n (lists_of w.mine) w → validator_at w.mine v.operator ≡ Some v → Gives (matured chain_told v w)
   matured_gives b n w v h found = by (is_unbonding v.status) (nat_le v.unbonding_time w.view.ctx.time) refl
     where
       u : Validator
       u = record v { status = Unbonded }
 
       by : (s t : Bool) → is_unbonding v.status ≡ s → Gives (if s && t then removed_if_empty chain_told u (changed v Unbonded w) else Ok w)
-      by true true e = removed_gives b n (changed v Unbonded w) u (unbonded_fits P b n w v h found e) (found_itself w.mine u)
+      by true true e = removed_gives b n (changed v Unbonded w) u (unbonded_fits P T b n w v h found e) (found_itself w.mine u)
       by true false e = (w, refl)
       by false t e = (w, refl)
 
-  all_mature : (vs : List Validator) (b n : ℕ) (w : World Staked Hooks) → StakeFits P b n (lists_of w.mine) w → AllStand w.mine vs → AreApart vs → Gives (each (matured chain_told) vs w)
+  all_mature : (vs : List Validator) (b n : ℕ) (w : World Staked Hooks) → StakeFits P T b n (lists_of w.mine) w → AllStand w.mine vs → AreApart vs → Gives (each (matured chain_told) vs w)
   all_mature [] b n w h s a = (w, refl)
   all_mature (v ∷ vs) b n w h s a =
       let (x, e) = matured_gives b n w v h s.0 in
-      let k = from_if (StakeLeft P b n w v.operator) (matured chain_told v w) x e (matured_fits P b n w v h s.0) in
+      let k = from_if (StakeLeft P T b n w v.operator) (matured chain_told v w) x e (matured_fits P T b n w v h s.0) in
       gives_on (matured chain_told v w) (λ y. each (matured chain_told) vs y) x e (all_mature vs b n x k.fits (stand_still w.mine x.mine v.operator vs k.others a.0 s.1) a.1)
 
-  pub maturing_gives : (w : State) → StateFits P w → Gives (maturing_step w)
+  pub maturing_gives : (w : State) → StateFits P T w → Gives (maturing_step w)
   maturing_gives w h =
       let s = w.mine.staked in
       let (x, e) = all_mature (values_of s.validators) 0 (entry_balances w.mine.unbondings) (staked_in w) h.stake (values_stand w.view.ctx.height s h.stake.staked)
@@ -189,4 +190,4 @@ pub blocks_end : BlocksEnd
 blocks_end w h = (set_step_gives w, by_fits)
   where
     by_fits : Gives (maturing_step w)
-    by_fits = maturing_gives (Contains h.few.some) w (to_fits w h)
+    by_fits = maturing_gives (Contains h.few.some) (total_in w.view) w (to_fits w h)

@@ -72,14 +72,14 @@ left_if (Err over) R h = tt
 abbrev pub lists_before : List ℕ → List ℕ → Option ℕ → Lists → Lists
 lists_before who operator held l = record { operators = l.operators; started = λ x o. cond (is_some held && (same_addr who x && same_addr operator o)) false (l.started x o) }
 
-module _ (P : List ℕ → Type 0) where
-  pub stake_hooks : (b n : ℕ) (l : Lists) (w : World Staked Hooks) → StakeFits P b n l w → HooksFit P w.view l w.hooks.0
+module _ (P : List ℕ → Type 0) (T : List ℕ → ℕ) where
+  pub stake_hooks : (b n : ℕ) (l : Lists) (w : World Staked Hooks) → StakeFits P T b n l w → HooksFit P T w.view l w.hooks.0
   stake_hooks b n l w s = record { ground = s.ground; owed = s.owed; shared = s.shared }
 
-  pub before_told : (val : Validator) (who : List ℕ) (held : Option ℕ) (v : View) (l : Lists) (d : Shared) → HooksFit P v l d → l.operators val.operator ≡ true
-      → IfTold (distribution_told d (hook_before val who held) v) (λ e u. Leaves P v (lists_before who val.operator held l) e u)
-  before_told val who None v l d h there = left_if (ended val d v) (λ e u. Leaves P v l e u) (weaker_if (ended val d v) (EndFits P val v l d) (λ z. Leaves P v l z.1 z.2) (end_fits P val v l d h there) (λ z k. k.leaves))
-  before_told val who (Some shares) v l d h there = left_if (reward_withdrawn val who shares d v) (λ e u. Leaves P v (with_started who val.operator false l) e u) (withdrawal_leaves P val who shares v l d h there)
+  pub before_told : (val : Validator) (who : List ℕ) (held : Option ℕ) (v : View) (l : Lists) (d : Shared) → HooksFit P T v l d → l.operators val.operator ≡ true
+      → IfTold (distribution_told d (hook_before val who held) v) (λ e u. Leaves P T v (lists_before who val.operator held l) e u)
+  before_told val who None v l d h there = left_if (ended val d v) (λ e u. Leaves P T v l e u) (weaker_if (ended val d v) (EndFits P T val v l d) (λ z. Leaves P T v l z.1 z.2) (end_fits P T val v l d h there) (λ z k. k.leaves))
+  before_told val who (Some shares) v l d h there = left_if (reward_withdrawn val who shares d v) (λ e u. Leaves P T v (with_started who val.operator false l) e u) (withdrawal_leaves P T val who shares v l d h there)
 
 pub before_is_idle : (w : World Staked Hooks) (val : Validator) (who : List ℕ) (held : Option ℕ) → IsIdle w (hook_before val who held)
 before_is_idle w val who None u = refl

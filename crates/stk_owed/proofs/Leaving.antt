@@ -19,6 +19,7 @@ use Rattle.stk_coins.specs.Coins.{coin_then}
 use Rattle.stk_keep.specs.Entries.{at}
 use Rattle.stk_keep.specs.Orders.{pair_cmp}
 use Rattle.stk_keep.specs.Staked.{Staked, is_bonded, lists_of, delegation, validator_at}
+use Rattle.stk_owed.proofs.Burns.{total_in}
 use Rattle.stk_owed.proofs.Delegating.{all_other, delegated_fits, to_not_bonded}
 use Rattle.stk_owed.proofs.Entries.{EntriesLeft, PairFits, PairsFit, entries_gone, entries_put, from_pairs, grown_balances, grown_length, grown_sound, lowered_balances, lowered_sound, lowered_whole, own_entries, own_within, to_pairs, whole_entries, Entries}
 use Rattle.stk_owed.proofs.Lists.{looked_up, weaker}
@@ -69,16 +70,16 @@ lowered_left height now amount last u who op e h found = by (at pair_cmp u (who,
         chosen [] k j = entries_gone last who op es u h f
         chosen (x ∷ xs) k j = entries_put last who op (x ∷ xs) u h (record { some = omega arith; most = within (length (x ∷ xs)) (length es) k.0 own.most; entries = k.1 }) j
 
-module _ (P : List ℕ → Type 0) where
+module _ (P : List ℕ → Type 0) (T : List ℕ → ℕ) where
   -- validators, delegations and unbonding entries after a message, at the height of before
   pub record PairsLeft (w : World Staked Hooks) (old u : UnbondingLists) (x : World Staked Hooks) : Type 0 where
-    pub fits : StakeFits P 0 (entry_balances u) (lists_of x.mine) x
+    pub fits : StakeFits P T 0 (entry_balances u) (lists_of x.mine) x
     pub ctx : x.view.ctx ≡ w.view.ctx
     pub pairs : PairsFit w.view.ctx.height u
     pub whole : AllByRecursion (λ p. WholeEntries w.view.ctx.height p.1) old → AllByRecursion (λ p. WholeEntries w.view.ctx.height p.1) u
 
   -- they are put back into the state
-  pub state_pairs : (w : State) (u : UnbondingLists) (x : World Staked Hooks) → StateFits P w → PairsLeft (staked_in w) w.mine.unbondings u x → StateLeft P w (with_staked (record w.mine { unbondings = u }) x)
+  pub state_pairs : (w : State) (u : UnbondingLists) (x : World Staked Hooks) → StateFits P T w → PairsLeft (staked_in w) w.mine.unbondings u x → StateLeft P T w (with_staked (record w.mine { unbondings = u }) x)
   state_pairs w u x h k = record {
     fits = record {
       stake = k.fits;
@@ -92,15 +93,15 @@ module _ (P : List ℕ → Type 0) where
   -- ---- undelegating
 
   -- what went out is in the not-bonded account, besides what is owed there
-  moved_out : (s : Bool) (n m : ℕ) (v : View) (x : World Staked Hooks) → StakeFits P (0 + cond s m 0) (n + cond s 0 m) (lists_of x.mine) x → x.view.ctx ≡ v.ctx
-      → StakeFits P 0 (n + m) (lists_of (if s then over_view (sent (account.Module holder.Bonded) (account.Module holder.NotBonded) (bond_coins v m)) x else x).mine)
+  moved_out : (s : Bool) (n m : ℕ) (v : View) (x : World Staked Hooks) → StakeFits P T (0 + cond s m 0) (n + cond s 0 m) (lists_of x.mine) x → x.view.ctx ≡ v.ctx
+      → StakeFits P T 0 (n + m) (lists_of (if s then over_view (sent (account.Module holder.Bonded) (account.Module holder.NotBonded) (bond_coins v m)) x else x).mine)
       (if s then over_view (sent (account.Module holder.Bonded) (account.Module holder.NotBonded) (bond_coins v m)) x else x)
       × ((if s then over_view (sent (account.Module holder.Bonded) (account.Module holder.NotBonded) (bond_coins v m)) x else x).view.ctx ≡ v.ctx)
   moved_out true n m v x h c =
       let coins : bond_coins x.view m ≡ bond_coins v m = ap (λ (k : Ctx). coin_then k.params.bond_denom m []) c in
-      let moved : StakeFits P 0 (n + 0 + m) (lists_of x.mine) (over_view (sent (account.Module holder.Bonded) (account.Module holder.NotBonded) (bond_coins x.view m)) x) = to_not_bonded P 0 (n + 0) (lists_of x.mine) x m h in (
-        subst (λ k. StakeFits P 0 (n + m) (lists_of x.mine) (over_view (sent (account.Module holder.Bonded) (account.Module holder.NotBonded) k) x)) coins
-            (subst (λ k. StakeFits P 0 k (lists_of x.mine) (over_view (sent (account.Module holder.Bonded) (account.Module holder.NotBonded) (bond_coins x.view m)) x)) (same n m) moved),
+      let moved : StakeFits P T 0 (n + 0 + m) (lists_of x.mine) (over_view (sent (account.Module holder.Bonded) (account.Module holder.NotBonded) (bond_coins x.view m)) x) = to_not_bonded P T 0 (n + 0) (lists_of x.mine) x m h in (
+        subst (λ k. StakeFits P T 0 (n + m) (lists_of x.mine) (over_view (sent (account.Module holder.Bonded) (account.Module holder.NotBonded) k) x)) coins
+            (subst (λ k. StakeFits P T 0 k (lists_of x.mine) (over_view (sent (account.Module holder.Bonded) (account.Module holder.NotBonded) (bond_coins x.view m)) x)) (same n m) moved),
         c,
       )
     where
@@ -108,7 +109,7 @@ module _ (P : List ℕ → Type 0) where
       same n m = omega arith
   moved_out false n m v x h c = (h, c)
 
-  undelegated_fits : (who operator : List ℕ) (coin : Coin) (u : UnbondingLists) (w : World Staked Hooks) → StakeFits P 0 (entry_balances u) (lists_of w.mine) w → PairsFit w.view.ctx.height u → AllByRecursion (λ p. WholeEntries w.view.ctx.height p.1) u
+  undelegated_fits : (who operator : List ℕ) (coin : Coin) (u : UnbondingLists) (w : World Staked Hooks) → StakeFits P T 0 (entry_balances u) (lists_of w.mine) w → PairsFit w.view.ctx.height u → AllByRecursion (λ p. WholeEntries w.view.ctx.height p.1) u
       → IfOk (undelegated chain_told who operator coin u w) (λ x. PairsLeft w u x.1 x.2)
   undelegated_fits who operator coin u w h pairs whole =
       on_stop (coin.amount == 0) NonPositive _ _ (λ a. on_found (validator_at w.mine operator) NoValidator _ _ (λ v found.
@@ -119,20 +120,20 @@ module _ (P : List ℕ → Type 0) where
       let height = w.view.ctx.height in
       let n = entry_balances u in
       let same : v.operator ≡ operator = h.staked.operators operator v found in
-      on_lifted_then Overflow (unbonded_shares chain_told v who x.0 x.1 w) _ (HasUnbonded P 0 n w v (amount_out v.tokens v.shares x.1)) _
-      (unbonded_fits P 0 n w v who x.0 x.1 h (own_place P height w.mine operator v h.staked found) (ap (delegation w.mine who) same ∙ within.0) within.1) (λ y k.
+      on_lifted_then Overflow (unbonded_shares chain_told v who x.0 x.1 w) _ (HasUnbonded P T 0 n w v (amount_out v.tokens v.shares x.1)) _
+      (unbonded_fits P T 0 n w v who x.0 x.1 h (own_place P T height w.mine operator v h.staked found) (ap (delegation w.mine who) same ∙ within.0) within.1) (λ y k.
       let out : ℕ = y.0 in
-      let fits = subst (λ m. StakeFits P (0 + cond (is_bonded v.status) m 0) (n + cond (is_bonded v.status) 0 m) (lists_of y.1.mine) y.1) (sym k.amount) k.fits in
+      let fits = subst (λ m. StakeFits P T (0 + cond (is_bonded v.status) m 0) (n + cond (is_bonded v.status) 0 m) (lists_of y.1.mine) y.1) (sym k.amount) k.fits in
       let z : World Staked Hooks = if is_bonded v.status then over_view (sent (account.Module holder.Bonded) (account.Module holder.NotBonded) (bond_coins w.view out)) y.1 else y.1 in
       let moved = moved_out (is_bonded v.status) n out w.view y.1 fits k.ctx in
       let ls = grown height (completion w.view.ctx) out es in
       let lengths = grown_length height (completion w.view.ctx) out es in
       let sound = grown_sound height (completion w.view.ctx) out es (own_entries height u who operator pairs) (whole_entries height u who operator whole)
-      (fewer (balances_of es) n out _ (own_within u who operator) (all_other P 0 (n + out) _ _ moved.0)) in
+      (fewer (balances_of es) n out _ (own_within u who operator) (all_other P T 0 (n + out) _ _ moved.0)) in
       let left : EntriesLeft height who operator ls u = entries_put height who operator ls u pairs
       (record { some = lengths.0; most = not_full (length ls) (length es) w.view.ctx.params.max_entries lengths.1 full h.ground.order.params.max_entries_most; entries = sound.0 }) (λ j. sound.1) in
       record {
-        fits = subst (λ m. StakeFits P 0 m (lists_of z.mine) z) (more n out (balances_of es) (balances_of ls) (entry_balances (with_entries who operator ls u)) left.balances (grown_balances height (completion w.view.ctx) out es)) moved.0;
+        fits = subst (λ m. StakeFits P T 0 m (lists_of z.mine) z) (more n out (balances_of es) (balances_of ls) (entry_balances (with_entries who operator ls u)) left.balances (grown_balances height (completion w.view.ctx) out es)) moved.0;
         ctx = moved.1;
         pairs = left.fits;
         whole = left.whole;
@@ -147,7 +148,7 @@ module _ (P : List ℕ → Type 0) where
       more : (n o b c e : ℕ) → e + b ≡ n + c → c ≡ b + o → n + o ≡ e
       more n o b c e f g = omega (arith, f, g)
 
-  pub undelegate_fits : (who operator : List ℕ) (coin : Coin) (w : State) → StateFits P w → AreAllWhole w → IfOk (undelegate who operator coin w) (StateLeft P w)
+  pub undelegate_fits : (who operator : List ℕ) (coin : Coin) (w : State) → StateFits P T w → AreAllWhole w → IfOk (undelegate who operator coin w) (StateLeft P T w)
   undelegate_fits who operator coin w h whole =
       on_then (undelegated chain_told who operator coin w.mine.unbondings (staked_in w)) _ (λ x. PairsLeft (staked_in w) w.mine.unbondings x.1 x.2) _
       (undelegated_fits who operator coin w.mine.unbondings (staked_in w) h.stake (to_pairs w.view.ctx.height w.mine.unbondings h.unbondings) whole)
@@ -155,7 +156,7 @@ module _ (P : List ℕ → Type 0) where
 
   -- ---- cancelling
 
-  cancelled_fits : (who operator : List ℕ) (coin : Coin) (height : ℕ) (u : UnbondingLists) (w : World Staked Hooks) → StakeFits P 0 (entry_balances u) (lists_of w.mine) w → PairsFit w.view.ctx.height u
+  cancelled_fits : (who operator : List ℕ) (coin : Coin) (height : ℕ) (u : UnbondingLists) (w : World Staked Hooks) → StakeFits P T 0 (entry_balances u) (lists_of w.mine) w → PairsFit w.view.ctx.height u
       → IfOk (cancelled chain_told who operator coin height u w) (λ x. PairsLeft w u x.1 x.2)
   cancelled_fits who operator coin height u w h pairs =
       on_stop (coin.amount == 0) NonPositive _ _ (λ a. on_stop (is_wrong coin w.view) WrongDenom _ _ (λ b. on_found (validator_at w.mine operator) NoValidator _ _ (λ v found.
@@ -168,8 +169,8 @@ module _ (P : List ℕ → Type 0) where
       let less : balances_of ls + coin.amount ≡ balances_of es = lowered_balances height now coin.amount es e there (at_most e.balance coin.amount f) in
       let n = entry_balances (with_entries who operator ls u) in
       let before : entry_balances u ≡ n + coin.amount = more (entry_balances u) n (balances_of es) (balances_of ls) coin.amount left.balances less in
-      on_then (delegated chain_told v who coin.amount (pool Unbonded) w) _ (λ x. StakeFits P 0 n (lists_of x.1.mine) x.1 × (x.1.view.ctx ≡ w.view.ctx)) _
-      (delegated_fits P v who coin.amount (pool Unbonded) 0 n w (subst (λ m. StakeFits P 0 m (lists_of w.mine) w) before h) (own_place P w.view.ctx.height w.mine operator v h.staked found))
+      on_then (delegated chain_told v who coin.amount (pool Unbonded) w) _ (λ x. StakeFits P T 0 n (lists_of x.1.mine) x.1 × (x.1.view.ctx ≡ w.view.ctx)) _
+      (delegated_fits P T v who coin.amount (pool Unbonded) 0 n w (subst (λ m. StakeFits P T 0 m (lists_of w.mine) w) before h) (own_place P T w.view.ctx.height w.mine operator v h.staked found))
       (λ x k. record { fits = k.0; ctx = k.1; pairs = left.fits; whole = left.whole }))))))))
     where
       at_most : (a n : ℕ) → nat_lt a n ≡ false → n ≤ a
@@ -178,7 +179,7 @@ module _ (P : List ℕ → Type 0) where
       more : (u n b c a : ℕ) → n + b ≡ u + c → c + a ≡ b → u ≡ n + a
       more u n b c a f g = omega (arith, f, g)
 
-  pub cancel_fits : (who operator : List ℕ) (coin : Coin) (height : ℕ) (w : State) → StateFits P w → IfOk (cancel_unbonding who operator coin height w) (StateLeft P w)
+  pub cancel_fits : (who operator : List ℕ) (coin : Coin) (height : ℕ) (w : State) → StateFits P T w → IfOk (cancel_unbonding who operator coin height w) (StateLeft P T w)
   cancel_fits who operator coin height w h =
       on_then (cancelled chain_told who operator coin height w.mine.unbondings (staked_in w)) _ (λ x. PairsLeft (staked_in w) w.mine.unbondings x.1 x.2) _
       (cancelled_fits who operator coin height w.mine.unbondings (staked_in w) h.stake (to_pairs w.view.ctx.height w.mine.unbondings h.unbondings))
@@ -192,8 +193,9 @@ to_whole w h =
 pub undelegating_keeps_soundness : UndelegatingKeepsSoundness
 undelegating_keeps_soundness who operator coin w s whole =
     let P : List ℕ → Type 0 = Contains s.few.some in
-    weaker_if (undelegate who operator coin w) (StateLeft P w) (IsSoundAfter w) (undelegate_fits P who operator coin w (to_fits w s) (to_whole w whole)) (λ x k. from_fits x s.few.some s.few.few k.fits)
+    let T : List ℕ → ℕ = total_in w.view in
+    weaker_if (undelegate who operator coin w) (StateLeft P T w) (IsSoundAfter w) (undelegate_fits P T who operator coin w (to_fits w s) (to_whole w whole)) (λ x k. from_fits x s.few.some T s.few.few k.fits)
 
 pub cancelling_keeps_soundness : CancellingKeepsSoundness
 cancelling_keeps_soundness who operator coin height =
-    keeps (cancel_unbonding who operator coin height) (λ P w h. cancel_fits P who operator coin height w h)
+    keeps (cancel_unbonding who operator coin height) (λ P T w h. cancel_fits P T who operator coin height w h)

@@ -2,6 +2,7 @@ pub mod Steps
 pub mod Lists
 pub mod Names
 pub mod Bank
+pub mod Burns
 pub mod Points
 pub mod Moves
 pub mod Totals
@@ -34,3 +35,6 @@ pub mod Together
 pub mod Giving
 pub mod Founding
 pub mod Refusing
+pub mod Supplies
+pub mod Refused
+pub mod Undelegated

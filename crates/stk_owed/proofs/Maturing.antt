@@ -18,6 +18,7 @@ use Rattle.std.specs.declared.cmp.Ordering.TheVariants.{Less}
 use Rattle.stk_keep.specs.Entries.{with}
 use Rattle.stk_keep.specs.Orders.{same_addr}
 use Rattle.stk_keep.specs.Staked.{Staked, is_bonded, lists_of, of_bond, tokens_where, validator_at, put_validator}
+use Rattle.stk_owed.proofs.Burns.{quiet_behind}
 use Rattle.stk_owed.proofs.Delegating.{others, state_with}
 use Rattle.stk_owed.proofs.Lists.{all_put, mapped_all}
 use Rattle.stk_owed.proofs.Moves.{keeps}
@@ -71,11 +72,11 @@ values_stand height s h = mapped_all (λ v. validator_at s v.operator ≡ Some v
 pub operators_are : (height : ℕ) (s : Staked) → IsSoundAt height s → AllByRecursion (λ e. e.1.operator ≡ e.0) s.validators
 operators_are height s h = recursion_from_All (λ e. e.1.operator ≡ e.0) s.validators (to_all addr_cmp addr_total (λ e. e.1.operator ≡ e.0) s.validators h.validators_ascend h.operators)
 
-module _ (P : List ℕ → Type 0) where
+module _ (P : List ℕ → Type 0) (T : List ℕ → ℕ) where
   -- ---- a validator of another status, whose tokens are in the same account
 
-  stake_restated : (b n : ℕ) (l : Lists) (w : World Staked Hooks) (u v : Validator) → StakeFits P b n l w → validator_at w.mine v.operator ≡ Some v → u.operator ≡ v.operator → u.cons ≡ v.cons → u.tokens ≡ v.tokens → u.shares ≡ v.shares
-      → is_bonded u.status ≡ is_bonded v.status → ValidatorIsSound w.view.ctx.height u → IsRecorded w.hooks.1 (u.operator, u) → StakeFits P b n l (over_mine (put_validator u) w)
+  stake_restated : (b n : ℕ) (l : Lists) (w : World Staked Hooks) (u v : Validator) → StakeFits P T b n l w → validator_at w.mine v.operator ≡ Some v → u.operator ≡ v.operator → u.cons ≡ v.cons → u.tokens ≡ v.tokens → u.shares ≡ v.shares
+      → is_bonded u.status ≡ is_bonded v.status → ValidatorIsSound w.view.ctx.height u → IsRecorded w.hooks.1 (u.operator, u) → StakeFits P T b n l (over_mine (put_validator u) w)
   stake_restated b n l w u v s found operator cons tokens shares status ok recorded = record {
     ground = s.ground;
     staked = sound-put w.view.ctx.height u v w.mine s.staked f (record { operator = operator; cons = cons; shares = shares; sound = ok });
@@ -103,11 +104,11 @@ module _ (P : List ℕ → Type 0) where
   unbonding_is Unbonding e = refl
   unbonding_is Unbonded e = absurd cc
 
-  pub unbonded_fits : (b n : ℕ) (w : World Staked Hooks) (v : Validator) → StakeFits P b n (lists_of w.mine) w → validator_at w.mine v.operator ≡ Some v → is_unbonding v.status ≡ true
-      → StakeFits P b n (lists_of (changed v Unbonded w).mine) (changed v Unbonded w)
+  pub unbonded_fits : (b n : ℕ) (w : World Staked Hooks) (v : Validator) → StakeFits P T b n (lists_of w.mine) w → validator_at w.mine v.operator ≡ Some v → is_unbonding v.status ≡ true
+      → StakeFits P T b n (lists_of (changed v Unbonded w).mine) (changed v Unbonded w)
   unbonded_fits b n w v h found e =
-      stake_told P b n (lists_of put.mine) put (λ facts. facts ++ fact.Changed v.operator Unbonded ∷ [])
-      (stake_relisted P b n (lists_of w.mine) (lists_of put.mine) put (stake_restated b n (lists_of w.mine) w u v h found refl refl refl refl (unbonding_is v.status e) sound (λ f. absurd cc)) (λ o. there_still w.mine.validators v.operator o v u found) (λ who o. refl))
+      stake_told P T b n (lists_of put.mine) put (λ facts. facts ++ fact.Changed v.operator Unbonded ∷ []) (quiet_behind w.view.facts (fact.Changed v.operator Unbonded) (λ d. refl))
+      (stake_relisted P T b n (lists_of w.mine) (lists_of put.mine) put (stake_restated b n (lists_of w.mine) w u v h found refl refl refl refl (unbonding_is v.status e) sound (λ f. absurd cc)) (λ o. there_still w.mine.validators v.operator o v u found) (λ who o. refl))
     where
       u : Validator
       u = record v { status = Unbonded }
@@ -121,7 +122,7 @@ module _ (P : List ℕ → Type 0) where
       put : World Staked Hooks
       put = over_mine (put_validator u) w
 
-  pub matured_fits : (b n : ℕ) (w : World Staked Hooks) (v : Validator) → StakeFits P b n (lists_of w.mine) w → validator_at w.mine v.operator ≡ Some v → IfOk (matured chain_told v w) (StakeLeft P b n w v.operator)
+  pub matured_fits : (b n : ℕ) (w : World Staked Hooks) (v : Validator) → StakeFits P T b n (lists_of w.mine) w → validator_at w.mine v.operator ≡ Some v → IfOk (matured chain_told v w) (StakeLeft P T b n w v.operator)
   matured_fits b n w v h found = by (is_unbonding v.status) (nat_le v.unbonding_time w.view.ctx.time) refl
     where
       u : Validator
@@ -130,9 +131,9 @@ module _ (P : List ℕ → Type 0) where
       next : World Staked Hooks
       next = changed v Unbonded w
 
-      by : (s t : Bool) → is_unbonding v.status ≡ s → IfOk (if s && t then removed_if_empty chain_told u next else Ok w) (StakeLeft P b n w v.operator)
+      by : (s t : Bool) → is_unbonding v.status ≡ s → IfOk (if s && t then removed_if_empty chain_told u next else Ok w) (StakeLeft P T b n w v.operator)
       by true true e =
-          weaker_if (removed_if_empty chain_told u next) (StakeLeft P b n next v.operator) (StakeLeft P b n w v.operator) (removed_if_fits P b n next u (unbonded_fits b n w v h found e) (found_itself w.mine u)) (λ x k. record {
+          weaker_if (removed_if_empty chain_told u next) (StakeLeft P T b n next v.operator) (StakeLeft P T b n w v.operator) (removed_if_fits P T b n next u (unbonded_fits b n w v h found e) (found_itself w.mine u)) (λ x k. record {
             fits = k.fits;
             ctx = k.ctx;
             others = λ o f. k.others o f ∙ found-put w.mine u o ∙ ap (λ c. cond c (Some u) (validator_at w.mine o)) (same_back o v.operator ∙ f);
@@ -140,20 +141,20 @@ module _ (P : List ℕ → Type 0) where
       by true false e = record { fits = h; ctx = refl; others = λ o f. refl }
       by false t e = record { fits = h; ctx = refl; others = λ o f. refl }
 
-  all_matured : (vs : List Validator) (b n : ℕ) (w : World Staked Hooks) → StakeFits P b n (lists_of w.mine) w → AllStand w.mine vs → AreApart vs → IfOk (each (matured chain_told) vs w) (λ x. StakeFits P b n (lists_of x.mine) x × (x.view.ctx ≡ w.view.ctx))
+  all_matured : (vs : List Validator) (b n : ℕ) (w : World Staked Hooks) → StakeFits P T b n (lists_of w.mine) w → AllStand w.mine vs → AreApart vs → IfOk (each (matured chain_told) vs w) (λ x. StakeFits P T b n (lists_of x.mine) x × (x.view.ctx ≡ w.view.ctx))
   all_matured [] b n w h s a = (h, refl)
   all_matured (v ∷ vs) b n w h s a =
-      on_then (matured chain_told v w) _ (StakeLeft P b n w v.operator) _ (matured_fits b n w v h s.0) (λ x k.
-      weaker_if (each (matured chain_told) vs x) (λ y. StakeFits P b n (lists_of y.mine) y × (y.view.ctx ≡ x.view.ctx)) (λ y. StakeFits P b n (lists_of y.mine) y × (y.view.ctx ≡ w.view.ctx))
+      on_then (matured chain_told v w) _ (StakeLeft P T b n w v.operator) _ (matured_fits b n w v h s.0) (λ x k.
+      weaker_if (each (matured chain_told) vs x) (λ y. StakeFits P T b n (lists_of y.mine) y × (y.view.ctx ≡ x.view.ctx)) (λ y. StakeFits P T b n (lists_of y.mine) y × (y.view.ctx ≡ w.view.ctx))
       (all_matured vs b n x k.fits (stand_still w.mine x.mine v.operator vs k.others a.0 s.1) a.1) (λ y j. and_also j.0 (j.1 ∙ k.ctx)))
 
-  pub maturing_fits : (w : State) → StateFits P w → IfOk (maturing_step w) (StateLeft P w)
+  pub maturing_fits : (w : State) → StateFits P T w → IfOk (maturing_step w) (StateLeft P T w)
   maturing_fits w h =
       let s = w.mine.staked in
-      on_then (validators_matured chain_told (staked_in w)) _ (λ x. StakeFits P 0 (entry_balances w.mine.unbondings) (lists_of x.mine) x × (x.view.ctx ≡ w.view.ctx)) _
+      on_then (validators_matured chain_told (staked_in w)) _ (λ x. StakeFits P T 0 (entry_balances w.mine.unbondings) (lists_of x.mine) x × (x.view.ctx ≡ w.view.ctx)) _
       (all_matured (values_of s.validators) 0 (entry_balances w.mine.unbondings) (staked_in w) h.stake (values_stand w.view.ctx.height s h.stake.staked)
       (values_apart s.validators h.stake.staked.validators_ascend (operators_are w.view.ctx.height s h.stake.staked)))
-      (λ x k. state_with P w x h k.0 k.1)
+      (λ x k. state_with P T w x h k.0 k.1)
 
 pub maturing_keeps_soundness : MaturingKeepsSoundness
-maturing_keeps_soundness = keeps maturing_step (λ P w h. maturing_fits P w h)
+maturing_keeps_soundness = keeps maturing_step (λ P T w h. maturing_fits P T w h)

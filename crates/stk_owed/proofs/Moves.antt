@@ -9,17 +9,18 @@ use Rattle.stk_types.specs.Orders.{addr_cmp, account_cmp, denom_cmp}
 use Rattle.stk_coins.specs.Coins.{Money, IsMoney}
 use Rattle.stk_keep.specs.declared.params.Ctx.{Ctx}
 use Rattle.stk_keep.specs.declared.refusal.Refusal.TheVariants.{InsufficientFunds, NonPositive, WithdrawFixed, FeeUnpaid}
-use Rattle.stk_keep.specs.Holdings.{balance_of, is_short}
+use Rattle.stk_keep.specs.Holdings.{balance_of, is_short, supply_of}
 use Rattle.stk_keep.specs.Hooks.{Lists, HoldsOwed}
 use Rattle.stk_keep.specs.Log.{Log}
 use Rattle.stk_keep.specs.Staked.{Staked, bonded_tokens, other_tokens, of_bond, lists_of}
 use Rattle.stk_keep.specs.World.{View, World, sent, over_view}
 use Rattle.stk_keep.proofs.HoldingLemmas.{backed-moved, balance-moved_elsewhere}
-use Rattle.stk_rules.specs.Amounts.{is_empty}
+use Rattle.stk_keep.specs.declared.facts.Fact.{Fact}
+use Rattle.stk_rules.specs.Amounts.{is_empty, over_facts}
 use Rattle.stk_rules.specs.Chain.{Hooks, State, with_shared, staked_in}
 use Rattle.stk_rules.specs.Distribution.{Shared}
 use Rattle.stk_rules.specs.Effects.{coins_sent, send, set_withdraw_address, fee_paid}
-use Rattle.stk_rules.specs.Laws.{KeptByStep}
+use Rattle.stk_rules.specs.Laws.{KeptByStep, SupplyFallsByBurns}
 use Rattle.stk_rules.specs.Owed.{owed_from_distribution}
 use Rattle.stk_rules.specs.Withdrawals.{payee_set}
 use Rattle.stk_rules.specs.Sound.{WindowIsSound, RedelegationsAreSound, UnbondingsAreSound}
@@ -28,22 +29,32 @@ use Rattle.stk_rules.proofs.OrderLemmas.{addr_total}
 use Rattle.stk_rules.proofs.SoundLemmas.{IsSoundAt}
 use Rattle.stk_owed.specs.Kept.{IsSoundAfter, FeesKeepSoundness, SendsKeepSoundness, PayeesKeepSoundness}
 use Rattle.stk_owed.proofs.Bank.{held_moved, known_enough}
+use Rattle.stk_owed.proofs.Burns.{SayNoMore, total_in, total_sent}
 use Rattle.stk_owed.proofs.Points.{SharedFits, GroundFits, StakeFits, StateFits, to_fits, from_fits, StateLeft, WholeEntries}
 use Rattle.stk_owed.proofs.Steps.{on_stop, on_then, if_ok, from_if}
 use Rattle.stk_keep.specs.Entries.{with}
 use Rattle.std.specs.List.{AllByRecursion}
 
 -- what keeps all that fits, whatever property denominations have, keeps soundness
-pub keeps : {E : Type 0} (f : State → Result State E) → ((P : List ℕ → Type 0) (w : State) → StateFits P w → IfOk (f w) (StateLeft P w)) → KeptByStep IsSoundAfter f
+pub keeps : {E : Type 0} (f : State → Result State E) → ((P : List ℕ → Type 0) (T : List ℕ → ℕ) (w : State) → StateFits P T w → IfOk (f w) (StateLeft P T w)) → KeptByStep IsSoundAfter f
 keeps f h w s =
     let P : List ℕ → Type 0 = Contains s.few.some in
-    if_ok (IsSoundAfter w) (f w) (λ new e. from_fits new s.few.some s.few.few (from_if (StateLeft P w) (f w) new e (h P w (to_fits w s))).fits)
+    let T : List ℕ → ℕ = total_in w.view in
+    if_ok (IsSoundAfter w) (f w) (λ new e. from_fits new s.few.some T s.few.few (from_if (StateLeft P T w) (f w) new e (h P T w (to_fits w s))).fits)
 
 -- the same, where nothing is said of entries of this height
-pub keeps_fits : {E : Type 0} (f : State → Result State E) → ((P : List ℕ → Type 0) (w : State) → StateFits P w → IfOk (f w) (StateFits P)) → KeptByStep IsSoundAfter f
+pub keeps_fits : {E : Type 0} (f : State → Result State E) → ((P : List ℕ → Type 0) (T : List ℕ → ℕ) (w : State) → StateFits P T w → IfOk (f w) (StateFits P T)) → KeptByStep IsSoundAfter f
 keeps_fits f h w s =
     let P : List ℕ → Type 0 = Contains s.few.some in
-    if_ok (IsSoundAfter w) (f w) (λ new e. from_fits new s.few.some s.few.few (from_if (StateFits P) (f w) new e (h P w (to_fits w s))))
+    let T : List ℕ → ℕ = total_in w.view in
+    if_ok (IsSoundAfter w) (f w) (λ new e. from_fits new s.few.some T s.few.few (from_if (StateFits P T) (f w) new e (h P T w (to_fits w s))))
+
+-- it lowers each supply by what its facts say was burned
+pub keeps_supplies : {E : Type 0} (f : State → Result State E) → ((P : List ℕ → Type 0) (T : List ℕ → ℕ) (w : State) → StateFits P T w → IfOk (f w) (StateLeft P T w)) → KeptByStep SupplyFallsByBurns f
+keeps_supplies f h w s =
+    let P : List ℕ → Type 0 = Contains s.few.some in
+    let T : List ℕ → ℕ = total_in w.view in
+    if_ok (SupplyFallsByBurns w) (f w) (λ new e. (from_if (StateLeft P T w) (f w) new e (h P T w (to_fits w s))).fits.stake.ground.total)
 
 -- an account is none of those that owe something
 pub record IsOther (who : Account) : Type 0 where
@@ -57,17 +68,26 @@ user_is_other who = record { bonded = refl; not_bonded = refl; distribution = re
 pub fees_are_other : IsOther (account.Module holder.FeeCollector)
 fees_are_other = record { bonded = refl; not_bonded = refl; distribution = refl }
 
-module _ (P : List ℕ → Type 0) where
+module _ (P : List ℕ → Type 0) (T : List ℕ → ℕ) where
   -- ---- coins that move
 
-  pub ground_sent : (from to : Account) (coins : Money) (v : View) → GroundFits P v → IsMoney coins → is_short v.bank from coins ≡ false → GroundFits P (sent from to coins v)
+  pub ground_sent : (from to : Account) (coins : Money) (v : View) → GroundFits P T v → IsMoney coins → is_short v.bank from coins ≡ false → GroundFits P T (sent from to coins v)
   ground_sent from to coins v g m e = record {
     order = record { params = g.order.params; time = g.order.time; height = g.order.height; bank = backed-moved coins v.bank from to g.order.bank m e };
     held = held_moved P coins v.bank from to (known_enough P coins v.bank from m e g.held).named g.held;
+    total = λ d. total_sent from to coins v d ∙ g.total d;
   }
 
-  pub stake_sent : (b n : ℕ) (l : Lists) (w : World Staked Hooks) (from to : Account) (coins : Money) → StakeFits P b n l w → IsOther from → IsOther to → IsMoney coins → is_short w.view.bank from coins ≡ false
-      → StakeFits P b n l (over_view (sent from to coins) w)
+  -- facts are told, no burns among them
+  pub ground_told : (f : List Fact → List Fact) (v : View) → SayNoMore v.facts (f v.facts) → GroundFits P T v → GroundFits P T (over_facts f v)
+  ground_told f v q g = record {
+    order = record { params = g.order.params; time = g.order.time; height = g.order.height; bank = g.order.bank };
+    held = g.held;
+    total = λ d. ap (λ n. supply_of v.bank d + n) (q d) ∙ g.total d;
+  }
+
+  pub stake_sent : (b n : ℕ) (l : Lists) (w : World Staked Hooks) (from to : Account) (coins : Money) → StakeFits P T b n l w → IsOther from → IsOther to → IsMoney coins → is_short w.view.bank from coins ≡ false
+      → StakeFits P T b n l (over_view (sent from to coins) w)
   stake_sent b n l w from to coins s f t m e =
       let sorted = s.ground.order.bank.balances_ascend in
       record {
@@ -81,7 +101,7 @@ module _ (P : List ℕ → Type 0) where
         recorded = s.recorded;
       }
 
-  pub fee_fits : (payer : List ℕ) (fee : Money) → IsMoney fee → (w : State) → StateFits P w → IfOk (fee_paid payer fee w) (StateLeft P w)
+  pub fee_fits : (payer : List ℕ) (fee : Money) → IsMoney fee → (w : State) → StateFits P T w → IfOk (fee_paid payer fee w) (StateLeft P T w)
   fee_fits payer fee m w h = on_stop (is_short w.view.bank (account.User payer) fee) FeeUnpaid _ _ (λ e. record {
     fits = record {
       stake = stake_sent 0 _ _ _ (account.User payer) (account.Module holder.FeeCollector) fee h.stake (user_is_other payer) fees_are_other m e;
@@ -92,7 +112,7 @@ module _ (P : List ℕ → Type 0) where
     ctx = refl;
   })
 
-  coins_fit : (from : List ℕ) (to : Account) (coins : Money) → IsMoney coins → (w : State) → StateFits P w → IfOk (coins_sent from to coins w.view) (λ v. StateLeft P w (over_view (λ u. v) w))
+  coins_fit : (from : List ℕ) (to : Account) (coins : Money) → IsMoney coins → (w : State) → StateFits P T w → IfOk (coins_sent from to coins w.view) (λ v. StateLeft P T w (over_view (λ u. v) w))
   coins_fit from (account.Module m) coins money w h = on_stop (is_empty coins) NonPositive _ _ (λ a. tt)
   coins_fit from (account.User to) coins money w h =
       on_stop (is_empty coins) NonPositive _ _ (λ a. on_stop (is_short w.view.bank (account.User from) coins) InsufficientFunds _ _ (λ e. record {
@@ -105,15 +125,15 @@ module _ (P : List ℕ → Type 0) where
         ctx = refl;
       }))
 
-  pub send_fits : (from : List ℕ) (to : Account) (coins : Money) → IsMoney coins → (w : State) → StateFits P w → IfOk (send from to coins w) (StateLeft P w)
-  send_fits from to coins money w h = on_then (coins_sent from to coins w.view) _ (λ v. StateLeft P w (over_view (λ u. v) w)) _ (coins_fit from to coins money w h) (λ v k. k)
+  pub send_fits : (from : List ℕ) (to : Account) (coins : Money) → IsMoney coins → (w : State) → StateFits P T w → IfOk (send from to coins w) (StateLeft P T w)
+  send_fits from to coins money w h = on_then (coins_sent from to coins w.view) _ (λ v. StateLeft P T w (over_view (λ u. v) w)) _ (coins_fit from to coins money w h) (λ v k. k)
 
   -- ---- what a rule of distribution leaves
 
   -- the ground in its context, the staking accounts, and what is owed; distribution stands for these lists
   pub record Leaves (v : View) (l : Lists) (d : Shared) (u : View) : Type 0 where
     pub ctx : u.ctx ≡ v.ctx
-    pub ground : GroundFits P u
+    pub ground : GroundFits P T u
     pub bonded : (e : List ℕ) → balance_of u.bank (account.Module holder.Bonded) e ≡ balance_of v.bank (account.Module holder.Bonded) e
     pub not_bonded : (e : List ℕ) → balance_of u.bank (account.Module holder.NotBonded) e ≡ balance_of v.bank (account.Module holder.NotBonded) e
     pub owed : HoldsOwed (Some (owed_from_distribution d)) u
@@ -121,7 +141,7 @@ module _ (P : List ℕ → Type 0) where
 
   -- what rules of distribution need of it and of the ground
   pub record HooksFit (v : View) (l : Lists) (d : Shared) : Type 0 where
-    pub ground : GroundFits P v
+    pub ground : GroundFits P T v
     pub owed : HoldsOwed (Some (owed_from_distribution d)) v
     pub shared : SharedFits P v.ctx.height l d
 
@@ -142,8 +162,8 @@ module _ (P : List ℕ → Type 0) where
   pub same_bond : (u v : View) (d : List ℕ) (n : ℕ) → u.ctx ≡ v.ctx → of_bond v d n ≡ of_bond u d n
   same_bond u v d n e = ap (λ (c : Ctx). cond (is_at (denom_cmp c.params.bond_denom) d) n 0) (sym e)
 
-  pub stake_left : (b n : ℕ) (l l2 : Lists) (w : World Staked Hooks) (d : Shared) (u : View) (log : Log) → StakeFits P b n l w → Leaves w.view l2 d u
-      → StakeFits P b n l2 (record { mine = w.mine; hooks = (d, w.hooks.1); view = u; log = log })
+  pub stake_left : (b n : ℕ) (l l2 : Lists) (w : World Staked Hooks) (d : Shared) (u : View) (log : Log) → StakeFits P T b n l w → Leaves w.view l2 d u
+      → StakeFits P T b n l2 (record { mine = w.mine; hooks = (d, w.hooks.1); view = u; log = log })
   stake_left b n l l2 w d u log s k = record {
     ground = k.ground;
     staked = subst (λ (c : Ctx). IsSoundAt c.height w.mine) (sym k.ctx) s.staked;
@@ -156,7 +176,7 @@ module _ (P : List ℕ → Type 0) where
   }
 
   -- the same of a whole state
-  pub state_left : (w : State) (d : Shared) (u : View) (log : Log) → StateFits P w → Leaves w.view (lists_of w.mine.staked) d u → StateLeft P w (with_shared d u log w)
+  pub state_left : (w : State) (d : Shared) (u : View) (log : Log) → StateFits P T w → Leaves w.view (lists_of w.mine.staked) d u → StateLeft P T w (with_shared d u log w)
   state_left w d u log h k = record {
     fits = record {
       stake = stake_left 0 _ _ _ (staked_in w) d u (w.log ++ log) h.stake k;
@@ -169,7 +189,7 @@ module _ (P : List ℕ → Type 0) where
 
   -- ---- payees
 
-  pub payees_leave : (v : View) (l : Lists) (d : Shared) (who to : List ℕ) → SharedFits P v.ctx.height l d → GroundFits P v → HoldsOwed (Some (owed_from_distribution d)) v
+  pub payees_leave : (v : View) (l : Lists) (d : Shared) (who to : List ℕ) → SharedFits P v.ctx.height l d → GroundFits P T v → HoldsOwed (Some (owed_from_distribution d)) v
       → Leaves v l (record d { withdraw = with addr_cmp d.withdraw who to }) v
   payees_leave v l d who to s g owed = record {
     ctx = refl;
@@ -190,20 +210,20 @@ module _ (P : List ℕ → Type 0) where
     };
   }
 
-  pub payee_fits : (who : List ℕ) (to : Account) (w : State) → StateFits P w → IfOk (set_withdraw_address who to w) (StateLeft P w)
+  pub payee_fits : (who : List ℕ) (to : Account) (w : State) → StateFits P T w → IfOk (set_withdraw_address who to w) (StateLeft P T w)
   payee_fits who (account.Module m) w h = tt
   payee_fits who (account.User to) w h =
-      on_then (payee_set who (account.User to) w.view.ctx.params w.hooks.0) _ (λ d. StateLeft P w (with_shared d w.view [] w)) _
+      on_then (payee_set who (account.User to) w.view.ctx.params w.hooks.0) _ (λ d. StateLeft P T w (with_shared d w.view [] w)) _
       (on_stop (not w.view.ctx.params.withdraw_addr_enabled) WithdrawFixed _ _ (λ e.
       state_left w (record w.hooks.0 { withdraw = with addr_cmp w.hooks.0.withdraw who to }) w.view [] h
       (payees_leave w.view (lists_of w.mine.staked) w.hooks.0 who to h.stake.shared h.stake.ground h.stake.owed)))
       (λ d k. k)
 
 pub fees_keep_soundness : FeesKeepSoundness
-fees_keep_soundness payer fee m = keeps (fee_paid payer fee) (λ P w h. fee_fits P payer fee m w h)
+fees_keep_soundness payer fee m = keeps (fee_paid payer fee) (λ P T w h. fee_fits P T payer fee m w h)
 
 pub sends_keep_soundness : SendsKeepSoundness
-sends_keep_soundness from to coins m = keeps (send from to coins) (λ P w h. send_fits P from to coins m w h)
+sends_keep_soundness from to coins m = keeps (send from to coins) (λ P T w h. send_fits P T from to coins m w h)
 
 pub payees_keep_soundness : PayeesKeepSoundness
-payees_keep_soundness who to = keeps (set_withdraw_address who to) (λ P w h. payee_fits P who to w h)
+payees_keep_soundness who to = keeps (set_withdraw_address who to) (λ P T w h. payee_fits P T who to w h)

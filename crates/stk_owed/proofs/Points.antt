@@ -34,6 +34,7 @@ use Rattle.stk_rules.proofs.OrderLemmas.{addr_total, same_is, same_itself, same_
 use Rattle.stk_rules.proofs.SoundLemmas.{IsSoundAt, to_points, from_points, exact_addr}
 use Rattle.stk_machine.proofs.PurseLemmas.{coins-amount, coins-one, one-amount}
 use Rattle.stk_owed.proofs.Bank.{AreHeld}
+use Rattle.stk_owed.proofs.Burns.{total_in}
 use Rattle.stk_owed.proofs.Lists.{all_left, all_right, weaker, mapped_all, from_mapped, filtered_all, from_filtered, found_by, counts_itself}
 use Rattle.stk_owed.proofs.Names.{AreNamed, IsKnown}
 use Rattle.stk_rules.specs.Window.{Window, signing_of}
@@ -89,29 +90,6 @@ module _ (P : List ℕ → Type 0) where
     pub starts_ascend : IsStrictlySortedBy pair_cmp (keys_of d.rewards.starts)
     pub starts : AllByRecursion (λ e. (p : Periods) → at addr_cmp d.rewards.periods e.0.0 ≡ Some p → StartFits height p e.1) d.rewards.starts
     pub payees : IsStrictlySortedBy addr_cmp (keys_of d.withdraw)
-
-  -- the ground is in order
-  pub record GroundFits (v : View) : Type 0 where
-    pub order : IsInOrder v
-    pub held : AreHeld P v.bank.balances
-
-  -- Validators, delegations, hooks and ground; the bonded and the not-bonded account hold so much besides the tokens, and
-  -- distribution stands for these lists.
-  pub record StakeFits (b n : ℕ) (l : Lists) (w : World Staked Hooks) : Type 0 where
-    pub ground : GroundFits w.view
-    pub staked : IsSoundAt w.view.ctx.height w.mine
-    pub bonded : (d : List ℕ) → balance_of w.view.bank (account.Module holder.Bonded) d ≡ of_bond w.view d (bonded_tokens w.mine + b)
-    pub not_bonded : (d : List ℕ) → balance_of w.view.bank (account.Module holder.NotBonded) d ≡ of_bond w.view d (other_tokens w.mine + n)
-    pub owed : HoldsOwed (Some (owed_from_distribution w.hooks.0)) w.view
-    pub shared : SharedFits w.view.ctx.height l w.hooks.0
-    pub window : WindowIsSound w.view.ctx.height w.hooks.1
-    pub recorded : AllByRecursion (IsRecorded w.hooks.1) w.mine.validators
-
-  -- a state
-  pub record StateFits (w : State) : Type 0 where
-    pub stake : StakeFits 0 (entry_balances w.mine.unbondings) (lists_of w.mine.staked) (staked_in w)
-    pub unbondings : UnbondingsAreSound w.view.ctx.height w.mine.unbondings
-    pub redelegations : RedelegationsAreSound w.view.ctx.height w.mine.redelegations
 
   -- ---- names
 
@@ -258,6 +236,33 @@ module _ (P : List ℕ → Type 0) where
       by period true e some = subst (Stands p) (before p.current period e) h.last
       by period false e some = one_of period (either_some (count_where (λ s. s.period == period) (starts_of r o)) (count_where (λ e. e.period == period) p.events) (omega (arith, some)))
 
+-- ---- grounds and states
+
+module _ (P : List ℕ → Type 0) (T : List ℕ → ℕ) where
+  -- the ground is in order; of each denomination what is there and what was burned come to this much
+  pub record GroundFits (v : View) : Type 0 where
+    pub order : IsInOrder v
+    pub held : AreHeld P v.bank.balances
+    pub total : (d : List ℕ) → total_in v d ≡ T d
+
+  -- Validators, delegations, hooks and ground; the bonded and the not-bonded account hold so much besides the tokens, and
+  -- distribution stands for these lists.
+  pub record StakeFits (b n : ℕ) (l : Lists) (w : World Staked Hooks) : Type 0 where
+    pub ground : GroundFits w.view
+    pub staked : IsSoundAt w.view.ctx.height w.mine
+    pub bonded : (d : List ℕ) → balance_of w.view.bank (account.Module holder.Bonded) d ≡ of_bond w.view d (bonded_tokens w.mine + b)
+    pub not_bonded : (d : List ℕ) → balance_of w.view.bank (account.Module holder.NotBonded) d ≡ of_bond w.view d (other_tokens w.mine + n)
+    pub owed : HoldsOwed (Some (owed_from_distribution w.hooks.0)) w.view
+    pub shared : SharedFits P w.view.ctx.height l w.hooks.0
+    pub window : WindowIsSound w.view.ctx.height w.hooks.1
+    pub recorded : AllByRecursion (IsRecorded w.hooks.1) w.mine.validators
+
+  -- a state
+  pub record StateFits (w : State) : Type 0 where
+    pub stake : StakeFits 0 (entry_balances w.mine.unbondings) (lists_of w.mine.staked) (staked_in w)
+    pub unbondings : UnbondingsAreSound w.view.ctx.height w.mine.unbondings
+    pub redelegations : RedelegationsAreSound w.view.ctx.height w.mine.redelegations
+
 -- ---- accounts
 
 -- an account that holds exactly this coin
@@ -287,14 +292,14 @@ abbrev pub AreAllWhole : State → Type 0
 AreAllWhole w = AllByRecursion (λ p. WholeEntries w.view.ctx.height p.1) w.mine.unbondings
 
 -- a state that fits, and where no entry of the block has lost anything if none had
-pub record StateLeft (P : List ℕ → Type 0) (w x : State) : Type 0 where
-  pub fits : StateFits P x
+pub record StateLeft (P : List ℕ → Type 0) (T : List ℕ → ℕ) (w x : State) : Type 0 where
+  pub fits : StateFits P T x
   pub whole : AreAllWhole w → AreAllWhole x
   pub ctx : x.view.ctx ≡ w.view.ctx
 
 -- ---- both ways
 
-pub to_fits : (w : State) (s : IsSound w) → StateFits (Contains s.few.some) w
+pub to_fits : (w : State) (s : IsSound w) → StateFits (Contains s.few.some) (total_in w.view) w
 to_fits w s =
     let P : List ℕ → Type 0 = Contains s.few.some in
     let d : Shared = w.hooks.0 in
@@ -305,7 +310,7 @@ to_fits w s =
     let two = all_left P (places ++ names_in d.purses.pool) purses three in
     record {
       stake = record {
-        ground = record { order = s.ground; held = from_mapped P (λ (e : (Account × List ℕ) × ℕ). e.0.1) w.view.bank.balances (recursion_from_All P places (all_left P places (names_in d.purses.pool) two)) };
+        ground = record { order = s.ground; held = from_mapped P (λ (e : (Account × List ℕ) × ℕ). e.0.1) w.view.bank.balances (recursion_from_All P places (all_left P places (names_in d.purses.pool) two)); total = λ e. refl };
         staked = to_points w.view.ctx.height w.mine.staked s.staked;
         bonded = λ e. holds_coin w.view (account.Module holder.Bonded) (bonded_tokens w.mine.staked) s.accounts.bonded e ∙ ap (of_bond w.view e) (sym (more_nothing (bonded_tokens w.mine.staked)));
         not_bonded = holds_coin w.view (account.Module holder.NotBonded) (other_tokens w.mine.staked + entry_balances w.mine.unbondings) s.accounts.not_bonded;
@@ -331,8 +336,8 @@ to_fits w s =
       redelegations = s.redelegations;
     }
 
-pub from_fits : (w : State) (some : List (List ℕ)) → length some ≤ 1_000_000 → StateFits (Contains some) w → IsSound w
-from_fits w some few h =
+pub from_fits : (w : State) (some : List (List ℕ)) (T : List ℕ → ℕ) → length some ≤ 1_000_000 → StateFits (Contains some) T w → IsSound w
+from_fits w some T few h =
     let P : List ℕ → Type 0 = Contains some in
     let d : Shared = w.hooks.0 in
     let s = h.stake in

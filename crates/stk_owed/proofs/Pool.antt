@@ -21,11 +21,12 @@ use Rattle.stk_keep.specs.Holdings.{balance_of, is_short}
 use Rattle.stk_keep.specs.Hooks.{HoldsOwed, Lists}
 use Rattle.stk_keep.specs.Orders.{same_addr}
 use Rattle.stk_keep.specs.Staked.{lists_of}
+use Rattle.stk_owed.proofs.Burns.{quiet_behind, quiet_pooled}
 use Rattle.stk_owed.proofs.Bank.{each_within, known_enough}
-use Rattle.stk_owed.proofs.Moves.{IsOther, Leaves, ground_sent, keeps, state_left, user_is_other}
+use Rattle.stk_owed.proofs.Moves.{IsOther, Leaves, ground_sent, keeps, state_left, user_is_other, ground_told}
 use Rattle.stk_owed.proofs.Names.{IsKnown, amount_in_units, known_smaller, known_taken, known_whole, units_known}
 use Rattle.stk_owed.proofs.Points.{StateFits, GroundFits, PurseFits, SharedFits, StateLeft}
-use Rattle.stk_owed.proofs.Purses.{HasJoined, amounts_within, are_paid, ground_told, has_joined, owed_of, own_purse, pool_fits, purse_put, shared_purses}
+use Rattle.stk_owed.proofs.Purses.{HasJoined, amounts_within, are_paid, has_joined, owed_of, own_purse, pool_fits, purse_put, shared_purses}
 use Rattle.stk_owed.proofs.Steps.{on_found, on_lifted_then, on_stop, on_then}
 use Rattle.stk_owed.proofs.Totals.{total, total_put}
 use Rattle.stk_owed.specs.Kept.{CommissionsKeepSoundness, FundingKeepsSoundness, SpendingKeepsSoundness}
@@ -52,19 +53,19 @@ none_short x (c ∷ cs) k e = by (nat_lt (amount_of x c.0) c.1) refl e (λ f. no
     by true f g rest = absurd cc
     by false f g rest = (at_most (amount_of x c.0) c.1 f, rest g)
 
-module _ (P : List ℕ → Type 0) where
+module _ (P : List ℕ → Type 0) (T : List ℕ → ℕ) where
   -- ---- funding
 
-  funded_leaves : (who : List ℕ) (coins : Money) (v : View) (l : Lists) (d : Shared) (q : Purses) → SharedFits P v.ctx.height l d → GroundFits P v → HoldsOwed (Some (owed_from_distribution d)) v → IsMoney coins
+  funded_leaves : (who : List ℕ) (coins : Money) (v : View) (l : Lists) (d : Shared) (q : Purses) → SharedFits P v.ctx.height l d → GroundFits P T v → HoldsOwed (Some (owed_from_distribution d)) v → IsMoney coins
       → is_short v.bank (account.User who) coins ≡ false → HasJoined P (in_units coins) d.purses q
-      → Leaves P v l (record d { purses = q }) (over_facts (pooled_told (in_units coins)) (sent (account.User who) (account.Module holder.Distribution) coins v))
+      → Leaves P T v l (record d { purses = q }) (over_facts (pooled_told (in_units coins)) (sent (account.User who) (account.Module holder.Distribution) coins v))
   funded_leaves who coins v l d q s g owed m e k =
       let from = account.User who in
       let to = account.Module holder.Distribution in
       let sorted = g.order.bank.balances_ascend in
       record {
         ctx = refl;
-        ground = ground_told P (pooled_told (in_units coins)) (sent from to coins v) (ground_sent P from to coins v g m e);
+        ground = ground_told P T (pooled_told (in_units coins)) (sent from to coins v) (quiet_pooled (in_units coins) (sent from to coins v).facts) (ground_sent P T from to coins v g m e);
         bonded = λ x. balance-moved_elsewhere coins v.bank from to (account.Module holder.Bonded) x sorted refl refl;
         not_bonded = λ x. balance-moved_elsewhere coins v.bank from to (account.Module holder.NotBonded) x sorted refl refl;
         owed = λ x. more (balance_of v.bank to x) _ (amount_of coins x) (amount_of (in_units coins) x) (total addr_cmp addr_total (λ p. amount_of p.outstanding x) d.purses.purses) (total addr_cmp addr_total (λ p. amount_of p.outstanding x) q.purses)
@@ -75,25 +76,25 @@ module _ (P : List ℕ → Type 0) where
       more : (b c a u t t2 p p2 : ℕ) → c + 0 ≡ b + a → u ≡ a * 10 ^ 18 → 10 ^ 18 * b ≡ t + p → p2 ≡ p + u → t2 ≡ t → 10 ^ 18 * c ≡ t2 + p2
       more b c a u t t2 p p2 e f g h i = omega (arith, e, f, g, h, i)
 
-  pub fund_fits : (who : List ℕ) (coins : Money) → IsMoney coins → (w : State) → StateFits P w → IfOk (fund_community_pool who coins w) (StateLeft P w)
+  pub fund_fits : (who : List ℕ) (coins : Money) → IsMoney coins → (w : State) → StateFits P T w → IfOk (fund_community_pool who coins w) (StateLeft P T w)
   fund_fits who coins m w h =
-      on_then (pool_funded who coins w.hooks.0 w.view) _ (λ x. StateLeft P w (with_shared x.1 x.2 [] w)) _
+      on_then (pool_funded who coins w.hooks.0 w.view) _ (λ x. StateLeft P T w (with_shared x.1 x.2 [] w)) _
       (on_stop (is_empty coins) NonPositive _ _ (λ a. on_stop (is_short w.view.bank (account.User who) coins) InsufficientFunds _ _ (λ e.
       on_lifted_then Overflow (pool_joined (in_units coins) w.hooks.0.purses) _ (HasJoined P (in_units coins) w.hooks.0.purses) _
       (has_joined P (in_units coins) w.hooks.0.purses h.stake.shared.pool
       (units_known P coins (each_within coins w.view.bank (account.User who) e h.stake.ground.order.bank) (known_enough P coins w.view.bank (account.User who) m e h.stake.ground.held)))
-      (λ q k. state_left P w (record w.hooks.0 { purses = q }) _ [] h (funded_leaves who coins w.view (lists_of w.mine.staked) w.hooks.0 q h.stake.shared h.stake.ground h.stake.owed m e k)))))
+      (λ q k. state_left P T w (record w.hooks.0 { purses = q }) _ [] h (funded_leaves who coins w.view (lists_of w.mine.staked) w.hooks.0 q h.stake.shared h.stake.ground h.stake.owed m e k)))))
       (λ x k. k)
 
   -- ---- spending
 
-  spent_leaves : (to : Account) (coins : Money) (v : View) (l : Lists) (d : Shared) → IsOther to → SharedFits P v.ctx.height l d → GroundFits P v → HoldsOwed (Some (owed_from_distribution d)) v → IsMoney coins
-      → is_above_pool coins d.purses ≡ false → Leaves P v l (record d { purses = pool_lowered coins d.purses }) (sent (account.Module holder.Distribution) to coins v)
+  spent_leaves : (to : Account) (coins : Money) (v : View) (l : Lists) (d : Shared) → IsOther to → SharedFits P v.ctx.height l d → GroundFits P T v → HoldsOwed (Some (owed_from_distribution d)) v → IsMoney coins
+      → is_above_pool coins d.purses ≡ false → Leaves P T v l (record d { purses = pool_lowered coins d.purses }) (sent (account.Module holder.Distribution) to coins v)
   spent_leaves to coins v l d t s g owed m e =
       let pool = d.purses.pool in
       let then : List ℕ → ℕ = λ x. owed_from_distribution (record d { purses = pool_lowered coins d.purses }) x in
       let within : (x : List ℕ) → amount_of (in_units coins) x ≤ amount_of pool x = λ x. amounts_within (in_units coins) (λ y. amount_of pool y) (none_short pool (in_units coins) 0 e) x in
-      let paid = are_paid P v to coins (owed_from_distribution d) then g m t owed
+      let paid = are_paid P T v to coins (owed_from_distribution d) then g m t owed
       (λ x. lowered (total addr_cmp addr_total (λ p. amount_of p.outstanding x) d.purses.purses) (amount_of pool x) (amount_of (in_units coins) x) (amount_of coins x) _
       (amount-all (λ y n. n - amount_of (in_units coins) y) (λ y. omega arith) pool x (rises_from_money pool s.pool.money)) (within x) (amount_in_units x coins)) in
       record {
@@ -108,15 +109,15 @@ module _ (P : List ℕ → Type 0) where
       lowered : (t p u a q : ℕ) → q ≡ p - u → u ≤ p → u ≡ a * 10 ^ 18 → t + q + 10 ^ 18 * a ≡ t + p
       lowered t p u a q e l f = omega (arith, e, l, f)
 
-  pub spend_fits : (authority : List ℕ) (to : Account) (coins : Money) → IsMoney coins → (w : State) → StateFits P w → IfOk (community_pool_spend authority to coins w) (StateLeft P w)
-  spend_fits authority to coins m w h = on_then (pool_spent authority to coins w.hooks.0 w.view) _ (λ x. StateLeft P w (with_shared x.1 x.2 [] w)) _ (spent to) (λ x k. k)
+  pub spend_fits : (authority : List ℕ) (to : Account) (coins : Money) → IsMoney coins → (w : State) → StateFits P T w → IfOk (community_pool_spend authority to coins w) (StateLeft P T w)
+  spend_fits authority to coins m w h = on_then (pool_spent authority to coins w.hooks.0 w.view) _ (λ x. StateLeft P T w (with_shared x.1 x.2 [] w)) _ (spent to) (λ x k. k)
     where
-      spent : (to : Account) → IfOk (pool_spent authority to coins w.hooks.0 w.view) (λ x. StateLeft P w (with_shared x.1 x.2 [] w))
+      spent : (to : Account) → IfOk (pool_spent authority to coins w.hooks.0 w.view) (λ x. StateLeft P T w (with_shared x.1 x.2 [] w))
       spent (account.Module k) = on_stop (not (same_addr authority w.view.ctx.params.authority)) NotAuthority _ _ (λ a. on_stop (is_empty coins) NonPositive _ _ (λ b. tt))
       spent (account.User who) =
           on_stop (not (same_addr authority w.view.ctx.params.authority)) NotAuthority _ _ (λ a. on_stop (is_empty coins) NonPositive _ _ (λ b.
           on_stop (is_above_pool coins w.hooks.0.purses) PoolTooSmall _ _ (λ e.
-          state_left P w _ _ [] h (spent_leaves (account.User who) coins w.view (lists_of w.mine.staked) w.hooks.0 (user_is_other who) h.stake.shared h.stake.ground h.stake.owed m e))))
+          state_left P T w _ _ [] h (spent_leaves (account.User who) coins w.view (lists_of w.mine.staked) w.hooks.0 (user_is_other who) h.stake.shared h.stake.ground h.stake.owed m e))))
 
   -- ---- commission
 
@@ -140,21 +141,21 @@ module _ (P : List ℕ → Type 0) where
       most : (n a b o : ℕ) → n ≡ min a b → b ≡ o / 10 ^ 18 → o / 10 ^ 18 * 10 ^ 18 ≤ o → n * 10 ^ 18 ≤ o
       most n a b o e f l = omega (arith, e, f, l)
 
-  commission_leaves : (operator : List ℕ) (p : Purse) (to : List ℕ) (v : View) (l : Lists) (d : Shared) → at addr_cmp d.purses.purses operator ≡ Some p → SharedFits P v.ctx.height l d → GroundFits P v
+  commission_leaves : (operator : List ℕ) (p : Purse) (to : List ℕ) (v : View) (l : Lists) (d : Shared) → at addr_cmp d.purses.purses operator ≡ Some p → SharedFits P v.ctx.height l d → GroundFits P T v
       → HoldsOwed (Some (owed_from_distribution d)) v
-      → Leaves P v l (record d { purses = with_purse operator (commission_paid p) d.purses }) (noted (fact.Commission operator to (commission_due p)) (paid_to to (commission_due p) v))
+      → Leaves P T v l (record d { purses = with_purse operator (commission_paid p) d.purses }) (noted (fact.Commission operator to (commission_due p)) (paid_to to (commission_due p) v))
   commission_leaves operator p to v l d found s g owed =
       let f : PurseFits P p = own_purse P d.purses.purses operator p found s.purses in
       let coins = commission_due p in
       let known : IsKnown P coins = known_smaller P (whole_coins p.commission) (whole_coins p.outstanding) (known_whole P p.commission f.commission) in
       let q = with_purse operator (commission_paid p) d.purses in
-      let paid = are_paid P v (account.User to) coins (owed_from_distribution d) (owed_of q) g known.money (user_is_other to) owed
+      let paid = are_paid P T v (account.User to) coins (owed_from_distribution d) (owed_of q) g known.money (user_is_other to) owed
       (λ x. lowered _ _ (amount_of p.outstanding x) (amount_of (coins_taken p.outstanding (in_units coins)) x) (amount_of d.purses.pool x) (amount_of (in_units coins) x) (amount_of coins x)
       (total_put addr_cmp addr_total (λ r. amount_of r.outstanding x) operator p (commission_paid p) d.purses.purses s.purses_ascend found)
       (amount-all (λ y n. n - amount_of (in_units coins) y) (λ y. omega arith) p.outstanding x (rises_from_money p.outstanding f.outstanding.money)) (amount_in_units x coins) (due_within p f x)) in
       record {
         ctx = refl;
-        ground = ground_told P (λ facts. facts ++ fact.Commission operator to coins ∷ []) (paid_to to coins v) paid.ground;
+        ground = ground_told P T (λ facts. facts ++ fact.Commission operator to coins ∷ []) (paid_to to coins v) (quiet_behind (paid_to to coins v).facts (fact.Commission operator to coins) (λ x. refl)) paid.ground;
         bonded = paid.bonded;
         not_bonded = paid.not_bonded;
         owed = paid.holds;
@@ -166,18 +167,18 @@ module _ (P : List ℕ → Type 0) where
       lowered : (t2 t o o2 p u a : ℕ) → t2 + o ≡ t + o2 → o2 ≡ o - u → u ≡ a * 10 ^ 18 → a * 10 ^ 18 ≤ o → t2 + p + 10 ^ 18 * a ≡ t + p
       lowered t2 t o o2 p u a e f g h = omega (arith, e, f, g, h)
 
-  pub commission_fits : (operator : List ℕ) (w : State) → StateFits P w → IfOk (withdraw_commission operator w) (StateLeft P w)
+  pub commission_fits : (operator : List ℕ) (w : State) → StateFits P T w → IfOk (withdraw_commission operator w) (StateLeft P T w)
   commission_fits operator w h =
-      on_then (commission_withdrawn operator w.hooks.0 w.view) _ (λ x. StateLeft P w (with_shared x.1 x.2 [] w)) _
+      on_then (commission_withdrawn operator w.hooks.0 w.view) _ (λ x. StateLeft P T w (with_shared x.1 x.2 [] w)) _
       (on_found (at addr_cmp w.hooks.0.purses.purses operator) NoCommission _ _ (λ p found. on_stop (is_empty p.commission) NoCommission _ _ (λ e.
-      state_left P w _ _ [] h (commission_leaves operator p (payee_of w.hooks.0 operator) w.view (lists_of w.mine.staked) w.hooks.0 found h.stake.shared h.stake.ground h.stake.owed))))
+      state_left P T w _ _ [] h (commission_leaves operator p (payee_of w.hooks.0 operator) w.view (lists_of w.mine.staked) w.hooks.0 found h.stake.shared h.stake.ground h.stake.owed))))
       (λ x k. k)
 
 pub funding_keeps_soundness : FundingKeepsSoundness
-funding_keeps_soundness who coins m = keeps (fund_community_pool who coins) (λ P w h. fund_fits P who coins m w h)
+funding_keeps_soundness who coins m = keeps (fund_community_pool who coins) (λ P T w h. fund_fits P T who coins m w h)
 
 pub spending_keeps_soundness : SpendingKeepsSoundness
-spending_keeps_soundness authority to coins m = keeps (community_pool_spend authority to coins) (λ P w h. spend_fits P authority to coins m w h)
+spending_keeps_soundness authority to coins m = keeps (community_pool_spend authority to coins) (λ P T w h. spend_fits P T authority to coins m w h)
 
 pub commissions_keep_soundness : CommissionsKeepSoundness
-commissions_keep_soundness operator = keeps (withdraw_commission operator) (λ P w h. commission_fits P operator w h)
+commissions_keep_soundness operator = keeps (withdraw_commission operator) (λ P T w h. commission_fits P T operator w h)

@@ -20,14 +20,15 @@ use Rattle.stk_dec.specs.declared.over.Over.{Over}
 use Rattle.stk_keep.specs.Orders.{same_addr}
 use Rattle.stk_keep.specs.Staked.{Staked, bonded_tokens, is_bonded, is_unbonded, lists_of, of_bond, other_tokens, delegation, validator_by_cons, validator_at, put_validator}
 use Rattle.stk_keep.specs.declared.facts.Fact.{Fact}
+use Rattle.stk_owed.proofs.Burns.{IsQuiet, quiet_behind}
 use Rattle.stk_owed.proofs.Beside.{from_same, raised, raised_with, unbonded_same}
 use Rattle.stk_owed.proofs.Delegating.{others}
 use Rattle.stk_owed.proofs.Entries.{from_pairs, to_pairs, PairsFit}
 use Rattle.stk_owed.proofs.Hooking.{IfTold, stake_hooks, told_if}
 use Rattle.stk_owed.proofs.Lists.{all_put, looked_up}
-use Rattle.stk_owed.proofs.Moves.{HooksFit, Leaves, stake_left}
+use Rattle.stk_owed.proofs.Moves.{HooksFit, Leaves, stake_left, ground_told}
 use Rattle.stk_owed.proofs.Points.{IsRecorded, StakeFits, StateFits}
-use Rattle.stk_owed.proofs.Purses.{ground_told, there_still}
+use Rattle.stk_owed.proofs.Purses.{there_still}
 use Rattle.stk_owed.proofs.Slashing.{entries_fit, entries_fit_pairs, slash_leaves, stake_burnt}
 use Rattle.stk_owed.proofs.Standing.{own_place, stake_logged, stake_relisted}
 use Rattle.stk_owed.proofs.Steps.{and_also, on_then, weaker_if}
@@ -53,10 +54,10 @@ on_told hook w f R Q told next = by (distribution_told w.hooks hook w.view) told
     by (gives d u k) h = next d u k h
     by (exceeds over) h = tt
 
-module _ (P : List ℕ → Type 0) (i : Window) where
+module _ (P : List ℕ → Type 0) (T : List ℕ → ℕ) (i : Window) where
   -- what a slash leaves of validators, delegations, distribution and ground
   record BesideLeft (b n : ℕ) (w x : World Staked Shared) : Type 0 where
-    fits : StakeFits P b n (lists_of x.mine) (raised i x)
+    fits : StakeFits P T b n (lists_of x.mine) (raised i x)
     ctx : x.view.ctx ≡ w.view.ctx
 
   beside_then : (b n : ℕ) (w x y : World Staked Shared) → x.view.ctx ≡ w.view.ctx → BesideLeft b n x y → BesideLeft b n w y
@@ -65,8 +66,8 @@ module _ (P : List ℕ → Type 0) (i : Window) where
   -- ---- a validator's own slash
 
   -- tokens leave a validator, without shares
-  stake_poorer : (b n : ℕ) (l : Lists) (w : World Staked Hooks) (v : Validator) (a : ℕ) → StakeFits P b n l w → validator_at w.mine v.operator ≡ Some v → a ≤ v.tokens
-      → StakeFits P (b + cond (is_bonded v.status) a 0) (n + cond (is_bonded v.status) 0 a) l (over_mine (put_validator (record v { tokens = v.tokens - a })) w)
+  stake_poorer : (b n : ℕ) (l : Lists) (w : World Staked Hooks) (v : Validator) (a : ℕ) → StakeFits P T b n l w → validator_at w.mine v.operator ≡ Some v → a ≤ v.tokens
+      → StakeFits P T (b + cond (is_bonded v.status) a 0) (n + cond (is_bonded v.status) 0 a) l (over_mine (put_validator (record v { tokens = v.tokens - a })) w)
   stake_poorer b n l w v a h found le =
       let u : Validator = record v { tokens = v.tokens - a } in
       let own = h.staked.validators v.operator v found in
@@ -93,15 +94,15 @@ module _ (P : List ℕ → Type 0) (i : Window) where
       none : (t : ℕ) → t ≡ 0 → t - a ≡ 0
       none t e = omega (arith, e)
 
-  same_leaves : (v : View) (l : Lists) (d : Shared) → HooksFit P v l d → Leaves P v l d v
+  same_leaves : (v : View) (l : Lists) (d : Shared) → HooksFit P T v l d → Leaves P T v l d v
   same_leaves v l d h = record { ctx = refl; ground = h.ground; bonded = λ e. refl; not_bonded = λ e. refl; owed = h.owed; shared = h.shared }
 
-  noted_leaves : (v : View) (l : Lists) (d : Shared) (u : View) (f : Fact) → Leaves P v l d u → Leaves P v l d (noted f u)
-  noted_leaves v l d u f k = record { ctx = k.ctx; ground = ground_told P (λ facts. facts ++ f ∷ []) u k.ground; bonded = k.bonded; not_bonded = k.not_bonded; owed = k.owed; shared = k.shared }
+  noted_leaves : (v : View) (l : Lists) (d : Shared) (u : View) (f : Fact) → IsQuiet f → Leaves P T v l d u → Leaves P T v l d (noted f u)
+  noted_leaves v l d u f q k = record { ctx = k.ctx; ground = ground_told P T (λ facts. facts ++ f ∷ []) u (quiet_behind u.facts f q) k.ground; bonded = k.bonded; not_bonded = k.not_bonded; owed = k.owed; shared = k.shared }
 
   -- what holds of steps behind the hook of a slash
-  on_slash : {B : Type 0} (v : Validator) (burned : ℕ) (l : Lists) (w : World Staked Shared) (f : World Staked Shared → Result B Over) (Q : B → Type 0) → HooksFit P w.view l w.hooks → l.operators v.operator ≡ true
-      → ((d : Shared) (u : View) (k : Log) → Leaves P w.view l d u → IfOk (f (record { mine = w.mine; hooks = d; view = u; log = k })) Q) → IfOk (slash_told distribution_told v burned w >>= f) Q
+  on_slash : {B : Type 0} (v : Validator) (burned : ℕ) (l : Lists) (w : World Staked Shared) (f : World Staked Shared → Result B Over) (Q : B → Type 0) → HooksFit P T w.view l w.hooks → l.operators v.operator ≡ true
+      → ((d : Shared) (u : View) (k : Log) → Leaves P T w.view l d u → IfOk (f (record { mine = w.mine; hooks = d; view = u; log = k })) Q) → IfOk (slash_told distribution_told v burned w >>= f) Q
   on_slash v burned l w f Q h there next = by (v.tokens == 0)
     where
       fraction : ℕ
@@ -118,26 +119,26 @@ module _ (P : List ℕ → Type 0) (i : Window) where
       by true = next w.hooks w.view w.log (same_leaves w.view l w.hooks h)
       by false =
           subst (λ r. IfOk r Q) (sym (again (call distribution_told (slashing v fraction) w) (λ x. over_view (noted (fact.Slashed v.operator fraction burned)) (logged v.operator (log.slashed burned v.tokens fraction) x)) f))
-          (on_told (slashing v fraction) w (λ x. f (over_view (noted (fact.Slashed v.operator fraction burned)) (logged v.operator (log.slashed burned v.tokens fraction) x))) (λ d u. Leaves P w.view l d u) Q
-          (told_if (slash_recorded v fraction w.hooks w.view) (λ d u. Leaves P w.view l d u) (slash_leaves P v fraction w.view l w.hooks h there most))
-          (λ d u k left. next d (noted (fact.Slashed v.operator fraction burned) u) (w.log ++ k ++ (v.operator, log.slashed burned v.tokens fraction) ∷ []) (noted_leaves w.view l d u (fact.Slashed v.operator fraction burned) left)))
+          (on_told (slashing v fraction) w (λ x. f (over_view (noted (fact.Slashed v.operator fraction burned)) (logged v.operator (log.slashed burned v.tokens fraction) x))) (λ d u. Leaves P T w.view l d u) Q
+          (told_if (slash_recorded v fraction w.hooks w.view) (λ d u. Leaves P T w.view l d u) (slash_leaves P T v fraction w.view l w.hooks h there most))
+          (λ d u k left. next d (noted (fact.Slashed v.operator fraction burned) u) (w.log ++ k ++ (v.operator, log.slashed burned v.tokens fraction) ∷ []) (noted_leaves w.view l d u (fact.Slashed v.operator fraction burned) (λ x. refl) left)))
 
-  validator_fits : (b n : ℕ) (w : World Staked Shared) (v : Validator) (amount : ℕ) → StakeFits P b n (lists_of w.mine) (raised i w) → validator_at w.mine v.operator ≡ Some v → IfOk (validator_slashed distribution_told v amount w) (λ x. BesideLeft b n w x.1)
+  validator_fits : (b n : ℕ) (w : World Staked Shared) (v : Validator) (amount : ℕ) → StakeFits P T b n (lists_of w.mine) (raised i w) → validator_at w.mine v.operator ≡ Some v → IfOk (validator_slashed distribution_told v amount w) (λ x. BesideLeft b n w x.1)
   validator_fits b n w v amount h found =
       let l = lists_of w.mine in
       let burn : ℕ = min amount v.tokens in
       let less : Validator = record v { tokens = v.tokens - burn } in
       on_slash {B = ℕ × World Staked Shared} v burn l w (λ x. Ok (burn, over_view (burnt (pool_of v.status) w.view.ctx.params.bond_denom burn) (over_mine (put_validator less) x))) (λ x. BesideLeft b n w x.1)
-      (stake_hooks P b n l (raised i w) h) (ap is_some found) (λ d u k left.
+      (stake_hooks P T b n l (raised i w) h) (ap is_some found) (λ d u k left.
       let w1 : World Staked Shared = record { mine = w.mine; hooks = d; view = u; log = k } in
-      let first : StakeFits P b n l (raised i w1) = stake_left P b n l l (raised i w) d u k h left in
+      let first : StakeFits P T b n l (raised i w1) = stake_left P T b n l l (raised i w) d u k h left in
       let poorer = stake_poorer b n l (raised i w1) v burn first found (within amount v.tokens) in
       let w2 : World Staked Shared = over_mine (put_validator less) w1 in
-      let gone = stake_burnt P (is_bonded v.status) b n l (raised i w2) burn poorer in
+      let gone = stake_burnt P T (is_bonded v.status) b n l (raised i w2) burn poorer in
       let x : World Staked Shared = over_view (burnt (pool_of v.status) w.view.ctx.params.bond_denom burn) w2 in
       record {
-        fits = stake_relisted P b n l (lists_of x.mine) (raised i x)
-            (subst (λ (c : Ctx). StakeFits P b n l (over_view (burnt (pool_of v.status) c.params.bond_denom burn) (raised i w2))) left.ctx gone)
+        fits = stake_relisted P T b n l (lists_of x.mine) (raised i x)
+            (subst (λ (c : Ctx). StakeFits P T b n l (over_view (burnt (pool_of v.status) c.params.bond_denom burn) (raised i w2))) left.ctx gone)
             (λ o. there_still w.mine.validators v.operator o v less found) (λ who o. refl);
         ctx = left.ctx;
       })
@@ -145,21 +146,21 @@ module _ (P : List ℕ → Type 0) (i : Window) where
       within : (a t : ℕ) → min a t ≤ t
       within a t = omega arith
 
-  rest_fits : (b n : ℕ) (w : World Staked Shared) (operator : List ℕ) (amount : ℕ) → StakeFits P b n (lists_of w.mine) (raised i w) → IfOk (rest_slashed distribution_told (validator_at w.mine operator) amount w) (λ x. BesideLeft b n w x.1)
+  rest_fits : (b n : ℕ) (w : World Staked Shared) (operator : List ℕ) (amount : ℕ) → StakeFits P T b n (lists_of w.mine) (raised i w) → IfOk (rest_slashed distribution_told (validator_at w.mine operator) amount w) (λ x. BesideLeft b n w x.1)
   rest_fits b n w operator amount h = by (validator_at w.mine operator) refl
     where
       by : (r : Option Validator) → validator_at w.mine operator ≡ r → IfOk (rest_slashed distribution_told r amount w) (λ x. BesideLeft b n w x.1)
       by None e = record { fits = h; ctx = refl }
-      by (Some v) e = validator_fits b n w v amount h (own_place P w.view.ctx.height w.mine operator v h.staked e)
+      by (Some v) e = validator_fits b n w v amount h (own_place P T w.view.ctx.height w.mine operator v h.staked e)
 
   -- ---- redelegations
 
   -- what unbonding answers and leaves beside the window
   record BesideUnbonded (b n : ℕ) (s : Bool) (w : World Staked Shared) (x : ℕ × World Staked Shared) : Type 0 where
-    fits : StakeFits P (b + cond s x.0 0) (n + cond s 0 x.0) (lists_of x.1.mine) (raised i x.1)
+    fits : StakeFits P T (b + cond s x.0 0) (n + cond s 0 x.0) (lists_of x.1.mine) (raised i x.1)
     ctx : x.1.view.ctx ≡ w.view.ctx
 
-  unbonded_beside : (b n : ℕ) (w : World Staked Shared) (t : Validator) (who : List ℕ) (part : ℕ) → StakeFits P b n (lists_of w.mine) (raised i w) → validator_at w.mine t.operator ≡ Some t
+  unbonded_beside : (b n : ℕ) (w : World Staked Shared) (t : Validator) (who : List ℕ) (part : ℕ) → StakeFits P T b n (lists_of w.mine) (raised i w) → validator_at w.mine t.operator ≡ Some t
       → part ≤ unwrap_or (delegation w.mine who t.operator) 0 → IfOk (shares_unbonded distribution_told who t.operator part w) (BesideUnbonded b n (is_bonded t.status) w)
   unbonded_beside b n w t who part h found within =
       subst (λ r. IfOk (unbonded_of distribution_told r (delegation w.mine who t.operator) who part w) (BesideUnbonded b n (is_bonded t.status) w)) (sym found) (by (delegation w.mine who t.operator) refl within)
@@ -170,17 +171,17 @@ module _ (P : List ℕ → Type 0) (i : Window) where
 
       by : (held : Option ℕ) → delegation w.mine who t.operator ≡ held → part ≤ unwrap_or held 0 → IfOk (unbonded_of distribution_told (Some t) held who part w) (BesideUnbonded b n (is_bonded t.status) w)
       by None e l = record {
-        fits = subst (λ m. StakeFits P m (n + cond (is_bonded t.status) 0 0) (lists_of w.mine) (raised i w)) (nothing (is_bonded t.status) b) (subst (λ m. StakeFits P b m (lists_of w.mine) (raised i w)) (nothing (is_bonded t.status) n) h);
+        fits = subst (λ m. StakeFits P T m (n + cond (is_bonded t.status) 0 0) (lists_of w.mine) (raised i w)) (nothing (is_bonded t.status) b) (subst (λ m. StakeFits P T b m (lists_of w.mine) (raised i w)) (nothing (is_bonded t.status) n) h);
         ctx = refl;
       }
       by (Some held) e l =
-          from_same i (unbonded_shares chain_told t who held part (raised i w)) (unbonded_shares distribution_told t who held part w) (HasUnbonded P b n (raised i w) t (amount_out t.tokens t.shares part)) (BesideUnbonded b n (is_bonded t.status) w)
-          (unbonded_same i t who held part w.log w) (unbonded_fits P b n (raised i w) t who held part h found e l) (λ k y q. record {
-            fits = subst (λ m. StakeFits P (b + cond (is_bonded t.status) m 0) (n + cond (is_bonded t.status) 0 m) (lists_of y.1.mine) (raised i y.1)) (sym q.amount) (stake_logged P _ _ (lists_of y.1.mine) (raised_with i k y.1) y.1.log q.fits);
+          from_same i (unbonded_shares chain_told t who held part (raised i w)) (unbonded_shares distribution_told t who held part w) (HasUnbonded P T b n (raised i w) t (amount_out t.tokens t.shares part)) (BesideUnbonded b n (is_bonded t.status) w)
+          (unbonded_same i t who held part w.log w) (unbonded_fits P T b n (raised i w) t who held part h found e l) (λ k y q. record {
+            fits = subst (λ m. StakeFits P T (b + cond (is_bonded t.status) m 0) (n + cond (is_bonded t.status) 0 m) (lists_of y.1.mine) (raised i y.1)) (sym q.amount) (stake_logged P T _ _ (lists_of y.1.mine) (raised_with i k y.1) y.1.log q.fits);
             ctx = q.ctx;
           })
 
-  target_fits : (b n : ℕ) (w : World Staked Shared) (target who : List ℕ) (part : ℕ) → StakeFits P b n (lists_of w.mine) (raised i w) → part ≤ unwrap_or (delegation w.mine who target) 0
+  target_fits : (b n : ℕ) (w : World Staked Shared) (target who : List ℕ) (part : ℕ) → StakeFits P T b n (lists_of w.mine) (raised i w) → part ≤ unwrap_or (delegation w.mine who target) 0
       → IfOk (burned_at_target (staked_unbonds distribution_told) (validator_at w.mine target) who part w) (BesideLeft b n w)
   target_fits b n w target who part h within = by (validator_at w.mine target) refl
     where
@@ -195,22 +196,22 @@ module _ (P : List ℕ → Type 0) (i : Window) where
           chosen true = record { fits = h; ctx = refl }
           chosen false =
               on_then (shares_unbonded distribution_told who t.operator part w) _ (BesideUnbonded b n (is_bonded t.status) w) _
-              (unbonded_beside b n w t who part h (own_place P w.view.ctx.height w.mine target t h.staked e) (subst (λ o. part ≤ unwrap_or (delegation w.mine who o) 0) (sym same) within)) (λ x k. record {
-                fits = subst (λ (c : Ctx). StakeFits P b n (lists_of x.1.mine) (over_view (burnt (pool_of t.status) c.params.bond_denom x.0) (raised i x.1))) k.ctx (stake_burnt P (is_bonded t.status) b n (lists_of x.1.mine) (raised i x.1) x.0 k.fits);
+              (unbonded_beside b n w t who part h (own_place P T w.view.ctx.height w.mine target t h.staked e) (subst (λ o. part ≤ unwrap_or (delegation w.mine who o) 0) (sym same) within)) (λ x k. record {
+                fits = subst (λ (c : Ctx). StakeFits P T b n (lists_of x.1.mine) (over_view (burnt (pool_of t.status) c.params.bond_denom x.0) (raised i x.1))) k.ctx (stake_burnt P T (is_bonded t.status) b n (lists_of x.1.mine) (raised i x.1) x.0 k.fits);
                 ctx = k.ctx;
               })
 
   hit_within : (m s : ℕ) → min m s ≤ s
   hit_within m s = omega arith
 
-  targets_fit : (es : List RedelegationEntry) (b n : ℕ) (w : World Staked Shared) (who target : List ℕ) (infraction factor : ℕ) → StakeFits P b n (lists_of w.mine) (raised i w) → IfOk (targets_slashed (staked_unbonds distribution_told) who target infraction factor es w) (BesideLeft b n w)
+  targets_fit : (es : List RedelegationEntry) (b n : ℕ) (w : World Staked Shared) (who target : List ℕ) (infraction factor : ℕ) → StakeFits P T b n (lists_of w.mine) (raised i w) → IfOk (targets_slashed (staked_unbonds distribution_told) who target infraction factor es w) (BesideLeft b n w)
   targets_fit [] b n w who target infraction factor h = record { fits = h; ctx = refl }
   targets_fit (e ∷ es) b n w who target infraction factor h = by (is_hit infraction w.view.ctx.time e.created e.completes) (λ x k. targets_fit es b n x who target infraction factor k)
     where
       part : ℕ
       part = shares_hit (staked_unbonds distribution_told) who target factor e w
 
-      by : (c : Bool) → ((x : World Staked Shared) → StakeFits P b n (lists_of x.mine) (raised i x) → IfOk (targets_slashed (staked_unbonds distribution_told) who target infraction factor es x) (BesideLeft b n x))
+      by : (c : Bool) → ((x : World Staked Shared) → StakeFits P T b n (lists_of x.mine) (raised i x) → IfOk (targets_slashed (staked_unbonds distribution_told) who target infraction factor es x) (BesideLeft b n x))
           → IfOk (if c then (burned_at_target (staked_unbonds distribution_told) (validator_at w.mine target) who part w >>= λ x. targets_slashed (staked_unbonds distribution_told) who target infraction factor es x)
           else targets_slashed (staked_unbonds distribution_told) who target infraction factor es w) (BesideLeft b n w)
       by true rest =
@@ -219,11 +220,11 @@ module _ (P : List ℕ → Type 0) (i : Window) where
           (λ x k. weaker_if (targets_slashed (staked_unbonds distribution_told) who target infraction factor es x) (BesideLeft b n x) (BesideLeft b n w) (rest x k.fits) (λ y j. beside_then b n w x y k.ctx j))
       by false rest = rest w h
 
-  sources_fit : (r : RedelegationLists) (b n : ℕ) (w : World Staked Shared) (operator : List ℕ) (infraction factor : ℕ) → StakeFits P b n (lists_of w.mine) (raised i w) → IfOk (sources_slashed (staked_unbonds distribution_told) operator infraction factor r w) (BesideLeft b n w)
+  sources_fit : (r : RedelegationLists) (b n : ℕ) (w : World Staked Shared) (operator : List ℕ) (infraction factor : ℕ) → StakeFits P T b n (lists_of w.mine) (raised i w) → IfOk (sources_slashed (staked_unbonds distribution_told) operator infraction factor r w) (BesideLeft b n w)
   sources_fit [] b n w operator infraction factor h = record { fits = h; ctx = refl }
   sources_fit (p ∷ ps) b n w operator infraction factor h = by (same_addr p.0.1 operator) (λ x k. sources_fit ps b n x operator infraction factor k)
     where
-      by : (c : Bool) → ((x : World Staked Shared) → StakeFits P b n (lists_of x.mine) (raised i x) → IfOk (sources_slashed (staked_unbonds distribution_told) operator infraction factor ps x) (BesideLeft b n x))
+      by : (c : Bool) → ((x : World Staked Shared) → StakeFits P T b n (lists_of x.mine) (raised i x) → IfOk (sources_slashed (staked_unbonds distribution_told) operator infraction factor ps x) (BesideLeft b n x))
           → IfOk (if c then (targets_slashed (staked_unbonds distribution_told) p.0.0 p.0.2 infraction factor p.1 w >>= λ x. sources_slashed (staked_unbonds distribution_told) operator infraction factor ps x)
           else sources_slashed (staked_unbonds distribution_told) operator infraction factor ps w) (BesideLeft b n w)
       by true rest =
@@ -236,11 +237,11 @@ module _ (P : List ℕ → Type 0) (i : Window) where
 
   -- a state beside the window, after a slash
   pub record SlashLeft (w x : World Stakes Shared) : Type 0 where
-    pub fits : StateFits P (with_window i x)
+    pub fits : StateFits P T (with_window i x)
     pub ctx : x.view.ctx ≡ w.view.ctx
     pub pairs : (m : ℕ) → PairsFit m w.mine.unbondings → PairsFit m x.mine.unbondings
 
-  slashed_at_fits : (r : Option Validator) (infraction power factor : ℕ) (w : World Stakes Shared) → StateFits P (with_window i w) → IfOk (slashed_at distribution_told plain_slash r infraction power factor w) (λ x. SlashLeft w x.1)
+  slashed_at_fits : (r : Option Validator) (infraction power factor : ℕ) (w : World Stakes Shared) → StateFits P T (with_window i w) → IfOk (slashed_at distribution_told plain_slash r infraction power factor w) (λ x. SlashLeft w x.1)
   slashed_at_fits None infraction power factor w h = record { fits = h; ctx = refl; pairs = λ m k. k }
   slashed_at_fits (Some v) infraction power factor w h = by (is_unbonded v.status)
     where
@@ -259,8 +260,8 @@ module _ (P : List ℕ → Type 0) (i : Window) where
       none_first : (n : ℕ) → n ≡ 0 + n
       none_first n = omega arith
 
-      first : StakeFits P 0 (0 + entry_balances u) (lists_of w.mine.staked) (raised i w1) × (view.ctx ≡ w.view.ctx)
-      first = entries_fit P op infraction factor w.mine.unbondings 0 (lists_of w.mine.staked) (staked_in (with_window i w)) (subst (λ m. StakeFits P 0 m (lists_of w.mine.staked) (staked_in (with_window i w))) (none_first (entry_balances w.mine.unbondings)) h.stake)
+      first : StakeFits P T 0 (0 + entry_balances u) (lists_of w.mine.staked) (raised i w1) × (view.ctx ≡ w.view.ctx)
+      first = entries_fit P T op infraction factor w.mine.unbondings 0 (lists_of w.mine.staked) (staked_in (with_window i w)) (subst (λ m. StakeFits P T 0 m (lists_of w.mine.staked) (staked_in (with_window i w))) (none_first (entry_balances w.mine.unbondings)) h.stake)
 
       by : (c : Bool) → IfOk {T = ℕ × World Stakes Shared} {E = Over} (if c then Ok (0, w) else (redelegations_slashed (staked_unbonds distribution_told) op infraction factor w.mine.redelegations w1 >>= λ y.
           rest_slashed distribution_told (validator_at y.2.mine op) (slash_amount power w.view.ctx.params.power_reduction factor - (counted (all_counted op infraction factor w.view.ctx.time w.mine.unbondings) + y.0)) y.2 >>= λ z.
@@ -274,13 +275,13 @@ module _ (P : List ℕ → Type 0) (i : Window) where
           let ctx : z.1.view.ctx ≡ w.view.ctx = j.ctx ∙ k.0.ctx ∙ first.1 in
           record {
             fits = record {
-              stake = subst (λ m. StakeFits P 0 m (lists_of z.1.mine) (raised i z.1)) (sym (none_first (entry_balances u))) j.fits;
-              unbondings = subst (λ (c : Ctx). UnbondingsAreSound c.height u) (sym ctx) (from_pairs w.view.ctx.height u (entries_fit_pairs P op infraction factor w.view.ctx.height w.mine.unbondings w.view (to_pairs w.view.ctx.height w.mine.unbondings h.unbondings)));
+              stake = subst (λ m. StakeFits P T 0 m (lists_of z.1.mine) (raised i z.1)) (sym (none_first (entry_balances u))) j.fits;
+              unbondings = subst (λ (c : Ctx). UnbondingsAreSound c.height u) (sym ctx) (from_pairs w.view.ctx.height u (entries_fit_pairs P T op infraction factor w.view.ctx.height w.mine.unbondings w.view (to_pairs w.view.ctx.height w.mine.unbondings h.unbondings)));
               redelegations = subst (λ (c : Ctx). RedelegationsAreSound c.height y.1) (sym ctx) (subst (RedelegationsAreSound w.view.ctx.height) (sym k.1) h.redelegations);
             };
             ctx = ctx;
-            pairs = λ m g. entries_fit_pairs P op infraction factor m w.mine.unbondings w.view g;
+            pairs = λ m g. entries_fit_pairs P T op infraction factor m w.mine.unbondings w.view g;
           }))
 
-  pub slashed_fits : (cons : List ℕ) (infraction power factor : ℕ) (w : World Stakes Shared) → StateFits P (with_window i w) → IfOk (slashed distribution_told plain_slash cons infraction power factor w) (λ x. SlashLeft w x.1)
+  pub slashed_fits : (cons : List ℕ) (infraction power factor : ℕ) (w : World Stakes Shared) → StateFits P T (with_window i w) → IfOk (slashed distribution_told plain_slash cons infraction power factor w) (λ x. SlashLeft w x.1)
   slashed_fits cons infraction power factor w h = slashed_at_fits (validator_by_cons w.mine.staked cons) infraction power factor w h

@@ -90,13 +90,6 @@ amounts_within coins f h d = by (lookup (is_at (denom_cmp d)) coins) refl
     by (Some n) e = looked_up (λ (c : List ℕ × ℕ). c.1 ≤ f c.0) (is_at (denom_cmp d)) (λ m. m ≤ f d) (λ k m t g. subst (λ x. m ≤ f x) (sym (same_name d k (is_equal d k t))) g) coins n e h
 
 module _ (P : List ℕ → Type 0) where
-  -- facts are told
-  pub ground_told : (f : List Fact → List Fact) (v : View) → GroundFits P v → GroundFits P (over_facts f v)
-  ground_told f v g = record {
-    order = record { params = g.order.params; time = g.order.time; height = g.order.height; bank = g.order.bank };
-    held = g.held;
-  }
-
   -- ---- the pool
 
   -- coins joined the pool
@@ -156,17 +149,18 @@ module _ (P : List ℕ → Type 0) where
     there = λ q. there_still p.purses o q old new e;
   }
 
-  -- ---- payments from the distribution account
+-- ---- payments from the distribution account
 
+module _ (P : List ℕ → Type 0) (T : List ℕ → ℕ) where
   -- coins were paid from the distribution account, which then holds what is owed then
   pub record IsPaid (v u : View) (then : List ℕ → ℕ) : Type 0 where
     pub ctx : u.ctx ≡ v.ctx
-    pub ground : GroundFits P u
+    pub ground : GroundFits P T u
     pub bonded : (e : List ℕ) → balance_of u.bank (account.Module holder.Bonded) e ≡ balance_of v.bank (account.Module holder.Bonded) e
     pub not_bonded : (e : List ℕ) → balance_of u.bank (account.Module holder.NotBonded) e ≡ balance_of v.bank (account.Module holder.NotBonded) e
     pub holds : HoldsOwed (Some then) u
 
-  pub are_paid : (v : View) (to : Account) (coins : Money) (owed then : List ℕ → ℕ) → GroundFits P v → IsMoney coins → IsOther to → HoldsOwed (Some owed) v
+  pub are_paid : (v : View) (to : Account) (coins : Money) (owed then : List ℕ → ℕ) → GroundFits P T v → IsMoney coins → IsOther to → HoldsOwed (Some owed) v
       → ((d : List ℕ) → then d + 10 ^ 18 * amount_of coins d ≡ owed d) → IsPaid v (sent (account.Module holder.Distribution) to coins v) then
   are_paid v to coins owed then g m t h e =
       let from = account.Module holder.Distribution in
@@ -174,7 +168,7 @@ module _ (P : List ℕ → Type 0) where
       let sorted = g.order.bank.balances_ascend in
       record {
         ctx = refl;
-        ground = ground_sent P from to coins v g m short;
+        ground = ground_sent P T from to coins v g m short;
         bonded = λ d. balance-moved_elsewhere coins v.bank from to (account.Module holder.Bonded) d sorted refl t.bonded;
         not_bonded = λ d. balance-moved_elsewhere coins v.bank from to (account.Module holder.NotBonded) d sorted refl t.not_bonded;
         holds = λ d. holds (balance_of v.bank from d) _ (amount_of coins d) (owed d) (then d) (is_at (account_cmp from) to) t.distribution (moves_by_amounts v.bank from to coins g.order.bank m short from d) (h d) (e d);

@@ -116,15 +116,15 @@ begun_height v gone c h b e = by (is_bonded v.status || gone) (is_unbonding v.st
     by false true f = let same = first_of (v.unbonding_height, v.unbonding_time) f in omega (arith, same, h)
     by false false f = absurd cc
 
-module _ (P : List ℕ → Type 0) where
+module _ (P : List ℕ → Type 0) (T : List ℕ → ℕ) where
   -- validators, delegations and redelegation entries after the message
   record TriplesLeft (n : ℕ) (w : World Staked Hooks) (r : RedelegationLists) (x : World Staked Hooks) : Type 0 where
-    fits : StakeFits P 0 n (lists_of x.mine) x
+    fits : StakeFits P T 0 n (lists_of x.mine) x
     ctx : x.view.ctx ≡ w.view.ctx
     triples : TriplesFit w.view.ctx.height r
 
   -- what goes out is within the tokens
-  out_most : (v : Validator) (held part : ℕ) (n : ℕ) (source who : List ℕ) (w : World Staked Hooks) → StakeFits P 0 n (lists_of w.mine) w → validator_at w.mine source ≡ Some v → delegation w.mine who source ≡ Some held → part ≤ held → amount_out v.tokens v.shares part ≤ v.tokens
+  out_most : (v : Validator) (held part : ℕ) (n : ℕ) (source who : List ℕ) (w : World Staked Hooks) → StakeFits P T 0 n (lists_of w.mine) w → validator_at w.mine source ≡ Some v → delegation w.mine who source ≡ Some held → part ≤ held → amount_out v.tokens v.shares part ≤ v.tokens
   out_most v held part n source who w h found has within =
       let number : number_at pair_cmp w.mine.delegations (source, who) ≡ held = ap (λ r. unwrap_or r 0) has in
       let all : v.shares ≡ shares_at w.mine.delegations source = h.staked.shares source v found in
@@ -132,7 +132,7 @@ module _ (P : List ℕ → Type 0) where
       let some : 0 < held = h.staked.positive (source, who) held has in
       out_within v.tokens v.shares part (omega (arith, number, all, inside, some)) (omega (arith, number, all, inside, within))
 
-  redelegated_fits : (who source target : List ℕ) (coin : Coin) (r : RedelegationLists) (n : ℕ) (w : World Staked Hooks) → StakeFits P 0 n (lists_of w.mine) w → TriplesFit w.view.ctx.height r
+  redelegated_fits : (who source target : List ℕ) (coin : Coin) (r : RedelegationLists) (n : ℕ) (w : World Staked Hooks) → StakeFits P T 0 n (lists_of w.mine) w → TriplesFit w.view.ctx.height r
       → IfOk (redelegated chain_told who source target coin r w) (λ x. TriplesLeft n w x.1 x.2)
   redelegated_fits who source target coin r n w h triples =
       let height = w.view.ctx.height in
@@ -145,11 +145,11 @@ module _ (P : List ℕ → Type 0) where
       let same : v.operator ≡ source = h.staked.operators source v found in
       let target_is : t.operator ≡ target = h.staked.operators target t there in
       let own : ValidatorIsSound height v = h.staked.validators source v found in
-      on_lifted_then Overflow (unbonded_shares chain_told v who x.0 x.1 w) _ (HasUnbonded P 0 n w v amount) _
-      (unbonded_fits P 0 n w v who x.0 x.1 h (own_place P height w.mine source v h.staked found) (ap (delegation w.mine who) same ∙ within.0) within.1) (λ y k.
-      let fits = subst (λ m. StakeFits P (0 + cond (is_bonded v.status) m 0) (n + cond (is_bonded v.status) 0 m) (lists_of y.1.mine) y.1) (sym k.amount) k.fits in
-      let still : validator_at y.1.mine t.operator ≡ Some t = k.others t.operator ((λ i. same_addr (same i) (target_is i)) ∙ apart) ∙ own_place P height w.mine target t h.staked there in
-      on_then (delegated chain_told t who y.0 (pool v.status) y.1) _ (λ z. StakeFits P 0 n (lists_of z.1.mine) z.1 × (z.1.view.ctx ≡ y.1.view.ctx)) _ (delegated_fits P t who y.0 (pool v.status) 0 n y.1 fits still) (λ z j. record {
+      on_lifted_then Overflow (unbonded_shares chain_told v who x.0 x.1 w) _ (HasUnbonded P T 0 n w v amount) _
+      (unbonded_fits P T 0 n w v who x.0 x.1 h (own_place P T height w.mine source v h.staked found) (ap (delegation w.mine who) same ∙ within.0) within.1) (λ y k.
+      let fits = subst (λ m. StakeFits P T (0 + cond (is_bonded v.status) m 0) (n + cond (is_bonded v.status) 0 m) (lists_of y.1.mine) y.1) (sym k.amount) k.fits in
+      let still : validator_at y.1.mine t.operator ≡ Some t = k.others t.operator ((λ i. same_addr (same i) (target_is i)) ∙ apart) ∙ own_place P T height w.mine target t h.staked there in
+      on_then (delegated chain_told t who y.0 (pool v.status) y.1) _ (λ z. StakeFits P T 0 n (lists_of z.1.mine) z.1 × (z.1.view.ctx ≡ y.1.view.ctx)) _ (delegated_fits P T t who y.0 (pool v.status) 0 n y.1 fits still) (λ z j. record {
         fits = j.0;
         ctx = j.1 ∙ k.ctx;
         triples = appended_fits height who source target (begin_info v (is_none (validator_at y.1.mine source)) w.view.ctx) y.0 z.0 r triples
@@ -164,7 +164,7 @@ module _ (P : List ℕ → Type 0) where
       at_most : (y a t : ℕ) → y ≡ a → a ≤ t → t ≤ 10 ^ 18 → y ≤ 10 ^ 18
       at_most y a t e f g = omega (arith, e, f, g)
 
-  pub redelegate_fits : (who source target : List ℕ) (coin : Coin) (w : State) → StateFits P w → IfOk (begin_redelegate who source target coin w) (StateLeft P w)
+  pub redelegate_fits : (who source target : List ℕ) (coin : Coin) (w : State) → StateFits P T w → IfOk (begin_redelegate who source target coin w) (StateLeft P T w)
   redelegate_fits who source target coin w h =
       on_then (redelegated chain_told who source target coin w.mine.redelegations (staked_in w)) _ (λ x. TriplesLeft (entry_balances w.mine.unbondings) (staked_in w) x.1 x.2) _
       (redelegated_fits who source target coin w.mine.redelegations (entry_balances w.mine.unbondings) (staked_in w) h.stake (to_triples w.view.ctx.height w.mine.redelegations h.redelegations)) (λ x k. record {
@@ -178,4 +178,4 @@ module _ (P : List ℕ → Type 0) where
       })
 
 pub redelegating_keeps_soundness : RedelegatingKeepsSoundness
-redelegating_keeps_soundness who source target coin = keeps (begin_redelegate who source target coin) (λ P w h. redelegate_fits P who source target coin w h)
+redelegating_keeps_soundness who source target coin = keeps (begin_redelegate who source target coin) (λ P T w h. redelegate_fits P T who source target coin w h)

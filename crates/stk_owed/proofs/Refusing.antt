@@ -13,6 +13,7 @@ use Rattle.stk_coins.specs.Coins.{IsMoney, Money, amount_of, coins_added}
 use Rattle.stk_keep.proofs.HoldingLemmas.{balance-most}
 use Rattle.stk_keep.specs.Holdings.{balance_of, is_short}
 use Rattle.stk_keep.specs.World.{View, sent}
+use Rattle.stk_owed.proofs.Burns.{total_in}
 use Rattle.stk_owed.proofs.Bank.{each_within, known_enough}
 use Rattle.stk_owed.proofs.Names.{amount_in_units, units_known}
 use Rattle.stk_owed.proofs.Points.{StateFits, to_fits}
@@ -25,9 +26,9 @@ use Rattle.stk_rules.specs.Distribution.{Shared}
 use Rattle.stk_rules.specs.Purses.{Purses, pool_joined, pooled_told}
 use Rattle.stk_rules.specs.RefusalOrder.{refused_in}
 
-module _ (P : List ℕ → Type 0) where
+module _ (P : List ℕ → Type 0) (T : List ℕ → ℕ) where
   -- coins that an account has join the pool
-  joined_gives : (who : List ℕ) (coins : Money) (w : State) → IsMoney coins → StateFits P w → is_short w.view.bank (account.User who) coins ≡ false → (z : Money) × (coins_added w.hooks.0.purses.pool (in_units coins) ≡ Ok z)
+  joined_gives : (who : List ℕ) (coins : Money) (w : State) → IsMoney coins → StateFits P T w → is_short w.view.bank (account.User who) coins ≡ false → (z : Money) × (coins_added w.hooks.0.purses.pool (in_units coins) ≡ Ok z)
   joined_gives who coins w m h e =
       let bank = h.stake.ground.order.bank in
       let units = units_known P coins (each_within coins w.view.bank (account.User who) e bank) (known_enough P coins w.view.bank (account.User who) m e h.stake.ground.held) in
@@ -45,6 +46,9 @@ funds_refused who coins m w s = by (is_empty coins) (is_short w.view.bank (accou
     P : List ℕ → Type 0
     P = Contains s.few.some
 
+    T : List ℕ → ℕ
+    T = total_in w.view
+
     d : Shared
     d = shared_in w
 
@@ -59,5 +63,5 @@ funds_refused who coins m w s = by (is_empty coins) (is_short w.view.bank (accou
     by true b e = refl
     by false true e = refl
     by false false e =
-        let (z, f) = joined_gives P who coins w m (to_fits w s) e in
+        let (z, f) = joined_gives P T who coins w m (to_fits w s) e in
         subst (λ (r : Result Money Over). refused_in ((stopping Overflow (r >>= λ c. Ok (record d.purses { pool = c })) >>= after) >>= done) ≡ None) (sym f) refl

@@ -27,13 +27,14 @@ use Rattle.stk_keep.specs.Items.{no_purse}
 use Rattle.stk_keep.specs.Orders.{pair_cmp, same_addr}
 use Rattle.stk_keep.specs.Staked.{Staked, is_bonded, is_unbonded, lists_of, of_bond, tokens_where, validator_at}
 use Rattle.stk_keep.specs.declared.facts.Fact.{Fact}
+use Rattle.stk_owed.proofs.Burns.{IsQuiet, quiet_behind, quiet_pooled}
 use Rattle.stk_owed.proofs.Hooking.{IfTold, hook_gave, on_call, stake_hooks}
 use Rattle.stk_owed.proofs.Lists.{all_taken, ascend_taken, weaker}
-use Rattle.stk_owed.proofs.Moves.{HooksFit, Leaves, stake_left, user_is_other}
+use Rattle.stk_owed.proofs.Moves.{HooksFit, Leaves, stake_left, user_is_other, ground_told}
 use Rattle.stk_owed.proofs.Names.{IsKnown, known_added, known_fractions, known_smaller, known_taken, known_whole}
 use Rattle.stk_owed.proofs.Periods.{Ordered, some_unwrap}
 use Rattle.stk_owed.proofs.Points.{GroundFits, IsRecorded, PeriodsFit, PurseFits, StakeFits, StartFits}
-use Rattle.stk_owed.proofs.Purses.{HasJoined, are_paid, ground_told, has_joined, owed_of, own_purse}
+use Rattle.stk_owed.proofs.Purses.{HasJoined, are_paid, has_joined, owed_of, own_purse}
 use Rattle.stk_owed.proofs.Standing.{stake_relisted, stake_told}
 use Rattle.stk_owed.proofs.Steps.{on_bind, on_then}
 use Rattle.stk_owed.proofs.Totals.{total, total_left}
@@ -106,8 +107,8 @@ sound-removed height s v h f z = record {
     stays true p q = absurd cc
     stays false p q = q
 
-module _ (P : List ℕ → Type 0) where
-  pub stake_removed : (b n : ℕ) (l : Lists) (w : World Staked Hooks) (v : Validator) → StakeFits P b n l w → validator_at w.mine v.operator ≡ Some v → v.shares ≡ 0 → StakeFits P b n l (over_mine (without_validator v.operator) w)
+module _ (P : List ℕ → Type 0) (T : List ℕ → ℕ) where
+  pub stake_removed : (b n : ℕ) (l : Lists) (w : World Staked Hooks) (v : Validator) → StakeFits P T b n l w → validator_at w.mine v.operator ≡ Some v → v.shares ≡ 0 → StakeFits P T b n l (over_mine (without_validator v.operator) w)
   stake_removed b n l w v s f z = record {
     ground = s.ground;
     staked = sound-removed w.view.ctx.height w.mine v s.staked f z;
@@ -174,18 +175,18 @@ module _ (P : List ℕ → Type 0) where
       kept tq t t0 out less due cm pq p0 rest w fr e f g h i j k m n = omega (arith, e, f, g, h, i, j, k, m, n)
 
   -- what the last hook of a validator leaves
-  pub removal_leaves : (val : Validator) (v : View) (l : Lists) (d : Shared) → HooksFit P v l d → l.operators val.operator ≡ true → IfOk (records_removed val d v) (λ z. Leaves P v (with_operator val.operator false l) z.0 z.1)
+  pub removal_leaves : (val : Validator) (v : View) (l : Lists) (d : Shared) → HooksFit P T v l d → l.operators val.operator ≡ true → IfOk (records_removed val d v) (λ z. Leaves P T v (with_operator val.operator false l) z.0 z.1)
   removal_leaves val v l d h there =
       let s = h.shared in
       let op = val.operator in
       let to = payee_of d op in
       on_then (closed op d.purses) _ (HasClosed op d.purses) _ (has_closed op d.purses (s.purses_ascend, s.purses, s.pool) (s.stands.purses op ∙ there)) (λ z k.
-      let paid = are_paid P v (account.User to) z.0 (owed_from_distribution d) (owed_of z.2) h.ground k.known.money (user_is_other to) h.owed k.owed in
+      let paid = are_paid P T v (account.User to) z.0 (owed_from_distribution d) (owed_of z.2) h.ground k.known.money (user_is_other to) h.owed k.owed in
       let v1 : View = paid_to to z.0 v in
-      let told = by_empty (is_empty z.0) (fact.Commission op to z.0) v1 paid.ground in
+      let told = by_empty (is_empty z.0) (fact.Commission op to z.0) v1 (λ x. refl) paid.ground in
       record {
         ctx = same_ctx (is_empty z.0) (fact.Commission op to z.0) v1;
-        ground = ground_told P (pooled_told z.1) (if is_empty z.0 then v1 else noted (fact.Commission op to z.0) v1) told;
+        ground = ground_told P T (pooled_told z.1) (if is_empty z.0 then v1 else noted (fact.Commission op to z.0) v1) (quiet_pooled z.1 (if is_empty z.0 then v1 else noted (fact.Commission op to z.0) v1).facts) told;
         bonded = λ e. ap (λ bank. balance_of bank (account.Module holder.Bonded) e) (same_bank (is_empty z.0) (fact.Commission op to z.0) v1) ∙ paid.bonded e;
         not_bonded = λ e. ap (λ bank. balance_of bank (account.Module holder.NotBonded) e) (same_bank (is_empty z.0) (fact.Commission op to z.0) v1) ∙ paid.not_bonded e;
         owed = λ e. ap (λ bank. 10 ^ 18 * balance_of bank (account.Module holder.Distribution) e) (same_bank (is_empty z.0) (fact.Commission op to z.0) v1) ∙ paid.holds e;
@@ -208,9 +209,9 @@ module _ (P : List ℕ → Type 0) where
         };
       })
     where
-      by_empty : (b : Bool) (f : Fact) (u : View) → GroundFits P u → GroundFits P (if b then u else noted f u)
-      by_empty true f u g = g
-      by_empty false f u g = ground_told P (λ facts. facts ++ f ∷ []) u g
+      by_empty : (b : Bool) (f : Fact) (u : View) → IsQuiet f → GroundFits P T u → GroundFits P T (if b then u else noted f u)
+      by_empty true f u q g = g
+      by_empty false f u q g = ground_told P T (λ facts. facts ++ f ∷ []) u (quiet_behind u.facts f q) g
 
       same_ctx : (b : Bool) (f : Fact) (u : View) → (if b then u else noted f u).ctx ≡ u.ctx
       same_ctx true f u = refl
@@ -228,28 +229,28 @@ module _ (P : List ℕ → Type 0) where
 
   -- what it leaves: all that fits, and every other validator
   pub record StakeLeft (b n : ℕ) (w : World Staked Hooks) (op : List ℕ) (x : World Staked Hooks) : Type 0 where
-    pub fits : StakeFits P b n (lists_of x.mine) x
+    pub fits : StakeFits P T b n (lists_of x.mine) x
     pub ctx : x.view.ctx ≡ w.view.ctx
     pub others : (o : List ℕ) → same_addr op o ≡ false → validator_at x.mine o ≡ validator_at w.mine o
 
-  pub removed_fits : (b n : ℕ) (w : World Staked Hooks) (v : Validator) → StakeFits P b n (lists_of w.mine) w → validator_at w.mine v.operator ≡ Some v → v.shares ≡ 0
+  pub removed_fits : (b n : ℕ) (w : World Staked Hooks) (v : Validator) → StakeFits P T b n (lists_of w.mine) w → validator_at w.mine v.operator ≡ Some v → v.shares ≡ 0
       → IfOk (validator_removed chain_told v w) (StakeLeft b n w v.operator)
   removed_fits b n w v h found none =
       let l = lists_of w.mine in
       let op = v.operator in
       let w1 : World Staked Hooks = over_mine (without_validator op) w in
       let gone = stake_removed b n l w v h found none in
-      on_call (hook.removed v) w1 (λ x. Ok (over_view (noted (fact.Removed op)) x)) (λ d u. Leaves P w1.view (with_operator op false l) d u) (StakeLeft b n w op) (λ u. refl)
-      (unlogged_if (records_removed v w1.hooks.0 w1.view) (λ d u. Leaves P w1.view (with_operator op false l) d u) (removal_leaves v w1.view l w1.hooks.0 (stake_hooks P b n l w1 gone) (ap is_some found)))
+      on_call (hook.removed v) w1 (λ x. Ok (over_view (noted (fact.Removed op)) x)) (λ d u. Leaves P T w1.view (with_operator op false l) d u) (StakeLeft b n w op) (λ u. refl)
+      (unlogged_if (records_removed v w1.hooks.0 w1.view) (λ d u. Leaves P T w1.view (with_operator op false l) d u) (removal_leaves v w1.view l w1.hooks.0 (stake_hooks P T b n l w1 gone) (ap is_some found)))
       (λ d u k left. record {
-        fits = stake_told P b n (lists_of w1.mine) (hook_gave w1 d u k) (λ facts. facts ++ fact.Removed op ∷ [])
-            (stake_relisted P b n (with_operator op false l) (lists_of w1.mine) (hook_gave w1 d u k) (stake_left P b n l (with_operator op false l) w1 d u (w1.log ++ k) gone left)
+        fits = stake_told P T b n (lists_of w1.mine) (hook_gave w1 d u k) (λ facts. facts ++ fact.Removed op ∷ []) (quiet_behind u.facts (fact.Removed op) (λ x. refl))
+            (stake_relisted P T b n (with_operator op false l) (lists_of w1.mine) (hook_gave w1 d u k) (stake_left P T b n l (with_operator op false l) w1 d u (w1.log ++ k) gone left)
             (λ o. gone_key w.mine.validators op o h.staked.validators_ascend) (λ who o. refl));
         ctx = left.ctx;
         others = λ o e. at-taken addr_cmp addr_total w.mine.validators op o h.staked.validators_ascend ∙ ap (λ t. cond t None (validator_at w.mine o)) (same_back o op ∙ e);
       })
 
-  pub removed_if_fits : (b n : ℕ) (w : World Staked Hooks) (v : Validator) → StakeFits P b n (lists_of w.mine) w → validator_at w.mine v.operator ≡ Some v → IfOk (removed_if_empty chain_told v w) (StakeLeft b n w v.operator)
+  pub removed_if_fits : (b n : ℕ) (w : World Staked Hooks) (v : Validator) → StakeFits P T b n (lists_of w.mine) w → validator_at w.mine v.operator ≡ Some v → IfOk (removed_if_empty chain_told v w) (StakeLeft b n w v.operator)
   removed_if_fits b n w v h found = by (is_unbonded v.status) (v.shares == 0) refl
     where
       zero_is : (m : ℕ) → (m == 0) ≡ true → m ≡ 0

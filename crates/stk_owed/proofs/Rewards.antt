@@ -24,12 +24,13 @@ use Rattle.stk_dec.specs.Decimals.{trunc_of}
 use Rattle.stk_keep.specs.Items.{no_purse}
 use Rattle.stk_keep.specs.Orders.{pair_cmp, same_addr}
 use Rattle.stk_keep.specs.Staked.{lists_of, delegation, validator_at}
+use Rattle.stk_owed.proofs.Burns.{quiet_behind, quiet_pooled}
 use Rattle.stk_owed.proofs.Lists.{all_put, all_taken, ascend_taken, looked_up}
-use Rattle.stk_owed.proofs.Moves.{HooksFit, Leaves, fit_after, keeps, leaves_then, state_left, user_is_other}
+use Rattle.stk_owed.proofs.Moves.{HooksFit, Leaves, fit_after, keeps, leaves_then, state_left, user_is_other, ground_told}
 use Rattle.stk_owed.proofs.Names.{IsKnown, known_added, known_fractions, known_mul_cut, known_none, known_smaller, known_taken, known_whole}
 use Rattle.stk_owed.proofs.Periods.{HasEnded, HasTaken, ended_with, has_ended, has_taken, periods_put, pool_after, ratio_known, same_some, some_unwrap, start_after, Ordered}
 use Rattle.stk_owed.proofs.Points.{PeriodsFit, PurseFits, SharedFits, StartFits, StateFits, StateLeft}
-use Rattle.stk_owed.proofs.Purses.{HasJoined, PursesFit, are_paid, ground_told, has_joined, owed_of, own_purse, purse_put, shared_purses}
+use Rattle.stk_owed.proofs.Purses.{HasJoined, PursesFit, are_paid, has_joined, owed_of, own_purse, purse_put, shared_purses}
 use Rattle.stk_owed.proofs.Standing.{own_place, relisted}
 use Rattle.stk_owed.proofs.Steps.{lifted_if, on_bind, on_found, on_then, weaker_if}
 use Rattle.stk_owed.proofs.Totals.{total, total_put}
@@ -72,12 +73,12 @@ gone_there r who op w o a = ap is_some (at-taken pair_cmp pair_total r.starts (o
     by true = refl
     by false = refl
 
-module _ (P : List ℕ → Type 0) where
+module _ (P : List ℕ → Type 0) (T : List ℕ → ℕ) where
   -- ---- ending
 
   -- what the end of a validator's period leaves
   pub record EndFits (val : Validator) (v : View) (l : Lists) (d : Shared) (z : ℕ × Shared × View × Log) : Type 0 where
-    pub leaves : Leaves P v l z.1 z.2
+    pub leaves : Leaves P T v l z.1 z.2
     pub old : Periods
     pub ratio : Money
     pub found : at addr_cmp d.rewards.periods val.operator ≡ Some old
@@ -91,7 +92,7 @@ module _ (P : List ℕ → Type 0) where
   pub own_periods : (height : ℕ) (es : List (List ℕ × Periods)) (o : List ℕ) (p : Periods) → at addr_cmp es o ≡ Some p → AllByRecursion (λ e. PeriodsFit P height e.1) es → PeriodsFit P height p
   own_periods height es o p e h = looked_up (λ (x : List ℕ × Periods). PeriodsFit P height x.1) (is_at (addr_cmp o)) (PeriodsFit P height) (λ k y t g. g) es p e h
 
-  pub end_fits : (val : Validator) (v : View) (l : Lists) (d : Shared) → HooksFit P v l d → l.operators val.operator ≡ true → IfOk (ended val d v) (EndFits val v l d)
+  pub end_fits : (val : Validator) (v : View) (l : Lists) (d : Shared) → HooksFit P T v l d → l.operators val.operator ≡ true → IfOk (ended val d v) (EndFits val v l d)
   end_fits val v l d h there =
       let s = h.shared in
       let op = val.operator in
@@ -105,7 +106,7 @@ module _ (P : List ℕ → Type 0) where
       record {
         leaves = record {
           ctx = refl;
-          ground = ground_told P (λ facts. pooled_told x.1 facts ++ fact.Period op (last_ended y.1) y.0 ∷ []) v h.ground;
+          ground = ground_told P T (λ facts. pooled_told x.1 facts ++ fact.Period op (last_ended y.1) y.0 ∷ []) v (λ e. quiet_behind (pooled_told x.1 v.facts) (fact.Period op (last_ended y.1) y.0) (λ c. refl) e ∙ quiet_pooled x.1 v.facts e) h.ground;
           bonded = λ e. refl;
           not_bonded = λ e. refl;
           owed = λ e. h.owed e ∙ sym (t.owed e);
@@ -121,8 +122,8 @@ module _ (P : List ℕ → Type 0) where
 
   -- ---- starting
 
-  pub start_leaves : (val : Validator) (who : List ℕ) (shares : ℕ) (v : View) (l : Lists) (d : Shared) → HooksFit P v l d → l.operators val.operator ≡ true
-      → Leaves P v (with_started who val.operator true l) (started val who shares d v).0 (started val who shares d v).1
+  pub start_leaves : (val : Validator) (who : List ℕ) (shares : ℕ) (v : View) (l : Lists) (d : Shared) → HooksFit P T v l d → l.operators val.operator ≡ true
+      → Leaves P T v (with_started who val.operator true l) (started val who shares d v).0 (started val who shares d v).1
   start_leaves val who shares v l d h there =
       let s = h.shared in
       let op = val.operator in
@@ -133,7 +134,7 @@ module _ (P : List ℕ → Type 0) where
       let begun : StartFits v.ctx.height p info = record { period = before p.current fits.first; height = omega arith; stands = fits.last } in
       record {
         ctx = refl;
-        ground = ground_told P (λ facts. facts ++ fact.Started who op (last_ended p) info.stake ∷ []) v h.ground;
+        ground = ground_told P T (λ facts. facts ++ fact.Started who op (last_ended p) info.stake ∷ []) v (quiet_behind v.facts (fact.Started who op (last_ended p) info.stake) (λ e. refl)) h.ground;
         bonded = λ e. refl;
         not_bonded = λ e. refl;
         owed = h.owed;
@@ -218,15 +219,16 @@ module _ (P : List ℕ → Type 0) where
     payees = s.payees;
   }
 
-  paid_leaves : (v : View) (l : Lists) (d : Shared) (who op to : List ℕ) (reward : Money) (q : Purses) → HooksFit P v l d → HasPaid d.purses (reward, q)
-      → Leaves P v (with_started who op false l) (record d { rewards = without_start who op d.rewards; purses = q })
+  paid_leaves : (v : View) (l : Lists) (d : Shared) (who op to : List ℕ) (reward : Money) (q : Purses) → HooksFit P T v l d → HasPaid d.purses (reward, q)
+      → Leaves P T v (with_started who op false l) (record d { rewards = without_start who op d.rewards; purses = q })
       (noted (fact.Paid who op to reward (whole_coins reward)) (over_facts (pooled_told (fractions reward)) (paid_to to (whole_coins reward) v)))
   paid_leaves v l d who op to reward q h k =
       let coins = whole_coins reward in
-      let paid = are_paid P v (account.User to) coins (owed_from_distribution d) (owed_of q) h.ground (known_whole P reward k.known).money (user_is_other to) h.owed k.owed in
+      let paid = are_paid P T v (account.User to) coins (owed_from_distribution d) (owed_of q) h.ground (known_whole P reward k.known).money (user_is_other to) h.owed k.owed in
       record {
         ctx = refl;
-        ground = ground_told P (λ facts. pooled_told (fractions reward) facts ++ fact.Paid who op to reward coins ∷ []) (paid_to to coins v) paid.ground;
+        ground = ground_told P T (λ facts. pooled_told (fractions reward) facts ++ fact.Paid who op to reward coins ∷ []) (paid_to to coins v)
+            (λ e. quiet_behind (pooled_told (fractions reward) (paid_to to coins v).facts) (fact.Paid who op to reward coins) (λ c. refl) e ∙ quiet_pooled (fractions reward) (paid_to to coins v).facts e) paid.ground;
         bonded = paid.bonded;
         not_bonded = paid.not_bonded;
         owed = paid.holds;
@@ -234,11 +236,11 @@ module _ (P : List ℕ → Type 0) where
       }
 
   -- what is due is known, and the period has ended
-  due_leaves : (val : Validator) (who : List ℕ) (shares : ℕ) (v : View) (l : Lists) (d : Shared) → HooksFit P v l d → l.operators val.operator ≡ true
-      → IfOk (reward_due val who shares d v) (λ z. IsKnown P z.0 × Leaves P v l z.1 z.2)
+  due_leaves : (val : Validator) (who : List ℕ) (shares : ℕ) (v : View) (l : Lists) (d : Shared) → HooksFit P T v l d → l.operators val.operator ≡ true
+      → IfOk (reward_due val who shares d v) (λ z. IsKnown P z.0 × Leaves P T v l z.1 z.2)
   due_leaves val who shares v l d h there =
       on_then (ended val d v) _ (EndFits val v l d) _ (end_fits val v l d h there) (λ x k.
-      let s = (fit_after P v x.2 l x.1 k.leaves).shared in
+      let s = (fit_after P T v x.2 l x.1 k.leaves).shared in
       let op = val.operator in
       let p : Periods = periods_of x.1.rewards op in
       let found : at addr_cmp x.1.rewards.periods op ≡ Some p = some_unwrap (at addr_cmp x.1.rewards.periods op) initial_records (s.stands.periods op ∙ there) in
@@ -246,28 +248,28 @@ module _ (P : List ℕ → Type 0) where
       on_then (reward_at (start_of x.1.rewards who op) p x.0 x.2.ctx.height (value_even_of val.tokens val.shares shares)) _ (IsKnown P) _
       (reward_known (start_of x.1.rewards who op) p x.0 x.2.ctx.height (value_even_of val.tokens val.shares shares) own.lists) (λ full known. (known, k.leaves)))
 
-  pub withdrawal_leaves : (val : Validator) (who : List ℕ) (shares : ℕ) (v : View) (l : Lists) (d : Shared) → HooksFit P v l d → l.operators val.operator ≡ true
-      → IfOk (reward_withdrawn val who shares d v) (λ z. Leaves P v (with_started who val.operator false l) z.1 z.2)
+  pub withdrawal_leaves : (val : Validator) (who : List ℕ) (shares : ℕ) (v : View) (l : Lists) (d : Shared) → HooksFit P T v l d → l.operators val.operator ≡ true
+      → IfOk (reward_withdrawn val who shares d v) (λ z. Leaves P T v (with_started who val.operator false l) z.1 z.2)
   withdrawal_leaves val who shares v l d h there =
-      on_then (reward_due val who shares d v) _ (λ z. IsKnown P z.0 × Leaves P v l z.1 z.2) _ (due_leaves val who shares v l d h there) (λ x k.
-      let fits = fit_after P v x.2 l x.1 k.1 in
+      on_then (reward_due val who shares d v) _ (λ z. IsKnown P z.0 × Leaves P T v l z.1 z.2) _ (due_leaves val who shares v l d h there) (λ x k.
+      let fits = fit_after P T v x.2 l x.1 k.1 in
       let s = fits.shared in
       let op = val.operator in
       on_then (paid_out op x.0 x.1.purses) _ (HasPaid x.1.purses) _ (has_paid op x.0 x.1.purses (s.purses_ascend, s.purses, s.pool) (s.stands.purses op ∙ there) k.0) (λ y paid.
-      leaves_then P v x.2 _ l (with_started who op false l) x.1 _ k.1 (paid_leaves x.2 l x.1 who op (payee_of x.1 who) y.0 y.1 fits paid)))
+      leaves_then P T v x.2 _ l (with_started who op false l) x.1 _ k.1 (paid_leaves x.2 l x.1 who op (payee_of x.1 who) y.0 y.1 fits paid)))
 
   -- a reward is withdrawn, and the rewards start anew
-  pub renewal_leaves : (val : Validator) (who : List ℕ) (shares : ℕ) (v : View) (l : Lists) (d : Shared) → HooksFit P v l d → l.operators val.operator ≡ true
-      → IfOk (reward_renewed val who shares d v) (λ z. Leaves P v (with_started who val.operator true (with_started who val.operator false l)) z.1 z.2)
+  pub renewal_leaves : (val : Validator) (who : List ℕ) (shares : ℕ) (v : View) (l : Lists) (d : Shared) → HooksFit P T v l d → l.operators val.operator ≡ true
+      → IfOk (reward_renewed val who shares d v) (λ z. Leaves P T v (with_started who val.operator true (with_started who val.operator false l)) z.1 z.2)
   renewal_leaves val who shares v l d h there =
-      on_then (reward_withdrawn val who shares d v) _ (λ z. Leaves P v (with_started who val.operator false l) z.1 z.2) _ (withdrawal_leaves val who shares v l d h there) (λ x k.
-      leaves_then P v x.2 _ (with_started who val.operator false l) _ x.1 _ k (start_leaves val who shares x.2 (with_started who val.operator false l) x.1 (fit_after P v x.2 (with_started who val.operator false l) x.1 k) there))
+      on_then (reward_withdrawn val who shares d v) _ (λ z. Leaves P T v (with_started who val.operator false l) z.1 z.2) _ (withdrawal_leaves val who shares v l d h there) (λ x k.
+      leaves_then P T v x.2 _ (with_started who val.operator false l) _ x.1 _ k (start_leaves val who shares x.2 (with_started who val.operator false l) x.1 (fit_after P T v x.2 (with_started who val.operator false l) x.1 k) there))
 
   -- ---- the message
 
   -- the same under other lists
-  leaves_listed : (v : View) (l l2 : Lists) (d : Shared) (u : View) → Leaves P v l d u → ((o : List ℕ) → l2.operators o ≡ l.operators o) → ((who o : List ℕ) → l2.started who o ≡ l.started who o) → Leaves P v l2 d u
-  leaves_listed v l l2 d u k f g = record { ctx = k.ctx; ground = k.ground; bonded = k.bonded; not_bonded = k.not_bonded; owed = k.owed; shared = relisted P v.ctx.height l l2 d k.shared f g }
+  leaves_listed : (v : View) (l l2 : Lists) (d : Shared) (u : View) → Leaves P T v l d u → ((o : List ℕ) → l2.operators o ≡ l.operators o) → ((who o : List ℕ) → l2.started who o ≡ l.started who o) → Leaves P T v l2 d u
+  leaves_listed v l l2 d u k f g = record { ctx = k.ctx; ground = k.ground; bonded = k.bonded; not_bonded = k.not_bonded; owed = k.owed; shared = relisted P T v.ctx.height l l2 d k.shared f g }
 
   again : (l : Lists) (who op w o : List ℕ) → l.started who op ≡ true → cond (same_addr who w && same_addr op o) true (cond (same_addr who w && same_addr op o) false (l.started w o)) ≡ l.started w o
   again l who op w o e = by (same_addr who w) (same_addr op o) refl refl
@@ -277,20 +279,20 @@ module _ (P : List ℕ → Type 0) where
       by true false p q = refl
       by true true p q = sym (ap (λ x. l.started x o) (sym (same_is who w p)) ∙ ap (λ y. l.started who y) (sym (same_is op o q)) ∙ e)
 
-  pub reward_fits : (who operator : List ℕ) (w : State) → StateFits P w → IfOk (withdraw_reward who operator w) (StateLeft P w)
+  pub reward_fits : (who operator : List ℕ) (w : State) → StateFits P T w → IfOk (withdraw_reward who operator w) (StateLeft P T w)
   reward_fits who operator w h =
       let s = w.mine.staked in
       let l = lists_of s in
-      on_then (reward_taken s who operator w.hooks.0 w.view) _ (λ x. StateLeft P w (with_shared x.1 x.2 x.3 w)) _
+      on_then (reward_taken s who operator w.hooks.0 w.view) _ (λ x. StateLeft P T w (with_shared x.1 x.2 x.3 w)) _
       (on_found (validator_at s operator) NoValidator _ _ (λ val found. on_found (delegation s who operator) NoDelegation _ _ (λ shares held.
-      let own : validator_at s val.operator ≡ Some val = own_place P w.view.ctx.height s operator val h.stake.staked found in
+      let own : validator_at s val.operator ≡ Some val = own_place P T w.view.ctx.height s operator val h.stake.staked found in
       let same : val.operator ≡ operator = h.stake.staked.operators operator val found in
       let started : is_some (delegation s who val.operator) ≡ true = ap (λ o. is_some (delegation s who o)) same ∙ ap is_some held in
-      lifted_if Overflow (reward_renewed val who shares w.hooks.0 w.view) (λ x. StateLeft P w (with_shared x.1 x.2 x.3 w))
-      (weaker_if (reward_renewed val who shares w.hooks.0 w.view) (λ z. Leaves P w.view (with_started who val.operator true (with_started who val.operator false l)) z.1 z.2) (λ x. StateLeft P w (with_shared x.1 x.2 x.3 w))
+      lifted_if Overflow (reward_renewed val who shares w.hooks.0 w.view) (λ x. StateLeft P T w (with_shared x.1 x.2 x.3 w))
+      (weaker_if (reward_renewed val who shares w.hooks.0 w.view) (λ z. Leaves P T w.view (with_started who val.operator true (with_started who val.operator false l)) z.1 z.2) (λ x. StateLeft P T w (with_shared x.1 x.2 x.3 w))
       (renewal_leaves val who shares w.view l w.hooks.0 (record { ground = h.stake.ground; owed = h.stake.owed; shared = h.stake.shared }) (ap is_some own))
-      (λ x k. state_left P w x.1 x.2 x.3 h (leaves_listed w.view _ l x.1 x.2 k (λ o. refl) (λ u o. sym (again l who val.operator u o started))))))))
+      (λ x k. state_left P T w x.1 x.2 x.3 h (leaves_listed w.view _ l x.1 x.2 k (λ o. refl) (λ u o. sym (again l who val.operator u o started))))))))
       (λ x k. k)
 
 pub rewards_keep_soundness : RewardsKeepSoundness
-rewards_keep_soundness who operator = keeps (withdraw_reward who operator) (λ P w h. reward_fits P who operator w h)
+rewards_keep_soundness who operator = keeps (withdraw_reward who operator) (λ P T w h. reward_fits P T who operator w h)

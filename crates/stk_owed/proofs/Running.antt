@@ -1,24 +1,30 @@
 -- Blocks keep a state sound, and so do runs of them.
-use Rattle.std.proofs.Common.{◌≡◌, ◌∙◌, ℕ, suc, ◌+◌, ◌*◌, ◌^◌, ◌<◌, ◌≤◌, Bool, true, false, List, [], ◌∷◌, ◌++◌, length, Some, None, Option, Result, Ok, Err, refl, sym, ap, subst, arith}
-use Rattle.std.specs.Prelude.{◌||◌, nat_lt, is_none, All, IfOk, Contains, ⊤}
+use Rattle.std.proofs.Common.{◌≡◌, ◌∙◌, ℕ, suc, ◌+◌, ◌*◌, ◌^◌, ◌<◌, ◌≤◌, Bool, true, false, List, [], ◌∷◌, ◌++◌, length, map, Some, None, Option, Result, Ok, Err, refl, sym, ap, subst, arith}
+use Rattle.std.specs.Prelude.{◌||◌, nat_lt, is_none, sum, All, IfOk, Contains, ⊤}
 use Rattle.std.specs.BTreeMap.{is_at}
 use Rattle.std.specs.List.{AllByRecursion, list_any}
 use Rattle.std.proofs.lemmas.List.Elements.{All-head, All-tail}
+use Rattle.std.proofs.lemmas.List.Sums.{sum_by-cons}
 use Rattle.stk_types.specs.Orders.{cons_cmp}
 use Rattle.stk_keep.specs.declared.entities.Validator.{Validator}
+use Rattle.stk_keep.specs.declared.facts.Fact.{Fact}
 use Rattle.stk_keep.specs.declared.messages.Evidence.{Evidence}
 use Rattle.stk_keep.specs.declared.messages.Vote.{Vote}
 use Rattle.stk_keep.specs.declared.params.Ctx.{Ctx}
+use Rattle.stk_keep.specs.Holdings.{supply_of}
 use Rattle.stk_keep.specs.Steps.{◌>>=◌, ◌>>◌, stop_if, each}
 use Rattle.stk_msgs.specs.declared.block.Block.{Block}
 use Rattle.stk_msgs.specs.declared.faults.BlockFault.{BlockFault}
 use Rattle.stk_msgs.specs.declared.faults.BlockFault.TheVariants.{UnknownVote, RepeatedVote, BadPower, RatioLimit}
-use Rattle.stk_machine.specs.Machine.{Step, vote_checked, votes_checked, evidence_checked, block_checked, power_of_votes, stop_at, step, going_on, run_of, txs_applied}
+use Rattle.stk_msgs.specs.declared.report.BlockReport.{BlockReport}
+use Rattle.stk_msgs.specs.declared.report.TxReport.{TxReport}
+use Rattle.stk_machine.specs.Machine.{Run, Step, TxSteps, vote_checked, votes_checked, evidence_checked, block_checked, power_of_votes, stop_at, step, going_on, run_of, txs_applied}
 use Rattle.stk_machine.specs.Blocks.{block_fault}
 use Rattle.stk_machine.proofs.BuiltLemmas.{IsDue, is_due}
 use Rattle.stk_keep.specs.Staked.{Staked, lists_of, validator_by_cons}
 use Rattle.stk_machine.specs.GenesisState.{without_facts}
-use Rattle.stk_machine.specs.Promises.{TxHasCoins}
+use Rattle.stk_machine.specs.Promises.{AreInput, TxHasCoins, facts_of}
+use Rattle.stk_owed.proofs.Burns.{burned_together, total_in}
 use Rattle.stk_owed.proofs.Allocating.{fees_leave, with_purses}
 use Rattle.stk_owed.proofs.Bonding.{set_step_fits}
 use Rattle.stk_owed.proofs.Ending.{redelegations_fit, unbondings_fit}
@@ -30,13 +36,13 @@ use Rattle.stk_owed.proofs.Maturing.{maturing_fits}
 use Rattle.stk_owed.proofs.Moves.{Leaves, state_left}
 use Rattle.stk_owed.proofs.Points.{AreAllWhole, StateFits, StateLeft, WholeEntries, from_fits, to_fits}
 use Rattle.stk_owed.proofs.Steps.{on_lifted_then, on_next, on_then, weaker_if}
-use Rattle.stk_owed.proofs.Transactions.{WholeFits, txs_fit, without_facts_fits}
+use Rattle.stk_owed.proofs.Transactions.{TxsFit, WholeFits, burned_by, renewed, txs_fit, without_facts_fits}
 use Rattle.stk_owed.proofs.Voting.{EvidenceLeft, VoteLeft, evidence_fits, own_record, vote_fits}
-use Rattle.stk_owed.specs.Kept.{RunsKeepSoundness}
+use Rattle.stk_owed.specs.Kept.{RunsKeepSoundness, RunsLowerSupplies}
 use Rattle.stk_rules.specs.Allocation.{fees_allocated}
 use Rattle.stk_rules.specs.Chain.{State, allocation_step, begin_block, end_block, evidence_step, maturing_step, redelegations_step, set_step, staked_in, unbondings_step, vote_step}
-use Rattle.stk_rules.specs.Laws.{next_block}
-use Rattle.stk_rules.specs.Sound.{UnbondingIsSound}
+use Rattle.stk_rules.specs.Laws.{burned_in, next_block}
+use Rattle.stk_rules.specs.Sound.{IsSound, UnbondingIsSound}
 use Rattle.stk_rules.specs.Unbondings.{UnbondingLists}
 use Rattle.stk_rules.specs.Window.{Signing, signing_of}
 
@@ -124,12 +130,12 @@ votes_are s reduction (t ∷ ts) before e =
 abbrev CountBelow : State → List Vote → Type 0
 CountBelow w ts = AllByRecursion (λ t. (s : Signing) → signing_of w.hooks.1 t.cons ≡ Some s → length s.votes < w.view.ctx.height) ts
 
-module _ (P : List ℕ → Type 0) where
+module _ (P : List ℕ → Type 0) (T : List ℕ → ℕ) where
   -- ---- the beginning
 
   -- what parts of a block's beginning leave; unbonding entries are as old as they were
   record BegunLeft (w x : State) : Type 0 where
-    fits : StateFits P x
+    fits : StateFits P T x
     ctx : x.view.ctx ≡ w.view.ctx
     pairs : (m : ℕ) → PairsFit m w.mine.unbondings → PairsFit m x.mine.unbondings
 
@@ -141,16 +147,16 @@ module _ (P : List ℕ → Type 0) where
   counts_on w x t [] c o a h = tt
   counts_on w x t (u ∷ ts) c o a h = (λ s f. subst (λ (k : Ctx). length s.votes < k.height) (sym c) (h.0 s (sym (o u.cons a.0) ∙ f)), counts_on w x t ts c o a.1 h.1)
 
-  all_votes : (ts : List Vote) (w : State) → StateFits P w → AreDistinct ts → CountBelow w ts → IfOk (each vote_step ts w) (BegunLeft w)
+  all_votes : (ts : List Vote) (w : State) → StateFits P T w → AreDistinct ts → CountBelow w ts → IfOk (each vote_step ts w) (BegunLeft w)
   all_votes [] w h d c = record { fits = h; ctx = refl; pairs = λ m k. k }
   all_votes (t ∷ ts) w h d c =
-      on_then {B = State} (vote_step t w) (λ x. each vote_step ts x) (VoteLeft P t.cons w) (BegunLeft w) (vote_fits P t w h c.0) (λ x k.
+      on_then {B = State} (vote_step t w) (λ x. each vote_step ts x) (VoteLeft P T t.cons w) (BegunLeft w) (vote_fits P T t w h c.0) (λ x k.
       weaker_if (each vote_step ts x) (BegunLeft x) (BegunLeft w) (all_votes ts x k.fits d.1 (counts_on w x t ts k.ctx k.others d.0 c.1)) (λ y j. begun_then w x y (record { fits = k.fits; ctx = k.ctx; pairs = k.pairs }) j))
 
-  all_evidence : (es : List Evidence) (w : State) → StateFits P w → IfOk (each evidence_step es w) (BegunLeft w)
+  all_evidence : (es : List Evidence) (w : State) → StateFits P T w → IfOk (each evidence_step es w) (BegunLeft w)
   all_evidence [] w h = record { fits = h; ctx = refl; pairs = λ m k. k }
   all_evidence (e ∷ es) w h =
-      on_then {B = State} (evidence_step e w) (λ x. each evidence_step es x) (EvidenceLeft P w) (BegunLeft w) (evidence_fits P e w h) (λ x k.
+      on_then {B = State} (evidence_step e w) (λ x. each evidence_step es x) (EvidenceLeft P T w) (BegunLeft w) (evidence_fits P T e w h) (λ x k.
       weaker_if (each evidence_step es x) (BegunLeft x) (BegunLeft w) (all_evidence es x k.fits) (λ y j. begun_then w x y (record { fits = k.fits; ctx = k.ctx; pairs = k.pairs }) j))
 
   -- allocation leaves entries and records as they were
@@ -158,13 +164,13 @@ module _ (P : List ℕ → Type 0) where
     left : BegunLeft w x
     window : x.hooks.1 ≡ w.hooks.1
 
-  allocated_left : (votes : List Vote) (w : State) → StateFits P w → AreKnown w.mine.staked votes → IfOk (allocation_step votes w) (AllocatedLeft w)
+  allocated_left : (votes : List Vote) (w : State) → StateFits P T w → AreKnown w.mine.staked votes → IfOk (allocation_step votes w) (AllocatedLeft w)
   allocated_left votes w h known =
       let s = w.mine.staked in
-      on_then (fees_allocated s votes w.hooks.0 w.view) _ (λ z. Leaves P w.view (lists_of s) z.0 z.1) _ (fees_leave P s votes w.hooks.0 w.view (lists_of s) (stake_hooks P 0 _ (lists_of s) (staked_in w) h.stake) (with_purses P votes w h known))
-      (λ z k. record { left = record { fits = (state_left P w z.0 z.1 z.2 h k).fits; ctx = k.ctx; pairs = λ m g. g }; window = refl })
+      on_then (fees_allocated s votes w.hooks.0 w.view) _ (λ z. Leaves P T w.view (lists_of s) z.0 z.1) _ (fees_leave P T s votes w.hooks.0 w.view (lists_of s) (stake_hooks P T 0 _ (lists_of s) (staked_in w) h.stake) (with_purses P T votes w h known))
+      (λ z k. record { left = record { fits = (state_left P T w z.0 z.1 z.2 h k).fits; ctx = k.ctx; pairs = λ m g. g }; window = refl })
 
-  begin_fits : (votes : List Vote) (evidence : List Evidence) (w : State) → StateFits P w → AreKnown w.mine.staked votes → AreDistinct votes → CountBelow w votes → IfOk (begin_block votes evidence w) (BegunLeft w)
+  begin_fits : (votes : List Vote) (evidence : List Evidence) (w : State) → StateFits P T w → AreKnown w.mine.staked votes → AreDistinct votes → CountBelow w votes → IfOk (begin_block votes evidence w) (BegunLeft w)
   begin_fits votes evidence w h known distinct below =
       on_then {B = State} (allocation_step votes w) (λ x. each vote_step votes x >>= λ y. each evidence_step evidence y) (AllocatedLeft w) (BegunLeft w) (allocated_left votes w h known) (λ x a.
       on_then {B = State} (each vote_step votes x) (λ y. each evidence_step evidence y) (BegunLeft x) (BegunLeft w)
@@ -178,48 +184,81 @@ module _ (P : List ℕ → Type 0) where
   -- ---- the end
 
   record EndLeft (w x : State) : Type 0 where
-    fits : StateFits P x
+    fits : StateFits P T x
     ctx : x.view.ctx ≡ w.view.ctx
 
-  end_fits_all : (w : State) → StateFits P w → IfOk (end_block w) (EndLeft w)
+  end_fits_all : (w : State) → StateFits P T w → IfOk (end_block w) (EndLeft w)
   end_fits_all w h =
-      on_then {B = State} (set_step w) (λ a. maturing_step a >>= λ b. unbondings_step b >>= λ c. redelegations_step c) (StateLeft P w) (EndLeft w) (set_step_fits P w h) (λ a ka.
-      on_then {B = State} (maturing_step a) (λ b. unbondings_step b >>= λ c. redelegations_step c) (StateLeft P a) (EndLeft w) (maturing_fits P a ka.fits) (λ b kb.
-      on_then {B = State} (unbondings_step b) (λ c. redelegations_step c) (λ c. StateFits P c × (c.view.ctx ≡ b.view.ctx)) (EndLeft w) (unbondings_fit P b kb.fits) (λ c kc.
-      weaker_if (redelegations_step c) (λ d. StateFits P d × (d.view.ctx ≡ c.view.ctx)) (EndLeft w) (redelegations_fit P c kc.0) (λ d kd. record { fits = kd.0; ctx = kd.1 ∙ kc.1 ∙ kb.ctx ∙ ka.ctx }))))
+      on_then {B = State} (set_step w) (λ a. maturing_step a >>= λ b. unbondings_step b >>= λ c. redelegations_step c) (StateLeft P T w) (EndLeft w) (set_step_fits P T w h) (λ a ka.
+      on_then {B = State} (maturing_step a) (λ b. unbondings_step b >>= λ c. redelegations_step c) (StateLeft P T a) (EndLeft w) (maturing_fits P T a ka.fits) (λ b kb.
+      on_then {B = State} (unbondings_step b) (λ c. redelegations_step c) (λ c. StateFits P T c × (c.view.ctx ≡ b.view.ctx)) (EndLeft w) (unbondings_fit P T b kb.fits) (λ c kc.
+      weaker_if (redelegations_step c) (λ d. StateFits P T d × (d.view.ctx ≡ c.view.ctx)) (EndLeft w) (redelegations_fit P T c kc.0) (λ d kd. record { fits = kd.0; ctx = kd.1 ∙ kc.1 ∙ kb.ctx ∙ ka.ctx }))))
 
-  -- ---- a block
+-- ---- a block
 
-  -- entries that are older than this height are whole
-  older_whole : (height now : ℕ) (u : UnbondingLists) → height < now → PairsFit height u → AllByRecursion (λ p. WholeEntries now p.1) u
-  older_whole height now u l h = weaker (λ p. PairFits height p.1) (λ p. WholeEntries now p.1) (λ p k. weaker (UnbondingIsSound height) (λ e. e.created ≡ now → e.balance ≡ e.initial) (λ e s c. absurd (later e.created s.created c)) p.1 k.entries) u h.pairs
-    where
-      later : (c : ℕ) → c ≤ height → c ≡ now → ⊥
-      later c m e = omega (arith, l, m, e)
+-- entries that are older than this height are whole
+older_whole : (height now : ℕ) (u : UnbondingLists) → height < now → PairsFit height u → AllByRecursion (λ p. WholeEntries now p.1) u
+older_whole height now u l h = weaker (λ p. PairFits height p.1) (λ p. WholeEntries now p.1) (λ p k. weaker (UnbondingIsSound height) (λ e. e.created ≡ now → e.balance ≡ e.initial) (λ e s c. absurd (later e.created s.created c)) p.1 k.entries) u h.pairs
+  where
+    later : (c : ℕ) → c ≤ height → c ≡ now → ⊥
+    later c m e = omega (arith, l, m, e)
 
-  -- a block's state fits, at its height
+-- what facts of transactions say, one after the other
+said_in_turn : (d : List ℕ) (g : List TxReport → List Fact) → g [] ≡ [] → ((t : TxReport) (ts : List TxReport) → g (t ∷ ts) ≡ t.facts ++ g ts) → (ts : List TxReport) → burned_in d (g ts) ≡ burned_by d ts
+said_in_turn d g none more [] = ap (burned_in d) none
+said_in_turn d g none more (t ∷ ts) =
+    ap (burned_in d) (more t ts) ∙ burned_together d t.facts (g ts) ∙ ap (λ n. burned_in d t.facts + n) (said_in_turn d g none more ts)
+    ∙ sym (sum_by-cons (λ n. n) (burned_in d t.facts) (map (λ u. burned_in d u.facts) ts))
+
+-- what a block's facts say is what its parts say
+said_by_parts : (d : List ℕ) (begun ended : List Fact) (g : List TxReport → List Fact) → g [] ≡ [] → ((t : TxReport) (ts : List TxReport) → g (t ∷ ts) ≡ t.facts ++ g ts) → (ts : List TxReport)
+    → burned_in d (begun ++ g ts ++ ended) ≡ burned_in d begun + burned_by d ts + burned_in d ended
+said_by_parts d begun ended g none more ts =
+    burned_together d (begun ++ g ts) ended
+    ∙ ap (λ n. n + burned_in d ended) (burned_together d begun (g ts) ∙ ap (λ n. burned_in d begun + n) (said_in_turn d g none more ts))
+
+said_by_block : (d : List ℕ) (height time : ℕ) (begun ended : List Fact) (ts : List TxReport)
+    → burned_in d (facts_of (record { height = height; time = time; begun = begun; txs = ts; ended = ended })) ≡ burned_in d begun + burned_by d ts + burned_in d ended
+said_by_block d height time begun ended = said_by_parts d begun ended _ refl (λ t us. refl)
+
+-- the coins of all blocks are lists of coins
+abbrev HaveCoins : List Block → Type 0
+HaveCoins blocks = All (λ b. All TxHasCoins b.txs) blocks
+
+-- what blocks say was burned
+abbrev burned_by_blocks : List ℕ → List BlockReport → ℕ
+burned_by_blocks d reports = sum (map (λ b. burned_in d (facts_of b)) reports)
+
+module _ (P : List ℕ → Type 0) where
+  -- a block's state fits, at its height, and each supply is less by what the block says was burned
   record StepFits (w : State) (s : Step) : Type 0 where
-    fits : StateFits P s.state
+    fits : StateFits P (total_in s.state.view) s.state
     height : s.state.view.ctx.height ≡ w.view.ctx.height + 1
+    burns : (d : List ℕ) → supply_of s.state.view.bank d + burned_in d (facts_of s.report) ≡ supply_of w.view.bank d
 
-  block_fits : (b : Block) (w : State) → All TxHasCoins b.txs → StateFits P w → w.view.ctx.height + 1 < 2 ^ 63 → IfOk (step b w) (StepFits w)
-  block_fits b w coins h few =
+  block_fits : (b : Block) (T : List ℕ → ℕ) (w : State) → All TxHasCoins b.txs → StateFits P T w → w.view.ctx.height + 1 < 2 ^ 63 → IfOk (step b w) (StepFits w)
+  block_fits b T w coins h few =
       on_next (block_checked b w) _ _ (λ t e.
       let due : IsDue b w = is_due b w (same_tt t e) in
       let checks = next_ok (stop_at (block_fault w.view.ctx.height w.view.ctx.time b)) (votes_checked w.mine.staked w.view.ctx.params.power_reduction [] b.votes >> evidence_checked b w.view.ctx.params.power_reduction 0 b.evidence) tt (same_tt t e) in
       let first = first_ok (votes_checked w.mine.staked w.view.ctx.params.power_reduction [] b.votes) (evidence_checked b w.view.ctx.params.power_reduction 0 b.evidence) tt checks in
       let votes = votes_are w.mine.staked w.view.ctx.params.power_reduction b.votes [] first.1 in
       let w1 : State = without_facts (next_block b.height b.time w) in
-      let fits1 : StateFits P w1 = without_facts_fits P (next_block b.height b.time w) (next_fits P b.height b.time w h (at_least b.height w.view.ctx.height due.height) (at_height b.height w.view.ctx.height due.height few) due.before_end) in
-      on_lifted_then RatioLimit (begin_block b.votes b.evidence w1) _ (BegunLeft w1) _
-      (begin_fits b.votes b.evidence w1 fits1 votes.0 votes.1 (below b.votes due.height)) (λ begun k.
+      let there : List ℕ → ℕ = total_in w1.view in
+      let fits1 : StateFits P there w1 = without_facts_fits P T (next_block b.height b.time w) (next_fits P T b.height b.time w h (at_least b.height w.view.ctx.height due.height) (at_height b.height w.view.ctx.height due.height few) due.before_end) in
+      on_lifted_then RatioLimit (begin_block b.votes b.evidence w1) _ (BegunLeft P there w1) _
+      (begin_fits P there b.votes b.evidence w1 fits1 votes.0 votes.1 (below b.votes due.height)) (λ begun k.
       let whole : AreAllWhole begun = subst (λ (c : Ctx). AllByRecursion (λ p. WholeEntries c.height p.1) begun.mine.unbondings) (sym k.ctx)
       (older_whole w.view.ctx.height b.height begun.mine.unbondings (above b.height w.view.ctx.height due.height) (k.pairs w.view.ctx.height (to_pairs w.view.ctx.height w.mine.unbondings h.unbondings))) in
-      let txs : WholeFits P w1.view.ctx (txs_applied b.txs begun).state = txs_fit P w1.view.ctx b.txs begun coins (record { fits = k.fits; whole = whole; ctx = k.ctx }) in
-      let w2 : State = without_facts (txs_applied b.txs begun).state in
-      on_lifted_then RatioLimit (end_block w2) _ (EndLeft w2) _ (end_fits_all w2 (without_facts_fits P (txs_applied b.txs begun).state txs.fits)) (λ ended j. record {
-        fits = without_facts_fits P ended j.fits;
-        height = ap (λ (c : Ctx). c.height) (j.ctx ∙ txs.ctx) ∙ due.height;
+      let done : TxSteps = txs_applied b.txs begun in
+      let txs : TxsFit P w1.view.ctx begun done = txs_fit P there w1.view.ctx b.txs begun coins (record { fits = k.fits; whole = whole; ctx = k.ctx }) in
+      let w2 : State = without_facts done.state in
+      let left : List ℕ → ℕ = total_in w2.view in
+      on_lifted_then RatioLimit (end_block w2) _ (EndLeft P left w2) _ (end_fits_all P left w2 (without_facts_fits P (total_in done.state.view) done.state txs.fits.fits)) (λ ended j. record {
+        fits = without_facts_fits P left ended j.fits;
+        height = ap (λ (c : Ctx). c.height) (j.ctx ∙ txs.fits.ctx) ∙ due.height;
+        burns = λ d. together (supply_of w.view.bank d) (supply_of begun.view.bank d) (supply_of done.state.view.bank d) (supply_of ended.view.bank d) (burned_in d begun.view.facts) (burned_by d done.reports) (burned_in d ended.view.facts) _
+            (k.fits.stake.ground.total d) (txs.burns d) (j.fits.stake.ground.total d) (said_by_block d b.height b.time begun.view.facts ended.view.facts done.reports);
       })))
     where
       same_tt : (t : ⊤) → block_checked b w ≡ Ok t → block_checked b w ≡ Ok tt
@@ -238,15 +277,28 @@ module _ (P : List ℕ → Type 0) where
       below [] e = tt
       below (t ∷ ts) e = (λ s f. let own = own_record w.view.ctx.height t.cons s w.hooks.1 h.stake.window f in let counted = own.counted in omega (arith, counted, e), below ts e)
 
+      together : (s0 s1 s2 s3 b1 b2 b3 all : ℕ) → s1 + b1 ≡ s0 + 0 → s2 + b2 ≡ s1 → s3 + b3 ≡ s2 + 0 → all ≡ b1 + b2 + b3 → s3 + all ≡ s0
+      together s0 s1 s2 s3 b1 b2 b3 all e f g i = omega (arith, e, f, g, i)
+
   -- ---- runs
 
-  abbrev HaveCoins : List Block → Type 0
-  HaveCoins blocks = All (λ b. All TxHasCoins b.txs) blocks
+  -- a run leaves a state that fits, and each supply less by what its blocks say was burned
+  pub record RunFits (w : State) (r : Run) : Type 0 where
+    pub fits : StateFits P (total_in r.state.view) r.state
+    pub burns : (d : List ℕ) → supply_of r.state.view.bank d + burned_by_blocks d r.reports ≡ supply_of w.view.bank d
 
-  pub run_fits : (blocks : List Block) (w : State) → HaveCoins blocks → StateFits P w → w.view.ctx.height + length blocks < 2 ^ 63 → StateFits P (run_of blocks w).state
-  run_fits [] w c h few = h
-  run_fits (b ∷ blocks) w c h few =
-      by (step b w) (block_fits b w (All-head (λ (x : Block). All TxHasCoins x.txs) b blocks c) h (room (length blocks) few)) (λ u k e. run_fits blocks u (All-tail (λ (x : Block). All TxHasCoins x.txs) b blocks c) k (fewer (length blocks) u.view.ctx.height few e))
+  -- nothing happens
+  stays : (T : List ℕ → ℕ) (w : State) (fault : Option BlockFault) → StateFits P T w → RunFits w (record { reports = []; state = w; fault = fault })
+  stays T w fault h = record { fits = renewed P T w h; burns = λ d. none (supply_of w.view.bank d) }
+    where
+      none : (n : ℕ) → n + 0 ≡ n
+      none n = omega arith
+
+  pub run_fits : (blocks : List Block) (T : List ℕ → ℕ) (w : State) → HaveCoins blocks → StateFits P T w → w.view.ctx.height + length blocks < 2 ^ 63 → RunFits w (run_of blocks w)
+  run_fits [] T w c h few = stays T w None h
+  run_fits (b ∷ blocks) T w c h few =
+      by (step b w) (block_fits b T w (All-head (λ (x : Block). All TxHasCoins x.txs) b blocks c) h (room (length blocks) few))
+      (λ u k e. run_fits blocks (total_in u.view) u (All-tail (λ (x : Block). All TxHasCoins x.txs) b blocks c) k (fewer (length blocks) u.view.ctx.height few e))
     where
       room : (n : ℕ) → w.view.ctx.height + suc n < 2 ^ 63 → w.view.ctx.height + 1 < 2 ^ 63
       room n l = omega (arith, l)
@@ -254,10 +306,29 @@ module _ (P : List ℕ → Type 0) where
       fewer : (n x : ℕ) → w.view.ctx.height + suc n < 2 ^ 63 → x ≡ w.view.ctx.height + 1 → x + n < 2 ^ 63
       fewer n x l e = omega (arith, l, e)
 
-      by : (r : Result Step BlockFault) → IfOk r (StepFits w) → ((u : State) → StateFits P u → u.view.ctx.height ≡ w.view.ctx.height + 1 → StateFits P (run_of blocks u).state) → StateFits P (going_on w r (λ u. run_of blocks u)).state
-      by (Ok s) k rest = rest s.state k.fits k.height
-      by (Err fault) k rest = h
+      burned_more : (d : List ℕ) (r : BlockReport) (rs : List BlockReport) → burned_by_blocks d (r ∷ rs) ≡ burned_in d (facts_of r) + burned_by_blocks d rs
+      burned_more d r rs = sum_by-cons (λ n. n) (burned_in d (facts_of r)) (map (λ b. burned_in d (facts_of b)) rs)
+
+      summed : (x r y b s a : ℕ) → x + r ≡ y → y + b ≡ s → a ≡ b + r → x + a ≡ s
+      summed x r y b s a p q e = omega (arith, p, q, e)
+
+      by : (r : Result Step BlockFault) → IfOk r (StepFits w) → ((u : State) → StateFits P (total_in u.view) u → u.view.ctx.height ≡ w.view.ctx.height + 1 → RunFits u (run_of blocks u)) → RunFits w (going_on w r (λ u. run_of blocks u))
+      by (Ok s) k rest =
+          let later : RunFits s.state (run_of blocks s.state) = rest s.state k.fits k.height in
+          let end : Run = run_of blocks s.state in
+          record {
+            fits = later.fits;
+            burns = λ d. summed (supply_of end.state.view.bank d) (burned_by_blocks d end.reports) (supply_of s.state.view.bank d) (burned_in d (facts_of s.report)) (supply_of w.view.bank d) _ (later.burns d) (k.burns d) (burned_more d s.report end.reports);
+          }
+      by (Err fault) k rest = stays T w (Some fault) h
+
+-- a run from a sound state
+pub run_left : (blocks : List Block) (w : State) (input : AreInput blocks) (s : IsSound w) → w.view.ctx.height + length blocks < 2 ^ 63 → RunFits (Contains s.few.some) w (run_of blocks w)
+run_left blocks w input s few = run_fits (Contains s.few.some) blocks (total_in w.view) w input.coins (to_fits w s) few
 
 pub runs_keep_soundness : RunsKeepSoundness
 runs_keep_soundness blocks w input s few =
-    from_fits (run_of blocks w).state s.few.some s.few.few (run_fits (Contains s.few.some) blocks w input.coins (to_fits w s) few)
+    from_fits (run_of blocks w).state s.few.some (total_in (run_of blocks w).state.view) s.few.few (run_left blocks w input s few).fits
+
+pub runs_burn : RunsLowerSupplies
+runs_burn blocks w input s few = (run_left blocks w input s few).burns

@@ -23,6 +23,7 @@ use Rattle.stk_keep.proofs.HoldingLemmas.{backed-burned}
 use Rattle.stk_keep.specs.Holdings.{Holdings, IsBacked, balance_of, burned, coin_burned}
 use Rattle.stk_keep.specs.Orders.{pair_cmp, same_addr}
 use Rattle.stk_keep.specs.Staked.{Staked, bonded_tokens, of_bond, other_tokens}
+use Rattle.stk_owed.proofs.Burns.{total_burnt}
 use Rattle.stk_owed.proofs.Bank.{AreHeld, held_with, name_held}
 use Rattle.stk_owed.proofs.Ending.{under}
 use Rattle.stk_owed.proofs.Entries.{Entries, PairFits, PairsFit, sum_more}
@@ -49,18 +50,18 @@ grow_behind [] e g a = tt
 grow_behind (x ∷ []) e g a = (a.0.0, a.0.1, tt)
 grow_behind (x ∷ y ∷ es) e g a = (g.0, g.1, grow_behind (y ∷ es) e g.2 a.1)
 
-module _ (P : List ℕ → Type 0) where
+module _ (P : List ℕ → Type 0) (T : List ℕ → ℕ) where
   -- a slash is recorded at the period that it ends
-  pub slash_leaves : (val : Validator) (fraction : ℕ) (v : View) (l : Lists) (d : Shared) → HooksFit P v l d → l.operators val.operator ≡ true → fraction ≤ 10 ^ 18 → IfOk (slash_recorded val fraction d v) (λ z. Leaves P v l z.0 z.1)
+  pub slash_leaves : (val : Validator) (fraction : ℕ) (v : View) (l : Lists) (d : Shared) → HooksFit P T v l d → l.operators val.operator ≡ true → fraction ≤ 10 ^ 18 → IfOk (slash_recorded val fraction d v) (λ z. Leaves P T v l z.0 z.1)
   slash_leaves val fraction v l d h there most =
-      on_then (ended val d v) _ (EndFits P val v l d) _ (end_fits P val v l d h there) (λ z k.
+      on_then (ended val d v) _ (EndFits P T val v l d) _ (end_fits P T val v l d h there) (λ z k.
       let s = k.leaves.shared in
       let op = val.operator in
       let old = k.old in
       let q : Periods = ended_with k.ratio old in
       let is : periods_of z.1.rewards op ≡ q = ap (λ r. unwrap_or r initial_records) k.now in
       let height : z.2.ctx.height ≡ v.ctx.height = ap (λ (c : Ctx). c.height) k.leaves.ctx in
-      let own : PeriodsFit P v.ctx.height q = own_periods P v.ctx.height z.1.rewards.periods op q k.now s.periods in
+      let own : PeriodsFit P v.ctx.height q = own_periods P T v.ctx.height z.1.rewards.periods op q k.now s.periods in
       let e : SlashEvent = record { height = z.2.ctx.height; period = last_ended q; fraction = fraction } in
       let p : Periods = record q { events = q.events ++ e ∷ [] } in
       let back : last_ended q ≡ old.current = minus_one old.current in
@@ -118,8 +119,8 @@ module _ (P : List ℕ → Type 0) where
       by false e = held_with P h from d (balance_of h from d - n) (name_held P h from d (more (balance_of h from d) n (some n e) l) k) k
 
   -- an amount that an account of staking holds besides what is owed burns
-  pub stake_burnt : (s : Bool) (b n : ℕ) (l : Lists) (w : World Staked Hooks) (amount : ℕ) → StakeFits P (b + cond s amount 0) (n + cond s 0 amount) l w
-      → StakeFits P b n l (over_view (burnt (if s then holder.Bonded else holder.NotBonded) w.view.ctx.params.bond_denom amount) w)
+  pub stake_burnt : (s : Bool) (b n : ℕ) (l : Lists) (w : World Staked Hooks) (amount : ℕ) → StakeFits P T (b + cond s amount 0) (n + cond s 0 amount) l w
+      → StakeFits P T b n l (over_view (burnt (if s then holder.Bonded else holder.NotBonded) w.view.ctx.params.bond_denom amount) w)
   stake_burnt s b n l w amount h = by s h
     where
       bond : List ℕ
@@ -146,12 +147,12 @@ module _ (P : List ℕ → Type 0) where
       keeps_all : (x y : ℕ) → y + 0 ≡ x → y ≡ x
       keeps_all x y e = omega (arith, e)
 
-      by : (s : Bool) → StakeFits P (b + cond s amount 0) (n + cond s 0 amount) l w → StakeFits P b n l (over_view (burnt (if s then holder.Bonded else holder.NotBonded) bond amount) w)
+      by : (s : Bool) → StakeFits P T (b + cond s amount 0) (n + cond s 0 amount) l w → StakeFits P T b n l (over_view (burnt (if s then holder.Bonded else holder.NotBonded) bond amount) w)
       by true g =
           let from = account.Module holder.Bonded in
           let le = enough from (bonded_tokens w.mine) b g.bonded in
           record {
-            ground = record { order = record { params = g.ground.order.params; time = g.ground.order.time; height = g.ground.order.height; bank = backed-burned w.view.bank from bond amount backed le }; held = held_burnt w.view.bank from bond amount le g.ground.held };
+            ground = record { order = record { params = g.ground.order.params; time = g.ground.order.time; height = g.ground.order.height; bank = backed-burned w.view.bank from bond amount backed le }; held = held_burnt w.view.bank from bond amount le g.ground.held; total = λ d. total_burnt holder.Bonded bond amount w.view backed le d ∙ g.ground.total d };
             staked = g.staked;
             bonded = λ d. falls_by (is_at (denom_cmp bond) d) (is_at (denom_cmp d) bond) w.view d (balance_of w.view.bank from d) _ (bonded_tokens w.mine) b (same_back d bond) (burns_by_amounts w.view.bank from bond amount backed le from d) (g.bonded d);
             not_bonded = λ d. stays (balance_of w.view.bank (account.Module holder.NotBonded) d) _ (other_tokens w.mine) n w.view d (burns_by_amounts w.view.bank from bond amount backed le (account.Module holder.NotBonded) d) (g.not_bonded d);
@@ -164,7 +165,7 @@ module _ (P : List ℕ → Type 0) where
           let from = account.Module holder.NotBonded in
           let le = enough from (other_tokens w.mine) n g.not_bonded in
           record {
-            ground = record { order = record { params = g.ground.order.params; time = g.ground.order.time; height = g.ground.order.height; bank = backed-burned w.view.bank from bond amount backed le }; held = held_burnt w.view.bank from bond amount le g.ground.held };
+            ground = record { order = record { params = g.ground.order.params; time = g.ground.order.time; height = g.ground.order.height; bank = backed-burned w.view.bank from bond amount backed le }; held = held_burnt w.view.bank from bond amount le g.ground.held; total = λ d. total_burnt holder.NotBonded bond amount w.view backed le d ∙ g.ground.total d };
             staked = g.staked;
             bonded = λ d. stays (balance_of w.view.bank (account.Module holder.Bonded) d) _ (bonded_tokens w.mine) b w.view d (burns_by_amounts w.view.bank from bond amount backed le (account.Module holder.Bonded) d) (g.bonded d);
             not_bonded = λ d. falls_by (is_at (denom_cmp bond) d) (is_at (denom_cmp d) bond) w.view d (balance_of w.view.bank from d) _ (other_tokens w.mine) n (same_back d bond) (burns_by_amounts w.view.bank from bond amount backed le from d) (g.not_bonded d);
@@ -250,8 +251,8 @@ module _ (P : List ℕ → Type 0) where
       by true ih = (slashed_pair infraction factor v.ctx.time height p.1 h.0, ih v1)
       by false ih = (h.0, ih v)
 
-  pub entries_fit : (operator : List ℕ) (infraction factor : ℕ) (u : UnbondingLists) (n : ℕ) (l : Lists) (w : World Staked Hooks) → StakeFits P 0 (n + entry_balances u) l w
-      → StakeFits P 0 (n + entry_balances (entries_slashed operator infraction factor u w.view).0) l (under P (entries_slashed operator infraction factor u w.view).1 w) × ((entries_slashed operator infraction factor u w.view).1.ctx ≡ w.view.ctx)
+  pub entries_fit : (operator : List ℕ) (infraction factor : ℕ) (u : UnbondingLists) (n : ℕ) (l : Lists) (w : World Staked Hooks) → StakeFits P T 0 (n + entry_balances u) l w
+      → StakeFits P T 0 (n + entry_balances (entries_slashed operator infraction factor u w.view).0) l (under P T (entries_slashed operator infraction factor u w.view).1 w) × ((entries_slashed operator infraction factor u w.view).1.ctx ≡ w.view.ctx)
   entries_fit operator infraction factor [] n l w h = (h, refl)
   entries_fit operator infraction factor (p ∷ ps) n l w h = by (same_addr p.0.1 operator) (λ x m k. entries_fit operator infraction factor ps m l x k)
     where
@@ -282,21 +283,21 @@ module _ (P : List ℕ → Type 0) where
       joined : (n x b a : ℕ) → a ≡ x + b → n + x + b ≡ n + a
       joined n x b a f = omega (arith, f)
 
-      by : (b : Bool) → ((x : World Staked Hooks) (m : ℕ) → StakeFits P 0 (m + entry_balances ps) l x
-          → StakeFits P 0 (m + entry_balances (entries_slashed operator infraction factor ps x.view).0) l (under P (entries_slashed operator infraction factor ps x.view).1 x) × ((entries_slashed operator infraction factor ps x.view).1.ctx ≡ x.view.ctx))
-          → StakeFits P 0 (n + entry_balances (cond b yes no).0) l
-          (under P (cond b yes no).1 w)
+      by : (b : Bool) → ((x : World Staked Hooks) (m : ℕ) → StakeFits P T 0 (m + entry_balances ps) l x
+          → StakeFits P T 0 (m + entry_balances (entries_slashed operator infraction factor ps x.view).0) l (under P T (entries_slashed operator infraction factor ps x.view).1 x) × ((entries_slashed operator infraction factor ps x.view).1.ctx ≡ x.view.ctx))
+          → StakeFits P T 0 (n + entry_balances (cond b yes no).0) l
+          (under P T (cond b yes no).1 w)
           × ((cond b yes no).1.ctx ≡ w.view.ctx)
       by true ih =
-          let before = subst (λ m. StakeFits P 0 m l w) (hit n (entry_balances (p ∷ ps)) (entry_balances ps) (balances_of p.1) (balances_of es) all (slashed_balances infraction factor w.view.ctx.time p.1)) h in
+          let before = subst (λ m. StakeFits P T 0 m l w) (hit n (entry_balances (p ∷ ps)) (entry_balances ps) (balances_of p.1) (balances_of es) all (slashed_balances infraction factor w.view.ctx.time p.1)) h in
           let burnt_now = stake_burnt false 0 (n + balances_of es + entry_balances ps) l w amount before in
-          let rest = ih (under P v1 w) (n + balances_of es) burnt_now in
+          let rest = ih (under P T v1 w) (n + balances_of es) burnt_now in
           let lists = (entries_slashed operator infraction factor ps v1).0 in
-          (subst (λ m. StakeFits P 0 m l (under P (entries_slashed operator infraction factor ps v1).1 w)) (joined n (balances_of es) (entry_balances lists) (entry_balances ((p.0, es) ∷ lists)) (total_more pair_cmp pair_total balances_of (p.0, es) lists)) rest.0, rest.1)
+          (subst (λ m. StakeFits P T 0 m l (under P T (entries_slashed operator infraction factor ps v1).1 w)) (joined n (balances_of es) (entry_balances lists) (entry_balances ((p.0, es) ∷ lists)) (total_more pair_cmp pair_total balances_of (p.0, es) lists)) rest.0, rest.1)
       by false ih =
-          let rest = ih w (n + balances_of p.1) (subst (λ m. StakeFits P 0 m l w) (passed n (entry_balances (p ∷ ps)) (entry_balances ps) (balances_of p.1) all) h) in
+          let rest = ih w (n + balances_of p.1) (subst (λ m. StakeFits P T 0 m l w) (passed n (entry_balances (p ∷ ps)) (entry_balances ps) (balances_of p.1) all) h) in
           let lists = (entries_slashed operator infraction factor ps w.view).0 in
-          (subst (λ m. StakeFits P 0 m l (under P (entries_slashed operator infraction factor ps w.view).1 w)) (joined n (balances_of p.1) (entry_balances lists) (entry_balances (p ∷ lists)) (total_more pair_cmp pair_total balances_of p lists)) rest.0, rest.1)
+          (subst (λ m. StakeFits P T 0 m l (under P T (entries_slashed operator infraction factor ps w.view).1 w)) (joined n (balances_of p.1) (entry_balances lists) (entry_balances (p ∷ lists)) (total_more pair_cmp pair_total balances_of p lists)) rest.0, rest.1)
 
   pub entries_fit_pairs : (operator : List ℕ) (infraction factor height : ℕ) (u : UnbondingLists) (v : View) → PairsFit height u → PairsFit height (entries_slashed operator infraction factor u v).0
   entries_fit_pairs operator infraction factor height u v h = record {

@@ -18,10 +18,11 @@ use Rattle.stk_keep.specs.Entries.{with}
 use Rattle.stk_keep.specs.Hooks.{Lists}
 use Rattle.stk_keep.specs.Staked.{Staked, is_bonded, is_unbonded, lists_of, of_bond, delegation, tokens_where, validator_at, put_validator}
 use Rattle.stk_keep.specs.declared.facts.Fact.{Fact}
+use Rattle.stk_owed.proofs.Burns.{SayNoMore, quiet_behind}
 use Rattle.stk_owed.proofs.Lists.{all_put, looked_up}
-use Rattle.stk_owed.proofs.Moves.{keeps}
+use Rattle.stk_owed.proofs.Moves.{keeps, ground_told}
 use Rattle.stk_owed.proofs.Points.{IsRecorded, SharedFits, StakeFits, StateFits, StateLeft}
-use Rattle.stk_owed.proofs.Purses.{ground_told, there_still}
+use Rattle.stk_owed.proofs.Purses.{there_still}
 use Rattle.stk_owed.proofs.Steps.{on_found, on_next, on_stop, on_then}
 use Rattle.stk_owed.specs.Kept.{EditsKeepSoundness, UnjailingKeepsSoundness}
 use Rattle.stk_rules.proofs.SoundLemmas.{IsSoundAt, exact_addr, sound-put}
@@ -46,11 +47,11 @@ same_tokens test s u v a f t e =
     let one : counted test u ≡ counted test v = (λ i. cond (test (e i)) (t i) 0) in
     omega (arith, put, one)
 
-module _ (P : List ℕ → Type 0) where
+module _ (P : List ℕ → Type 0) (T : List ℕ → ℕ) where
   -- facts are told
-  pub stake_told : (b n : ℕ) (l : Lists) (w : World Staked Hooks) (f : List Fact → List Fact) → StakeFits P b n l w → StakeFits P b n l (over_view (over_facts f) w)
-  stake_told b n l w f s = record {
-    ground = ground_told P f w.view s.ground;
+  pub stake_told : (b n : ℕ) (l : Lists) (w : World Staked Hooks) (f : List Fact → List Fact) → SayNoMore w.view.facts (f w.view.facts) → StakeFits P T b n l w → StakeFits P T b n l (over_view (over_facts f) w)
+  stake_told b n l w f q s = record {
+    ground = ground_told P T f w.view q s.ground;
     staked = s.staked;
     bonded = s.bonded;
     not_bonded = s.not_bonded;
@@ -61,7 +62,7 @@ module _ (P : List ℕ → Type 0) where
   }
 
   -- something is logged
-  pub stake_logged : (b n : ℕ) (l : Lists) (w : World Staked Hooks) (k : Log) → StakeFits P b n l w → StakeFits P b n l (record { mine = w.mine; hooks = w.hooks; view = w.view; log = k })
+  pub stake_logged : (b n : ℕ) (l : Lists) (w : World Staked Hooks) (k : Log) → StakeFits P T b n l w → StakeFits P T b n l (record { mine = w.mine; hooks = w.hooks; view = w.view; log = k })
   stake_logged b n l w k s = record {
     ground = s.ground;
     staked = s.staked;
@@ -88,7 +89,7 @@ module _ (P : List ℕ → Type 0) where
   }
 
   -- the same under other lists
-  pub stake_relisted : (b n : ℕ) (l l2 : Lists) (w : World Staked Hooks) → StakeFits P b n l w → ((o : List ℕ) → l2.operators o ≡ l.operators o) → ((who o : List ℕ) → l2.started who o ≡ l.started who o) → StakeFits P b n l2 w
+  pub stake_relisted : (b n : ℕ) (l l2 : Lists) (w : World Staked Hooks) → StakeFits P T b n l w → ((o : List ℕ) → l2.operators o ≡ l.operators o) → ((who o : List ℕ) → l2.started who o ≡ l.started who o) → StakeFits P T b n l2 w
   stake_relisted b n l l2 w s f g = record {
     ground = s.ground;
     staked = s.staked;
@@ -113,7 +114,7 @@ module _ (P : List ℕ → Type 0) where
   pub own_place : (height : ℕ) (s : Staked) (o : List ℕ) (v : Validator) → IsSoundAt height s → validator_at s o ≡ Some v → validator_at s v.operator ≡ Some v
   own_place height s o v h f = ap (validator_at s) (h.operators o v f) ∙ f
 
-  pub stake_standing : (b n : ℕ) (l : Lists) (w : World Staked Hooks) (u v : Validator) → StakeFits P b n l w → validator_at w.mine v.operator ≡ Some v → StandsFor w.view.ctx.height u v → StakeFits P b n l (over_mine (put_validator u) w)
+  pub stake_standing : (b n : ℕ) (l : Lists) (w : World Staked Hooks) (u v : Validator) → StakeFits P T b n l w → validator_at w.mine v.operator ≡ Some v → StandsFor w.view.ctx.height u v → StakeFits P T b n l (over_mine (put_validator u) w)
   stake_standing b n l w u v s found k =
       let f : validator_at w.mine u.operator ≡ Some v = ap (validator_at w.mine) k.operator ∙ found in
       let same = λ (test : BondStatus → Bool). same_tokens test w.mine u v s.staked.validators_ascend f k.tokens k.status in
@@ -139,11 +140,11 @@ module _ (P : List ℕ → Type 0) where
   same_operators s u v f o = there_still s.validators u.operator o v u f
 
   -- the same of a whole state
-  pub state_standing : (w : State) (u v : Validator) (f : List Fact → List Fact) → StateFits P w → validator_at w.mine.staked v.operator ≡ Some v → StandsFor w.view.ctx.height u v
-      → StateLeft P w (over_view (over_facts f) (over_mine (λ c. record c { staked = put_validator u w.mine.staked }) w))
-  state_standing w u v f h found k = record {
+  pub state_standing : (w : State) (u v : Validator) (f : List Fact → List Fact) → SayNoMore w.view.facts (f w.view.facts) → StateFits P T w → validator_at w.mine.staked v.operator ≡ Some v → StandsFor w.view.ctx.height u v
+      → StateLeft P T w (over_view (over_facts f) (over_mine (λ c. record c { staked = put_validator u w.mine.staked }) w))
+  state_standing w u v f q h found k = record {
     fits = record {
-      stake = stake_told 0 _ _ _ f (stake_relisted 0 _ (lists_of w.mine.staked) (lists_of (put_validator u w.mine.staked)) _ (stake_standing 0 _ _ (staked_in w) u v h.stake found k)
+      stake = stake_told 0 _ _ _ f q (stake_relisted 0 _ (lists_of w.mine.staked) (lists_of (put_validator u w.mine.staked)) _ (stake_standing 0 _ _ (staked_in w) u v h.stake found k)
           (same_operators w.mine.staked u v (ap (validator_at w.mine.staked) k.operator ∙ found)) (λ who o. refl));
       unbondings = h.unbondings;
       redelegations = h.redelegations;
@@ -187,27 +188,27 @@ module _ (P : List ℕ → Type 0) where
   through : (height : ℕ) (a b c : Validator) → StandsFor height a b → StandsFor height b c → StandsFor height a c
   through height a b c s t = record { operator = s.operator ∙ t.operator; cons = s.cons ∙ t.cons; status = s.status ∙ t.status; tokens = s.tokens ∙ t.tokens; shares = s.shares ∙ t.shares; sound = s.sound }
 
-  pub edit_fits : (m : EditValidator) (w : State) → StateFits P w → IfOk (edit_validator m w) (StateLeft P w)
+  pub edit_fits : (m : EditValidator) (w : State) → StateFits P T w → IfOk (edit_validator m w) (StateLeft P T w)
   edit_fits m w h =
       let s = w.mine.staked in
-      on_then (edited m w.view.ctx.time w.view.ctx.params.min_commission_rate s) _ (λ t. StateLeft P w (over_mine (λ c. record c { staked = t }) w)) _
+      on_then (edited m w.view.ctx.time w.view.ctx.params.min_commission_rate s) _ (λ t. StateLeft P T w (over_mine (λ c. record c { staked = t }) w)) _
       (on_next (edit_formed m) _ _ (λ t e. on_found (validator_at s m.validator) NoValidator _ _ (λ v found.
       on_then (rate_edited m.rate w.view.ctx.time w.view.ctx.params.min_commission_rate v) _ (λ u. StandsFor w.view.ctx.height u v) _ (rated w.view.ctx.height m.rate w.view.ctx.time w.view.ctx.params.min_commission_rate v (h.stake.staked.validators m.validator v found))
       (λ u k. on_then (minimum_edited m.min_self_delegation u) _ (λ x. StandsFor w.view.ctx.height x u) _ (with_minimum w.view.ctx.height m.min_self_delegation u k.sound)
-      (λ x j. state_standing w x v (λ facts. facts) h (own_place w.view.ctx.height s m.validator v h.stake.staked found) (through w.view.ctx.height x u v j k))))))
+      (λ x j. state_standing w x v (λ facts. facts) (λ e. refl) h (own_place w.view.ctx.height s m.validator v h.stake.staked found) (through w.view.ctx.height x u v j k))))))
       (λ t k. k)
 
   -- ---- out of jail
 
-  pub unjail_fits : (operator : List ℕ) (w : State) → StateFits P w → IfOk (unjail operator w) (StateLeft P w)
+  pub unjail_fits : (operator : List ℕ) (w : State) → StateFits P T w → IfOk (unjail operator w) (StateLeft P T w)
   unjail_fits operator w h =
       let s = w.mine.staked in
-      on_then (unjailed operator w.hooks.1 s w.view) _ (λ x. StateLeft P w (over_view (λ u. x.2) (over_mine (λ c. record c { staked = x.1 }) w))) _
+      on_then (unjailed operator w.hooks.1 s w.view) _ (λ x. StateLeft P T w (over_view (λ u. x.2) (over_mine (λ c. record c { staked = x.1 }) w))) _
       (on_found (validator_at s operator) NoValidator _ _ (λ v found. on_found (delegation s operator operator) NoSelfDelegation _ _ (λ held f.
       on_stop (nat_lt (trunc_of (value_even_of v.tokens v.shares held)) v.min_self) SelfBelowMinimum _ _ (λ a. on_stop (not v.jailed) NotJailed _ _ (λ b.
       on_next (may_leave w.view.ctx.time (signing_of w.hooks.1 v.cons)) _ _ (λ t c.
       let k : ValidatorIsSound w.view.ctx.height v = h.stake.staked.validators operator v found in
-      state_standing w (record v { jailed = false }) v (λ facts. facts ++ fact.Unjailed operator ∷ []) h (own_place w.view.ctx.height s operator v h.stake.staked found)
+      state_standing w (record v { jailed = false }) v (λ facts. facts ++ fact.Unjailed operator ∷ []) (quiet_behind w.view.facts (fact.Unjailed operator) (λ e. refl)) h (own_place w.view.ctx.height s operator v h.stake.staked found)
       (record {
         operator = refl;
         cons = refl;
@@ -219,7 +220,7 @@ module _ (P : List ℕ → Type 0) where
       (λ x k. k)
 
 pub edits_keep_soundness : EditsKeepSoundness
-edits_keep_soundness m = keeps (edit_validator m) (λ P w h. edit_fits P m w h)
+edits_keep_soundness m = keeps (edit_validator m) (λ P T w h. edit_fits P T m w h)
 
 pub unjailing_keeps_soundness : UnjailingKeepsSoundness
-unjailing_keeps_soundness operator = keeps (unjail operator) (λ P w h. unjail_fits P operator w h)
+unjailing_keeps_soundness operator = keeps (unjail operator) (λ P T w h. unjail_fits P T operator w h)

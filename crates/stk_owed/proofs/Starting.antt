@@ -26,7 +26,7 @@ use Rattle.stk_msgs.specs.declared.genesis.GenesisValidator.{GenesisValidator}
 use Rattle.stk_machine.specs.Genesis.{held_at_start, supplies_with}
 use Rattle.stk_machine.specs.GenesisConditions.{accounts_at_start, start_condition}
 use Rattle.stk_machine.specs.GenesisState.{Start, ground_at_start, empty_over, validator_added, delegation_added, stake_added, chain_started}
-use Rattle.stk_machine.specs.Promises.{IsGoodGenesis, Replayed, RunsAreSound, AccountsHoldWhatIsOwed}
+use Rattle.stk_machine.specs.Promises.{IsGoodGenesis, Replayed, RunsAreSound, SuppliesFallByBurns, AccountsHoldWhatIsOwed}
 use Rattle.stk_machine.proofs.EnterLemmas.{IsEntering, Enters, entering, one_enters}
 use Rattle.stk_machine.proofs.StartLemmas.{may_start, start_in_order, modules_hold, no_stake, entrant}
 use Rattle.stk_rules.specs.Delegating.{pool, delegated}
@@ -38,6 +38,7 @@ use Rattle.stk_keep.specs.Holdings.{Holdings, IsBacked, balance_of, supply_of, t
 use Rattle.stk_keep.specs.Orders.{place_cmp}
 use Rattle.stk_keep.specs.Staked.{Staked, lists_of, validator_at}
 use Rattle.stk_machine.proofs.StakesLemmas.{nobody_has}
+use Rattle.stk_owed.proofs.Burns.{total_in}
 use Rattle.stk_owed.proofs.Bank.{AreHeld, same_place}
 use Rattle.stk_owed.proofs.Bonding.{set_fits}
 use Rattle.stk_owed.proofs.Creating.{stored_fits}
@@ -45,7 +46,7 @@ use Rattle.stk_owed.proofs.Delegating.{delegated_fits}
 use Rattle.stk_owed.proofs.Lists.{from_mapped, looked_up}
 use Rattle.stk_owed.proofs.Names.{known_none}
 use Rattle.stk_owed.proofs.Points.{SharedFits, StakeFits, StateFits, from_fits}
-use Rattle.stk_owed.proofs.Running.{runs_keep_soundness}
+use Rattle.stk_owed.proofs.Running.{runs_burn, runs_keep_soundness}
 use Rattle.stk_owed.proofs.Standing.{own_place}
 use Rattle.stk_owed.proofs.Steps.{and_also, from_if, on_found, on_lifted_then, on_then, weaker_if}
 use Rattle.stk_owed.proofs.Transactions.{without_facts_fits}
@@ -89,7 +90,7 @@ names_few : (xs : Money) → length (keys_of xs) ≡ length xs
 names_few [] = refl
 names_few (x ∷ xs) = omega (arith, names_few xs)
 
-module _ (P : List ℕ → Type 0) where
+module _ (P : List ℕ → Type 0) (T : List ℕ → ℕ) where
   -- ---- nobody at first
 
   empty_shared : SharedFits P 0 (lists_of no_stake) nothing_shared
@@ -113,13 +114,13 @@ module _ (P : List ℕ → Type 0) where
   amounts : List GenesisDelegation → ℕ
   amounts ds = sum (map (λ d. d.amount) ds)
 
-  start_fits : (g : Genesis) → start_condition g ≡ None → AreHeld P (held_at_start (accounts_at_start g)).balances → StakeFits P 0 (sum (map (λ d. d.amount) g.delegations)) (lists_of no_stake) (staked_in (empty_over (ground_at_start g)))
-  start_fits g e held =
+  start_fits : (g : Genesis) → start_condition g ≡ None → AreHeld P (held_at_start (accounts_at_start g)).balances → ((d : List ℕ) → total_in (ground_at_start g) d ≡ T d) → StakeFits P T 0 (sum (map (λ d. d.amount) g.delegations)) (lists_of no_stake) (staked_in (empty_over (ground_at_start g)))
+  start_fits g e held all =
       let v = ground_at_start g in
       let total = sum (map (λ d. d.amount) g.delegations) in
       let m = may_start g e in
       record {
-        ground = record { order = start_in_order g e; held = held };
+        ground = record { order = start_in_order g e; held = held; total = all };
         staked = none_sound;
         bonded = λ d. modules_hold g m.accounts holder.Bonded d ∙ nothing (is_at (denom_cmp g.params.bond_denom) d);
         not_bonded = λ d. modules_hold g m.accounts holder.NotBonded d ∙ own (is_at (denom_cmp d) g.params.bond_denom) (is_at (denom_cmp g.params.bond_denom) d) (same_back d g.params.bond_denom) total;
@@ -141,32 +142,32 @@ module _ (P : List ℕ → Type 0) where
 
   -- ---- validators
 
-  validators_fit : (todo : List GenesisValidator) (n : ℕ) (p : Params) (w : World Staked Hooks) → IsEntering p todo w.mine → StakeFits P 0 n (lists_of w.mine) w
-      → IfOk (each (validator_added chain_told) todo w) (λ x. StakeFits P 0 n (lists_of x.mine) x × (x.view ≡ w.view))
+  validators_fit : (todo : List GenesisValidator) (n : ℕ) (p : Params) (w : World Staked Hooks) → IsEntering p todo w.mine → StakeFits P T 0 n (lists_of w.mine) w
+      → IfOk (each (validator_added chain_told) todo w) (λ x. StakeFits P T 0 n (lists_of x.mine) x × (x.view ≡ w.view))
   validators_fit [] n p w is h = (h, refl)
   validators_fit (x ∷ todo) n p w is h =
       let one : Enters p x todo w.mine w.view = one_enters p x todo w.mine w.view is in
       let v : Validator = entrant w.view x in
-      stored_fits P 0 n w v Overflow (λ t. each (validator_added chain_told) todo t) (λ y. StakeFits P 0 n (lists_of y.mine) y × (y.view ≡ w.view)) h one.new
+      stored_fits P T 0 n w v Overflow (λ t. each (validator_added chain_told) todo t) (λ y. StakeFits P T 0 n (lists_of y.mine) y × (y.view ≡ w.view)) h one.new
       (λ q y f c. nobody_has x.cons w.mine.validators q y one.new_cons f c)
       (record { max_rate = one.max_rate; rate = one.rate; max_change = one.max_change; tokens = omega arith; empty = λ z. refl; unbonding_height = omega arith }) refl refl refl
-      (λ y mine view k. weaker_if (each (validator_added chain_told) todo y) (λ z. StakeFits P 0 n (lists_of z.mine) z × (z.view ≡ y.view)) (λ z. StakeFits P 0 n (lists_of z.mine) z × (z.view ≡ w.view))
+      (λ y mine view k. weaker_if (each (validator_added chain_told) todo y) (λ z. StakeFits P T 0 n (lists_of z.mine) z × (z.view ≡ y.view)) (λ z. StakeFits P T 0 n (lists_of z.mine) z × (z.view ≡ w.view))
       (validators_fit todo n p y (subst (IsEntering p todo) (sym mine) one.entering) k) (λ z j. and_also j.0 (j.1 ∙ view)))
 
   -- ---- delegations
 
-  delegations_fit : (ds : List GenesisDelegation) (w : World Staked Hooks) → StakeFits P 0 (sum (map (λ d. d.amount) ds)) (lists_of w.mine) w
-      → IfOk (each (delegation_added chain_told) ds w) (λ x. StakeFits P 0 0 (lists_of x.mine) x × (x.view.ctx ≡ w.view.ctx))
+  delegations_fit : (ds : List GenesisDelegation) (w : World Staked Hooks) → StakeFits P T 0 (sum (map (λ d. d.amount) ds)) (lists_of w.mine) w
+      → IfOk (each (delegation_added chain_told) ds w) (λ x. StakeFits P T 0 0 (lists_of x.mine) x × (x.view.ctx ≡ w.view.ctx))
   delegations_fit [] w h = (h, refl)
   delegations_fit (d ∷ ds) w h =
       let rest : ℕ = sum (map (λ e. e.amount) ds) in
       let all : sum (map (λ e. e.amount) (d ∷ ds)) ≡ rest + d.amount = turned _ d.amount rest (sum_by-cons (λ n. n) d.amount (map (λ e. e.amount) ds)) in
-      on_then {B = World Staked Hooks} (delegation_added chain_told d w) (λ t. each (delegation_added chain_told) ds t) (λ x. StakeFits P 0 rest (lists_of x.mine) x × (x.view.ctx ≡ w.view.ctx))
-      (λ y. StakeFits P 0 0 (lists_of y.mine) y × (y.view.ctx ≡ w.view.ctx))
+      on_then {B = World Staked Hooks} (delegation_added chain_told d w) (λ t. each (delegation_added chain_told) ds t) (λ x. StakeFits P T 0 rest (lists_of x.mine) x × (x.view.ctx ≡ w.view.ctx))
+      (λ y. StakeFits P T 0 0 (lists_of y.mine) y × (y.view.ctx ≡ w.view.ctx))
       (on_found (validator_at w.mine d.validator) NoValidator _ _ (λ v found.
-      on_then {B = World Staked Hooks} (delegated chain_told v d.delegator d.amount (pool Unbonded) w) (λ x. Ok x.1) (λ x. StakeFits P 0 rest (lists_of x.1.mine) x.1 × (x.1.view.ctx ≡ w.view.ctx)) (λ x. StakeFits P 0 rest (lists_of x.mine) x × (x.view.ctx ≡ w.view.ctx))
-      (delegated_fits P v d.delegator d.amount (pool Unbonded) 0 rest w (subst (λ m. StakeFits P 0 m (lists_of w.mine) w) all h) (own_place P w.view.ctx.height w.mine d.validator v h.staked found)) (λ x k. k)))
-      (λ x k. weaker_if (each (delegation_added chain_told) ds x) (λ y. StakeFits P 0 0 (lists_of y.mine) y × (y.view.ctx ≡ x.view.ctx)) (λ y. StakeFits P 0 0 (lists_of y.mine) y × (y.view.ctx ≡ w.view.ctx)) (delegations_fit ds x k.0) (λ y j. and_also j.0 (j.1 ∙ k.1)))
+      on_then {B = World Staked Hooks} (delegated chain_told v d.delegator d.amount (pool Unbonded) w) (λ x. Ok x.1) (λ x. StakeFits P T 0 rest (lists_of x.1.mine) x.1 × (x.1.view.ctx ≡ w.view.ctx)) (λ x. StakeFits P T 0 rest (lists_of x.mine) x × (x.view.ctx ≡ w.view.ctx))
+      (delegated_fits P T v d.delegator d.amount (pool Unbonded) 0 rest w (subst (λ m. StakeFits P T 0 m (lists_of w.mine) w) all h) (own_place P T w.view.ctx.height w.mine d.validator v h.staked found)) (λ x k. k)))
+      (λ x k. weaker_if (each (delegation_added chain_told) ds x) (λ y. StakeFits P T 0 0 (lists_of y.mine) y × (y.view.ctx ≡ x.view.ctx)) (λ y. StakeFits P T 0 0 (lists_of y.mine) y × (y.view.ctx ≡ w.view.ctx)) (delegations_fit ds x k.0) (λ y j. and_also j.0 (j.1 ∙ k.1)))
     where
       turned : (a x r : ℕ) → a ≡ x + r → a ≡ r + x
       turned a x r e = omega (arith, e)
@@ -175,7 +176,7 @@ module _ (P : List ℕ → Type 0) where
 
   -- what starts fits, at height 0
   record StartedFits (s : Start) : Type 0 where
-    fits : StateFits P s.state
+    fits : StateFits P (total_in s.state.view) s.state
     height : s.state.view.ctx.height ≡ 0
 
   no_unbondings : UnbondingsAreSound 0 []
@@ -196,20 +197,20 @@ module _ (P : List ℕ → Type 0) where
     entries = All-nil (λ (p : (List ℕ × List ℕ × List ℕ) × List RedelegationEntry). All (RedelegationIsSound 0) p.1);
   }
 
-  chain_fits : (g : Genesis) → start_condition g ≡ None → AreHeld P (held_at_start (accounts_at_start g)).balances → IfOk (chain_started g) StartedFits
-  chain_fits g e held =
+  chain_fits : (g : Genesis) → start_condition g ≡ None → AreHeld P (held_at_start (accounts_at_start g)).balances → ((d : List ℕ) → total_in (ground_at_start g) d ≡ T d) → IfOk (chain_started g) StartedFits
+  chain_fits g e held all =
       let v = ground_at_start g in
       let w = empty_over v in
-      on_then (stake_added chain_told g (staked_in w)) _ (λ x. StakeFits P 0 0 (lists_of x.mine) x × (x.view.ctx ≡ v.ctx)) _
+      on_then (stake_added chain_told g (staked_in w)) _ (λ x. StakeFits P T 0 0 (lists_of x.mine) x × (x.view.ctx ≡ v.ctx)) _
       (on_then {B = World Staked Hooks} (each (validator_added chain_told) g.validators (staked_in w)) (λ u. each (delegation_added chain_told) g.delegations u)
-      (λ x. StakeFits P 0 (sum (map (λ d. d.amount) g.delegations)) (lists_of x.mine) x × (x.view ≡ v)) (λ x. StakeFits P 0 0 (lists_of x.mine) x × (x.view.ctx ≡ v.ctx))
-      (validators_fit g.validators (sum (map (λ d. d.amount) g.delegations)) g.params (staked_in w) (entering g e) (start_fits g e held))
-      (λ x k. weaker_if (each (delegation_added chain_told) g.delegations x) (λ y. StakeFits P 0 0 (lists_of y.mine) y × (y.view.ctx ≡ x.view.ctx)) (λ y. StakeFits P 0 0 (lists_of y.mine) y × (y.view.ctx ≡ v.ctx))
+      (λ x. StakeFits P T 0 (sum (map (λ d. d.amount) g.delegations)) (lists_of x.mine) x × (x.view ≡ v)) (λ x. StakeFits P T 0 0 (lists_of x.mine) x × (x.view.ctx ≡ v.ctx))
+      (validators_fit g.validators (sum (map (λ d. d.amount) g.delegations)) g.params (staked_in w) (entering g e) (start_fits g e held all))
+      (λ x k. weaker_if (each (delegation_added chain_told) g.delegations x) (λ y. StakeFits P T 0 0 (lists_of y.mine) y × (y.view.ctx ≡ x.view.ctx)) (λ y. StakeFits P T 0 0 (lists_of y.mine) y × (y.view.ctx ≡ v.ctx))
       (delegations_fit g.delegations x k.0) (λ y j. and_also j.0 (j.1 ∙ ap (λ (u : View). u.ctx) k.1)))) (λ x k.
-      on_lifted_then Overflow (set_updated chain_told x) _ (λ y. StakeFits P 0 0 (lists_of y.mine) y × (y.view.ctx ≡ x.view.ctx)) _ (set_fits P 0 0 x k.0) (λ y j.
+      on_lifted_then Overflow (set_updated chain_told x) _ (λ y. StakeFits P T 0 0 (lists_of y.mine) y × (y.view.ctx ≡ x.view.ctx)) _ (set_fits P T 0 0 x k.0) (λ y j.
       let ctx : y.view.ctx ≡ v.ctx = j.1 ∙ k.1 in
       record {
-        fits = without_facts_fits P (with_staked w.mine y) (record {
+        fits = without_facts_fits P T (with_staked w.mine y) (record {
           stake = j.0;
           unbondings = subst (λ (c : Ctx). UnbondingsAreSound c.height []) (sym ctx) no_unbondings;
           redelegations = subst (λ (c : Ctx). RedelegationsAreSound c.height []) (sym ctx) no_redelegations;
@@ -237,7 +238,8 @@ well_started : (g : Genesis) → start_condition g ≡ None → IfOk (chain_star
 well_started g e =
     let h = held_at_start (accounts_at_start g) in
     let P : List ℕ → Type 0 = Contains (keys_of h.supplies) in
-    weaker_if (chain_started g) (StartedFits P) IsWellStarted (chain_fits P g e (held_supplied h (start_in_order g e).bank)) (λ s k. record { sound = from_fits s.state (keys_of h.supplies) (few_names g e) k.fits; height = k.height })
+    let T : List ℕ → ℕ = total_in (ground_at_start g) in
+    weaker_if (chain_started g) (StartedFits P T) IsWellStarted (chain_fits P T g e (held_supplied h (start_in_order g e).bank) (λ d. refl)) (λ s k. record { sound = from_fits s.state (keys_of h.supplies) (total_in s.state.view) (few_names g e) k.fits; height = k.height })
 
 pub geneses_start_sound : (g : Genesis) → IsGoodGenesis g → IfOk (chain_started g) (λ s. IsSound s.state)
 geneses_start_sound g good = weaker_if (chain_started g) IsWellStarted (λ s. IsSound s.state) (well_started g good.no_condition) (λ s k. k.sound)
@@ -245,13 +247,18 @@ geneses_start_sound g good = weaker_if (chain_started g) IsWellStarted (λ s. Is
 started_well : (r : Replayed) → IsWellStarted r.start
 started_well r = from_if IsWellStarted (chain_started r.genesis) r.start r.started (well_started r.genesis r.good.no_condition)
 
+room : (h n : ℕ) → h ≡ 0 → n < 2 ^ 63 → h + n < 2 ^ 63
+room h n e l = omega (arith, e, l)
+
 pub runs_are_sound : RunsAreSound
 runs_are_sound r =
     let s = started_well r in
     runs_keep_soundness r.blocks r.start.state r.input s.sound (room r.start.state.view.ctx.height (length r.blocks) s.height r.input.few)
-  where
-    room : (h n : ℕ) → h ≡ 0 → n < 2 ^ 63 → h + n < 2 ^ 63
-    room h n e l = omega (arith, e, l)
+
+pub supplies_fall_by_burns : SuppliesFallByBurns
+supplies_fall_by_burns r =
+    let s = started_well r in
+    runs_burn r.blocks r.start.state r.input s.sound (room r.start.state.view.ctx.height (length r.blocks) s.height r.input.few)
 
 pub accounts_hold_what_is_owed : AccountsHoldWhatIsOwed
 accounts_hold_what_is_owed r = ((started_well r).sound.accounts, (runs_are_sound r).accounts)

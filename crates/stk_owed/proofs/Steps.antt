@@ -57,3 +57,8 @@ weaker_if (Err e) R Q h f = tt
 -- both of two
 pub and_also : {A B : Type 0} → A → B → A × B
 and_also a b = (a, b)
+
+-- what holds of one answer in two ways
+pub both_if : {A E : Type 0} (r : Result A E) (R Q : A → Type 0) → IfOk r R → IfOk r Q → IfOk r (λ a. R a × Q a)
+both_if (Ok a) R Q h k = (h, k)
+both_if (Err e) R Q h k = tt

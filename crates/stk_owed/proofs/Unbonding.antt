@@ -11,7 +11,8 @@ use Rattle.stk_keep.specs.declared.facts.Fact.TheVariants as fact
 use Rattle.stk_keep.specs.Hooks.{Lists, with_started}
 use Rattle.stk_keep.specs.Log.{Log}
 use Rattle.stk_keep.specs.Log as log
-use Rattle.stk_keep.specs.World.{World, over_mine, logged, call, modifying, modified}
+use Rattle.stk_keep.specs.World.{View, World, over_mine, logged, call, modifying, modified}
+use Rattle.stk_rules.specs.Distribution.{Shared}
 use Rattle.stk_rules.specs.Unbonding.{put_in_jail, falls_below_minimum, left_standing, unbonded_shares, removed_if_empty}
 use Rattle.std.specs.List.Sorted.{IsStrictlySortedBy}
 use Rattle.std.specs.Map.{keys_of}
@@ -21,6 +22,7 @@ use Rattle.stk_keep.specs.Orders.{pair_cmp, same_addr}
 use Rattle.stk_keep.specs.Staked.{Staked, bonded_tokens, is_bonded, is_unbonded, lists_of, of_bond, other_tokens, delegation, validator_at, put_validator}
 use Rattle.stk_keep.specs.declared.params.Ctx.{Ctx}
 use Rattle.stk_rules.proofs.SoundLemmas.{found-put}
+use Rattle.stk_owed.proofs.Burns.{quiet_behind}
 use Rattle.stk_owed.proofs.Hooking.{before_told, called_if, hook_gave, on_call, stake_hooks}
 use Rattle.stk_owed.proofs.Lists.{all_put, looked_up}
 use Rattle.stk_owed.proofs.Moves.{Leaves, stake_left}
@@ -71,7 +73,7 @@ abbrev others : BondStatus → Bool
 others status = if is_bonded status then false else true
 
 -- the lists with a delegation of so many shares, or without one
-abbrev lists_left : List ℕ → List ℕ → ℕ → Lists → Lists
+abbrev pub lists_left : List ℕ → List ℕ → ℕ → Lists → Lists
 lists_left who op left l = record { operators = l.operators; started = λ x o. cond (same_addr who x && same_addr op o) (not (left == 0)) (l.started x o) }
 
 -- the delegations with so many shares of one
@@ -86,9 +88,23 @@ left_there s who op left x o a = ap is_some (at-number s.delegations (op, who) (
     by true false = refl
     by false z = refl
 
-module _ (P : List ℕ → Type 0) where
+-- the validator after it may have been jailed, and with so many shares less
+abbrev pub now_of : Validator → List ℕ → ℕ → Validator
+now_of v who left = record v { jailed = v.jailed || falls_below_minimum v who left }
+
+abbrev pub less_of : Validator → List ℕ → ℕ → ℕ → Validator
+less_of v who held part = record (now_of v who (held - part)) { tokens = v.tokens - amount_out v.tokens v.shares part; shares = v.shares - part }
+
+-- the worlds in which it stands so
+abbrev pub may_jail : Validator → List ℕ → ℕ → World Staked Hooks → World Staked Hooks
+may_jail v who left w = if falls_below_minimum v who left then put_in_jail v w else w
+
+abbrev pub lessened : Validator → List ℕ → ℕ → ℕ → World Staked Hooks → World Staked Hooks
+lessened v who held part x = logged v.operator log.left (over_mine (put_validator (less_of v who held part)) x)
+
+module _ (P : List ℕ → Type 0) (T : List ℕ → ℕ) where
   -- the same hooks and ground over other validators and delegations
-  abbrev over_stake : Staked → World Staked Hooks → World Staked Hooks
+  abbrev pub over_stake : Staked → World Staked Hooks → World Staked Hooks
   over_stake s w = record { mine = s; hooks = w.hooks; view = w.view; log = w.log }
 
   -- ---- shares leave
@@ -102,9 +118,9 @@ module _ (P : List ℕ → Type 0) where
     pub shares : u.shares ≡ v.shares - part
     pub sound : ValidatorIsSound height u
 
-  stake_less : (b n : ℕ) (l : Lists) (w : World Staked Hooks) (u v : Validator) (who : List ℕ) (held part out : ℕ) → StakeFits P b n l w → validator_at w.mine v.operator ≡ Some v → delegation w.mine who v.operator ≡ Some held
+  stake_less : (b n : ℕ) (l : Lists) (w : World Staked Hooks) (u v : Validator) (who : List ℕ) (held part out : ℕ) → StakeFits P T b n l w → validator_at w.mine v.operator ≡ Some v → delegation w.mine who v.operator ≡ Some held
       → part ≤ held → held ≤ v.shares → out ≤ v.tokens → IsLess w.view.ctx.height u v part out
-      → StakeFits P (b + cond (is_bonded v.status) out 0) (n + cond (is_bonded v.status) 0 out) l (over_mine (λ s. put_validator u (shares_left who v.operator (held - part) s)) w)
+      → StakeFits P T (b + cond (is_bonded v.status) out 0) (n + cond (is_bonded v.status) 0 out) l (over_mine (λ s. put_validator u (shares_left who v.operator (held - part) s)) w)
   stake_less b n l w u v who held part out h found has within less_held enough k =
       let s = w.mine in
       let f : validator_at s u.operator ≡ Some v = ap (validator_at s) k.operator ∙ found in
@@ -133,21 +149,21 @@ module _ (P : List ℕ → Type 0) where
   -- ---- jailing
 
   -- the validator after it may have been jailed, and what stands then
-  record HasStood (b n : ℕ) (l : Lists) (v : Validator) (w x : World Staked Hooks) : Type 0 where
-    now : Validator
-    fits : StakeFits P b n l x
-    found : validator_at x.mine v.operator ≡ Some now
-    same : StandsFor P w.view.ctx.height now v
-    delegations : x.mine.delegations ≡ w.mine.delegations
-    operators : (o : List ℕ) → is_some (validator_at x.mine o) ≡ is_some (validator_at w.mine o)
-    others : (o : List ℕ) → same_addr v.operator o ≡ false → validator_at x.mine o ≡ validator_at w.mine o
-    ctx : x.view.ctx ≡ w.view.ctx
+  pub record HasStood (b n : ℕ) (l : Lists) (v : Validator) (w x : World Staked Hooks) : Type 0 where
+    pub now : Validator
+    pub fits : StakeFits P T b n l x
+    pub found : validator_at x.mine v.operator ≡ Some now
+    pub same : StandsFor P T w.view.ctx.height now v
+    pub delegations : x.mine.delegations ≡ w.mine.delegations
+    pub operators : (o : List ℕ) → is_some (validator_at x.mine o) ≡ is_some (validator_at w.mine o)
+    pub others : (o : List ℕ) → same_addr v.operator o ≡ false → validator_at x.mine o ≡ validator_at w.mine o
+    pub ctx : x.view.ctx ≡ w.view.ctx
 
-  jailed_fits : (b n : ℕ) (l : Lists) (w : World Staked Hooks) (v : Validator) (falls : Bool) → StakeFits P b n l w → validator_at w.mine v.operator ≡ Some v → HasStood b n l v w (if falls then put_in_jail v w else w)
+  jailed_fits : (b n : ℕ) (l : Lists) (w : World Staked Hooks) (v : Validator) (falls : Bool) → StakeFits P T b n l w → validator_at w.mine v.operator ≡ Some v → HasStood b n l v w (if falls then put_in_jail v w else w)
   jailed_fits b n l w v true h found =
       let k : ValidatorIsSound w.view.ctx.height v = h.staked.validators v.operator v found in
       let u : Validator = record v { jailed = true } in
-      let same : StandsFor P w.view.ctx.height u v = record {
+      let same : StandsFor P T w.view.ctx.height u v = record {
         operator = refl;
         cons = refl;
         status = refl;
@@ -157,7 +173,7 @@ module _ (P : List ℕ → Type 0) where
       } in
       record {
         now = u;
-        fits = stake_told P b n l (over_mine (put_validator u) w) (λ facts. facts ++ fact.Jailed v.operator ∷ []) (stake_standing P b n l w u v h found same);
+        fits = stake_told P T b n l (over_mine (put_validator u) w) (λ facts. facts ++ fact.Jailed v.operator ∷ []) (quiet_behind w.view.facts (fact.Jailed v.operator) (λ d. refl)) (stake_standing P T b n l w u v h found same);
         found = found_itself w.mine u;
         same = same;
         delegations = refl;
@@ -179,12 +195,12 @@ module _ (P : List ℕ → Type 0) where
   -- ---- what is left of the delegation
 
   -- the delegation is changed, and hooks and ground fit what stood before that
-  record HasLeft (b n : ℕ) (l : Lists) (who op : List ℕ) (left : ℕ) (w x : World Staked Hooks) : Type 0 where
-    mine : x.mine ≡ shares_left who op left w.mine
-    fits : StakeFits P b n (lists_left who op left l) (over_stake w.mine x)
-    ctx : x.view.ctx ≡ w.view.ctx
+  pub record HasLeft (b n : ℕ) (l : Lists) (who op : List ℕ) (left : ℕ) (w x : World Staked Hooks) : Type 0 where
+    pub mine : x.mine ≡ shares_left who op left w.mine
+    pub fits : StakeFits P T b n (lists_left who op left l) (over_stake w.mine x)
+    pub ctx : x.view.ctx ≡ w.view.ctx
 
-  left_fits : (b n : ℕ) (l : Lists) (w : World Staked Hooks) (val : Validator) (who : List ℕ) (left : ℕ) → StakeFits P b n (with_started who val.operator false l) w → l.operators val.operator ≡ true
+  pub left_fits : (b n : ℕ) (l : Lists) (w : World Staked Hooks) (val : Validator) (who : List ℕ) (left : ℕ) → StakeFits P T b n (with_started who val.operator false l) w → l.operators val.operator ≡ true
       → IfOk (left_standing chain_told val who left w) (HasLeft b n l who val.operator left w)
   left_fits b n l w val who left h there = by (left == 0) refl
     where
@@ -198,16 +214,16 @@ module _ (P : List ℕ → Type 0) where
       by : (z : Bool) → (left == 0) ≡ z → IfOk (if z then Ok (over_mine (without_shares who op) w) else call chain_told (modified val who left) (over_mine (put_delegation who op left) w)) (HasLeft b n l who op left w)
       by true e = record {
         mine = ap (λ z. record w.mine { delegations = cond z (without pair_cmp w.mine.delegations (op, who)) (with pair_cmp w.mine.delegations (op, who) left) }) (sym e);
-        fits = stake_relisted P b n (with_started who op false l) (lists_left who op left l) w h (λ o. refl) (λ x o. ap (λ z. cond (same_addr who x && same_addr op o) (not z) (l.started x o)) e);
+        fits = stake_relisted P T b n (with_started who op false l) (lists_left who op left l) w h (λ o. refl) (λ x o. ap (λ z. cond (same_addr who x && same_addr op o) (not z) (l.started x o)) e);
         ctx = refl;
       }
       by false e =
-          called_if (modified val who left) (over_mine (put_delegation who op left) w) (λ d u. Leaves P w.view (with_started who op true (with_started who op false l)) d u) (HasLeft b n l who op left w) (λ u. refl)
-          (start_leaves P val who left w.view (with_started who op false l) w.hooks.0 (stake_hooks P b n (with_started who op false l) w h) there)
+          called_if (modified val who left) (over_mine (put_delegation who op left) w) (λ d u. Leaves P T w.view (with_started who op true (with_started who op false l)) d u) (HasLeft b n l who op left w) (λ u. refl)
+          (start_leaves P T val who left w.view (with_started who op false l) w.hooks.0 (stake_hooks P T b n (with_started who op false l) w h) there)
           (λ d u k leaves. record {
             mine = ap (λ z. record w.mine { delegations = cond z (without pair_cmp w.mine.delegations (op, who)) (with pair_cmp w.mine.delegations (op, who) left) }) (sym e);
-            fits = stake_relisted P b n (with_started who op true (with_started who op false l)) (lists_left who op left l) (hook_gave w d u k)
-                (stake_left P b n (with_started who op false l) (with_started who op true (with_started who op false l)) w d u (w.log ++ k) h leaves) (λ o. refl)
+            fits = stake_relisted P T b n (with_started who op true (with_started who op false l)) (lists_left who op left l) (hook_gave w d u k)
+                (stake_left P T b n (with_started who op false l) (with_started who op true (with_started who op false l)) w d u (w.log ++ k) h leaves) (λ o. refl)
                 (λ x o. ap (λ z. cond (same_addr who x && same_addr op o) (not z) (l.started x o)) e ∙ anew (same_addr who x && same_addr op o) (l.started x o));
             ctx = leaves.ctx;
           })
@@ -217,33 +233,41 @@ module _ (P : List ℕ → Type 0) where
   -- what unbonding answers and leaves: the amount is owed to no validator any more
   pub record HasUnbonded (b n : ℕ) (w : World Staked Hooks) (v : Validator) (out : ℕ) (x : ℕ × World Staked Hooks) : Type 0 where
     pub amount : x.0 ≡ out
-    pub fits : StakeFits P (b + cond (is_bonded v.status) out 0) (n + cond (is_bonded v.status) 0 out) (lists_of x.1.mine) x.1
+    pub fits : StakeFits P T (b + cond (is_bonded v.status) out 0) (n + cond (is_bonded v.status) 0 out) (lists_of x.1.mine) x.1
     pub ctx : x.1.view.ctx ≡ w.view.ctx
     pub others : (o : List ℕ) → same_addr v.operator o ≡ false → validator_at x.1.mine o ≡ validator_at w.mine o
 
-  pub unbonded_fits : (b n : ℕ) (w : World Staked Hooks) (v : Validator) (who : List ℕ) (held part : ℕ) → StakeFits P b n (lists_of w.mine) w → validator_at w.mine v.operator ≡ Some v → delegation w.mine who v.operator ≡ Some held
-      → part ≤ held → IfOk (unbonded_shares chain_told v who held part w) (HasUnbonded b n w v (amount_out v.tokens v.shares part))
-  unbonded_fits b n w v who held part h found has within =
+  -- what stands when shares and tokens have left a validator, and before it may go
+  pub record HasLessened (b n : ℕ) (w : World Staked Hooks) (v : Validator) (out : ℕ) (x : World Staked Hooks) : Type 0 where
+    pub fits : StakeFits P T (b + cond (is_bonded v.status) out 0) (n + cond (is_bonded v.status) 0 out) (lists_of x.mine) x
+    pub ctx : x.view.ctx ≡ w.view.ctx
+    pub others : (o : List ℕ) → same_addr v.operator o ≡ false → validator_at x.mine o ≡ validator_at w.mine o
+
+  -- after the hook and, where it falls below its minimum, the jail
+  pub stood_fits : (b n : ℕ) (w : World Staked Hooks) (v : Validator) (who : List ℕ) (left : ℕ) (d : Shared) (u : View) (k : Log) → StakeFits P T b n (lists_of w.mine) w → validator_at w.mine v.operator ≡ Some v
+      → Leaves P T w.view (with_started who v.operator false (lists_of w.mine)) d u → HasStood b n (with_started who v.operator false (lists_of w.mine)) v (hook_gave w d u k) (may_jail v who left (hook_gave w d u k))
+  stood_fits b n w v who left d u k h found leaves =
+      let l1 = with_started who v.operator false (lists_of w.mine) in
+      jailed_fits b n l1 (hook_gave w d u k) v (falls_below_minimum v who left) (stake_left P T b n (lists_of w.mine) l1 w d u (w.log ++ k) h leaves) found
+
+  pub lessened_fits : (b n : ℕ) (w : World Staked Hooks) (v : Validator) (who : List ℕ) (held part : ℕ) (d : Shared) (u : View) (k : Log) (x : World Staked Hooks) → StakeFits P T b n (lists_of w.mine) w → validator_at w.mine v.operator ≡ Some v
+      → delegation w.mine who v.operator ≡ Some held → part ≤ held → Leaves P T w.view (with_started who v.operator false (lists_of w.mine)) d u
+      → HasLeft b n (lists_of w.mine) who v.operator (held - part) (may_jail v who (held - part) (hook_gave w d u k)) x → HasLessened b n w v (amount_out v.tokens v.shares part) (lessened v who held part x)
+  lessened_fits b n w v who held part d u k x h found has within leaves after =
       let l = lists_of w.mine in
       let op = v.operator in
-      let l1 = with_started who op false l in
-      let falls = falls_below_minimum v who (held - part) in
-      let now : Validator = record v { jailed = v.jailed || falls } in
       let out = amount_out v.tokens v.shares part in
-      let less : Validator = record now { tokens = v.tokens - out; shares = v.shares - part } in
-      let there : is_some (validator_at w.mine op) ≡ true = ap is_some found in
+      let less : Validator = less_of v who held part in
       let number : number_at pair_cmp w.mine.delegations (op, who) ≡ held = ap (λ r. unwrap_or r 0) has in
       let all : v.shares ≡ shares_at w.mine.delegations op = h.staked.shares op v found in
       let inside = held_within w.mine.delegations op who in
       let some : 0 < held = h.staked.positive (op, who) held has in
       let held_most : held ≤ v.shares = at_most held v.shares _ _ number all inside in
       let enough : out ≤ v.tokens = out_within v.tokens v.shares part (omega (arith, some, held_most)) (omega (arith, within, held_most)) in
-      on_call (modifying v who held) w _ (λ d u. Leaves P w.view l1 d u) _ (λ u. refl) (before_told P v who (Some held) w.view l w.hooks.0 (stake_hooks P b n l w h) there) (λ d u k leaves.
       let w1 : World Staked Hooks = hook_gave w d u k in
-      let w2 : World Staked Hooks = if falls then put_in_jail v w1 else w1 in
-      let stood : HasStood b n l1 v w1 w2 = jailed_fits b n l1 w1 v falls (stake_left P b n l l1 w d u (w.log ++ k) h leaves) found in
-      on_then (left_standing chain_told now who (held - part) w2) _ (HasLeft b n l who op (held - part) w2) _ (left_fits b n l w2 now who (held - part) stood.fits there) (λ x after.
-      let w3 : World Staked Hooks = logged op log.left (over_mine (put_validator less) x) in
+      let w2 : World Staked Hooks = may_jail v who (held - part) w1 in
+      let stood : HasStood b n (with_started who op false l) v w1 w2 = stood_fits b n w v who (held - part) d u k h found leaves in
+      let w3 : World Staked Hooks = lessened v who held part x in
       let own : ValidatorIsSound w.view.ctx.height v = h.staked.validators op v found in
       let ctx : x.view.ctx ≡ w.view.ctx = after.ctx ∙ stood.ctx ∙ leaves.ctx in
       let is_less : IsLess x.view.ctx.height less stood.now part out = record {
@@ -256,34 +280,54 @@ module _ (P : List ℕ → Type 0) where
             (record { max_rate = own.max_rate; rate = own.rate; max_change = own.max_change; tokens = fewer v.tokens out own.tokens; empty = λ z. out_all v.tokens v.shares part (omega (arith, within, held_most)) z; unbonding_height = own.unbonding_height });
       } in
       let held_there : delegation w2.mine who stood.now.operator ≡ Some held = (λ i. at pair_cmp (stood.delegations i) (stood.same.operator i, who)) ∙ has in
-      let lessened = stake_less b n (lists_left who op (held - part) l) (over_stake w2.mine x) less stood.now who held part out after.fits (ap (validator_at w2.mine) stood.same.operator ∙ stood.found) held_there within
+      let poorer = stake_less b n (lists_left who op (held - part) l) (over_stake w2.mine x) less stood.now who held part out after.fits (ap (validator_at w2.mine) stood.same.operator ∙ stood.found) held_there within
       (subst (λ m. held ≤ m) (sym stood.same.shares) held_most) (subst (λ m. out ≤ m) (sym stood.same.tokens) enough) is_less in
       let left : ℕ = held - part in
       let lists : Lists = lists_left who op left l in
       let mine : put_validator less (shares_left who stood.now.operator left w2.mine) ≡ put_validator less x.mine = ap (λ o. put_validator less (shares_left who o left w2.mine)) stood.same.operator ∙ ap (put_validator less) (sym after.mine) in
       let status = stood.same.status in
-      let first = stake_logged P (b + cond (is_bonded stood.now.status) out 0) (n + cond (is_bonded stood.now.status) 0 out) lists
-      (over_mine (λ s. put_validator less (shares_left who stood.now.operator left s)) (over_stake w2.mine x)) w3.log lessened in
-      let second : StakeFits P (b + cond (is_bonded stood.now.status) out 0) (n + cond (is_bonded stood.now.status) 0 out) lists w3 =
-      subst (λ (m : Staked). StakeFits P (b + cond (is_bonded stood.now.status) out 0) (n + cond (is_bonded stood.now.status) 0 out) lists (record { mine = m; hooks = x.hooks; view = x.view; log = w3.log })) mine first in
-      let third : StakeFits P (b + cond (is_bonded v.status) out 0) (n + cond (is_bonded v.status) 0 out) lists w3 =
-      subst (λ (t : BondStatus). StakeFits P (b + cond (is_bonded t) out 0) (n + cond (is_bonded t) 0 out) lists w3) status second in
+      let first = stake_logged P T (b + cond (is_bonded stood.now.status) out 0) (n + cond (is_bonded stood.now.status) 0 out) lists
+      (over_mine (λ s. put_validator less (shares_left who stood.now.operator left s)) (over_stake w2.mine x)) w3.log poorer in
+      let second : StakeFits P T (b + cond (is_bonded stood.now.status) out 0) (n + cond (is_bonded stood.now.status) 0 out) lists w3 =
+      subst (λ (m : Staked). StakeFits P T (b + cond (is_bonded stood.now.status) out 0) (n + cond (is_bonded stood.now.status) 0 out) lists (record { mine = m; hooks = x.hooks; view = x.view; log = w3.log })) mine first in
+      let third : StakeFits P T (b + cond (is_bonded v.status) out 0) (n + cond (is_bonded v.status) 0 out) lists w3 =
+      subst (λ (t : BondStatus). StakeFits P T (b + cond (is_bonded t) out 0) (n + cond (is_bonded t) 0 out) lists w3) status second in
       let now_found : validator_at w2.mine op ≡ Some stood.now = stood.found in
-      let fits : StakeFits P (b + cond (is_bonded v.status) out 0) (n + cond (is_bonded v.status) 0 out) (lists_of w3.mine) w3 =
-      stake_relisted P _ _ lists (lists_of w3.mine) w3 third
+      let fits : StakeFits P T (b + cond (is_bonded v.status) out 0) (n + cond (is_bonded v.status) 0 out) (lists_of w3.mine) w3 =
+      stake_relisted P T _ _ lists (lists_of w3.mine) w3 third
       (λ o. ap (λ (m : Staked). is_some (validator_at (put_validator less m) o)) after.mine ∙ there_still w2.mine.validators op o stood.now less now_found ∙ stood.operators o)
       (λ y o. ap (λ (m : Staked). is_some (delegation m y o)) after.mine ∙ left_there w2.mine who op left y o stood.fits.staked.delegations_ascend
       ∙ ap (λ ds. cond (same_addr who y && same_addr op o) (not (left == 0)) (is_some (at pair_cmp ds (o, y)))) stood.delegations) in
-      on_then (removed_if_empty chain_told less w3) _ (StakeLeft P (b + cond (is_bonded v.status) out 0) (n + cond (is_bonded v.status) 0 out) w3 op) _
-      (removed_if_fits P _ _ w3 less fits (found_itself x.mine less)) (λ y gone. record {
-        amount = refl;
-        fits = gone.fits;
-        ctx = gone.ctx ∙ ctx;
-        others = λ o e. gone.others o e ∙ found-put x.mine less o ∙ ap (λ t. cond t (Some less) (validator_at x.mine o)) (same_back o op ∙ e) ∙ ap (λ (m : Staked). validator_at m o) after.mine ∙ stood.others o e;
-      })))
+      record {
+        fits = fits;
+        ctx = ctx;
+        others = λ o e. found-put x.mine less o ∙ ap (λ t. cond t (Some less) (validator_at x.mine o)) (same_back o op ∙ e) ∙ ap (λ (m : Staked). validator_at m o) after.mine ∙ stood.others o e;
+      }
     where
       at_most : (a b m s : ℕ) → m ≡ a → b ≡ s → m ≤ s → a ≤ b
       at_most a b m s e f g = omega (arith, e, f, g)
 
       fewer : (t o : ℕ) → t ≤ 10 ^ 18 → t - o ≤ 10 ^ 18
       fewer t o l = omega (arith, l)
+
+  pub unbonded_fits : (b n : ℕ) (w : World Staked Hooks) (v : Validator) (who : List ℕ) (held part : ℕ) → StakeFits P T b n (lists_of w.mine) w → validator_at w.mine v.operator ≡ Some v → delegation w.mine who v.operator ≡ Some held
+      → part ≤ held → IfOk (unbonded_shares chain_told v who held part w) (HasUnbonded b n w v (amount_out v.tokens v.shares part))
+  unbonded_fits b n w v who held part h found has within =
+      let l = lists_of w.mine in
+      let op = v.operator in
+      let l1 = with_started who op false l in
+      let now : Validator = now_of v who (held - part) in
+      let less : Validator = less_of v who held part in
+      let there : is_some (validator_at w.mine op) ≡ true = ap is_some found in
+      on_call (modifying v who held) w _ (λ d u. Leaves P T w.view l1 d u) _ (λ u. refl) (before_told P T v who (Some held) w.view l w.hooks.0 (stake_hooks P T b n l w h) there) (λ d u k leaves.
+      let w2 : World Staked Hooks = may_jail v who (held - part) (hook_gave w d u k) in
+      let stood = stood_fits b n w v who (held - part) d u k h found leaves in
+      on_then (left_standing chain_told now who (held - part) w2) _ (HasLeft b n l who op (held - part) w2) _ (left_fits b n l w2 now who (held - part) stood.fits there) (λ x after.
+      let w3 : World Staked Hooks = lessened v who held part x in
+      let k3 = lessened_fits b n w v who held part d u k x h found has within leaves after in
+      on_then (removed_if_empty chain_told less w3) _ (StakeLeft P T _ _ w3 op) _ (removed_if_fits P T _ _ w3 less k3.fits (found_itself x.mine less)) (λ y gone. record {
+        amount = refl;
+        fits = gone.fits;
+        ctx = gone.ctx ∙ k3.ctx;
+        others = λ o e. gone.others o e ∙ k3.others o e;
+      })))

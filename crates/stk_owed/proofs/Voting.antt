@@ -18,6 +18,7 @@ use Rattle.stk_dec.specs.declared.over.Over.{Over}
 use Rattle.stk_keep.specs.Entries.{with}
 use Rattle.stk_keep.specs.Staked.{is_unbonded, validator_by_cons, validator_at}
 use Rattle.stk_keep.specs.declared.facts.Fact.{Fact}
+use Rattle.stk_owed.proofs.Burns.{total_in, SayNoMore, quiet_behind}
 use Rattle.stk_owed.proofs.Allocating.{found_by_cons}
 use Rattle.stk_owed.proofs.Lists.{all_put, looked_up, weaker}
 use Rattle.stk_owed.proofs.Points.{IsRecorded, StateFits, from_fits, to_fits}
@@ -51,10 +52,10 @@ recorded_put cons q s i h = subst IsSome (sym (at-put cons_cmp cons_total i cons
 pub own_record : (height : ℕ) (cons : List ℕ) (s : Signing) (i : Window) → WindowIsSound height i → signing_of i cons ≡ Some s → SigningIsSound height s
 own_record height cons s i h e = looked_up (λ (x : List ℕ × Signing). SigningIsSound height x.1) (is_at (cons_cmp cons)) (SigningIsSound height) (λ k y t g. g) i s e (recursion_from_All (λ e. SigningIsSound height e.1) i h.records)
 
-module _ (P : List ℕ → Type 0) where
+module _ (P : List ℕ → Type 0) (T : List ℕ → ℕ) where
   -- ---- the state with another signing record
 
-  window_put : (w : State) (cons : List ℕ) (s : Signing) → StateFits P w → SigningIsSound w.view.ctx.height s → StateFits P (record { mine = w.mine; hooks = (w.hooks.0, with cons_cmp w.hooks.1 cons s); view = w.view; log = w.log })
+  window_put : (w : State) (cons : List ℕ) (s : Signing) → StateFits P T w → SigningIsSound w.view.ctx.height s → StateFits P T (record { mine = w.mine; hooks = (w.hooks.0, with cons_cmp w.hooks.1 cons s); view = w.view; log = w.log })
   window_put w cons s h k = record {
     stake = record {
       ground = h.stake.ground;
@@ -72,18 +73,18 @@ module _ (P : List ℕ → Type 0) where
 
   -- ---- jailing
 
-  state_told : (w : State) (f : List Fact → List Fact) → StateFits P w → StateFits P (over_view (over_facts f) w)
-  state_told w f h = record { stake = stake_told P 0 _ _ (staked_in w) f h.stake; unbondings = h.unbondings; redelegations = h.redelegations }
+  state_told : (w : State) (f : List Fact → List Fact) → SayNoMore w.view.facts (f w.view.facts) → StateFits P T w → StateFits P T (over_view (over_facts f) w)
+  state_told w f q h = record { stake = stake_told P T 0 _ _ (staked_in w) f q h.stake; unbondings = h.unbondings; redelegations = h.redelegations }
 
-  jail_fits : (i : Window) (cons : List ℕ) (w : World Stakes Shared) → StateFits P (with_window i w) → StateFits P (with_window i (jail_lent (core_slashes distribution_told plain_slash) cons w))
+  jail_fits : (i : Window) (cons : List ℕ) (w : World Stakes Shared) → StateFits P T (with_window i w) → StateFits P T (with_window i (jail_lent (core_slashes distribution_told plain_slash) cons w))
   jail_fits i cons w h = by (validator_by_cons w.mine.staked cons) refl
     where
       by : (r : Option Validator) → validator_by_cons w.mine.staked cons ≡ r
-          → StateFits P (with_window i (over_view (λ u. record u { facts = jail_told r u.facts }) (over_mine (λ c. record c { staked = jailed_of r c.staked }) w)))
-      by None e = state_told (with_window i w) (λ facts. facts) h
+          → StateFits P T (with_window i (over_view (λ u. record u { facts = jail_told r u.facts }) (over_mine (λ c. record c { staked = jailed_of r c.staked }) w)))
+      by None e = state_told (with_window i w) (λ facts. facts) (λ d. refl) h
       by (Some v) e =
           let k = h.stake.staked.validators v.operator v found in
-          (state_standing P (with_window i w) (record v { jailed = true }) v (λ facts. jail_told (Some v) facts) h found (record {
+          (state_standing P T (with_window i w) (record v { jailed = true }) v (λ facts. jail_told (Some v) facts) (quiet_behind w.view.facts (fact.Jailed v.operator) (λ d. refl)) h found (record {
             operator = refl;
             cons = refl;
             status = refl;
@@ -99,7 +100,7 @@ module _ (P : List ℕ → Type 0) where
 
   -- a vote counts once more, and leaves every other record
   pub record VoteLeft (cons : List ℕ) (w x : State) : Type 0 where
-    pub fits : StateFits P x
+    pub fits : StateFits P T x
     pub ctx : x.view.ctx ≡ w.view.ctx
     pub others : (q : List ℕ) → is_at (cons_cmp q) cons ≡ false → signing_of x.hooks.1 q ≡ signing_of w.hooks.1 q
     pub pairs : (m : ℕ) → PairsFit m w.mine.unbondings → PairsFit m x.mine.unbondings
@@ -107,7 +108,7 @@ module _ (P : List ℕ → Type 0) where
   others_put : (cons q : List ℕ) (s : Signing) (i : Window) → is_at (cons_cmp q) cons ≡ false → signing_of (with cons_cmp i cons s) q ≡ signing_of i q
   others_put cons q s i e = at-put cons_cmp cons_total i cons q s ∙ ap (λ b. cond b (Some s) (signing_of i q)) e
 
-  pub vote_fits : (t : Vote) (w : State) → StateFits P w → ((s : Signing) → signing_of w.hooks.1 t.cons ≡ Some s → length s.votes < w.view.ctx.height) → IfOk (vote_step t w) (VoteLeft t.cons w)
+  pub vote_fits : (t : Vote) (w : State) → StateFits P T w → ((s : Signing) → signing_of w.hooks.1 t.cons ≡ Some s → length s.votes < w.view.ctx.height) → IfOk (vote_step t w) (VoteLeft t.cons w)
   vote_fits t w h fewer =
       on_then (vote_counted (core_slashes distribution_told plain_slash) (validator_by_cons w.mine.staked t.cons) (signing_of w.hooks.1 t.cons) t w.hooks.1 (beside_window w)) _ (λ x. VoteLeft t.cons w (with_window x.1 x.2)) _
       (by (validator_by_cons w.mine.staked t.cons) (signing_of w.hooks.1 t.cons) refl) (λ x k. k)
@@ -149,8 +150,8 @@ module _ (P : List ℕ → Type 0) where
           chosen false false = record { fits = window_put w t.cons now h counted; ctx = refl; others = λ q f. others_put t.cons q now w.hooks.1 f; pairs = λ m k. k }
           chosen false true =
               let i = with cons_cmp w.hooks.1 t.cons reset in
-              on_then (slashed distribution_told plain_slash t.cons (w.view.ctx.height - 2) t.power w.view.ctx.params.slash_fraction_downtime (beside_window w)) _ (λ z. SlashLeft P i (beside_window w) z.1) _
-              (slashed_fits P i t.cons (w.view.ctx.height - 2) t.power w.view.ctx.params.slash_fraction_downtime (beside_window w) (window_put w t.cons reset h anew)) (λ z k. record {
+              on_then (slashed distribution_told plain_slash t.cons (w.view.ctx.height - 2) t.power w.view.ctx.params.slash_fraction_downtime (beside_window w)) _ (λ z. SlashLeft P T i (beside_window w) z.1) _
+              (slashed_fits P T i t.cons (w.view.ctx.height - 2) t.power w.view.ctx.params.slash_fraction_downtime (beside_window w) (window_put w t.cons reset h anew)) (λ z k. record {
                 fits = jail_fits i t.cons z.1 k.fits;
                 ctx = k.ctx;
                 others = λ q f. others_put t.cons q reset w.hooks.1 f;
@@ -161,24 +162,24 @@ module _ (P : List ℕ → Type 0) where
 
   -- counts of votes stay
   pub record EvidenceLeft (w x : State) : Type 0 where
-    pub fits : StateFits P x
+    pub fits : StateFits P T x
     pub ctx : x.view.ctx ≡ w.view.ctx
     pub pairs : (m : ℕ) → PairsFit m w.mine.unbondings → PairsFit m x.mine.unbondings
 
-  banned_sound : (height : ℕ) (cons : List ℕ) (i : Window) (w : State) → StateFits P w → StateFits P (record { mine = w.mine; hooks = (w.hooks.0, banned cons forever w.hooks.1); view = w.view; log = w.log })
+  banned_sound : (height : ℕ) (cons : List ℕ) (i : Window) (w : State) → StateFits P T w → StateFits P T (record { mine = w.mine; hooks = (w.hooks.0, banned cons forever w.hooks.1); view = w.view; log = w.log })
   banned_sound height cons i w h = by (signing_of w.hooks.1 cons) refl
     where
-      by : (r : Option Signing) → signing_of w.hooks.1 cons ≡ r → StateFits P (record { mine = w.mine; hooks = (w.hooks.0, banned_of r cons forever w.hooks.1); view = w.view; log = w.log })
+      by : (r : Option Signing) → signing_of w.hooks.1 cons ≡ r → StateFits P T (record { mine = w.mine; hooks = (w.hooks.0, banned_of r cons forever w.hooks.1); view = w.view; log = w.log })
       by None e = h
       by (Some s) e =
           let own = own_record w.view.ctx.height cons s w.hooks.1 h.stake.window e in
           window_put w cons (record s { jailed_until = forever; tombstoned = true }) h (record { counted = own.counted; start = own.start })
 
-  not_jailed_fits : (i : Window) (r : Option Validator) (cons : List ℕ) (w : World Stakes Shared) → StateFits P (with_window i w) → StateFits P (with_window i (jailed_if_not (core_slashes distribution_told plain_slash) window_bans r cons w))
+  not_jailed_fits : (i : Window) (r : Option Validator) (cons : List ℕ) (w : World Stakes Shared) → StateFits P T (with_window i w) → StateFits P T (with_window i (jailed_if_not (core_slashes distribution_told plain_slash) window_bans r cons w))
   not_jailed_fits i None cons w h = h
   not_jailed_fits i (Some v) cons w h = by v.jailed
     where
-      by : (b : Bool) → StateFits P (with_window i (if b then w else jail_lent (core_slashes distribution_told plain_slash) cons w))
+      by : (b : Bool) → StateFits P T (with_window i (if b then w else jail_lent (core_slashes distribution_told plain_slash) cons w))
       by true = h
       by false = jail_fits i cons w h
 
@@ -198,7 +199,7 @@ module _ (P : List ℕ → Type 0) where
       by true = refl
       by false = refl
 
-  pub evidence_fits : (e : Evidence) (w : State) → StateFits P w → IfOk (evidence_step e w) (EvidenceLeft w)
+  pub evidence_fits : (e : Evidence) (w : State) → StateFits P T w → IfOk (evidence_step e w) (EvidenceLeft w)
   evidence_fits e w h =
       on_then (equivocation_handled (core_slashes distribution_told plain_slash) window_bans e w.hooks.1 (beside_window w)) _ (λ x. EvidenceLeft w (with_window x.1 x.2)) _
       (by (validator_by_cons w.mine.staked e.cons) (window_bans.tombstoned w.hooks.1 e.cons)) (λ x k. k)
@@ -216,13 +217,13 @@ module _ (P : List ℕ → Type 0) where
               Ok (true, banned e.cons forever w.hooks.1, over_view (noted (fact.Tombstoned v.operator)) (jailed_if_not (core_slashes distribution_told plain_slash) window_bans (validator_by_cons z.1.mine.staked e.cons) e.cons z.1)))) (λ x. EvidenceLeft w (with_window x.1 x.2))
           chosen true = stays
           chosen false =
-              on_then (slashed distribution_told plain_slash e.cons (e.height - 1) e.power w.view.ctx.params.slash_fraction_double_sign (beside_window w)) _ (λ z. SlashLeft P w.hooks.1 (beside_window w) z.1) _
-              (slashed_fits P w.hooks.1 e.cons (e.height - 1) e.power w.view.ctx.params.slash_fraction_double_sign (beside_window w) h) (λ z k.
+              on_then (slashed distribution_told plain_slash e.cons (e.height - 1) e.power w.view.ctx.params.slash_fraction_double_sign (beside_window w)) _ (λ z. SlashLeft P T w.hooks.1 (beside_window w) z.1) _
+              (slashed_fits P T w.hooks.1 e.cons (e.height - 1) e.power w.view.ctx.params.slash_fraction_double_sign (beside_window w) h) (λ z k.
               let r = validator_by_cons z.1.mine.staked e.cons in
               let x : World Stakes Shared = jailed_if_not (core_slashes distribution_told plain_slash) window_bans r e.cons z.1 in
               let jailed = not_jailed_fits w.hooks.1 r e.cons z.1 k.fits in
               record {
-                fits = state_told (with_window (banned e.cons forever w.hooks.1) x) (λ facts. facts ++ fact.Tombstoned v.operator ∷ []) (banned_sound 0 e.cons w.hooks.1 (with_window w.hooks.1 x) jailed);
+                fits = state_told (with_window (banned e.cons forever w.hooks.1) x) (λ facts. facts ++ fact.Tombstoned v.operator ∷ []) (quiet_behind x.view.facts (fact.Tombstoned v.operator) (λ d. refl)) (banned_sound 0 e.cons w.hooks.1 (with_window w.hooks.1 x) jailed);
                 ctx = jailed_ctx r e.cons z.1 ∙ k.ctx;
                 pairs = λ m g. subst (PairsFit m) (sym (jailed_pairs r e.cons z.1)) (k.pairs m g);
               })
@@ -230,9 +231,11 @@ module _ (P : List ℕ → Type 0) where
 pub votes_keep_soundness : VotesKeepSoundness
 votes_keep_soundness t w s power fewer =
     let P : List ℕ → Type 0 = Contains s.few.some in
-    weaker_if (vote_step t w) (VoteLeft P t.cons w) (IsSoundAfter w) (vote_fits P t w (to_fits w s) fewer) (λ x k. from_fits x s.few.some s.few.few k.fits)
+    let T : List ℕ → ℕ = total_in w.view in
+    weaker_if (vote_step t w) (VoteLeft P T t.cons w) (IsSoundAfter w) (vote_fits P T t w (to_fits w s) fewer) (λ x k. from_fits x s.few.some T s.few.few k.fits)
 
 pub evidence_keeps_soundness : EvidenceKeepsSoundness
 evidence_keeps_soundness e w s power least below before =
     let P : List ℕ → Type 0 = Contains s.few.some in
-    weaker_if (evidence_step e w) (EvidenceLeft P w) (IsSoundAfter w) (evidence_fits P e w (to_fits w s)) (λ x k. from_fits x s.few.some s.few.few k.fits)
+    let T : List ℕ → ℕ = total_in w.view in
+    weaker_if (evidence_step e w) (EvidenceLeft P T w) (IsSoundAfter w) (evidence_fits P T e w (to_fits w s)) (λ x k. from_fits x s.few.some T s.few.few k.fits)

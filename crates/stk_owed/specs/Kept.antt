@@ -1,6 +1,6 @@
 -- What keeps a sound state sound, step by step: the statement `SoundIsKept` of `stk_rules` in parts; and how funding the
 -- community pool is refused.
-use Rattle.std.specs.Prelude.{List, length, ℕ, IfOk, ◌+◌, ◌<◌, ◌≤◌, ◌^◌}
+use Rattle.std.specs.Prelude.{List, length, map, sum, ℕ, IfOk, ◌≡◌, ◌+◌, ◌<◌, ◌≤◌, ◌^◌}
 use Rattle.stk_types.specs.declared.account.Account.{Account}
 use Rattle.stk_coins.specs.declared.coin.Coin.{Coin}
 use Rattle.stk_coins.specs.Coins.{Money, IsMoney}
@@ -9,17 +9,18 @@ use Rattle.stk_keep.specs.declared.messages.EditValidator.{EditValidator}
 use Rattle.stk_keep.specs.declared.messages.Evidence.{Evidence}
 use Rattle.stk_keep.specs.declared.messages.Vote.{Vote}
 use Rattle.stk_keep.specs.Ground.{end_of_blocks}
+use Rattle.stk_keep.specs.Holdings.{supply_of}
 use Rattle.stk_rules.specs.Chain.{State, vote_step, evidence_step, allocation_step, set_step, maturing_step, unbondings_step, redelegations_step}
 use Rattle.stk_rules.specs.Effects.{send, begin_redelegate, undelegate, cancel_unbonding, create_validator, delegate, withdraw_reward, edit_validator, unjail, withdraw_commission, set_withdraw_address, fund_community_pool, community_pool_spend, fee_paid}
-use Rattle.stk_rules.specs.Laws.{KeptByStep, AreWhole, AreVotes, IsPower, CountsBelow, next_block}
-use Rattle.stk_rules.specs.RefusalOrder.{IsRefusedBy, against_fund}
+use Rattle.stk_rules.specs.Laws.{KeptByStep, AreWhole, AreVotes, IsPower, CountsBelow, next_block, burned_in}
+use Rattle.stk_rules.specs.RefusalOrder.{IsRefusedBy, against_cancel, against_delegate, against_fund, against_reward, against_undelegate}
 use Rattle.stk_rules.specs.Sound.{IsSound}
 use Rattle.stk_msgs.specs.declared.block.Block.{Block}
 use Rattle.stk_msgs.specs.declared.block.Tx.{Tx}
 use Rattle.stk_msgs.specs.declared.message.Msg.{Msg}
 use Rattle.stk_machine.specs.Machine.{tx_applied, run_of}
 use Rattle.stk_machine.specs.Messages.{effect_of}
-use Rattle.stk_machine.specs.Promises.{MessageHasCoins, TxHasCoins, AreInput}
+use Rattle.stk_machine.specs.Promises.{MessageHasCoins, TxHasCoins, AreInput, facts_of}
 
 -- the state after a step is sound
 abbrev pub IsSoundAfter : State → State → Type 0
@@ -124,3 +125,23 @@ RunsKeepSoundness = (blocks : List Block) (w : State) → AreInput blocks → Is
 -- Funding the community pool is refused by the first of its conditions that holds, and accepted where none does.
 abbrev pub FundsNameConditions : Type 0
 FundsNameConditions = (who : List ℕ) (coins : Money) → IsMoney coins → IsRefusedBy (fund_community_pool who coins) (against_fund who coins)
+
+-- Wherever blocks lead to from a sound state, each supply is less by exactly what they say was burned, as long as there are
+-- heights.
+abbrev pub RunsLowerSupplies : Type 0
+RunsLowerSupplies = (blocks : List Block) (w : State) → AreInput blocks → IsSound w → w.view.ctx.height + length blocks < 2 ^ 63 → (d : List ℕ)
+    → supply_of (run_of blocks w).state.view.bank d + sum (map (λ b. burned_in d (facts_of b)) (run_of blocks w).reports) ≡ supply_of w.view.bank d
+
+-- So are withdrawing a reward, delegating and cancelling an unbonding, which run hooks.
+abbrev pub RewardsNameConditions : Type 0
+RewardsNameConditions = (who operator : List ℕ) → IsRefusedBy (withdraw_reward who operator) (against_reward who operator)
+
+abbrev pub DelegationsNameConditions : Type 0
+DelegationsNameConditions = (who operator : List ℕ) (coin : Coin) → IsRefusedBy (delegate who operator coin) (against_delegate who operator coin)
+
+abbrev pub CancellationsNameConditions : Type 0
+CancellationsNameConditions = (who operator : List ℕ) (coin : Coin) (height : ℕ) → IsRefusedBy (cancel_unbonding who operator coin height) (against_cancel who operator coin height)
+
+-- So is undelegating.
+abbrev pub UndelegationsNameConditions : Type 0
+UndelegationsNameConditions = (who operator : List ℕ) (coin : Coin) → IsRefusedBy (undelegate who operator coin) (against_undelegate who operator coin)

@@ -1,6 +1,6 @@
 //! Fees and messages keep a state sound: laws as functions that do nothing, whose contracts are the laws.
 
-ghost use Rattle.stk_owed.specs.Kept.{FeesKeepSoundness, SendsKeepSoundness, PayeesKeepSoundness, FundingKeepsSoundness, SpendingKeepsSoundness, CommissionsKeepSoundness, EditsKeepSoundness, UnjailingKeepsSoundness, RewardsKeepSoundness, DelegatingKeepsSoundness, CreatingKeepsSoundness, UndelegatingKeepsSoundness, CancellingKeepsSoundness, RedelegatingKeepsSoundness, MessagesKeepSoundness, TransactionsKeepSoundness, FundsNameConditions};
+ghost use Rattle.stk_owed.specs.Kept.{FeesKeepSoundness, SendsKeepSoundness, PayeesKeepSoundness, FundingKeepsSoundness, SpendingKeepsSoundness, CommissionsKeepSoundness, EditsKeepSoundness, UnjailingKeepsSoundness, RewardsKeepSoundness, DelegatingKeepsSoundness, CreatingKeepsSoundness, UndelegatingKeepsSoundness, CancellingKeepsSoundness, RedelegatingKeepsSoundness, MessagesKeepSoundness, TransactionsKeepSoundness, FundsNameConditions, RewardsNameConditions, DelegationsNameConditions, CancellationsNameConditions, UndelegationsNameConditions};
 
 /// A fee that is paid leaves a sound state sound.
 #[tactic(auto, using(crate::proofs::Moves::fees_keep_soundness))]
@@ -88,4 +88,18 @@ pub fn transactions_keep_soundness()
 #[tactic(auto, using(crate::proofs::Refusing::funds_refused))]
 pub fn funds_name_conditions()
     ensures { FundsNameConditions }
+{}
+
+/// So are withdrawing a reward, delegating and cancelling an unbonding, which run hooks.
+#[tactic(auto, using(crate::proofs::Refused::rewards_refused, crate::proofs::Refused::delegations_refused, crate::proofs::Refused::cancellations_refused))]
+pub fn delegators_name_conditions()
+    ensures rewards { RewardsNameConditions }
+    ensures delegations { DelegationsNameConditions }
+    ensures cancellations { CancellationsNameConditions }
+{}
+
+/// So is undelegating: unbonding is over only where the hook before it is.
+#[tactic(auto, using(crate::proofs::Undelegated::undelegations_refused))]
+pub fn undelegations_name_conditions()
+    ensures { UndelegationsNameConditions }
 {}
