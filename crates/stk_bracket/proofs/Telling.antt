@@ -180,7 +180,7 @@ cancel_pays who operator coin height w sound reached =
     pays_delegated w v who coin.amount (pool Unbonded) x (ready_in w v.operator sound) (known w operator v sound f).found reached e)))))))))
     (λ x k. k)
 
-undelegate_pays : (who operator : List ℕ) (coin : Coin) (w : State) → IsSound w → AreReached w → IfOk (undelegate who operator coin w) (PaysIn w)
+pub undelegate_pays : (who operator : List ℕ) (coin : Coin) (w : State) → IsSound w → AreReached w → IfOk (undelegate who operator coin w) (PaysIn w)
 undelegate_pays who operator coin w sound reached =
     on_then (undelegated chain_told who operator coin w.mine.unbondings (staked_in w)) _ (λ x. PaysIn w x.2) _
     (on_stop (coin.amount == 0) NonPositive _ _ (λ a. on_found (validator_at w.mine.staked operator) NoValidator _ _ (λ v f.

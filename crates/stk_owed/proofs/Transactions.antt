@@ -37,7 +37,7 @@ module _ (P : List ℕ → Type 0) (T : List ℕ → ℕ) where
     pub whole : AreAllWhole w
     pub ctx : w.view.ctx ≡ c
 
-  message_fits : (m : Msg) (w : State) → MessageHasCoins m → StateFits P T w → AreAllWhole w → IfOk (effect_of m w) (StateLeft P T w)
+  pub message_fits : (m : Msg) (w : State) → MessageHasCoins m → StateFits P T w → AreAllWhole w → IfOk (effect_of m w) (StateLeft P T w)
   message_fits (msg.Send m) w c h k = send_fits P T m.from m.to m.coins c w h
   message_fits (msg.CreateValidator m) w c h k = create_fits P T m w h
   message_fits (msg.EditValidator m) w c h k = edit_fits P T m w h
@@ -116,11 +116,11 @@ abbrev pub burned_by : List ℕ → List TxReport → ℕ
 burned_by d reports = sum (map (λ t. burned_in d t.facts) reports)
 
 module _ (P : List ℕ → Type 0) where
-  whole_without : (T : List ℕ → ℕ) (c : Ctx) (w : State) → WholeFits P T c w → WholeFits P (total_in (without_facts w).view) c (without_facts w)
+  pub whole_without : (T : List ℕ → ℕ) (c : Ctx) (w : State) → WholeFits P T c w → WholeFits P (total_in (without_facts w).view) c (without_facts w)
   whole_without T c w h = record { fits = without_facts_fits P T w h.fits; whole = h.whole; ctx = h.ctx }
 
   -- a transaction's facts are of it alone
-  tx_fits : (T : List ℕ → ℕ) (c : Ctx) (tx : Tx) (w : State) → TxHasCoins tx → WholeFits P T c w → WholeFits P (total_in (without_facts w).view) c (tx_applied tx w).state
+  pub tx_fits : (T : List ℕ → ℕ) (c : Ctx) (tx : Tx) (w : State) → TxHasCoins tx → WholeFits P T c w → WholeFits P (total_in (without_facts w).view) c (tx_applied tx w).state
   tx_fits T c tx w a h = from_there P (total_in (without_facts w).view) c tx (without_facts w) a (whole_without T c w h)
 
   -- transactions leave a state that fits, and each supply less by what they say was burned
