@@ -66,7 +66,7 @@ on_stop : {B E : Type 0} (b : Bool) (why : E) (next : Result B E) (Q : B → Typ
 on_stop true why next Q h = tt
 on_stop false why next Q h = h refl
 
-on_found : {A B E : Type 0} (o : Option A) (why : E) (f : A → Result B E) (Q : B → Type 0) → ((a : A) → o ≡ Some a → IfOk (f a) Q) → IfOk (or_stop o why >>= f) Q
+pub on_found : {A B E : Type 0} (o : Option A) (why : E) (f : A → Result B E) (Q : B → Type 0) → ((a : A) → o ≡ Some a → IfOk (f a) Q) → IfOk (or_stop o why >>= f) Q
 on_found (Some a) why f Q h = h a refl
 on_found None why f Q h = tt
 
@@ -74,7 +74,7 @@ on_lifted : {A B D E : Type 0} (g : D → E) (r : Result A D) (f : A → Result 
 on_lifted g (Ok a) f Q h = h a refl
 on_lifted g (Err d) f Q h = tt
 
-lifted_if : {A D E : Type 0} (g : D → E) (r : Result A D) (Q : A → Type 0) → IfOk r Q → IfOk (stopping g r) Q
+pub lifted_if : {A D E : Type 0} (g : D → E) (r : Result A D) (Q : A → Type 0) → IfOk r Q → IfOk (stopping g r) Q
 lifted_if g (Ok a) Q h = h
 lifted_if g (Err d) Q h = tt
 
