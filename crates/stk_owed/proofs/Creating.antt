@@ -47,9 +47,9 @@ use Rattle.stk_rules.specs.Periods.{Periods, Rewards, initial_records, ratio_at,
 use Rattle.stk_rules.specs.Sound.{ValidatorIsSound}
 use Rattle.stk_rules.specs.Validators.{are_out_of_range, new_validator, stored, created}
 
-is_none : {X : Type 0} (r : Option X) → is_some r ≡ false → r ≡ None
-is_none None e = refl
-is_none (Some x) e = absurd cc
+pub none_is : {X : Type 0} (r : Option X) → is_some r ≡ false → r ≡ None
+none_is None e = refl
+none_is (Some x) e = absurd cc
 
 -- a key joins
 joined_there : {X : Type 0} (es : List (List ℕ × X)) (k q : List ℕ) (x : X) → is_some (at addr_cmp (with addr_cmp es k x) q) ≡ cond (same_addr k q) true (is_some (at addr_cmp es q))
@@ -100,8 +100,8 @@ module _ (P : List ℕ → Type 0) (T : List ℕ → ℕ) where
   made_leaves val v l d h new none =
       let s = h.shared in
       let op = val.operator in
-      let no_periods : at addr_cmp d.rewards.periods op ≡ None = is_none (at addr_cmp d.rewards.periods op) (s.stands.periods op ∙ new) in
-      let no_purse_yet : at addr_cmp d.purses.purses op ≡ None = is_none (at addr_cmp d.purses.purses op) (s.stands.purses op ∙ new) in
+      let no_periods : at addr_cmp d.rewards.periods op ≡ None = none_is (at addr_cmp d.rewards.periods op) (s.stands.periods op ∙ new) in
+      let no_purse_yet : at addr_cmp d.purses.purses op ≡ None = none_is (at addr_cmp d.purses.purses op) (s.stands.purses op ∙ new) in
       record {
         ctx = refl;
         ground = h.ground;
@@ -190,8 +190,8 @@ module _ (P : List ℕ → Type 0) (T : List ℕ → ℕ) where
       on_stop (nat_lt m.amount.amount m.min_self_delegation) SelfBelowMinimum _ _ (λ d. on_stop (nat_lt m.rate w.view.ctx.params.min_commission_rate) CommissionBelowMinimum _ _ (λ e.
       on_stop (is_some (validator_at w.mine m.validator)) ValidatorExists _ _ (λ new. on_stop (is_some (validator_by_cons w.mine m.cons)) ConsKeyExists _ _ (λ cons. on_stop (is_wrong m.amount w.view) WrongDenom _ _ (λ g.
       let v : Validator = new_validator m w.view.ctx.time in
-      stored_fits 0 n w v Overflow (λ w1. delegated chain_told v m.validator m.amount.amount wallet w1 >>= λ x. Ok (tt, x.1)) (λ x. StakeFits P T 0 n (lists_of x.1.mine) x.1 × (x.1.view.ctx ≡ w.view.ctx)) h (is_none (validator_at w.mine m.validator) new)
-      (λ p x f k. nobody_has m.cons w.mine.validators p x (is_none (validator_by_cons w.mine m.cons) cons) f k) (new_is_sound w.view.ctx.height m w.view.ctx.time rates) refl refl refl
+      stored_fits 0 n w v Overflow (λ w1. delegated chain_told v m.validator m.amount.amount wallet w1 >>= λ x. Ok (tt, x.1)) (λ x. StakeFits P T 0 n (lists_of x.1.mine) x.1 × (x.1.view.ctx ≡ w.view.ctx)) h (none_is (validator_at w.mine m.validator) new)
+      (λ p x f k. nobody_has m.cons w.mine.validators p x (none_is (validator_by_cons w.mine m.cons) cons) f k) (new_is_sound w.view.ctx.height m w.view.ctx.time rates) refl refl refl
       (λ x mine view k. on_then (delegated chain_told v m.validator m.amount.amount wallet x) (λ y. Ok (tt, y.1)) (λ y. StakeFits P T 0 n (lists_of y.1.mine) y.1 × (y.1.view.ctx ≡ x.view.ctx)) _
       (delegated_fits P T v m.validator m.amount.amount wallet 0 n x k (ap (λ s. validator_at s m.validator) mine ∙ found_itself w.mine v))
       (λ y j. and_also j.0 (j.1 ∙ ap (λ u. u.ctx) view)))))))))))

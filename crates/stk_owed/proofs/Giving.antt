@@ -79,7 +79,7 @@ set_step_gives w = let (x, e) = set_gives (staked_in w) in gives_on (set_updated
 
 -- ---- a removed validator's purse
 
-joins : (c : Money) (p : Purses) (z : Money) → coins_added p.pool c ≡ Ok z → pool_joined c p ≡ Ok (record p { pool = z })
+pub joins : (c : Money) (p : Purses) (z : Money) → coins_added p.pool c ≡ Ok z → pool_joined c p ≡ Ok (record p { pool = z })
 joins c p z e = ap (λ (r : Result Money Over). r >>= λ x. Ok (record p { pool = x })) e
 
 module _ (P : List ℕ → Type 0) (T : List ℕ → ℕ) where

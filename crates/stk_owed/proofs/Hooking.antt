@@ -6,7 +6,7 @@ use Rattle.stk_keep.specs.Pair.{and_then, given_with}
 use Rattle.stk_keep.specs.World.{View, Hook, Told, gives, exceeds, World, hooked, call}
 use Rattle.stk_keep.specs.Steps.{◌>>=◌, stopping}
 use Rattle.stk_keep.specs.declared.entities.Validator.{Validator}
-use Rattle.stk_rules.specs.Distribution.{Shared, distribution_told, told_of, left_by, ended, reward_withdrawn}
+use Rattle.stk_rules.specs.Distribution.{Shared, distribution_told, told_of, left_by, unlogged, ended, reward_withdrawn}
 use Rattle.stk_rules.specs.Delegating.{hook_before}
 use Rattle.stk_dec.specs.declared.over.Over.{Over}
 use Rattle.stk_keep.specs.Hooks.{Lists, with_started}
@@ -67,6 +67,10 @@ told_if (Err over) R h = tt
 pub left_if : {A : Type 0} (r : Result (A × Shared × View × Log) Over) (R : Shared → View → Type 0) → IfOk r (λ z. R z.1 z.2) → IfTold (told_of (left_by r)) R
 left_if (Ok z) R h = h
 left_if (Err over) R h = tt
+
+pub unlogged_if : (r : Result (Shared × View) Over) (R : Shared → View → Type 0) → IfOk r (λ z. R z.0 z.1) → IfTold (told_of (unlogged r)) R
+unlogged_if (Ok z) R h = h
+unlogged_if (Err over) R h = tt
 
 -- the lists after the hook before a delegation changes: where there was one, it is not started
 abbrev pub lists_before : List ℕ → List ℕ → Option ℕ → Lists → Lists

@@ -38,3 +38,12 @@ pub mod Refusing
 pub mod Supplies
 pub mod Refused
 pub mod Undelegated
+pub mod Created
+pub mod Apart
+pub mod Limits
+pub mod Redelegated
+pub mod Named
+pub mod Answered
+pub mod Refusals
+pub mod Causes
+pub mod Ranges

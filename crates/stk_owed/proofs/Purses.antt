@@ -14,14 +14,12 @@ use Rattle.stk_coins.specs.Coins.{Money, IsMoney, amount_of, coins_added}
 use Rattle.stk_coins.proofs.Amounts.{amount-added, itself, is_equal}
 use Rattle.stk_coins.proofs.Order.{Above, Rises, same_name, rises_from_money, amount-above, amount-first}
 use Rattle.stk_keep.specs.declared.entities.Purse.{Purse}
-use Rattle.stk_keep.specs.declared.facts.Fact.{Fact}
 use Rattle.stk_keep.specs.Entries.{at, with}
 use Rattle.stk_keep.specs.Holdings.{Holdings, balance_of, is_short}
 use Rattle.stk_keep.specs.Hooks.{Lists, HoldsOwed}
 use Rattle.stk_keep.specs.World.{View, sent}
 use Rattle.stk_keep.proofs.AmountLemmas.{moves_by_amounts}
 use Rattle.stk_keep.proofs.HoldingLemmas.{balance-moved_elsewhere}
-use Rattle.stk_rules.specs.Amounts.{over_facts}
 use Rattle.stk_rules.specs.Distribution.{Shared}
 use Rattle.stk_rules.specs.Purses.{Purses, with_purse, pool_joined}
 use Rattle.stk_rules.proofs.EntryLemmas.{at-put, ascend-put}

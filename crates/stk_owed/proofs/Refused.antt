@@ -1,6 +1,6 @@
 -- Messages that run hooks are refused by the first of their conditions that holds: withdrawing a reward, delegating and
 -- cancelling an unbonding.
-use Rattle.std.proofs.Common.{◌≡◌, ◌∙◌, ℕ, ◌+◌, ◌*◌, ◌==◌, Bool, true, false, List, [], ◌∷◌, ◌++◌, Option, Some, None, Result, Ok, Err, refl, sym, ap, subst}
+use Rattle.std.proofs.Common.{◌≡◌, ◌∙◌, ℕ, ◌+◌, ◌==◌, Bool, true, false, List, [], ◌∷◌, ◌++◌, Option, Some, None, Result, Ok, Err, refl, sym, ap, subst}
 use Rattle.std.specs.Prelude.{Contains, find, if◌then◌else◌, is_none, nat_lt, option_map, unwrap_or, ⊤}
 use Rattle.stk_dec.specs.declared.over.Over.{Over}
 use Rattle.stk_dec.specs.Decimals.{add_of, mul_int_quo_int_of, whole_of}
@@ -8,7 +8,6 @@ use Rattle.stk_types.specs.declared.account.Account.TheVariants as account
 use Rattle.stk_types.specs.declared.status.BondStatus.{BondStatus}
 use Rattle.stk_types.specs.declared.status.BondStatus.TheVariants.{Unbonded}
 use Rattle.stk_types.specs.Modules.{module_number}
-use Rattle.stk_coins.specs.declared.coin.Coin.{Coin}
 use Rattle.stk_coins.specs.Coins.{Money}
 use Rattle.stk_shares.specs.declared.fault.ShareFault.{ShareFault}
 use Rattle.stk_shares.specs.declared.fault.ShareFault.TheVariants as share
@@ -42,6 +41,11 @@ use Rattle.stk_rules.specs.Withdrawals.{reward_taken}
 stop_then : {A B : Type 0} (b : Bool) (why : Refusal) (r : Result A Refusal) (f : A → Result B Refusal) (rest : List (Option Refusal)) → refused_in (r >>= f) ≡ first_of rest → refused_in ((stop_if b why >> r) >>= f) ≡ first_of (when b why ∷ rest)
 stop_then true why r f rest h = refl
 stop_then false why r f rest h = h
+
+-- one condition, then the others, where it does not hold
+pub stop_known : {A : Type 0} (b : Bool) (why : Refusal) (next : Result A Refusal) (rest : List (Option Refusal)) → (b ≡ false → refused_in next ≡ first_of rest) → refused_in (stop_if b why >> next) ≡ first_of (when b why ∷ rest)
+stop_known true why next rest h = refl
+stop_known false why next rest h = h refl
 
 -- ---- withdrawing a reward
 
@@ -77,7 +81,7 @@ rewards_refused who operator w s =
 -- ---- shares that are given
 
 -- The conditions against issuing shares, before other steps: no rate, shares that are over, none at all.
-given_refused : {A : Type 0} (v : Validator) (amount : ℕ) (f : ℕ → Result A Refusal) (rest : List (Option Refusal)) → ((issued : ℕ) → refused_in (f issued) ≡ first_of rest)
+pub given_refused : {A : Type 0} (v : Validator) (amount : ℕ) (f : ℕ → Result A Refusal) (rest : List (Option Refusal)) → ((issued : ℕ) → refused_in (f issued) ≡ first_of rest)
     → refused_in (shares_given v amount >>= f)
     ≡ first_of (when (has_invalid_rate v.tokens v.shares) RateInvalid ∷ issue_over v (issued_shares v.tokens v.shares amount) ∷ when (is_nothing (issued_shares v.tokens v.shares amount)) TinyDelegation ∷ rest)
 given_refused {A} v amount f rest h = by (has_invalid_rate v.tokens v.shares) (v.shares == 0) (whole_of amount) (mul_int_quo_int_of v.shares amount v.tokens)

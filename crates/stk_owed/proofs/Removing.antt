@@ -1,5 +1,5 @@
 -- Removing a validator without shares: its records go, and the distribution account holds what is owed then.
-use Rattle.std.proofs.Common.{div-add-mod', ◌≡◌, ◌∙◌, ℕ, ◌+◌, ◌*◌, ◌^◌, ◌<◌, ◌==◌, ◌++◌, Bool, true, false, cond, List, [], ◌∷◌, Some, None, Result, Ok, Err, refl, sym, ap, subst, arith}
+use Rattle.std.proofs.Common.{div-add-mod', ◌≡◌, ◌∙◌, ℕ, ◌+◌, ◌*◌, ◌^◌, ◌<◌, ◌==◌, ◌++◌, Bool, true, false, cond, List, [], ◌∷◌, Some, None, Ok, refl, sym, ap, subst, arith}
 use Rattle.std.specs.Prelude.{◌-◌, ◌/◌, ◌%◌, ◌&&◌, min, if◌then◌else◌, IfOk, is_some, unwrap_or}
 use Rattle.std.specs.BTreeMap.{is_at}
 use Rattle.std.proofs.lemmas.Bool.Decides.{nat_tests}
@@ -20,7 +20,6 @@ use Rattle.stk_coins.proofs.Amounts.{amount-added, amount-all}
 use Rattle.stk_coins.proofs.Order.{rises_from_money}
 use Rattle.stk_coins.specs.Coins.{Money, amount_of, coins_added, coins_taken, fractions}
 use Rattle.stk_dec.specs.Decimals.{trunc_of}
-use Rattle.stk_dec.specs.declared.over.Over.{Over}
 use Rattle.stk_keep.specs.Entries.{at, number_at, without}
 use Rattle.stk_keep.specs.Holdings.{balance_of}
 use Rattle.stk_keep.specs.Items.{no_purse}
@@ -28,7 +27,7 @@ use Rattle.stk_keep.specs.Orders.{pair_cmp, same_addr}
 use Rattle.stk_keep.specs.Staked.{Staked, is_bonded, is_unbonded, lists_of, of_bond, tokens_where, validator_at}
 use Rattle.stk_keep.specs.declared.facts.Fact.{Fact}
 use Rattle.stk_owed.proofs.Burns.{IsQuiet, quiet_behind, quiet_pooled}
-use Rattle.stk_owed.proofs.Hooking.{IfTold, hook_gave, on_call, stake_hooks}
+use Rattle.stk_owed.proofs.Hooking.{hook_gave, on_call, stake_hooks, unlogged_if}
 use Rattle.stk_owed.proofs.Lists.{all_taken, ascend_taken, weaker}
 use Rattle.stk_owed.proofs.Moves.{HooksFit, Leaves, stake_left, user_is_other, ground_told}
 use Rattle.stk_owed.proofs.Names.{IsKnown, known_added, known_fractions, known_smaller, known_taken, known_whole}
@@ -44,7 +43,7 @@ use Rattle.stk_rules.proofs.SoundLemmas.{IsSoundAt, held_within, shares_at}
 use Rattle.stk_rules.proofs.TokenLemmas.{tokens-left}
 use Rattle.stk_rules.specs.Amounts.{is_empty}
 use Rattle.stk_rules.specs.Chain.{Hooks, chain_told}
-use Rattle.stk_rules.specs.Distribution.{Shared, paid_to, payee_of, records_removed, told_of, unlogged}
+use Rattle.stk_rules.specs.Distribution.{Shared, paid_to, payee_of, records_removed}
 use Rattle.stk_rules.specs.Owed.{owed_from_distribution}
 use Rattle.stk_rules.specs.Periods.{Periods}
 use Rattle.stk_rules.specs.Purses.{Purses, closed, due_at_last, pool_joined, pooled_told, purse_of}
@@ -220,10 +219,6 @@ module _ (P : List ℕ → Type 0) (T : List ℕ → ℕ) where
       same_bank : (b : Bool) (f : Fact) (u : View) → (if b then u else noted f u).bank ≡ u.bank
       same_bank true f u = refl
       same_bank false f u = refl
-
-  unlogged_if : (r : Result (Shared × View) Over) (R : Shared → View → Type 0) → IfOk r (λ z. R z.0 z.1) → IfTold (told_of (unlogged r)) R
-  unlogged_if (Ok z) R h = h
-  unlogged_if (Err over) R h = tt
 
   -- ---- a validator goes where it is unbonded and has no shares
 

@@ -73,6 +73,10 @@ gone_there r who op w o a = ap is_some (at-taken pair_cmp pair_total r.starts (o
     by true = refl
     by false = refl
 
+-- what was put is found
+pub put_found : {X : Type 0} (es : List (List ℕ × X)) (o : List ℕ) (x : X) → at addr_cmp (with addr_cmp es o x) o ≡ Some x
+put_found es o x = at-put addr_cmp addr_total es o o x ∙ ap (λ b. cond b (Some x) (at addr_cmp es o)) (same_itself o)
+
 module _ (P : List ℕ → Type 0) (T : List ℕ → ℕ) where
   -- ---- ending
 
@@ -85,9 +89,6 @@ module _ (P : List ℕ → Type 0) (T : List ℕ → ℕ) where
     pub fits : PeriodsFit P v.ctx.height old
     pub now : at addr_cmp z.1.rewards.periods val.operator ≡ Some (ended_with ratio old)
     pub starts : z.1.rewards.starts ≡ d.rewards.starts
-
-  found_itself : {X : Type 0} (es : List (List ℕ × X)) (o : List ℕ) (x : X) → at addr_cmp (with addr_cmp es o x) o ≡ Some x
-  found_itself es o x = at-put addr_cmp addr_total es o o x ∙ ap (λ b. cond b (Some x) (at addr_cmp es o)) (same_itself o)
 
   pub own_periods : (height : ℕ) (es : List (List ℕ × Periods)) (o : List ℕ) (p : Periods) → at addr_cmp es o ≡ Some p → AllByRecursion (λ e. PeriodsFit P height e.1) es → PeriodsFit P height p
   own_periods height es o p e h = looked_up (λ (x : List ℕ × Periods). PeriodsFit P height x.1) (is_at (addr_cmp o)) (PeriodsFit P height) (λ k y t g. g) es p e h
@@ -116,7 +117,7 @@ module _ (P : List ℕ → Type 0) (T : List ℕ → ℕ) where
         ratio = y.0;
         found = found;
         fits = fits;
-        now = found_itself d.rewards.periods op y.1 ∙ ap Some k.is;
+        now = put_found d.rewards.periods op y.1 ∙ ap Some k.is;
         starts = refl;
       }))
 
@@ -236,7 +237,7 @@ module _ (P : List ℕ → Type 0) (T : List ℕ → ℕ) where
       }
 
   -- what is due is known, and the period has ended
-  due_leaves : (val : Validator) (who : List ℕ) (shares : ℕ) (v : View) (l : Lists) (d : Shared) → HooksFit P T v l d → l.operators val.operator ≡ true
+  pub due_leaves : (val : Validator) (who : List ℕ) (shares : ℕ) (v : View) (l : Lists) (d : Shared) → HooksFit P T v l d → l.operators val.operator ≡ true
       → IfOk (reward_due val who shares d v) (λ z. IsKnown P z.0 × Leaves P T v l z.1 z.2)
   due_leaves val who shares v l d h there =
       on_then (ended val d v) _ (EndFits val v l d) _ (end_fits val v l d h there) (λ x k.

@@ -34,7 +34,7 @@ use Rattle.stk_owed.proofs.Hooking.{stake_hooks}
 use Rattle.stk_owed.proofs.Lists.{weaker}
 use Rattle.stk_owed.proofs.Maturing.{maturing_fits}
 use Rattle.stk_owed.proofs.Moves.{Leaves, state_left}
-use Rattle.stk_owed.proofs.Points.{AreAllWhole, StateFits, StateLeft, WholeEntries, from_fits, to_fits}
+use Rattle.stk_owed.proofs.Points.{StateFits, StateLeft, WholeEntries, from_fits, to_fits}
 use Rattle.stk_owed.proofs.Steps.{on_lifted_then, on_next, on_then, weaker_if}
 use Rattle.stk_owed.proofs.Transactions.{TxsFit, WholeFits, burned_by, renewed, txs_fit, without_facts_fits}
 use Rattle.stk_owed.proofs.Voting.{EvidenceLeft, VoteLeft, evidence_fits, own_record, vote_fits}
@@ -236,34 +236,31 @@ module _ (P : List ℕ → Type 0) where
     pub height : s.state.view.ctx.height ≡ w.view.ctx.height + 1
     pub burns : (d : List ℕ) → supply_of s.state.view.bank d + burned_in d (facts_of s.report) ≡ supply_of w.view.bank d
 
-  pub block_fits : (b : Block) (T : List ℕ → ℕ) (w : State) → All TxHasCoins b.txs → StateFits P T w → w.view.ctx.height + 1 < 2 ^ 63 → IfOk (step b w) (StepFits w)
-  block_fits b T w coins h few =
-      on_next (block_checked b w) _ _ (λ t e.
-      let due : IsDue b w = is_due b w (same_tt t e) in
-      let checks = next_ok (stop_at (block_fault w.view.ctx.height w.view.ctx.time b)) (votes_checked w.mine.staked w.view.ctx.params.power_reduction [] b.votes >> evidence_checked b w.view.ctx.params.power_reduction 0 b.evidence) tt (same_tt t e) in
+  -- what a block's beginning leaves: a state that fits, at the block's height, where no entry of it has lost anything
+  pub record HasBegun (b : Block) (w begun : State) : Type 0 where
+    pub fits : WholeFits P (total_in (without_facts (next_block b.height b.time w)).view) (next_block b.height b.time w).view.ctx begun
+    pub height : b.height ≡ w.view.ctx.height + 1
+
+  -- where the block may follow
+  pub begun_fits : (b : Block) (T : List ℕ → ℕ) (w : State) → StateFits P T w → w.view.ctx.height + 1 < 2 ^ 63 → block_checked b w ≡ Ok tt → IfOk (begin_block b.votes b.evidence (without_facts (next_block b.height b.time w))) (HasBegun b w)
+  begun_fits b T w h few e =
+      let due : IsDue b w = is_due b w e in
+      let checks = next_ok (stop_at (block_fault w.view.ctx.height w.view.ctx.time b)) (votes_checked w.mine.staked w.view.ctx.params.power_reduction [] b.votes >> evidence_checked b w.view.ctx.params.power_reduction 0 b.evidence) tt e in
       let first = first_ok (votes_checked w.mine.staked w.view.ctx.params.power_reduction [] b.votes) (evidence_checked b w.view.ctx.params.power_reduction 0 b.evidence) tt checks in
       let votes = votes_are w.mine.staked w.view.ctx.params.power_reduction b.votes [] first.1 in
       let w1 : State = without_facts (next_block b.height b.time w) in
       let there : List ℕ → ℕ = total_in w1.view in
       let fits1 : StateFits P there w1 = without_facts_fits P T (next_block b.height b.time w) (next_fits P T b.height b.time w h (at_least b.height w.view.ctx.height due.height) (at_height b.height w.view.ctx.height due.height few) due.before_end) in
-      on_lifted_then RatioLimit (begin_block b.votes b.evidence w1) _ (BegunLeft P there w1) _
-      (begin_fits P there b.votes b.evidence w1 fits1 votes.0 votes.1 (below b.votes due.height)) (λ begun k.
-      let whole : AreAllWhole begun = subst (λ (c : Ctx). AllByRecursion (λ p. WholeEntries c.height p.1) begun.mine.unbondings) (sym k.ctx)
-      (older_whole w.view.ctx.height b.height begun.mine.unbondings (above b.height w.view.ctx.height due.height) (k.pairs w.view.ctx.height (to_pairs w.view.ctx.height w.mine.unbondings h.unbondings))) in
-      let done : TxSteps = txs_applied b.txs begun in
-      let txs : TxsFit P w1.view.ctx begun done = txs_fit P there w1.view.ctx b.txs begun coins (record { fits = k.fits; whole = whole; ctx = k.ctx }) in
-      let w2 : State = without_facts done.state in
-      let left : List ℕ → ℕ = total_in w2.view in
-      on_lifted_then RatioLimit (end_block w2) _ (EndLeft P left w2) _ (end_fits_all P left w2 (without_facts_fits P (total_in done.state.view) done.state txs.fits.fits)) (λ ended j. record {
-        fits = without_facts_fits P left ended j.fits;
-        height = ap (λ (c : Ctx). c.height) (j.ctx ∙ txs.fits.ctx) ∙ due.height;
-        burns = λ d. together (supply_of w.view.bank d) (supply_of begun.view.bank d) (supply_of done.state.view.bank d) (supply_of ended.view.bank d) (burned_in d begun.view.facts) (burned_by d done.reports) (burned_in d ended.view.facts) _
-            (k.fits.stake.ground.total d) (txs.burns d) (j.fits.stake.ground.total d) (said_by_block d b.height b.time begun.view.facts ended.view.facts done.reports);
-      })))
+      weaker_if (begin_block b.votes b.evidence w1) (BegunLeft P there w1) (HasBegun b w) (begin_fits P there b.votes b.evidence w1 fits1 votes.0 votes.1 (below b.votes due.height)) (λ begun k. record {
+        fits = record {
+          fits = k.fits;
+          whole = subst (λ (c : Ctx). AllByRecursion (λ p. WholeEntries c.height p.1) begun.mine.unbondings) (sym k.ctx)
+              (older_whole w.view.ctx.height b.height begun.mine.unbondings (above b.height w.view.ctx.height due.height) (k.pairs w.view.ctx.height (to_pairs w.view.ctx.height w.mine.unbondings h.unbondings)));
+          ctx = k.ctx;
+        };
+        height = due.height;
+      })
     where
-      same_tt : (t : ⊤) → block_checked b w ≡ Ok t → block_checked b w ≡ Ok tt
-      same_tt t e = e
-
       at_least : (a n : ℕ) → a ≡ n + 1 → n ≤ a
       at_least a n e = omega (arith, e)
 
@@ -276,6 +273,29 @@ module _ (P : List ℕ → Type 0) where
       below : (ts : List Vote) → b.height ≡ w.view.ctx.height + 1 → CountBelow (without_facts (next_block b.height b.time w)) ts
       below [] e = tt
       below (t ∷ ts) e = (λ s f. let own = own_record w.view.ctx.height t.cons s w.hooks.1 h.stake.window f in let counted = own.counted in omega (arith, counted, e), below ts e)
+
+  -- the state before a block's end fits
+  pub done_fits : (b : Block) (w begun : State) → All TxHasCoins b.txs → HasBegun b w begun → TxsFit P (next_block b.height b.time w).view.ctx begun (txs_applied b.txs begun)
+  done_fits b w begun coins k = txs_fit P (total_in (without_facts (next_block b.height b.time w)).view) (next_block b.height b.time w).view.ctx b.txs begun coins k.fits
+
+  pub block_fits : (b : Block) (T : List ℕ → ℕ) (w : State) → All TxHasCoins b.txs → StateFits P T w → w.view.ctx.height + 1 < 2 ^ 63 → IfOk (step b w) (StepFits w)
+  block_fits b T w coins h few =
+      on_next (block_checked b w) _ _ (λ t e.
+      let w1 : State = without_facts (next_block b.height b.time w) in
+      on_lifted_then RatioLimit (begin_block b.votes b.evidence w1) _ (HasBegun b w) _ (begun_fits b T w h few (same_tt t e)) (λ begun k.
+      let done : TxSteps = txs_applied b.txs begun in
+      let txs : TxsFit P (next_block b.height b.time w).view.ctx begun done = done_fits b w begun coins k in
+      let w2 : State = without_facts done.state in
+      let left : List ℕ → ℕ = total_in w2.view in
+      on_lifted_then RatioLimit (end_block w2) _ (EndLeft P left w2) _ (end_fits_all P left w2 (without_facts_fits P (total_in done.state.view) done.state txs.fits.fits)) (λ ended j. record {
+        fits = without_facts_fits P left ended j.fits;
+        height = ap (λ (c : Ctx). c.height) (j.ctx ∙ txs.fits.ctx) ∙ k.height;
+        burns = λ d. together (supply_of w.view.bank d) (supply_of begun.view.bank d) (supply_of done.state.view.bank d) (supply_of ended.view.bank d) (burned_in d begun.view.facts) (burned_by d done.reports) (burned_in d ended.view.facts) _
+            (k.fits.fits.stake.ground.total d) (txs.burns d) (j.fits.stake.ground.total d) (said_by_block d b.height b.time begun.view.facts ended.view.facts done.reports);
+      })))
+    where
+      same_tt : (t : ⊤) → block_checked b w ≡ Ok t → block_checked b w ≡ Ok tt
+      same_tt t e = e
 
       together : (s0 s1 s2 s3 b1 b2 b3 all : ℕ) → s1 + b1 ≡ s0 + 0 → s2 + b2 ≡ s1 → s3 + b3 ≡ s2 + 0 → all ≡ b1 + b2 + b3 → s3 + all ≡ s0
       together s0 s1 s2 s3 b1 b2 b3 all e f g i = omega (arith, e, f, g, i)

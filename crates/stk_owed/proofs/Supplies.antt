@@ -1,5 +1,5 @@
 -- Each atomic step lowers each supply by what its facts say was burned, and by nothing else.
-use Rattle.std.proofs.Common.{◌≡◌, ℕ, List, Some, Result, refl}
+use Rattle.std.proofs.Common.{◌≡◌, Some, Result, refl}
 use Rattle.std.specs.Prelude.{Contains, IfOk}
 use Rattle.std.proofs.lemmas.List.Elements.{recursion_from_All}
 use Rattle.stk_keep.specs.Staked.{validator_by_cons}

@@ -26,7 +26,7 @@ use Rattle.stk_owed.proofs.Rewards.{reward_fits}
 use Rattle.stk_owed.proofs.Standing.{edit_fits, unjail_fits}
 use Rattle.stk_owed.proofs.Steps.{on_lifted_then, weaker_if}
 use Rattle.stk_owed.specs.Kept.{IsSoundAfter, MessagesKeepSoundness, TransactionsKeepSoundness}
-use Rattle.stk_rules.specs.Chain.{State, staked_in}
+use Rattle.stk_rules.specs.Chain.{State}
 use Rattle.stk_rules.specs.Laws.{burned_in}
 use Rattle.stk_rules.specs.Effects.{after_fee, effects_of, fee_paid, stands_or_fee}
 

@@ -1,6 +1,6 @@
 -- Undelegating is refused by the first of its conditions that holds: in a sound state unbonding is over only where the hook
 -- before it is.
-use Rattle.std.proofs.Common.{◌≡◌, ◌∙◌, ℕ, ◌+◌, ◌==◌, ◌≤◌, Bool, true, false, List, [], ◌∷◌, ◌++◌, length, Option, Some, None, Result, Ok, Err, refl, sym, ap, subst, arith}
+use Rattle.std.proofs.Common.{◌≡◌, ◌∙◌, ℕ, ◌==◌, ◌≤◌, Bool, true, false, List, [], ◌∷◌, ◌++◌, length, Option, Some, None, Result, Ok, Err, refl, sym, ap, arith}
 use Rattle.std.specs.Prelude.{Contains, ◌-◌, if◌then◌else◌, is_none, is_some, nat_le, nat_lt, option_map, unwrap_or}
 use Rattle.std.proofs.lemmas.Bool.Decides.{nat_tests}
 use Rattle.stk_dec.specs.declared.over.Over.{Over}
@@ -9,7 +9,6 @@ use Rattle.stk_shares.specs.declared.fault.ShareFault.TheVariants as share
 use Rattle.stk_shares.specs.Shares.{amount_out, or_over, shares_for_amount}
 use Rattle.stk_types.specs.declared.account.Account.TheVariants as account
 use Rattle.stk_types.specs.declared.account.Module.TheVariants as holder
-use Rattle.stk_coins.specs.declared.coin.Coin.{Coin}
 use Rattle.stk_keep.specs.declared.entities.UnbondingEntry.{UnbondingEntry}
 use Rattle.stk_keep.specs.declared.entities.Validator.{Validator}
 use Rattle.stk_keep.specs.declared.refusal.Refusal.{Refusal}
@@ -122,7 +121,7 @@ module _ (P : List ℕ → Type 0) (T : List ℕ → ℕ) where
           ap (λ (r : Result (ℕ × World Staked Hooks) Over). refused_in (stopping Overflow r)) e
 
 -- a hook is over in a state as in what is of staking there
-same_over : (w : State) (t : Told Hooks) → over_in (hooked t (staked_in w)) ≡ first_of (over_in (hooked t w) ∷ [])
+pub same_over : (w : State) (t : Told Hooks) → over_in (hooked t (staked_in w)) ≡ first_of (over_in (hooked t w) ∷ [])
 same_over w (gives h u l) = refl
 same_over w (exceeds over) = refl
 

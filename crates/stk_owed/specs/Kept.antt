@@ -1,6 +1,7 @@
--- What keeps a sound state sound, step by step: the statement `SoundIsKept` of `stk_rules` in parts; and how funding the
--- community pool is refused.
-use Rattle.std.specs.Prelude.{List, length, map, sum, ℕ, IfOk, ◌≡◌, ◌+◌, ◌<◌, ◌≤◌, ◌^◌}
+-- What keeps a sound state sound, step by step: the statement `SoundIsKept` of `stk_rules` in parts; what lowers supplies in a
+-- run; how messages are refused that need a sound state for it; and how blocks are answered.
+use Rattle.std.specs.Prelude.{◌⊎◌, All, Result, Ok, Err, Some, List, [], ◌∷◌, length, map, sum, ℕ, IfOk, ◌≡◌, ◌+◌, ◌<◌, ◌≤◌, ◌^◌}
+use Rattle.stk_dec.specs.declared.over.Over.{Over}
 use Rattle.stk_types.specs.declared.account.Account.{Account}
 use Rattle.stk_coins.specs.declared.coin.Coin.{Coin}
 use Rattle.stk_coins.specs.Coins.{Money, IsMoney}
@@ -8,19 +9,26 @@ use Rattle.stk_keep.specs.declared.messages.CreateValidator.{CreateValidator}
 use Rattle.stk_keep.specs.declared.messages.EditValidator.{EditValidator}
 use Rattle.stk_keep.specs.declared.messages.Evidence.{Evidence}
 use Rattle.stk_keep.specs.declared.messages.Vote.{Vote}
+use Rattle.stk_keep.specs.declared.refusal.Refusal.{Refusal}
 use Rattle.stk_keep.specs.Ground.{end_of_blocks}
 use Rattle.stk_keep.specs.Holdings.{supply_of}
-use Rattle.stk_rules.specs.Chain.{State, vote_step, evidence_step, allocation_step, set_step, maturing_step, unbondings_step, redelegations_step}
+use Rattle.stk_rules.specs.Chain.{State, begin_block, vote_step, evidence_step, allocation_step, set_step, maturing_step, unbondings_step, redelegations_step}
+use Rattle.stk_rules.specs.Conditions.{first_of}
 use Rattle.stk_rules.specs.Effects.{send, begin_redelegate, undelegate, cancel_unbonding, create_validator, delegate, withdraw_reward, edit_validator, unjail, withdraw_commission, set_withdraw_address, fund_community_pool, community_pool_spend, fee_paid}
 use Rattle.stk_rules.specs.Laws.{KeptByStep, AreWhole, AreVotes, IsPower, CountsBelow, next_block, burned_in}
-use Rattle.stk_rules.specs.RefusalOrder.{IsRefusedBy, against_cancel, against_delegate, against_fund, against_reward, against_undelegate}
+use Rattle.stk_rules.specs.RefusalOrder.{IsRefusedBy, against_cancel, against_create, against_delegate, against_fund, against_redelegate, against_reward, against_undelegate}
 use Rattle.stk_rules.specs.Sound.{IsSound}
 use Rattle.stk_msgs.specs.declared.block.Block.{Block}
 use Rattle.stk_msgs.specs.declared.block.Tx.{Tx}
+use Rattle.stk_msgs.specs.declared.faults.BlockFault.{BlockFault}
+use Rattle.stk_msgs.specs.declared.faults.BlockFault.TheVariants.{RatioLimit}
 use Rattle.stk_msgs.specs.declared.message.Msg.{Msg}
-use Rattle.stk_machine.specs.Machine.{tx_applied, run_of}
-use Rattle.stk_machine.specs.Messages.{effect_of}
-use Rattle.stk_machine.specs.Promises.{MessageHasCoins, TxHasCoins, AreInput, facts_of}
+use Rattle.stk_msgs.specs.declared.report.Outcome.{Outcome}
+use Rattle.stk_msgs.specs.declared.report.Outcome.TheVariants.{Accepted, FeeUnpaid, Refused}
+use Rattle.stk_machine.specs.GenesisState.{without_facts}
+use Rattle.stk_machine.specs.Machine.{Step, block_checked, step, tx_applied, run_of}
+use Rattle.stk_machine.specs.Messages.{against, effect_of}
+use Rattle.stk_machine.specs.Promises.{IsStoppedAt, MessageHasCoins, TxHasCoins, AreInput, Replayed, facts_of}
 
 -- the state after a step is sound
 abbrev pub IsSoundAfter : State → State → Type 0
@@ -122,17 +130,20 @@ EvidenceKeepsSoundness = (e : Evidence) (w : State) → IsSound w → IsPower e.
 abbrev pub RunsKeepSoundness : Type 0
 RunsKeepSoundness = (blocks : List Block) (w : State) → AreInput blocks → IsSound w → w.view.ctx.height + length blocks < 2 ^ 63 → IsSound (run_of blocks w).state
 
--- Funding the community pool is refused by the first of its conditions that holds, and accepted where none does.
-abbrev pub FundsNameConditions : Type 0
-FundsNameConditions = (who : List ℕ) (coins : Money) → IsMoney coins → IsRefusedBy (fund_community_pool who coins) (against_fund who coins)
-
 -- Wherever blocks lead to from a sound state, each supply is less by exactly what they say was burned, as long as there are
 -- heights.
 abbrev pub RunsLowerSupplies : Type 0
 RunsLowerSupplies = (blocks : List Block) (w : State) → AreInput blocks → IsSound w → w.view.ctx.height + length blocks < 2 ^ 63 → (d : List ℕ)
     → supply_of (run_of blocks w).state.view.bank d + sum (map (λ b. burned_in d (facts_of b)) (run_of blocks w).reports) ≡ supply_of w.view.bank d
 
--- So are withdrawing a reward, delegating and cancelling an unbonding, which run hooks.
+-- ---- refusals
+
+-- Funding the community pool is refused by the first of its conditions that holds, and accepted where none does.
+abbrev pub FundsNameConditions : Type 0
+FundsNameConditions = (who : List ℕ) (coins : Money) → IsMoney coins → IsRefusedBy (fund_community_pool who coins) (against_fund who coins)
+
+-- So are the messages that run hooks: withdrawing a reward, delegating, cancelling an unbonding, undelegating, creating a validator
+-- and redelegating.
 abbrev pub RewardsNameConditions : Type 0
 RewardsNameConditions = (who operator : List ℕ) → IsRefusedBy (withdraw_reward who operator) (against_reward who operator)
 
@@ -142,6 +153,82 @@ DelegationsNameConditions = (who operator : List ℕ) (coin : Coin) → IsRefuse
 abbrev pub CancellationsNameConditions : Type 0
 CancellationsNameConditions = (who operator : List ℕ) (coin : Coin) (height : ℕ) → IsRefusedBy (cancel_unbonding who operator coin height) (against_cancel who operator coin height)
 
--- So is undelegating.
 abbrev pub UndelegationsNameConditions : Type 0
 UndelegationsNameConditions = (who operator : List ℕ) (coin : Coin) → IsRefusedBy (undelegate who operator coin) (against_undelegate who operator coin)
+
+abbrev pub CreationsNameConditions : Type 0
+CreationsNameConditions = (m : CreateValidator) → IsRefusedBy (create_validator m) (against_create m)
+
+abbrev pub RedelegationsNameConditions : Type 0
+RedelegationsNameConditions = (who source target : List ℕ) (coin : Coin) → IsRefusedBy (begin_redelegate who source target coin) (against_redelegate who source target coin)
+
+-- ---- blocks
+
+-- the state after a block's beginning, or the limit that it met
+abbrev pub begun_by : Block → State → Result State Over
+begun_by b w = begin_block b.votes b.evidence (without_facts (next_block b.height b.time w))
+
+-- no condition against a block held, and its beginning met no limit
+pub record IsBegun (b : Block) (w : State) : Type 0 where
+  pub checked : block_checked b w ≡ Ok tt
+  pub begun : State
+  pub begins : begun_by b w ≡ Ok begun
+
+-- no condition against it held, and its beginning met this limit
+pub record IsLimit (b : Block) (w : State) (fault : BlockFault) : Type 0 where
+  pub checked : block_checked b w ≡ Ok tt
+  pub over : Over
+  pub fault_is : fault ≡ RatioLimit over
+  pub begun : begun_by b w ≡ Err over
+
+-- what a block's answer says of it
+abbrev pub BlockIsAnswered : Block → State → Result Step BlockFault → Type 0
+BlockIsAnswered b w (Ok s) = IsBegun b w
+BlockIsAnswered b w (Err fault) = (block_checked b w ≡ Err fault) ⊎ IsLimit b w fault
+
+-- From a sound state each fault of a block is that of the first condition against it, or a limit that its beginning met, and
+-- where there is neither the block is answered: its end meets no limit.
+abbrev pub BlocksAreAnswered : Type 0
+BlocksAreAnswered = (b : Block) (w : State) → All TxHasCoins b.txs → IsSound w → w.view.ctx.height + 1 < 2 ^ 63 → BlockIsAnswered b w (step b w)
+
+-- each block is answered so, up to the first that may not follow
+abbrev pub AnsweredAlong : List Block → State → Type 0
+AnsweredAlong [] w = Unit {0}
+AnsweredAlong (b ∷ blocks) w = BlockIsAnswered b w (step b w) × ((s : Step) → step b w ≡ Ok s → AnsweredAlong blocks s.state)
+
+-- Wherever blocks lead to from a good genesis, each is answered so.
+abbrev pub RunsAreAnswered : Type 0
+RunsAreAnswered = (r : Replayed) → AnsweredAlong r.blocks r.start.state
+
+-- ---- refusals in a run
+
+-- A message was refused at its place: by the first of its conditions that holds of the state before it, which is sound.
+pub record IsNamedAt (place : ℕ) (why : Refusal) (msgs : List Msg) (paid : State) : Type 0 where
+  pub stopped : IsStoppedAt effect_of place why msgs paid
+  pub sound : IsSound stopped.middle
+  pub named : first_of (against stopped.message stopped.middle) ≡ Some why
+
+-- so was the message that a transaction's report says was refused
+abbrev pub RefusalIsNamed : Tx → State → Outcome → Type 0
+RefusalIsNamed tx w Accepted = Unit {0}
+RefusalIsNamed tx w FeeUnpaid = Unit {0}
+RefusalIsNamed tx w (Refused place why) = (paid : State) × (fee_paid tx.payer tx.fee (without_facts w) ≡ Ok paid) × IsNamedAt place why tx.msgs paid
+
+-- of transactions in turn, each with the state before it
+abbrev pub InTurn : (Tx → State → Type 0) → List Tx → State → Type 0
+InTurn Q [] w = Unit {0}
+InTurn Q (tx ∷ txs) w = Q tx w × InTurn Q txs (tx_applied tx w).state
+
+-- of all transactions of blocks, up to the first block that may not follow
+abbrev pub InBlocks : (Tx → State → Type 0) → List Block → State → Type 0
+InBlocks Q [] w = Unit {0}
+InBlocks Q (b ∷ blocks) w = (s : Step) → step b w ≡ Ok s → ((begun : State) → begun_by b w ≡ Ok begun → InTurn Q b.txs begun) × InBlocks Q blocks s.state
+
+-- Wherever blocks lead to from a sound state, each refusal that a transaction's report tells is named so.
+abbrev pub RunsNameConditions : Type 0
+RunsNameConditions = (blocks : List Block) (w : State) → AreInput blocks → IsSound w → w.view.ctx.height + length blocks < 2 ^ 63
+    → InBlocks (λ tx u. RefusalIsNamed tx u (tx_applied tx u).report.outcome) blocks w
+
+-- The same from a good genesis on.
+abbrev pub RefusalsAreNamed : Type 0
+RefusalsAreNamed = (r : Replayed) → InBlocks (λ tx u. RefusalIsNamed tx u (tx_applied tx u).report.outcome) r.blocks r.start.state

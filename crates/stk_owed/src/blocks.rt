@@ -1,6 +1,8 @@
-//! The parts of a block keep a state sound: laws as functions that do nothing, whose contracts are the laws.
+//! The parts of a block keep a state sound, and its faults have their causes: laws as functions that do nothing, whose contracts
+//! are the laws.
 
-ghost use Rattle.stk_owed.specs.Kept.{NextBlockKeepsSoundness, UnbondingsStepKeepsSoundness, RedelegationsStepKeepsSoundness, AllocationKeepsSoundness, MaturingKeepsSoundness, BondingKeepsSoundness, VotesKeepSoundness, EvidenceKeepsSoundness, RunsKeepSoundness};
+ghost use Rattle.stk_owed.specs.Kept.{NextBlockKeepsSoundness, UnbondingsStepKeepsSoundness, RedelegationsStepKeepsSoundness, AllocationKeepsSoundness, MaturingKeepsSoundness, BondingKeepsSoundness, VotesKeepSoundness, EvidenceKeepsSoundness, RunsKeepSoundness, BlocksAreAnswered};
+ghost use Rattle.stk_owed.specs.Causes.{LimitsHaveCauses};
 ghost use Rattle.stk_rules.specs.Laws.{BlocksEnd};
 
 /// The next block leaves a sound state sound.
@@ -55,4 +57,18 @@ pub fn runs_keep_soundness()
 /// From a sound state the bonded set and mature validators never exceed a limit, so a block ends.
 pub fn blocks_end()
     ensures { BlocksEnd }
+{}
+
+/// From a sound state a fault of a block is that of the first condition against it, or a limit that its beginning met; where
+/// there is neither, the block is answered.
+#[tactic(auto, using(crate::proofs::Answered::blocks_are_answered))]
+pub fn blocks_are_answered()
+    ensures { BlocksAreAnswered }
+{}
+
+/// A limit that a block's beginning meets is that of the allocation, or of the slash of a vote or of a piece of evidence, the
+/// first that meets one.
+#[tactic(auto, using(crate::proofs::Causes::limits_have_causes))]
+pub fn limits_have_causes()
+    ensures { LimitsHaveCauses }
 {}

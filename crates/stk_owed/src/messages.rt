@@ -1,6 +1,9 @@
-//! Fees and messages keep a state sound: laws as functions that do nothing, whose contracts are the laws.
+//! Fees and messages keep a state sound, and are refused by the first of their conditions: laws as functions that do nothing,
+//! whose contracts are the laws.
 
-ghost use Rattle.stk_owed.specs.Kept.{FeesKeepSoundness, SendsKeepSoundness, PayeesKeepSoundness, FundingKeepsSoundness, SpendingKeepsSoundness, CommissionsKeepSoundness, EditsKeepSoundness, UnjailingKeepsSoundness, RewardsKeepSoundness, DelegatingKeepsSoundness, CreatingKeepsSoundness, UndelegatingKeepsSoundness, CancellingKeepsSoundness, RedelegatingKeepsSoundness, MessagesKeepSoundness, TransactionsKeepSoundness, FundsNameConditions, RewardsNameConditions, DelegationsNameConditions, CancellationsNameConditions, UndelegationsNameConditions};
+ghost use Rattle.stk_rules.specs.RefusalOrder.{RefusalsNameConditions};
+ghost use Rattle.stk_machine.specs.Promises.{MessagesNameConditions};
+ghost use Rattle.stk_owed.specs.Kept.{FeesKeepSoundness, SendsKeepSoundness, PayeesKeepSoundness, FundingKeepsSoundness, SpendingKeepsSoundness, CommissionsKeepSoundness, EditsKeepSoundness, UnjailingKeepsSoundness, RewardsKeepSoundness, DelegatingKeepsSoundness, CreatingKeepsSoundness, UndelegatingKeepsSoundness, CancellingKeepsSoundness, RedelegatingKeepsSoundness, MessagesKeepSoundness, TransactionsKeepSoundness, FundsNameConditions, RewardsNameConditions, DelegationsNameConditions, CancellationsNameConditions, UndelegationsNameConditions, CreationsNameConditions, RedelegationsNameConditions};
 
 /// A fee that is paid leaves a sound state sound.
 #[tactic(auto, using(crate::proofs::Moves::fees_keep_soundness))]
@@ -102,4 +105,23 @@ pub fn delegators_name_conditions()
 #[tactic(auto, using(crate::proofs::Undelegated::undelegations_refused))]
 pub fn undelegations_name_conditions()
     ensures { UndelegationsNameConditions }
+{}
+
+/// So is creating a validator: its first period has nothing to share out, so no hook is over.
+#[tactic(auto, using(crate::proofs::Created::creations_refused))]
+pub fn creations_name_conditions()
+    ensures { CreationsNameConditions }
+{}
+
+/// So is redelegating: the hook of the target is over in the same cases before and after shares leave the source.
+#[tactic(auto, using(crate::proofs::Redelegated::redelegations_refused))]
+pub fn redelegations_name_conditions()
+    ensures { RedelegationsNameConditions }
+{}
+
+/// From a sound state every message is refused by the first of its conditions that holds, and accepted where none does.
+#[tactic(auto, using(crate::proofs::Named::messages_name_conditions, crate::proofs::Named::refusals_name_conditions))]
+pub fn messages_name_conditions()
+    ensures messages { MessagesNameConditions }
+    ensures rules { RefusalsNameConditions }
 {}

@@ -1,7 +1,8 @@
-//! What a genesis and blocks lead to is sound, and the accounts hold what they owe: laws as functions that do nothing, whose
-//! contracts are the laws.
+//! What a genesis and blocks lead to is sound, the accounts hold what they owe, supplies fall by burns, and refusals are named:
+//! laws as functions that do nothing, whose contracts are the laws.
 
-ghost use Rattle.stk_owed.specs.Kept.{RunsLowerSupplies};
+ghost use Rattle.stk_owed.specs.Ranges.{SoundIsInRange, RunsAreInRange};
+ghost use Rattle.stk_owed.specs.Kept.{RunsLowerSupplies, RunsNameConditions, RefusalsAreNamed, RunsAreAnswered};
 ghost use Rattle.stk_rules.specs.Laws.{SoundIsKept, OnlyBurnsLowerSupplies};
 ghost use Rattle.stk_machine.specs.Promises.{GenesisIsSound, RunsAreSound, AccountsHoldWhatIsOwed, SuppliesFallByBurns};
 
@@ -43,4 +44,32 @@ pub fn runs_lower_supplies()
 #[tactic(auto, using(crate::proofs::Starting::supplies_fall_by_burns))]
 pub fn supplies_fall_by_burns()
     ensures { SuppliesFallByBurns }
+{}
+
+/// Wherever blocks lead to from a sound state, each refusal names the first condition that held of the state before its
+/// message, which is sound.
+#[tactic(auto, using(crate::proofs::Refusals::runs_name_conditions))]
+pub fn runs_name_conditions()
+    ensures { RunsNameConditions }
+{}
+
+/// So does each refusal that blocks lead to from a good genesis.
+#[tactic(auto, using(crate::proofs::Refusals::refusals_are_named))]
+pub fn refusals_are_named()
+    ensures { RefusalsAreNamed }
+{}
+
+/// Wherever blocks lead to from a good genesis, each is answered, or has the fault of the first condition against it or a limit
+/// that its beginning met.
+#[tactic(auto, using(crate::proofs::Answered::runs_are_answered))]
+pub fn runs_are_answered()
+    ensures { RunsAreAnswered }
+{}
+
+/// In a sound state, and so wherever blocks lead to from a good genesis, no account holds more than 10^18 of a denomination, and
+/// tokens, entries of unbondings and what distribution owes are within that.
+#[tactic(auto, using(crate::proofs::Ranges::sound_is_in_range, crate::proofs::Ranges::runs_are_in_range))]
+pub fn amounts_are_in_range()
+    ensures sound { SoundIsInRange }
+    ensures runs { RunsAreInRange }
 {}
