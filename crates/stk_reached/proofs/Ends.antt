@@ -1,10 +1,7 @@
 -- What a genesis and blocks lead to has reached accounts, so claims are bracketed there, and shortfalls bounded.
-use Rattle.std.proofs.Common.{◌≡◌, ℕ, ◌+◌, ◌^◌, ◌<◌, List, length, Some, Ok, arith}
-use Rattle.std.specs.Prelude.{IfOk}
-use Rattle.stk_keep.specs.declared.entities.Validator.{Validator}
-use Rattle.stk_keep.specs.Staked.{validator_at}
-use Rattle.stk_machine.specs.GenesisState.{Start, chain_started}
-use Rattle.stk_machine.specs.Promises.{Replayed, ClaimsAreBracketed, ShortfallsAreBounded, run_in}
+use Rattle.std.proofs.Common.{length}
+use Rattle.stk_machine.specs.GenesisState.{chain_started}
+use Rattle.stk_machine.specs.Promises.{ClaimsAreBracketed, ShortfallsAreBounded, run_in}
 use Rattle.stk_owed.proofs.Starting.{IsWellStarted, room, runs_are_sound, started_well}
 use Rattle.stk_owed.proofs.Steps.{from_if}
 use Rattle.stk_bracket.specs.States.{AreReached}

@@ -1,5 +1,5 @@
 -- Blocks keep accounts reached, and so do runs of them: each step is from a sound state.
-use Rattle.std.proofs.Common.{◌≡◌, ◌∙◌, ℕ, suc, ◌+◌, ◌^◌, ◌<◌, ◌≤◌, Bool, true, false, List, [], ◌∷◌, length, map, Some, None, Option, Result, Ok, Err, refl, sym, ap, subst, arith}
+use Rattle.std.proofs.Common.{◌≡◌, ◌∙◌, ℕ, suc, ◌+◌, ◌^◌, ◌<◌, ◌≤◌, false, List, [], ◌∷◌, length, map, Result, Ok, Err, sym, ap, subst, arith}
 use Rattle.std.specs.Prelude.{All, IfOk, Contains, ⊤}
 use Rattle.std.specs.List.{AllByRecursion}
 use Rattle.std.proofs.lemmas.List.Elements.{All-head, All-tail}
@@ -30,9 +30,9 @@ use Rattle.stk_machine.specs.Promises.{MessageHasCoins, TxHasCoins}
 use Rattle.stk_rules.specs.Amounts.{in_units}
 use Rattle.stk_rules.specs.Chain.{State, allocation_step, begin_block, end_block, evidence_step, maturing_step, redelegations_step, set_step, unbondings_step, vote_step}
 use Rattle.stk_rules.specs.Effects.{after_fee, effects_of, fee_paid, stands_or_fee}
-use Rattle.stk_rules.specs.Laws.{KeptByMessages, next_block}
+use Rattle.stk_rules.specs.Laws.{next_block}
 use Rattle.stk_rules.specs.Sound.{IsSound}
-use Rattle.stk_rules.specs.Window.{Signing, signing_of}
+use Rattle.stk_rules.specs.Window.{signing_of}
 use Rattle.stk_owed.proofs.Bank.{each_within}
 use Rattle.stk_owed.proofs.Bonding.{set_step_fits}
 use Rattle.stk_owed.proofs.Burns.{total_in}
@@ -45,7 +45,7 @@ use Rattle.stk_owed.proofs.Names.{AreNamed, units_known}
 use Rattle.stk_owed.proofs.Points.{AreAllWhole, StateFits, StateLeft, WholeEntries, from_fits, to_fits}
 use Rattle.stk_owed.proofs.Purses.{enough_held}
 use Rattle.stk_owed.proofs.Running.{AreKnown, AreDistinct, CountBelow, HaveCoins, BegunLeft, AllocatedLeft, StepFits, next_ok, first_ok, votes_are, counts_on, allocated_left, begin_fits, older_whole, block_fits}
-use Rattle.stk_owed.proofs.Steps.{on_lifted_then, on_next, on_then, weaker_if}
+use Rattle.stk_owed.proofs.Steps.{on_lifted_then, on_next, on_then}
 use Rattle.stk_owed.proofs.Transactions.{TxsFit, WholeFits, message_fits, tx_fits, txs_fit, whole_without, without_facts_fits}
 use Rattle.stk_owed.proofs.Voting.{EvidenceLeft, VoteLeft, evidence_fits, own_record, vote_fits}
 use Rattle.stk_bracket.specs.States.{AreReached, ReachedStays, NoneStartedHere}

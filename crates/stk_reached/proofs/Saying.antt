@@ -1,5 +1,5 @@
 -- Each payment of a reward that a block says is fair, by the log up to it; and so in runs.
-use Rattle.std.proofs.Common.{◌≡◌, ◌∙◌, ℕ, suc, ◌+◌, ◌^◌, ◌<◌, ◌≤◌, Bool, true, false, List, [], ◌∷◌, ◌++◌, length, map, Some, None, Option, Result, Ok, Err, refl, sym, ap, subst, arith, append-nil, append_assoc}
+use Rattle.std.proofs.Common.{◌≡◌, ◌∙◌, ℕ, suc, ◌+◌, ◌^◌, ◌<◌, ◌≤◌, List, [], ◌∷◌, ◌++◌, length, map, Result, Ok, Err, refl, sym, ap, subst, arith, append-nil, append_assoc}
 use Rattle.std.specs.Prelude.{All, IfOk, Contains, ⊤}
 use Rattle.std.specs.List.{AllByRecursion}
 use Rattle.std.proofs.lemmas.List.Elements.{All-head, All-tail, All-from_recursion, recursion_from_All}
@@ -16,36 +16,30 @@ use Rattle.stk_msgs.specs.declared.faults.BlockFault.{BlockFault}
 use Rattle.stk_msgs.specs.declared.faults.BlockFault.TheVariants.{RatioLimit}
 use Rattle.stk_msgs.specs.declared.message.Msg.{Msg}
 use Rattle.stk_msgs.specs.declared.message.Msg.TheVariants as msg
-use Rattle.stk_msgs.specs.declared.report.BlockReport.{BlockReport}
 use Rattle.stk_msgs.specs.declared.report.TxReport.{TxReport}
 use Rattle.stk_machine.proofs.BuiltLemmas.{IsDue, is_due}
 use Rattle.stk_machine.specs.Blocks.{block_fault}
 use Rattle.stk_machine.specs.GenesisState.{chain_started, without_facts}
-use Rattle.stk_machine.specs.Machine.{Run, Step, TxStep, TxSteps, votes_checked, evidence_checked, block_checked, stop_at, step, going_on, run_of, tx_applied, txs_applied, reported_as}
+use Rattle.stk_machine.specs.Machine.{Step, TxSteps, votes_checked, evidence_checked, block_checked, stop_at, step, tx_applied, txs_applied, reported_as}
 use Rattle.stk_machine.specs.Messages.{effect_of}
-use Rattle.stk_machine.specs.Promises.{MessageHasCoins, TxHasCoins, Replayed, facts_of, run_in}
+use Rattle.stk_machine.specs.Promises.{MessageHasCoins, TxHasCoins, facts_of}
 use Rattle.stk_rules.specs.Chain.{State, allocation_step, begin_block, end_block, evidence_step, maturing_step, redelegations_step, set_step, unbondings_step, vote_step}
 use Rattle.stk_rules.specs.Effects.{after_fee, effects_of, fee_paid, stands_or_fee}
 use Rattle.stk_rules.specs.Laws.{next_block}
 use Rattle.stk_rules.specs.Sound.{IsSound}
-use Rattle.stk_rules.specs.Window.{Signing, signing_of}
-use Rattle.stk_owed.proofs.Bonding.{set_step_fits}
 use Rattle.stk_owed.proofs.Burns.{total_in}
-use Rattle.stk_owed.proofs.Ending.{unbondings_fit}
 use Rattle.stk_owed.proofs.Entries.{to_pairs}
 use Rattle.stk_owed.proofs.Following.{next_fits}
-use Rattle.stk_owed.proofs.Maturing.{maturing_fits}
 use Rattle.stk_owed.proofs.Moves.{fee_fits}
 use Rattle.stk_owed.proofs.Points.{AreAllWhole, StateFits, StateLeft, WholeEntries, to_fits}
 use Rattle.stk_owed.proofs.Running.{AreKnown, AreDistinct, CountBelow, HaveCoins, BegunLeft, AllocatedLeft, StepFits, next_ok, first_ok, votes_are, counts_on, allocated_left, begin_fits, older_whole, block_fits}
 use Rattle.stk_owed.proofs.Starting.{IsWellStarted, room, started_well}
-use Rattle.stk_owed.proofs.Steps.{from_if, on_lifted_then, on_next, on_then, weaker_if}
-use Rattle.stk_owed.proofs.Transactions.{TxsFit, WholeFits, message_fits, tx_fits, txs_fit, whole_without, without_facts_fits}
+use Rattle.stk_owed.proofs.Steps.{from_if, on_lifted_then, on_next, on_then}
+use Rattle.stk_owed.proofs.Transactions.{WholeFits, message_fits, tx_fits, whole_without, without_facts_fits}
 use Rattle.stk_owed.proofs.Voting.{EvidenceLeft, VoteLeft, evidence_fits, own_record, vote_fits}
 use Rattle.stk_bracket.specs.States.{AreReached, NoneStartedHere}
 use Rattle.stk_bracket.specs.Withdrawals.{IsFairFact, PaysFairly, PaysWhereReached}
 use Rattle.stk_bracket.proofs.Allocating.{none_started_in_next}
-use Rattle.stk_bracket.proofs.Bonding.{bonded_set_keeps_reached}
 use Rattle.stk_bracket.proofs.Closing.{allocation_pays, maturing_pays, redelegations_pay, set_pays, unbondings_pay}
 use Rattle.stk_bracket.proofs.Endings.{next_block_keeps_reached}
 use Rattle.stk_bracket.proofs.Hitting.{votes_pay_fairly, evidence_pays_fairly}
@@ -56,7 +50,7 @@ use Rattle.stk_bracket.proofs.Staking.{PaysIn}
 use Rattle.stk_bracket.proofs.Telling.{messages_pay_fairly, undelegate_pays}
 use Rattle.stk_bracket.proofs.Together.{messages_keep_reached}
 use Rattle.stk_reached.specs.Runs.{SaysFairly, RunSaysFairly, BlocksSayFairly, RunsSayFairly}
-use Rattle.stk_reached.proofs.Running.{kept_at, both_if, message_kept, sound_at, tx_reached, txs_reached, messages_reached, votes_reached, evidence_reached, allocation_reached, begin_reached, same_counts, block_reached}
+use Rattle.stk_reached.proofs.Running.{kept_at, both_if, message_kept, sound_at, tx_reached, votes_reached, allocation_reached, begin_reached, same_counts, block_reached}
 use Rattle.stk_reached.proofs.Starts.{genesis_is_reached}
 
 -- ---- facts further on

@@ -1,14 +1,13 @@
 -- What a genesis starts has reached accounts: its validators are new, and its delegations come by the rule of delegating.
-use Rattle.std.proofs.Common.{◌≡◌, ◌∙◌, ℕ, ◌+◌, ◌≤◌, Bool, true, false, List, [], ◌∷◌, length, map, filter, Some, None, Option, Result, Ok, Err, refl, sym, ap, subst, arith}
-use Rattle.std.specs.Prelude.{IfOk, Contains, sum, unwrap_or, is_some}
+use Rattle.std.proofs.Common.{◌≡◌, ◌∙◌, ℕ, ◌+◌, Bool, true, false, List, [], ◌∷◌, map, filter, Some, None, Option, Result, Ok, Err, refl, sym, ap, subst, arith}
+use Rattle.std.specs.Prelude.{IfOk, Contains, sum, unwrap_or}
 use Rattle.std.specs.Map.{keys_of}
 use Rattle.std.proofs.lemmas.List.Sums.{sum_by-cons}
 use Rattle.stk_dec.specs.declared.over.Over.{Over}
 use Rattle.stk_types.specs.declared.status.BondStatus.TheVariants.{Unbonded}
 use Rattle.stk_types.specs.Orders.{addr_cmp}
-use Rattle.stk_coins.specs.Coins.{Money, IsMoney, amount_of}
+use Rattle.stk_coins.specs.Coins.{IsMoney, amount_of}
 use Rattle.stk_coins.proofs.Order.{money-nil}
-use Rattle.stk_keep.specs.declared.entities.StartingInfo.{StartingInfo}
 use Rattle.stk_keep.specs.declared.entities.Purse.{Purse}
 use Rattle.stk_keep.specs.declared.entities.Validator.{Validator}
 use Rattle.stk_keep.specs.declared.params.Ctx.{Ctx}
@@ -19,18 +18,16 @@ use Rattle.stk_keep.specs.Items.{no_purse}
 use Rattle.stk_keep.specs.Log as log
 use Rattle.stk_keep.specs.Orders.{same_addr}
 use Rattle.stk_keep.specs.Staked.{Staked, validator_at, delegation, put_validator, lists_of}
-use Rattle.stk_keep.specs.Steps.{◌>>=◌, or_stop, stopping, each}
+use Rattle.stk_keep.specs.Steps.{◌>>=◌, stopping, each}
 use Rattle.stk_keep.specs.World.{View, World}
-use Rattle.stk_msgs.specs.declared.genesis.Genesis.{Genesis}
 use Rattle.stk_msgs.specs.declared.genesis.GenesisDelegation.{GenesisDelegation}
 use Rattle.stk_msgs.specs.declared.genesis.GenesisValidator.{GenesisValidator}
 use Rattle.stk_machine.specs.GenesisConditions.{accounts_at_start, creation_of, start_condition}
-use Rattle.stk_machine.specs.GenesisState.{Start, chain_started, delegation_added, empty_over, ground_at_start, stake_added, validator_added, without_facts}
+use Rattle.stk_machine.specs.GenesisState.{Start, delegation_added, empty_over, ground_at_start, stake_added, validator_added, without_facts}
 use Rattle.stk_rules.specs.BondedSet.{set_updated}
-use Rattle.stk_rules.specs.Chain.{Hooks, State, chain_told, staked_in, with_staked, set_step}
+use Rattle.stk_rules.specs.Chain.{Hooks, State, chain_told, staked_in, with_staked}
 use Rattle.stk_rules.specs.Delegating.{delegated, pool}
-use Rattle.stk_rules.specs.Periods.{Periods, initial_records, periods_of}
-use Rattle.stk_rules.specs.Purses.{purse_of}
+use Rattle.stk_rules.specs.Periods.{Periods, initial_records}
 use Rattle.stk_rules.specs.Validators.{new_validator}
 use Rattle.stk_bracket.specs.Account.{Account, Start as Begun, IsReached, new_account}
 use Rattle.stk_bracket.specs.States.{account_in, AreReached, ReachedStays}
@@ -43,11 +40,10 @@ use Rattle.stk_bracket.proofs.Growing.{delegated_reached}
 use Rattle.stk_bracket.proofs.Hooked.{opened}
 use Rattle.stk_bracket.proofs.Reached.{new_is_reached}
 use Rattle.stk_machine.specs.Genesis.{held_at_start}
-use Rattle.stk_machine.specs.Promises.{IsGoodGenesis}
 use Rattle.stk_machine.proofs.EnterLemmas.{entering}
 use Rattle.stk_machine.proofs.StartLemmas.{start_in_order}
 use Rattle.stk_keep.specs.declared.messages.CreateValidator.{CreateValidator}
-use Rattle.stk_rules.specs.Sound.{IsSound, RedelegationsAreSound, UnbondingsAreSound}
+use Rattle.stk_rules.specs.Sound.{RedelegationsAreSound, UnbondingsAreSound}
 use Rattle.stk_owed.proofs.Burns.{total_in}
 use Rattle.stk_owed.proofs.Delegating.{delegated_fits}
 use Rattle.stk_owed.proofs.Lists.{weaker}

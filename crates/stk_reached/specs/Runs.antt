@@ -1,5 +1,5 @@
 -- What the laws say of runs: wherever blocks lead to, accounts are reached.
-use Rattle.std.specs.Prelude.{◌≡◌, ℕ, ◌+◌, ◌^◌, ◌<◌, List, [], ◌∷◌, ◌++◌, length, All, IfOk}
+use Rattle.std.specs.Prelude.{◌≡◌, ◌+◌, ◌^◌, ◌<◌, List, [], ◌∷◌, ◌++◌, length, All, IfOk}
 use Rattle.stk_keep.specs.Log.{Log}
 use Rattle.stk_rules.specs.Chain.{State}
 use Rattle.stk_rules.specs.Sound.{IsSound}
