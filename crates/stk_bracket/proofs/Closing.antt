@@ -61,7 +61,7 @@ shares_pay (t ∷ ts) s base total left p fs l start first h =
     on_then (share_given (validator_by_cons s t.cons) share p fs) _ (λ y. Pays (start ++ l) fs ((start ++ l) ++ y.2) y.1) _ (given_pays (start ++ l) (validator_by_cons s t.cons) share p fs) (λ y k.
     shares_pay ts s base total (coins_taken left share) y.0 y.1 (l ++ y.2) start first (subst (λ m. Pays start first m y.1) (append_assoc start l y.2) (pays_then start (start ++ l) ((start ++ l) ++ y.2) first fs y.1 h k)))))
 
-allocation_pays : (votes : List Vote) (w : State) → IfOk (allocation_step votes w) (PaysIn w)
+pub allocation_pays : (votes : List Vote) (w : State) → IfOk (allocation_step votes w) (PaysIn w)
 allocation_pays votes w =
     on_then (fees_allocated w.mine.staked votes w.hooks.0 w.view) _ (λ x. Pays w.log w.view.facts (w.log ++ x.2) x.1.facts) _ (by (nat_le w.view.ctx.height 1)) (λ x k. k)
   where
@@ -110,7 +110,7 @@ difference_pays l joined left v = by (nat_lt left joined)
     by true = pays_sent l (account.Module holder.NotBonded) (account.Module holder.Bonded) (bond_coins v (joined - left)) v.facts
     by false = pays_sent l (account.Module holder.Bonded) (account.Module holder.NotBonded) (bond_coins v (left - joined)) v.facts
 
-set_pays : (w : State) → IfOk (set_step w) (PaysIn w)
+pub set_pays : (w : State) → IfOk (set_step w) (PaysIn w)
 set_pays w =
     let vs : List Validator = values_of w.mine.staked.validators in
     let reduction : ℕ = w.view.ctx.params.power_reduction in
@@ -134,7 +134,7 @@ matured_pays v y = by (is_unbonding v.status && nat_le v.unbonding_time y.view.c
         pays_then y.log y.log z.log y.view.facts x.view.facts z.view.facts (pays_noted y.log y.view.facts (fact.Changed v.operator Unbonded) (λ who op to reward coins h. cc)) (pays_emptied (record v { status = Unbonded }) x z e))
     by false = pays_nothing y.log y.view.facts
 
-maturing_pays : (w : State) → IfOk (maturing_step w) (PaysIn w)
+pub maturing_pays : (w : State) → IfOk (maturing_step w) (PaysIn w)
 maturing_pays w = on_then (validators_matured chain_told (staked_in w)) _ (PaysIn w) _ (each_pays (matured chain_told) matured_pays (values_of w.mine.staked.validators) (staked_in w)) (λ y k. k)
 
 -- ---- entries
@@ -156,10 +156,10 @@ completed_pays l (p ∷ ps) v =
     let x : View = paid_back p.0.0 p.1 v in
     pays_then l l l v.facts x.facts (completed ps x).1.facts (back_pays l p.0.0 p.1 v) (completed_pays l ps x)
 
-unbondings_pay : (w : State) → IfOk (unbondings_step w) (PaysIn w)
+pub unbondings_pay : (w : State) → IfOk (unbondings_step w) (PaysIn w)
 unbondings_pay w = completed_pays w.log w.mine.unbondings w.view
 
-redelegations_pay : (w : State) → IfOk (redelegations_step w) (PaysIn w)
+pub redelegations_pay : (w : State) → IfOk (redelegations_step w) (PaysIn w)
 redelegations_pay w = pays_nothing w.log w.view.facts
 
 -- ---- all parts of a block

@@ -104,7 +104,7 @@ made_account d w m sound none =
     (ap (map (λ e. let s : Start = record { who = e.0.1; shares = unwrap_or (delegation (put_validator v w.mine.staked) e.0.1 op) 0; info = e.1 } in s)) nobody)
     (history_behind op w.log log.made [])
 
-made_other : (d : List ℕ) (w : State) (v u : Validator) → same_addr u.operator v.operator ≡ false → account_in d (state_made w v) u ≡ account_in d w u
+pub made_other : (d : List ℕ) (w : State) (v u : Validator) → same_addr u.operator v.operator ≡ false → account_in d (state_made w v) u ≡ account_in d w u
 made_other d w v u apart =
     let op : List ℕ = u.operator in
     let a : Account = account_in d (state_made w v) u in

@@ -45,3 +45,5 @@ pub mod Hitting
 pub mod Closing
 pub mod Together
 pub mod Unfair
+pub mod Close
+pub mod Told

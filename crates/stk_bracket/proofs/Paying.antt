@@ -43,16 +43,16 @@ pub record Pays (l : Log) (fs : List Fact) (k : Log) (gs : List Fact) : Type 0 w
   pub facts_are : gs ≡ fs ++ told
   pub fair : AllByRecursion (IsFairFact l more) told
 
-all_joined : {A : Type 0} (P : A → Type 0) (xs ys : List A) → AllByRecursion P xs → AllByRecursion P ys → AllByRecursion P (xs ++ ys)
+pub all_joined : {A : Type 0} (P : A → Type 0) (xs ys : List A) → AllByRecursion P xs → AllByRecursion P ys → AllByRecursion P (xs ++ ys)
 all_joined P [] ys h k = k
 all_joined P (x ∷ xs) ys h k = (h.0, all_joined P xs ys h.1 k)
 
-fair_before : (l more next : Log) (f : Fact) → IsFairFact l more f → IsFairFact l (more ++ next) f
+pub fair_before : (l more next : Log) (f : Fact) → IsFairFact l more f → IsFairFact l (more ++ next) f
 fair_before l more next f h who op to reward coins e =
     let k : IsFairWithin l more who op reward coins = h who op to reward coins e in
     record { before = k.before; after = k.after ++ next; parts = ap (λ m. m ++ next) k.parts ∙ append_assoc k.before k.after next; fair = k.fair }
 
-fair_behind : (l more next : Log) (f : Fact) → IsFairFact (l ++ more) next f → IsFairFact l (more ++ next) f
+pub fair_behind : (l more next : Log) (f : Fact) → IsFairFact (l ++ more) next f → IsFairFact l (more ++ next) f
 fair_behind l more next f h who op to reward coins e =
     let k : IsFairWithin (l ++ more) next who op reward coins = h who op to reward coins e in
     record {

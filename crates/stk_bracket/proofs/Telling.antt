@@ -66,7 +66,7 @@ on_stop : {B E : Type 0} (b : Bool) (why : E) (next : Result B E) (Q : B → Typ
 on_stop true why next Q h = tt
 on_stop false why next Q h = h refl
 
-on_found : {A B E : Type 0} (o : Option A) (why : E) (f : A → Result B E) (Q : B → Type 0) → ((a : A) → o ≡ Some a → IfOk (f a) Q) → IfOk (or_stop o why >>= f) Q
+pub on_found : {A B E : Type 0} (o : Option A) (why : E) (f : A → Result B E) (Q : B → Type 0) → ((a : A) → o ≡ Some a → IfOk (f a) Q) → IfOk (or_stop o why >>= f) Q
 on_found (Some a) why f Q h = h a refl
 on_found None why f Q h = tt
 
@@ -74,7 +74,7 @@ on_lifted : {A B D E : Type 0} (g : D → E) (r : Result A D) (f : A → Result 
 on_lifted g (Ok a) f Q h = h a refl
 on_lifted g (Err d) f Q h = tt
 
-lifted_if : {A D E : Type 0} (g : D → E) (r : Result A D) (Q : A → Type 0) → IfOk r Q → IfOk (stopping g r) Q
+pub lifted_if : {A D E : Type 0} (g : D → E) (r : Result A D) (Q : A → Type 0) → IfOk r Q → IfOk (stopping g r) Q
 lifted_if g (Ok a) Q h = h
 lifted_if g (Err d) Q h = tt
 
@@ -180,7 +180,7 @@ cancel_pays who operator coin height w sound reached =
     pays_delegated w v who coin.amount (pool Unbonded) x (ready_in w v.operator sound) (known w operator v sound f).found reached e)))))))))
     (λ x k. k)
 
-undelegate_pays : (who operator : List ℕ) (coin : Coin) (w : State) → IsSound w → AreReached w → IfOk (undelegate who operator coin w) (PaysIn w)
+pub undelegate_pays : (who operator : List ℕ) (coin : Coin) (w : State) → IsSound w → AreReached w → IfOk (undelegate who operator coin w) (PaysIn w)
 undelegate_pays who operator coin w sound reached =
     on_then (undelegated chain_told who operator coin w.mine.unbondings (staked_in w)) _ (λ x. PaysIn w x.2) _
     (on_stop (coin.amount == 0) NonPositive _ _ (λ a. on_found (validator_at w.mine.staked operator) NoValidator _ _ (λ v f.

@@ -17,7 +17,7 @@ not_at_most a b t h = grind (arith, nat_tests)
 not_at_most_times : (n m by b : ℕ) → m ≤ n → nat_le (m * by) b ≡ false → n * by ≤ b → ⊥
 not_at_most_times n m by b more t h = let k : m * by ≤ n * by = mul-le-mul_right by more in not_at_most (m * by) b t (omega (arith, h, k))
 
-smaller_amount : (d : List ℕ) (full outstanding : Money) → IsMoney full → amount_of (smaller_of full outstanding) d ≡ min (amount_of full d) (amount_of outstanding d)
+pub smaller_amount : (d : List ℕ) (full outstanding : Money) → IsMoney full → amount_of (smaller_of full outstanding) d ≡ min (amount_of full d) (amount_of outstanding d)
 smaller_amount d full outstanding m = amount-all (λ c n. min n (amount_of outstanding c)) (λ c. omega arith) full d (rises_from_money full m)
 
 -- the span of the delegation

@@ -33,7 +33,7 @@ use Rattle.stk_bracket.proofs.Rising.{raised_reached}
 
 -- ---- what a withdrawal answers and leaves
 
-abbrev paid_with : Validator → List ℕ → Money × Shared × View × Log → Money × Purses → Money × Shared × View × Log
+abbrev pub paid_with : Validator → List ℕ → Money × Shared × View × Log → Money × Purses → Money × Shared × View × Log
 paid_with v who q r =
     let coins = whole_coins r.0 in
     let to = payee_of q.1 who in (
@@ -54,17 +54,17 @@ smaller_paid op full p z e =
     ap (λ x. x.0) (sym (same_ok (reward, one.0) z one.2))
 
 -- a withdrawal: the end of the period, the reward up to it, and the payment
-record IsMade (v : Validator) (who : List ℕ) (shares : ℕ) (s : Shared) (u : View) (y : Money × Shared × View × Log) : Type 0 where
-  z : ℕ × Shared × View × Log
-  ends : ended v s u ≡ Ok z
-  full : Money
-  due : reward_due v who shares s u ≡ Ok (full, z.1, z.2, z.3)
-  is_full : reward_at (start_of z.1.rewards who v.operator) (periods_of z.1.rewards v.operator) z.0 z.2.ctx.height (value_even_of v.tokens v.shares shares) ≡ Ok full
-  paid : Money × Purses
-  reward_is : paid.0 ≡ smaller_of full (purse_of z.1.purses v.operator).outstanding
-  answer_is : y ≡ paid_with v who (full, z.1, z.2, z.3) paid
+pub record IsMade (v : Validator) (who : List ℕ) (shares : ℕ) (s : Shared) (u : View) (y : Money × Shared × View × Log) : Type 0 where
+  pub z : ℕ × Shared × View × Log
+  pub ends : ended v s u ≡ Ok z
+  pub full : Money
+  pub due : reward_due v who shares s u ≡ Ok (full, z.1, z.2, z.3)
+  pub is_full : reward_at (start_of z.1.rewards who v.operator) (periods_of z.1.rewards v.operator) z.0 z.2.ctx.height (value_even_of v.tokens v.shares shares) ≡ Ok full
+  pub paid : Money × Purses
+  pub reward_is : paid.0 ≡ smaller_of full (purse_of z.1.purses v.operator).outstanding
+  pub answer_is : y ≡ paid_with v who (full, z.1, z.2, z.3) paid
 
-made_is : (v : Validator) (who : List ℕ) (shares : ℕ) (s : Shared) (u : View) (y : Money × Shared × View × Log) → reward_withdrawn v who shares s u ≡ Ok y → IsMade v who shares s u y
+pub made_is : (v : Validator) (who : List ℕ) (shares : ℕ) (s : Shared) (u : View) (y : Money × Shared × View × Log) → reward_withdrawn v who shares s u ≡ Ok y → IsMade v who shares s u y
 made_is v who shares s u y e =
     let one : (q : Money × Shared × View × Log) × (reward_due v who shares s u ≡ Ok q) × ((paid_out v.operator q.0 q.1.purses >>= λ r. Ok (paid_with v who q r)) ≡ Ok y) =
     step_parts (reward_due v who shares s u) (λ q. paid_out v.operator q.0 q.1.purses >>= λ r. Ok (paid_with v who q r)) y e in

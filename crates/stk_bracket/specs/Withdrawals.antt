@@ -1,6 +1,8 @@
 -- What the laws say of a withdrawal as it happens: the reward in full, what of it is paid, and what is told.
-use Rattle.std.specs.Prelude.{◌≡◌, ℕ, ◌-◌, ◌*◌, ◌^◌, ◌≤◌, List, [], ◌++◌, map, sum, All, Some, None, Ok}
+use Rattle.std.specs.Prelude.{◌≡◌, ℕ, ◌+◌, ◌-◌, ◌*◌, ◌^◌, ◌≤◌, List, [], ◌∷◌, ◌++◌, map, sum, All, IfOk, Some, None, Ok}
+use Rattle.stk_dec.specs.Fractions.{fraction_of, IsAtMost, IsBelow}
 use Rattle.stk_coins.specs.Coins.{Money, IsMoney, amount_of, smaller_of, whole_coins, fractions}
+use Rattle.stk_shares.specs.Burns.{plus}
 use Rattle.stk_keep.specs.declared.entities.Validator.{Validator}
 use Rattle.stk_keep.specs.declared.facts.Fact.{Fact}
 use Rattle.stk_keep.specs.declared.facts.Fact.TheVariants as fact
@@ -13,7 +15,8 @@ use Rattle.stk_keep.specs.World.{View, noted}
 use Rattle.stk_rules.specs.Amounts.{over_facts, count_where}
 use Rattle.stk_rules.specs.Chain.{State, shared_in, vote_step, evidence_step}
 use Rattle.stk_rules.specs.Distribution.{Shared, ended, reward_due, reward_withdrawn, payee_of, paid_to}
-use Rattle.stk_rules.specs.Ideal.{Span, Brackets, span_of, history_of, is_left, overclaim_of}
+use Rattle.stk_rules.specs.Effects.{withdraw_reward}
+use Rattle.stk_rules.specs.Ideal.{Span, Brackets, span_of, history_of, ideal_reward, slack_of, is_left, overclaim_of}
 use Rattle.stk_rules.specs.Laws.{KeptByStep, KeptByMessages, KeptByBlocks}
 use Rattle.stk_rules.specs.Periods.{periods_of, ratio_at}
 use Rattle.stk_rules.specs.Purses.{purse_of, pooled_told}
@@ -86,6 +89,17 @@ pub record IsFairPayment (l : Log) (who operator : List ℕ) (reward coins : Mon
   pub reward_is : reward ≡ smaller_of full outstanding
   pub coins_are : coins ≡ whole_coins reward
 
+-- Its coins are at most the ideal reward; and where what was outstanding was not exhausted, that is below the coins and one
+-- whole coin more and the slack.
+pub record IsCloseToIdeal (l : Log) (who operator : List ℕ) (reward coins : Money) (f : IsFairPayment l who operator reward coins) (d : List ℕ) : Type 0 where
+  pub at_most : IsAtMost (fraction_of (amount_of coins d * 10 ^ 18)) (ideal_reward d f.span)
+  pub above : amount_of f.full d ≤ amount_of f.outstanding d → IsBelow (ideal_reward d f.span) (plus (fraction_of ((amount_of coins d + 1) * 10 ^ 18)) (slack_of d f.span))
+
+-- so it is with each fair payment, in each denomination
+abbrev pub FairPaymentsAreClose : Type 0
+FairPaymentsAreClose =
+    (l : Log) (who operator : List ℕ) (reward coins : Money) (f : IsFairPayment l who operator reward coins) (d : List ℕ) → IsCloseToIdeal l who operator reward coins f d
+
 -- it is so at some point behind a log, within what was logged since
 pub record IsFairWithin (l more : Log) (who operator : List ℕ) (reward coins : Money) : Type 0 where
   pub before : Log
@@ -97,6 +111,20 @@ pub record IsFairWithin (l more : Log) (who operator : List ℕ) (reward coins :
 abbrev pub IsFairFact : Log → Log → Fact → Type 0
 IsFairFact l more f =
     (who operator to : List ℕ) (reward coins : Money) → f ≡ fact.Paid who operator to reward coins → IsFairWithin l more who operator reward coins
+
+-- A payment of a delegation's reward is told last but for its new start.
+pub record TellsPayment (who operator : List ℕ) (new : State) : Type 0 where
+  pub before : List Fact
+  pub to : List ℕ
+  pub reward : Money
+  pub coins : Money
+  pub period : ℕ
+  pub stake : ℕ
+  pub facts_are : new.view.facts ≡ before ++ fact.Paid who operator to reward coins ∷ fact.Started who operator period stake ∷ []
+
+-- so a message that asks for a reward, and is not refused, tells a payment
+abbrev pub RewardsAreTold : Type 0
+RewardsAreTold = (who operator : List ℕ) (w : State) → IsSound w → IfOk (withdraw_reward who operator w) (TellsPayment who operator)
 
 -- A step adds to the log and to the facts, and each payment that it tells is fair.
 pub record PaysFairly (old new : State) : Type 0 where

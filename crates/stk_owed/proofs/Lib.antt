@@ -46,3 +46,4 @@ pub mod Named
 pub mod Answered
 pub mod Refusals
 pub mod Causes
+pub mod Ranges

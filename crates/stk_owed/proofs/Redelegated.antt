@@ -75,7 +75,7 @@ world_over : {A B : Type 0} (t : Told Hooks) (x : World A Hooks) (y : World B Ho
 world_over (gives h u l) x y = refl
 world_over (exceeds over) x y = refl
 
-module _ (who source target : List ℕ) (w : State) (P : List ℕ → Type 0) (T : List ℕ → ℕ) (h : StateFits P T w) (v t : Validator) where
+module _ (who : List ℕ) (w : State) (P : List ℕ → Type 0) (T : List ℕ → ℕ) (h : StateFits P T w) (v t : Validator) where
   -- after the source's unbonding the target's hook is over where it was before
   hooks_alike : (y : ℕ × World Staked Hooks) (out : ℕ) → same_addr v.operator t.operator ≡ false → validator_at w.mine.staked t.operator ≡ Some t
       → HasUnbonded P T 0 (entry_balances w.mine.unbondings) (staked_in w) v out y → IsApart who t.operator (staked_in w) y.1
@@ -182,7 +182,7 @@ redelegations_refused who source target coin w s =
         stop_step (is_transitive r who source) Transitive _ _ (stop_step full RedelegationsFull _ _
         (stop_step (amount_out v.tokens v.shares part == 0) TinyRedelegation _ _
         (given_known t (amount_out v.tokens v.shares part) (over_in (after_hook who v w) ∷ over_in (after_hook who t w) ∷ []) (moved v all part t) (λ issued given.
-        both_refused who source target w P (total_in w.view) h v t all part issued (done v)
+        both_refused who w P (total_in w.view) h v t all part issued (done v)
         (own_place P (total_in w.view) w.view.ctx.height w.mine.staked source v h.stake.staked e) has within apart
         (own_place P (total_in w.view) w.view.ctx.height w.mine.staked target t h.stake.staked g) given))))
         ∙ (λ i. first_of (

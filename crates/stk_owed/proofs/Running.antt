@@ -48,7 +48,7 @@ use Rattle.stk_rules.specs.Window.{Signing, signing_of}
 
 -- ---- votes that were checked
 
-next_ok : {A B E : Type 0} (r : Result A E) (next : Result B E) (b : B) → (r >> next) ≡ Ok b → next ≡ Ok b
+pub next_ok : {A B E : Type 0} (r : Result A E) (next : Result B E) (b : B) → (r >> next) ≡ Ok b → next ≡ Ok b
 next_ok (Ok a) next b e = e
 next_ok (Err d) next b e = absurd cc
 
@@ -86,10 +86,10 @@ among_more before t u h test e = h test (fewer before e)
         by false b p q = q
 
 -- each vote is of a validator that stands, and no two of one consensus address
-abbrev AreKnown : Staked → List Vote → Type 0
+abbrev pub AreKnown : Staked → List Vote → Type 0
 AreKnown s votes = AllByRecursion (λ t. (v : Validator) × (validator_by_cons s t.cons ≡ Some v)) votes
 
-abbrev AreDistinct : List Vote → Type 0
+abbrev pub AreDistinct : List Vote → Type 0
 AreDistinct [] = Unit {0}
 AreDistinct (t ∷ ts) = AllByRecursion (λ u. is_at (cons_cmp u.cons) t.cons ≡ false) ts × AreDistinct ts
 
@@ -117,7 +117,7 @@ others_than s reduction x (t ∷ ts) before h e =
     let k = checked s reduction before t one.0 one.1 in
     (h (λ u. is_at (cons_cmp t.cons) u.cons) k.new, others_than s reduction x ts (before ++ t ∷ []) (among_more before x t h) (next_ok (vote_checked s reduction before t) (votes_checked s reduction (before ++ t ∷ []) ts) tt e))
 
-votes_are : (s : Staked) (reduction : ℕ) (ts before : List Vote) → votes_checked s reduction before ts ≡ Ok tt → AreKnown s ts × AreDistinct ts
+pub votes_are : (s : Staked) (reduction : ℕ) (ts before : List Vote) → votes_checked s reduction before ts ≡ Ok tt → AreKnown s ts × AreDistinct ts
 votes_are s reduction [] before e = (tt, tt)
 votes_are s reduction (t ∷ ts) before e =
     let one = first_ok (vote_checked s reduction before t) (votes_checked s reduction (before ++ t ∷ []) ts) tt e in
@@ -127,22 +127,22 @@ votes_are s reduction (t ∷ ts) before e =
     ((k.known, rest.0), (others_than s reduction t ts (before ++ t ∷ []) (among_last before t) later, rest.1))
 
 -- of no vote's record more votes were counted than heights before this one
-abbrev CountBelow : State → List Vote → Type 0
+abbrev pub CountBelow : State → List Vote → Type 0
 CountBelow w ts = AllByRecursion (λ t. (s : Signing) → signing_of w.hooks.1 t.cons ≡ Some s → length s.votes < w.view.ctx.height) ts
 
 module _ (P : List ℕ → Type 0) (T : List ℕ → ℕ) where
   -- ---- the beginning
 
   -- what parts of a block's beginning leave; unbonding entries are as old as they were
-  record BegunLeft (w x : State) : Type 0 where
-    fits : StateFits P T x
-    ctx : x.view.ctx ≡ w.view.ctx
-    pairs : (m : ℕ) → PairsFit m w.mine.unbondings → PairsFit m x.mine.unbondings
+  pub record BegunLeft (w x : State) : Type 0 where
+    pub fits : StateFits P T x
+    pub ctx : x.view.ctx ≡ w.view.ctx
+    pub pairs : (m : ℕ) → PairsFit m w.mine.unbondings → PairsFit m x.mine.unbondings
 
   begun_then : (w x y : State) → BegunLeft w x → BegunLeft x y → BegunLeft w y
   begun_then w x y h k = record { fits = k.fits; ctx = k.ctx ∙ h.ctx; pairs = λ m g. k.pairs m (h.pairs m g) }
 
-  counts_on : (w x : State) (t : Vote) (ts : List Vote) → x.view.ctx ≡ w.view.ctx → ((q : List ℕ) → is_at (cons_cmp q) t.cons ≡ false → signing_of x.hooks.1 q ≡ signing_of w.hooks.1 q) → AllByRecursion (λ u. is_at (cons_cmp u.cons) t.cons ≡ false) ts
+  pub counts_on : (w x : State) (t : Vote) (ts : List Vote) → x.view.ctx ≡ w.view.ctx → ((q : List ℕ) → is_at (cons_cmp q) t.cons ≡ false → signing_of x.hooks.1 q ≡ signing_of w.hooks.1 q) → AllByRecursion (λ u. is_at (cons_cmp u.cons) t.cons ≡ false) ts
       → CountBelow w ts → CountBelow x ts
   counts_on w x t [] c o a h = tt
   counts_on w x t (u ∷ ts) c o a h = (λ s f. subst (λ (k : Ctx). length s.votes < k.height) (sym c) (h.0 s (sym (o u.cons a.0) ∙ f)), counts_on w x t ts c o a.1 h.1)
@@ -160,17 +160,17 @@ module _ (P : List ℕ → Type 0) (T : List ℕ → ℕ) where
       weaker_if (each evidence_step es x) (BegunLeft x) (BegunLeft w) (all_evidence es x k.fits) (λ y j. begun_then w x y (record { fits = k.fits; ctx = k.ctx; pairs = k.pairs }) j))
 
   -- allocation leaves entries and records as they were
-  record AllocatedLeft (w x : State) : Type 0 where
-    left : BegunLeft w x
-    window : x.hooks.1 ≡ w.hooks.1
+  pub record AllocatedLeft (w x : State) : Type 0 where
+    pub left : BegunLeft w x
+    pub window : x.hooks.1 ≡ w.hooks.1
 
-  allocated_left : (votes : List Vote) (w : State) → StateFits P T w → AreKnown w.mine.staked votes → IfOk (allocation_step votes w) (AllocatedLeft w)
+  pub allocated_left : (votes : List Vote) (w : State) → StateFits P T w → AreKnown w.mine.staked votes → IfOk (allocation_step votes w) (AllocatedLeft w)
   allocated_left votes w h known =
       let s = w.mine.staked in
       on_then (fees_allocated s votes w.hooks.0 w.view) _ (λ z. Leaves P T w.view (lists_of s) z.0 z.1) _ (fees_leave P T s votes w.hooks.0 w.view (lists_of s) (stake_hooks P T 0 _ (lists_of s) (staked_in w) h.stake) (with_purses P T votes w h known))
       (λ z k. record { left = record { fits = (state_left P T w z.0 z.1 z.2 h k).fits; ctx = k.ctx; pairs = λ m g. g }; window = refl })
 
-  begin_fits : (votes : List Vote) (evidence : List Evidence) (w : State) → StateFits P T w → AreKnown w.mine.staked votes → AreDistinct votes → CountBelow w votes → IfOk (begin_block votes evidence w) (BegunLeft w)
+  pub begin_fits : (votes : List Vote) (evidence : List Evidence) (w : State) → StateFits P T w → AreKnown w.mine.staked votes → AreDistinct votes → CountBelow w votes → IfOk (begin_block votes evidence w) (BegunLeft w)
   begin_fits votes evidence w h known distinct below =
       on_then {B = State} (allocation_step votes w) (λ x. each vote_step votes x >>= λ y. each evidence_step evidence y) (AllocatedLeft w) (BegunLeft w) (allocated_left votes w h known) (λ x a.
       on_then {B = State} (each vote_step votes x) (λ y. each evidence_step evidence y) (BegunLeft x) (BegunLeft w)
@@ -197,7 +197,7 @@ module _ (P : List ℕ → Type 0) (T : List ℕ → ℕ) where
 -- ---- a block
 
 -- entries that are older than this height are whole
-older_whole : (height now : ℕ) (u : UnbondingLists) → height < now → PairsFit height u → AllByRecursion (λ p. WholeEntries now p.1) u
+pub older_whole : (height now : ℕ) (u : UnbondingLists) → height < now → PairsFit height u → AllByRecursion (λ p. WholeEntries now p.1) u
 older_whole height now u l h = weaker (λ p. PairFits height p.1) (λ p. WholeEntries now p.1) (λ p k. weaker (UnbondingIsSound height) (λ e. e.created ≡ now → e.balance ≡ e.initial) (λ e s c. absurd (later e.created s.created c)) p.1 k.entries) u h.pairs
   where
     later : (c : ℕ) → c ≤ height → c ≡ now → ⊥

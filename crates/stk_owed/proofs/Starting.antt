@@ -73,7 +73,7 @@ supplied supplies d some = by (lookup (is_at (denom_cmp d)) supplies) refl some
     by (Some n) e p = looked_up (λ (c : List ℕ × ℕ). Contains (keys_of supplies) c.0) (is_at (denom_cmp d)) (λ m. Contains (keys_of supplies) d) (λ k m t g. subst (Contains (keys_of supplies)) (sym (same_name d k (is_equal d k t))) g) supplies n e each_key
 
 -- so is each of a balance
-held_supplied : (h : Holdings) → IsBacked h → AreHeld (Contains (keys_of h.supplies)) h.balances
+pub held_supplied : (h : Holdings) → IsBacked h → AreHeld (Contains (keys_of h.supplies)) h.balances
 held_supplied h b =
     recursion_from_All (λ e. Contains (keys_of h.supplies) e.0.1) h.balances
     (to_all place_cmp place_total (λ e. Contains (keys_of h.supplies) e.0.1) h.balances b.balances_ascend (λ k n e.
@@ -114,7 +114,7 @@ module _ (P : List ℕ → Type 0) (T : List ℕ → ℕ) where
   amounts : List GenesisDelegation → ℕ
   amounts ds = sum (map (λ d. d.amount) ds)
 
-  start_fits : (g : Genesis) → start_condition g ≡ None → AreHeld P (held_at_start (accounts_at_start g)).balances → ((d : List ℕ) → total_in (ground_at_start g) d ≡ T d) → StakeFits P T 0 (sum (map (λ d. d.amount) g.delegations)) (lists_of no_stake) (staked_in (empty_over (ground_at_start g)))
+  pub start_fits : (g : Genesis) → start_condition g ≡ None → AreHeld P (held_at_start (accounts_at_start g)).balances → ((d : List ℕ) → total_in (ground_at_start g) d ≡ T d) → StakeFits P T 0 (sum (map (λ d. d.amount) g.delegations)) (lists_of no_stake) (staked_in (empty_over (ground_at_start g)))
   start_fits g e held all =
       let v = ground_at_start g in
       let total = sum (map (λ d. d.amount) g.delegations) in
@@ -142,7 +142,7 @@ module _ (P : List ℕ → Type 0) (T : List ℕ → ℕ) where
 
   -- ---- validators
 
-  validators_fit : (todo : List GenesisValidator) (n : ℕ) (p : Params) (w : World Staked Hooks) → IsEntering p todo w.mine → StakeFits P T 0 n (lists_of w.mine) w
+  pub validators_fit : (todo : List GenesisValidator) (n : ℕ) (p : Params) (w : World Staked Hooks) → IsEntering p todo w.mine → StakeFits P T 0 n (lists_of w.mine) w
       → IfOk (each (validator_added chain_told) todo w) (λ x. StakeFits P T 0 n (lists_of x.mine) x × (x.view ≡ w.view))
   validators_fit [] n p w is h = (h, refl)
   validators_fit (x ∷ todo) n p w is h =
@@ -179,7 +179,7 @@ module _ (P : List ℕ → Type 0) (T : List ℕ → ℕ) where
     fits : StateFits P (total_in s.state.view) s.state
     height : s.state.view.ctx.height ≡ 0
 
-  no_unbondings : UnbondingsAreSound 0 []
+  pub no_unbondings : UnbondingsAreSound 0 []
   unfolding IsStrictlySortedBy
   no_unbondings = record {
     ascend = tt;
@@ -188,7 +188,7 @@ module _ (P : List ℕ → Type 0) (T : List ℕ → ℕ) where
     entries = All-nil (λ (p : (List ℕ × List ℕ) × List UnbondingEntry). All (UnbondingIsSound 0) p.1);
   }
 
-  no_redelegations : RedelegationsAreSound 0 []
+  pub no_redelegations : RedelegationsAreSound 0 []
   unfolding IsStrictlySortedBy
   no_redelegations = record {
     ascend = tt;
@@ -220,7 +220,7 @@ module _ (P : List ℕ → Type 0) (T : List ℕ → ℕ) where
 
 -- ---- good geneses, and runs
 
-few_names : (g : Genesis) → start_condition g ≡ None → length (keys_of (held_at_start (accounts_at_start g)).supplies) ≤ 1_000_000
+pub few_names : (g : Genesis) → start_condition g ≡ None → length (keys_of (held_at_start (accounts_at_start g)).supplies) ≤ 1_000_000
 few_names g e =
     let m = may_start g e in
     let supplies = supplies_with (accounts_at_start g) [] in

@@ -1,6 +1,7 @@
 //! What a genesis and blocks lead to is sound, the accounts hold what they owe, supplies fall by burns, and refusals are named:
 //! laws as functions that do nothing, whose contracts are the laws.
 
+ghost use Rattle.stk_owed.specs.Ranges.{SoundIsInRange, RunsAreInRange};
 ghost use Rattle.stk_owed.specs.Kept.{RunsLowerSupplies, RunsNameConditions, RefusalsAreNamed, RunsAreAnswered};
 ghost use Rattle.stk_rules.specs.Laws.{SoundIsKept, OnlyBurnsLowerSupplies};
 ghost use Rattle.stk_machine.specs.Promises.{GenesisIsSound, RunsAreSound, AccountsHoldWhatIsOwed, SuppliesFallByBurns};
@@ -63,4 +64,12 @@ pub fn refusals_are_named()
 #[tactic(auto, using(crate::proofs::Answered::runs_are_answered))]
 pub fn runs_are_answered()
     ensures { RunsAreAnswered }
+{}
+
+/// In a sound state, and so wherever blocks lead to from a good genesis, no account holds more than 10^18 of a denomination, and
+/// tokens, entries of unbondings and what distribution owes are within that.
+#[tactic(auto, using(crate::proofs::Ranges::sound_is_in_range, crate::proofs::Ranges::runs_are_in_range))]
+pub fn amounts_are_in_range()
+    ensures sound { SoundIsInRange }
+    ensures runs { RunsAreInRange }
 {}

@@ -1,0 +1,23 @@
+-- What a genesis and blocks lead to has reached accounts, so claims are bracketed there, and shortfalls bounded.
+use Rattle.std.proofs.Common.{length}
+use Rattle.stk_machine.specs.GenesisState.{chain_started}
+use Rattle.stk_machine.specs.Promises.{ClaimsAreBracketed, ShortfallsAreBounded, run_in}
+use Rattle.stk_owed.proofs.Starting.{IsWellStarted, room, runs_are_sound, started_well}
+use Rattle.stk_owed.proofs.Steps.{from_if}
+use Rattle.stk_bracket.specs.States.{AreReached}
+use Rattle.stk_bracket.proofs.Claims.{reached_is_bracketed, reached_has_shortfall_within}
+use Rattle.stk_reached.specs.Runs.{RunsAreReached}
+use Rattle.stk_reached.proofs.Running.{runs_keep_reached}
+use Rattle.stk_reached.proofs.Starts.{genesis_is_reached}
+
+pub runs_are_reached : RunsAreReached
+runs_are_reached = λ r.
+    let s : IsWellStarted r.start = started_well r in
+    let reached : AreReached r.start.state = from_if (λ x. AreReached x.state) (chain_started r.genesis) r.start r.started (genesis_is_reached r.genesis r.good) in
+    runs_keep_reached r.blocks r.start.state r.input s.sound reached (room r.start.state.view.ctx.height (length r.blocks) s.height r.input.few)
+
+pub claims_are_bracketed : ClaimsAreBracketed
+claims_are_bracketed = λ r. reached_is_bracketed (run_in r).state (runs_are_sound r) (runs_are_reached r)
+
+pub shortfalls_are_bounded : ShortfallsAreBounded
+shortfalls_are_bounded = λ r d v found. reached_has_shortfall_within (run_in r).state (runs_are_reached r) d v found

@@ -1,0 +1,4 @@
+pub mod Running
+pub mod Starts
+pub mod Ends
+pub mod Saying
