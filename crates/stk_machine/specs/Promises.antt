@@ -1,4 +1,4 @@
--- What the whole machine keeps, whatever the input. What is only stated says so; all else is proved, here or in `stk_owed`.
+-- What the whole machine keeps, whatever the input. All of it is proved: here, in `stk_owed` or in `stk_reached`.
 use Rattle.std.specs.Prelude.{◌≡◌, ℕ, ◌+◌, ◌^◌, ◌<◌, Bool, true, false, List, [], ◌∷◌, ◌++◌, length, map, sum, All, None, Some, IsOkAnd, Ok, Err}
 use Rattle.stk_coins.specs.Coins.{IsMoney}
 use Rattle.stk_keep.specs.declared.entities.Validator.{Validator}
@@ -150,11 +150,12 @@ PlainMessagesNameConditions = (m : Msg) (w : State) → is_plain m ≡ true → 
 abbrev pub MessagesNameConditions : Type 0
 MessagesNameConditions = (m : Msg) → MessageHasCoins m → IsRefusedBy (effect_of m) (against m)
 
--- Stated, not proved: wherever blocks lead to, the reward that a withdrawal of a delegation would come to lies between
--- the ideal one less the slack and the ideal one.
+-- Wherever blocks lead to, the reward that a withdrawal of a delegation would come to lies between the ideal one less the
+-- slack and the ideal one. Proved: `claims_are_bracketed` of `stk_reached`.
 abbrev pub ClaimsAreBracketed : Type 0
 ClaimsAreBracketed = (r : Replayed) → IsBracketed (run_in r).state
 
--- Stated, not proved: and what is outstanding for a validator lies below all claims by at most the overclaim.
+-- And what is outstanding for a validator lies below all claims by at most the overclaim. Proved: `shortfalls_are_bounded` of
+-- `stk_reached`.
 abbrev pub ShortfallsAreBounded : Type 0
 ShortfallsAreBounded = (r : Replayed) (d : List ℕ) (v : Validator) → validator_at (run_in r).state.mine.staked v.operator ≡ Some v → HasShortfallWithin d (run_in r).state v

@@ -1,5 +1,5 @@
--- The laws of the rules, as statements. None of them is proved here; those that `stk_owed` proves say so, and the others are
--- stated, not proved. A law of states is said of each atomic step: a message, an allocation, a vote, a piece of evidence, an
+-- The laws of the rules, as statements. None of them is proved here; each says which law of `stk_owed` or `stk_reached` proves
+-- it. A law of states is said of each atomic step: a message, an allocation, a vote, a piece of evidence, an
 -- action of a block's end, and the next block.
 use Rattle.std.specs.Prelude.{◌≡◌, ℕ, ◌+◌, ◌-◌, ◌*◌, ◌^◌, ◌<◌, ◌≤◌, List, [], ◌∷◌, length, map, sum, All, IfOk, Result, Ok, Some, None}
 use Rattle.stk_types.specs.declared.account.Account.{Account}
@@ -117,7 +117,7 @@ ClaimIsBracketed d w who v shares =
     (full : Money) (l : Log) → claimed v who shares (shared_in w) w.view w.log ≡ Ok (full, l)
     → (s : Span) × (span_of who (history_of v.operator l []) None ≡ Some s) × Brackets d s (amount_of full d)
 
--- Every delegation's claim does. Of every state that a genesis leads to this is stated, not proved.
+-- Every delegation's claim does. Proved of every state that a genesis leads to: `claims_are_bracketed` of `stk_reached`.
 abbrev pub IsBracketed : State → Type 0
 IsBracketed w =
     (d who : List ℕ) (v : Validator) (shares : ℕ) → validator_at w.mine.staked v.operator ≡ Some v
@@ -131,8 +131,8 @@ exact_claim d ratio ts = sum (map (λ t. (amount_of (ratio t.last) d - amount_of
 abbrev pub claims_of : List ℕ → Periods → List StartingInfo → ℕ
 claims_of d p starts = sum (map (λ s. exact_claim d (ratio_at p.ratios) (unlimited_stretches_of s p.events (last_ended p))) starts)
 
--- What is outstanding for a validator, with the overclaim, is at least commission, current rewards and all claims. Of every
--- state that a genesis leads to this is stated, not proved.
+-- What is outstanding for a validator, with the overclaim, is at least commission, current rewards and all claims.
+-- Proved of every state that a genesis leads to: `shortfalls_are_bounded` of `stk_reached`.
 abbrev pub HasShortfallWithin : List ℕ → State → Validator → Type 0
 HasShortfallWithin d w v =
     let purse = purse_of (shared_in w).purses v.operator in
