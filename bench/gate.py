@@ -92,10 +92,14 @@ def processes_below(top):
 
 def module_times(folder):
     """Returns the modules that a check wrote into a folder, slowest first, each with the seconds since the one before."""
-    files = [it for it in pathlib.Path(folder).rglob("*.oantt")]
-    files.sort(key=lambda it: it.stat().st_mtime_ns)
-    name = lambda it: it.stem.partition("Rattle-")[2].removesuffix(".decls")
-    times = [(b.stat().st_mtime - a.stat().st_mtime, name(b)) for a, b in zip(files, files[1:])]
+    files = []
+    for it in pathlib.Path(folder).rglob("*.oantt"):
+        try:
+            files.append((it.stat().st_mtime, it.stem.partition("Rattle-")[2].removesuffix(".decls")))
+        except FileNotFoundError:
+            pass  # the edits that begin with it may have cleared it
+    files.sort()
+    times = [(b[0] - a[0], b[1]) for a, b in zip(files, files[1:])]
     return sorted(times, reverse=True)
 
 
