@@ -93,11 +93,14 @@ def processes_below(top):
 def module_times(folder):
     """Returns the modules that a check wrote into a folder, slowest first, each with the seconds since the one before."""
     files = []
-    for it in pathlib.Path(folder).rglob("*.oantt"):
-        try:
-            files.append((it.stat().st_mtime, it.stem.partition("Rattle-")[2].removesuffix(".decls")))
-        except FileNotFoundError:
-            pass  # the edits that begin with it may have cleared it
+    for here, _, names in os.walk(folder):
+        for name in names:
+            if name.endswith(".oantt"):
+                try:
+                    written = os.stat(os.path.join(here, name)).st_mtime
+                except FileNotFoundError:
+                    continue  # what began with it may have cleared it
+                files.append((written, name.removesuffix(".oantt").partition("Rattle-")[2].removesuffix(".decls")))
     files.sort()
     times = [(b[0] - a[0], b[1]) for a, b in zip(files, files[1:])]
     return sorted(times, reverse=True)
