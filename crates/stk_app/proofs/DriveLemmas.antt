@@ -14,7 +14,7 @@ use Rattle.stk_app.specs.Lines.{whole_from, rest_from, last_line, lines_from, li
 use Rattle.stk_app.specs.Machine.{Stage, longest}
 use Rattle.stk_app.specs.Runs.{Ran, before, ran_from, AreAnswered, Named, Reported, Lacking}
 use Rattle.stk_app.specs.Outcome.{Ends, RunEnds, answer_to, most_bytes, AreEnded, IsUntroubled}
-use Rattle.stk_app.specs.Parts.{Stands, Fed, FinishAs, FinishEnds, FinishStops, FinishStatus, status_of, status_at_end, PartEnds, PartStops, lines_after, LongOnly, EndLongOnly}
+use Rattle.stk_app.specs.Parts.{Stands, Fed, Finishes, FinishAs, FinishEnds, FinishStops, FinishStatus, status_of, status_at_end, PartEnds, PartStops, lines_after, LongOnly, EndLongOnly}
 use Rattle.stk_app.proofs.CutLemmas.{whole-append, lines-append}
 use Rattle.stk_app.proofs.RunLemmas.{fed-append, stops_along, named_along, wrote_along, held_along, ran-append, answered-append}
 use Rattle.stk_app.proofs.PartLemmas.{too_long, none_fed}
@@ -206,6 +206,10 @@ end_ends first count n s line left left' w w1 w' piece status at most end took f
       o.1 ∙ ap Some (append_assoc old _ _),
       end_as n s a.taken line a.fed.text o.0 status (rw (← e) most) a.fed.answered a.fed.number a.fed.line_is o.2,
     )
+
+-- a run that comes to its end
+pub done_status : (n : ℕ) (s : Stage) (lines : List (List ℕ)) (w w' : Option (List ℕ)) → Finishes n s lines w w' → FinishStatus n s lines w w' Done
+done_status n s lines w w' ends = λ old told. (ends.0, ends.2 old told, ends.1)
 
 pub first_of : (piece : List ℕ) (d : ℕ) → 0 < length piece → take 1 piece ≡ slice_index_or piece 0 d ∷ []
 first_of [] d h = absurd (omega arith)

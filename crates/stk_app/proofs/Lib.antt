@@ -6,3 +6,5 @@ pub mod ReadLemmas
 pub mod SoundLemmas
 pub mod NamedLemmas
 pub mod ReportLemmas
+pub mod StageLemmas
+pub mod LineLemmas

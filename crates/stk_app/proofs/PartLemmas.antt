@@ -182,6 +182,10 @@ pub record FedTo (n : ℕ) (s : Stage) (line piece rest : List ℕ) (n' : ℕ) (
   pub piece_is : piece ≡ done ++ rest
   pub fed : Fed n s line done n' s' line' w w'
 
+-- before the first byte of it nothing was
+pub fed_first : (n : ℕ) (s : Stage) (line piece : List ℕ) (w : Option (List ℕ)) → length line ≤ longest → FedTo n s line piece piece n s line w w
+fed_first n s line piece w short = record { done = []; piece_is = refl; fed = none_fed n s line w short }
+
 -- the rest begins with bytes and the end of a line
 parted : (rest : List ℕ) (i : ℕ) → drop i rest ≡ 10 ∷ drop (i + 1) rest → rest ≡ (take i rest ++ 10 ∷ []) ++ drop (i + 1) rest
 parted rest i e = sym (take-append-drop i rest) ∙ ap (λ (t : List ℕ). take i rest ++ t) e ∙ sym (append_assoc (take i rest) (10 ∷ []) (drop (i + 1) rest))
@@ -228,6 +232,11 @@ pub piece_fed : (r : Result (Unit {0}) Stop) (n : ℕ) (s : Stage) (line piece r
     → HasNoEnd rest → OnOk r (line2 ≡ line1 ++ rest) → OnOk r (length line2 ≤ longest) → OnOk r (Fed n s line piece n1 s1 line2 w w1)
 piece_fed (Ok x) n s line piece rest n1 s1 line1 line2 w w1 f none e short = fed_to_rest n s line piece rest n1 s1 line1 line2 w w1 f none e short
 piece_fed (Err stop) n s line piece rest n1 s1 line1 line2 w w1 f none e short = tt
+
+-- on an answer of Ok there is a next stage, for which the chain stands
+pub fed_with : {A : Type 0} (r : Result A Stop) (next : Stage) (P Q : Stage → Type 0) → OnOk r (P next) → Q next → OnOk r ((x : Stage) × P x × Q x)
+fed_with (Ok a) next P Q p q = (next, p, q)
+fed_with (Err stop) next P Q p q = tt
 
 pub piece_stops : (r : Result (Unit {0}) Stop) (n : ℕ) (s : Stage) (line piece rest : List ℕ) (n1 : ℕ) (s1 : Stage) (line1 : List ℕ) (w w1 : Option (List ℕ)) → FedTo n s line piece rest n1 s1 line1 w w1
     → HasNoEnd rest → IfErr r (λ stop. NotExtended stop n1 line1 rest) → IfErr r (PartStops n s (lines_after line piece) (whole_from line piece) w w1)

@@ -5,3 +5,4 @@ pub mod Outcome
 pub mod Parts
 pub mod Conditions
 pub mod Laws
+pub mod LineStops

@@ -18,7 +18,7 @@ use Rattle.stk_machine.specs.GenesisConditions.{start_condition}
 use Rattle.stk_machine.specs.GenesisState.{Start, ground_at_start, empty_over}
 use Rattle.stk_machine.specs.Machine.{Step}
 use Rattle.stk_report.specs.Lines.{lines_of, text_of}
-use Rattle.stk_chain.specs.Chained.{Chained}
+use Rattle.stk_chain.specs.Chained.{Chained, StandsFor}
 use Rattle.stk_chain.specs.declared.fault.ChainFault.{ChainFault}
 use Rattle.stk_chain.specs.declared.fault.ChainFault.TheVariants as chain
 use Rattle.stk_app.specs.declared.status.Stop.{Stop}
@@ -33,15 +33,22 @@ longest = 4194304
 abbrev pub Stage : Type 0
 Stage = Option State
 
--- the stage that a chain has reached
-abbrev pub stage_of : Option Chained → Stage
-stage_of None = None
-stage_of (Some chain) = Some chain.state
+-- A chain stands for a stage: for none before the genesis, and then for a state for which what it
+-- keeps stands.
+abbrev pub StandsAt : Option Chained → Stage → Type 0
+StandsAt None s = s ≡ None
+StandsAt (Some chain) None = ⊥
+StandsAt (Some chain) (Some p) = StandsFor chain.kept p
 
 -- what a line gives: its text, and the stage after it
 pub record Answer : Type 0 where
   pub text : List ℕ
   pub stage : Stage
+
+-- the line of this number has an answer with this text, and the chain stands for the stage after it
+abbrev pub AnswersTo : Result Answer Stop → List ℕ → Option Chained → Type 0
+AnswersTo due text chain =
+    (next : Stage) × (due ≡ Ok (record { text = text; stage = next })) × StandsAt chain next
 
 -- why the line of this number is not read
 abbrev pub not_read : ℕ → LineFault → Stop

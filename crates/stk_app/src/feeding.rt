@@ -1,7 +1,7 @@
 ghost use Rattle.std.specs.Prelude.{◌≡◌, ◌≤◌, ◌<◌, ◌^◌, ◌+◌, ◌∷◌, ◌++◌, [], List, ℕ, IfErr, IfSome, IfNone, OnOk, OnErr, IsErrOf, length, take, drop, slice_index};
 ghost use Rattle.stk_io.specs.Outside.{Rose};
 ghost use Rattle.stk_app.specs.Lines.{whole_from};
-ghost use Rattle.stk_app.specs.Machine.{longest, stage_of};
+ghost use Rattle.stk_app.specs.Machine.{longest, Stage, StandsAt};
 ghost use Rattle.stk_app.specs.Parts.{PartStops, Fed, lines_after, HasNoEnd, NotExtended, UnlessWrite};
 
 use crate::line::{Buffers, LONGEST, take_line};
@@ -65,10 +65,15 @@ fn end_line<K: Sink>(
     requires number { progress.old.number < 2 ^ 63 }
     requires short { length progress.old.line.items ≤ longest }
     requires before { HasNoEnd bytes.now }
-    ensures fed { OnOk result (Fed progress.old.number (stage_of progress.old.chain) progress.old.line.items (bytes.now ++ 10 ∷ [])
-        progress.new.number (stage_of progress.new.chain) progress.new.line.items (K.written sink.old) (K.written sink.new)) }
-    ensures stops { IfErr result (PartStops progress.old.number (stage_of progress.old.chain) (lines_after progress.old.line.items (bytes.now ++ 10 ∷ []))
-        (whole_from progress.old.line.items (bytes.now ++ 10 ∷ [])) (K.written sink.old) (K.written sink.new)) }
+    ensures fed { (s : Stage) → StandsAt progress.old.chain s → OnOk result ((next : Stage)
+        × Fed progress.old.number s progress.old.line.items (bytes.now ++ 10 ∷ [])
+        progress.new.number next progress.new.line.items (K.written sink.old) (K.written sink.new)
+        × StandsAt progress.new.chain next) }
+    ensures stops { (s : Stage) → StandsAt progress.old.chain s
+        → IfErr result (PartStops progress.old.number s
+        (lines_after progress.old.line.items (bytes.now ++ 10 ∷ []))
+        (whole_from progress.old.line.items (bytes.now ++ 10 ∷ []))
+        (K.written sink.old) (K.written sink.new)) }
     ensures later { K.faults sink.old ≤ K.faults sink.new }
     ensures cause { IsErrOf result Stop.Write
         → Rose (K.faults sink.old) (K.faults sink.new) }
@@ -102,9 +107,14 @@ pub fn feed<K: Sink>(
 ) -> Result<(), Stop>
     requires number { progress.old.number + length piece.now < 2 ^ 63 }
     requires short { length progress.old.line.items ≤ longest }
-    ensures fed { OnOk result (Fed progress.old.number (stage_of progress.old.chain) progress.old.line.items piece.now
-        progress.new.number (stage_of progress.new.chain) progress.new.line.items (K.written sink.old) (K.written sink.new)) }
-    ensures stops { IfErr result (PartStops progress.old.number (stage_of progress.old.chain) (lines_after progress.old.line.items piece.now)
+    requires stands { (s : Stage) × StandsAt progress.old.chain s }
+    ensures fed { (s : Stage) → StandsAt progress.old.chain s → OnOk result ((next : Stage)
+        × Fed progress.old.number s progress.old.line.items piece.now
+        progress.new.number next progress.new.line.items (K.written sink.old) (K.written sink.new)
+        × StandsAt progress.new.chain next) }
+    ensures stops { (s : Stage) → StandsAt progress.old.chain s
+        → IfErr result (PartStops progress.old.number s
+        (lines_after progress.old.line.items piece.now)
         (whole_from progress.old.line.items piece.now) (K.written sink.old) (K.written sink.new)) }
     ensures later { K.faults sink.old ≤ K.faults sink.new }
     ensures cause { IsErrOf result Stop.Write

@@ -1,7 +1,7 @@
 ghost use Rattle.std.specs.Prelude.{◌≡◌, ◌≤◌, ◌⊎◌, true, IfErr, OnOk, IsErrOf, []};
 ghost use Rattle.stk_io.specs.Outside.{Rose};
 ghost use Rattle.stk_app.specs.Lines.{last_line};
-ghost use Rattle.stk_app.specs.Machine.{stage_of};
+ghost use Rattle.stk_app.specs.Machine.{Stage, StandsAt};
 ghost use Rattle.stk_app.specs.Parts.{EndLongOnly, IsOfReport, FinishStops, Finishes, UnlessWriteAtEnd};
 
 use crate::line::{Buffers, take_line};
@@ -15,12 +15,16 @@ use stk_io::{Sink, SinkFault, write_all};
 #[tactic(auto, unfolding(crate::specs::Machine::report_of))]
 fn report<K: Sink>(alloc: Global, sink: &mut K, chain: &Option<Chain>) -> Result<(), EndStop>
     ensures clean { OnOk result (K.clean sink.new ≡ true) }
-    ensures written { OnOk result (Finishes 1 (stage_of chain.now) [] (K.written sink.old) (K.written sink.new)) }
-    ensures stops { IfErr result (FinishStops 1 (stage_of chain.now) [] (K.written sink.old) (K.written sink.new)) }
+    ensures written { (s : Stage) → StandsAt chain.now s
+        → OnOk result (Finishes 1 s [] (K.written sink.old) (K.written sink.new)) }
+    ensures stops { (s : Stage) → StandsAt chain.now s
+        → IfErr result (FinishStops 1 s [] (K.written sink.old) (K.written sink.new)) }
     ensures no_line { IfErr result IsOfReport }
     ensures later { K.faults sink.old ≤ K.faults sink.new }
-    ensures report_cause { IsErrOf result EndStop.Report → Rose (K.faults sink.old) (K.faults sink.new) }
-    ensures flush_cause { IsErrOf result EndStop.Flush → Rose (K.faults sink.old) (K.faults sink.new) }
+    ensures report_cause { IsErrOf result EndStop.Report
+        → Rose (K.faults sink.old) (K.faults sink.new) }
+    ensures flush_cause { IsErrOf result EndStop.Flush
+        → Rose (K.faults sink.old) (K.faults sink.new) }
     ensures quiet { UnlessWriteAtEnd result (K.faults sink.new ≡ K.faults sink.old) }
 {
     let Some(chain) = chain else {
@@ -51,15 +55,21 @@ pub fn finish<K: Sink>(
     line: &[u8],
 ) -> Result<(), EndStop>
     ensures clean { OnOk result (K.clean sink.new ≡ true) }
-    ensures done { OnOk result (Finishes number (stage_of chain.old) (last_line line.now) (K.written sink.old) (K.written sink.new)) }
-    ensures stops { IfErr result (FinishStops number (stage_of chain.old) (last_line line.now)
+    ensures done { (s : Stage) → StandsAt chain.old s
+        → OnOk result (Finishes number s (last_line line.now)
+        (K.written sink.old) (K.written sink.new)) }
+    ensures stops { (s : Stage) → StandsAt chain.old s
+        → IfErr result (FinishStops number s (last_line line.now)
         (K.written sink.old) (K.written sink.new)) }
     ensures long { IfErr result (λ stop. EndLongOnly stop line.now) }
     ensures later { K.faults sink.old ≤ K.faults sink.new }
-    ensures report_cause { IsErrOf result EndStop.Report → Rose (K.faults sink.old) (K.faults sink.new) }
-    ensures flush_cause { IsErrOf result EndStop.Flush → Rose (K.faults sink.old) (K.faults sink.new) }
+    ensures report_cause { IsErrOf result EndStop.Report
+        → Rose (K.faults sink.old) (K.faults sink.new) }
+    ensures flush_cause { IsErrOf result EndStop.Flush
+        → Rose (K.faults sink.old) (K.faults sink.new) }
     ensures quiet { UnlessWriteAtEnd result (K.faults sink.new ≡ K.faults sink.old) }
-    ensures line_cause { IsErrOf result (EndStop.Line Stop.Write) → Rose (K.faults sink.old) (K.faults sink.new) }
+    ensures line_cause { IsErrOf result (EndStop.Line Stop.Write)
+        → Rose (K.faults sink.old) (K.faults sink.new) }
 {
     if line.is_empty() {
         return report(alloc, sink, chain);

@@ -4,7 +4,10 @@ ghost use Rattle.stk_io.specs.Outside.{Rose};
 ghost use Rattle.stk_json.specs.Genesis.{genesis_of};
 ghost use Rattle.stk_json.specs.Block.{block_of};
 ghost use Rattle.stk_machine.specs.Built.{is_built};
-ghost use Rattle.stk_app.specs.Machine.{line_answer, not_read, not_applied, IsOfGenesis, IsNotStarted, genesis_answer, block_answer, is_built_block, stage_of};
+ghost use Rattle.stk_app.specs.LineStops.{IsOfLine};
+ghost use Rattle.stk_app.specs.Machine.{line_answer, not_read, not_applied, IsOfGenesis, IsNotStarted, genesis_answer, block_answer, is_built_block, Stage, StandsAt, AnswersTo};
+ghost use Rattle.stk_chain.specs.Chained.{StandsFor};
+ghost use Rattle.stk_rules.specs.Chain.{State};
 ghost use Rattle.stk_app.specs.Parts.{IsFault, LongOnly, NotAnswered, PartStops, Took, UnlessWrite};
 
 use crate::status::{InputFault, Stop};
@@ -96,8 +99,10 @@ pub struct Buffers {
 /// a scratch of its own.
 fn begin(alloc: Global, text: &mut Vec<u8>, number: u64, line: &[u8]) -> Result<Chain, Stop>
     requires { text.old.items ≡ [] }
-    ensures ok { IfOk result (λ chain. genesis_answer number (genesis_of line.now) ≡ Ok (record { text = text.new.items; stage = stage_of (Some chain) })) }
-    ensures err { IfErr result (λ stop. IsFault stop (genesis_answer number (genesis_of line.now))) }
+    ensures ok { IfOk result (λ chain. AnswersTo (genesis_answer number (genesis_of line.now))
+        text.new.items (Some chain)) }
+    ensures err { IfErr result
+        (λ stop. IsFault stop (genesis_answer number (genesis_of line.now))) }
 {
     let genesis = match read_genesis(alloc, &mut Scratch::new(alloc), line) {
         Ok(genesis) => genesis,
@@ -129,8 +134,12 @@ fn advance(
     line: &[u8],
 ) -> Result<(), Stop>
     requires { buffers.old.text.items ≡ [] }
-    ensures ok { OnOk result (block_answer number chain.old.state (block_of line.now) ≡ Ok (record { text = buffers.new.text.items; stage = stage_of (Some chain.new) })) }
-    ensures err { IfErr result (λ stop. IsFault stop (block_answer number chain.old.state (block_of line.now))) }
+    ensures ok { (p : State) → StandsFor chain.old.kept p
+        → OnOk result (AnswersTo (block_answer number p (block_of line.now))
+        buffers.new.text.items (Some chain.new)) }
+    ensures err { (p : State) → StandsFor chain.old.kept p
+        → IfErr result (λ stop. IsFault stop (block_answer number p (block_of line.now))) }
+    ensures of_line { IfErr result (λ stop. IsOfLine stop line.now) }
 {
     let block = match read_block(alloc, &mut buffers.scratch, line) {
         Ok(block) => block,
@@ -159,8 +168,11 @@ fn answer(
     chain: &mut Option<Chain>,
     line: &[u8],
 ) -> Result<(), Stop>
-    ensures ok { OnOk result (line_answer number (stage_of chain.old) line.now ≡ Ok (record { text = buffers.new.text.items; stage = stage_of chain.new })) }
-    ensures err { IfErr result (λ stop. NotAnswered stop number (stage_of chain.old) line.now) }
+    ensures ok { (s : Stage) → StandsAt chain.old s
+        → OnOk result (AnswersTo (line_answer number s line.now) buffers.new.text.items chain.new) }
+    ensures err { (s : Stage) → StandsAt chain.old s
+        → IfErr result (λ stop. NotAnswered stop number s line.now) }
+    ensures of_line { IfErr result (λ stop. IsOfLine stop line.now) }
 {
     if line.len() > LONGEST {
         return Err(Stop::Long(number));
@@ -188,8 +200,12 @@ pub fn take_line<K: Sink>(
     chain: &mut Option<Chain>,
     line: &[u8],
 ) -> Result<(), Stop>
-    ensures took { OnOk result (Took number (stage_of chain.old) line.now (stage_of chain.new) (K.written sink.old) (K.written sink.new)) }
-    ensures stops { IfErr result (PartStops number (stage_of chain.old) (λ (more : List (List ℕ)). line.now ∷ more) (line.now ∷ [])
+    ensures took { (s : Stage) → StandsAt chain.old s → OnOk result ((next : Stage)
+        × Took number s line.now next (K.written sink.old) (K.written sink.new)
+        × StandsAt chain.new next) }
+    ensures stops { (s : Stage) → StandsAt chain.old s
+        → IfErr result (PartStops number s
+        (λ (more : List (List ℕ)). line.now ∷ more) (line.now ∷ [])
         (K.written sink.old) (K.written sink.new)) }
     ensures long { IfErr result (λ stop. LongOnly stop line.now) }
     ensures later { K.faults sink.old ≤ K.faults sink.new }

@@ -1,5 +1,7 @@
 ghost use Rattle.std.specs.Prelude.{◌≡◌, Ok, Some, IfOk, IfErr};
 ghost use Rattle.stk_app.specs.Machine.{report_of};
+ghost use Rattle.stk_chain.specs.Chained.{StandsFor};
+ghost use Rattle.stk_rules.specs.Chain.{State};
 
 use crate::status::EndStop;
 use std::alloc::Global;
@@ -10,7 +12,8 @@ use stk_report::{report, states_are_reported};
 /// The report of a chain: no rewards are pending, since none are kept yet. The only error is `NoMemory`.
 #[tactic(auto, unfolding(crate::specs::Machine::report_of))]
 pub fn report_text(alloc: Global, chain: &Chain) -> Result<Vec<u8>, EndStop>
-    ensures text { IfOk result (λ text. report_of (Some chain.now.state) ≡ Ok text.items) }
+    ensures text { (p : State) → StandsFor chain.now.kept p
+        → IfOk result (λ text. report_of (Some p) ≡ Ok text.items) }
     ensures fault { IfErr result (λ stop. stop ≡ EndStop.NoMemory) }
 {
     states_are_reported();

@@ -1,7 +1,7 @@
 ghost use Rattle.std.specs.Prelude.{◌≡◌, ◌≤◌, ◌<◌, ◌^◌, ◌+◌, ◌⊎◌, ◌↔◌, [], ◌∷◌, List, ℕ, Some, None, length, map, string_bytes, true, false, IfErr, OnOk, IfOk, IfSome};
 ghost use Rattle.stk_io.specs.Outside.{Rose};
 ghost use Rattle.stk_app.specs.Lines.{last_line};
-ghost use Rattle.stk_app.specs.Machine.{longest, stage_of};
+ghost use Rattle.stk_app.specs.Machine.{longest, Stage, StandsAt};
 ghost use Rattle.stk_app.specs.Outcome.{RunEnds, IsUntroubled, is_replay, most_bytes, UnlessReadFault, UnlessWriteFault};
 ghost use Rattle.stk_app.specs.Parts.{FinishStatus, Stands};
 ghost use Rattle.stk_machine.specs.BuiltLaws.{BuiltTransactionsEnd, BuiltMessagesNameConditions};
@@ -47,7 +47,8 @@ fn end<K: Sink>(
     progress: &mut Progress,
 ) -> Status
     requires { length progress.old.line.items ≤ longest }
-    ensures status { FinishStatus progress.old.number (stage_of progress.old.chain) (last_line progress.old.line.items)
+    ensures status { (s : Stage) → StandsAt progress.old.chain s
+        → FinishStatus progress.old.number s (last_line progress.old.line.items)
         (K.written sink.old) (K.written sink.new) result }
     ensures busy { result ≡ Status.Usage → ⊥ }
     ensures clean { result ≡ Status.Done → K.clean sink.new ≡ true }
@@ -105,7 +106,7 @@ fn take_all<S: Source, K: Sink>(
 ) -> Status
     requires number { progress.old.number ≡ 1 }
     requires line { progress.old.line.items ≡ [] }
-    requires chain { stage_of progress.old.chain ≡ None }
+    requires chain { StandsAt progress.old.chain None }
     ensures ends { RunEnds (S.left source.old) (S.left source.new) (K.written sink.old)
         (K.written sink.new) result }
     ensures busy { result ≡ Status.Usage → ⊥ }

@@ -3,8 +3,9 @@
 ghost use Rattle.std.specs.Prelude.{◌≡◌, ℕ, List, ◌+◌, ◌*◌, ◌^◌, ◌≤◌, ◌<◌, length, slice_get, Some, true, false, OnOk, OnErr};
 ghost use Rattle.stk_coins.specs.Coins.{amount_of};
 ghost use Rattle.stk_keep.specs.Holdings.{balance_of, supply_of, is_short, moved, coin_moved, coin_burned, IsBacked};
-ghost use Rattle.stk_bank.specs.Booked.{holding, spent_now, IsGoneBack, IsForgotten};
+ghost use Rattle.stk_bank.specs.Booked.{holding, IsGoneBack, IsForgotten};
 ghost use Rattle.stk_bank.specs.Given.{coin_given, coins_given};
+ghost use Rattle.stk_bank.specs.Scenes.{Affords, Changes, ChangesInPart};
 
 use crate::tables::Tables;
 use std::sync::ledger::Ledger;
@@ -43,9 +44,8 @@ impl Tables {
     ) -> Result<(), TableFault>
         requires backed { IsBacked self.old.holdings }
         requires enough { is_short self.old.holdings from.now coins.now ≡ false }
-        ensures ok { OnOk result
-            (self.new ≡ holding (moved from.now to.now coins.now self.old.holdings) self.old) }
-        ensures err { OnErr result (self.new ≡ spent_now self.old) }
+        ensures changes { Changes (moved from.now to.now coins.now self.old.holdings)
+            self.old self.new result }
         ensures cost { steps.new ≤ steps.old + 4 * length coins.now }
     {
         match self.mark() {
@@ -68,11 +68,9 @@ impl Tables {
         amount: u128,
         steps: &mut Steps<L>,
     ) -> Result<(), TableFault>
-        requires backed { IsBacked self.old.holdings }
-        requires enough { amount ≤ balance_of self.old.holdings place.now.0 place.now.1 }
-        ensures ok { OnOk result (self.new
-            ≡ holding (coin_burned place.now.0 place.now.1 amount self.old.holdings) self.old) }
-        ensures err { OnErr result (self.new ≡ spent_now self.old) }
+        requires affords { Affords self.old.holdings place.now.0 place.now.1 amount }
+        ensures changes { Changes (coin_burned place.now.0 place.now.1 amount self.old.holdings)
+            self.old self.new result }
     {
         match self.mark() {
             Ok(()) => {
@@ -133,10 +131,8 @@ impl Tables {
     ) -> Result<(), TableFault>
         requires backed { IsBacked self.old.holdings }
         requires enough { is_short self.old.holdings from.now coins.now ≡ false }
-        ensures ok { OnOk result
-            (self.new ≡ holding (moved from.now to.now coins.now self.old.holdings) self.old) }
-        ensures err { OnErr result
-            (self.new ≡ record self.old { holdings = self.new.holdings; spent = true }) }
+        ensures changes { ChangesInPart (moved from.now to.now coins.now self.old.holdings)
+            self.old self.new result }
         ensures cost { steps.new ≤ steps.old + 4 * length coins.now }
     {
         for place in 0..coins.len() {
@@ -153,12 +149,10 @@ impl Tables {
         coin: &Coin,
         steps: &mut Steps<L>,
     ) -> Result<(), TableFault>
-        requires backed { IsBacked self.old.holdings }
-        requires enough { coin.now.amount ≤ balance_of self.old.holdings from.now coin.now.denom }
-        ensures ok { OnOk result (self.new ≡ holding (coin_moved from.now to.now coin.now.denom
-            coin.now.amount self.old.holdings) self.old) }
-        ensures err { OnErr result
-            (self.new ≡ record self.old { holdings = self.new.holdings; spent = true }) }
+        requires affords { Affords self.old.holdings from.now coin.now.denom coin.now.amount }
+        ensures changes { ChangesInPart
+            (coin_moved from.now to.now coin.now.denom coin.now.amount self.old.holdings)
+            self.old self.new result }
         ensures cost { steps.new ≤ steps.old + 4 }
     {
         let source = (*from, coin.denom);
@@ -176,12 +170,10 @@ impl Tables {
         amount: u128,
         steps: &mut Steps<L>,
     ) -> Result<(), TableFault>
-        requires backed { IsBacked self.old.holdings }
-        requires enough { amount ≤ balance_of self.old.holdings place.now.0 place.now.1 }
-        ensures ok { OnOk result (self.new
-            ≡ holding (coin_burned place.now.0 place.now.1 amount self.old.holdings) self.old) }
-        ensures err { OnErr result
-            (self.new ≡ record self.old { holdings = self.new.holdings; spent = true }) }
+        requires affords { Affords self.old.holdings place.now.0 place.now.1 amount }
+        ensures changes { ChangesInPart
+            (coin_burned place.now.0 place.now.1 amount self.old.holdings)
+            self.old self.new result }
     {
         let held = self.balance(place, steps);
         let supply = self.supply(&place.1, steps);

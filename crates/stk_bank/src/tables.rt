@@ -7,7 +7,8 @@ ghost use Rattle.std.specs.BTreeMap.{insert_entry};
 ghost use Rattle.stk_types.specs.Orders.{denom_cmp};
 ghost use Rattle.stk_keep.specs.Holdings.{balance_of, supply_of, with_balance};
 ghost use Rattle.stk_keep.specs.Orders.{place_cmp};
-ghost use Rattle.stk_bank.specs.Booked.{new_book, holding, spent_now, with_mark, with_supply, AreInOrder, AreNamed, IsGoneBack, IsForgotten};
+ghost use Rattle.stk_bank.specs.Booked.{new_book, spent_now, with_mark, with_supply, AreInOrder, AreNamed, IsGoneBack, IsForgotten};
+ghost use Rattle.stk_bank.specs.Scenes.{Changes};
 
 use crate::kinds::{BalanceKind, SupplyKind};
 use std::alloc::Global;
@@ -94,13 +95,12 @@ impl Tables {
         amount: u128,
         steps: &mut Steps<L>,
     ) -> Result<(), TableFault>
-        ensures ok { OnOk result (self.new ≡ holding (record {
-          balances = insert_entry place_cmp
-              self.old.holdings.balances place.now amount;
-          supplies = self.old.holdings.supplies;
-        })
-            self.old) }
-        ensures err { OnErr result (self.new ≡ spent_now self.old) }
+        ensures changes { Changes
+            (record {
+              balances = insert_entry place_cmp self.old.holdings.balances place.now amount;
+              supplies = self.old.holdings.supplies;
+            })
+            self.old self.new result }
         ensures ordered { IsStrictlySortedBy place_cmp (keys_of self.old.holdings.balances) }
         ensures cost { steps.new ≡ steps.old + 1 }
     {
@@ -123,13 +123,12 @@ impl Tables {
         amount: u128,
         steps: &mut Steps<L>,
     ) -> Result<(), TableFault>
-        ensures ok { OnOk result (self.new
-            ≡ holding (record {
+        ensures changes { Changes
+            (record {
               balances = self.old.holdings.balances;
               supplies = insert_entry denom_cmp self.old.holdings.supplies denom.now amount;
             })
-            self.old) }
-        ensures err { OnErr result (self.new ≡ spent_now self.old) }
+            self.old self.new result }
         ensures ordered { IsStrictlySortedBy denom_cmp (keys_of self.old.holdings.supplies) }
         ensures cost { steps.new ≡ steps.old + 1 }
     {
@@ -151,9 +150,8 @@ impl Tables {
         amount: u128,
         steps: &mut Steps<L>,
     ) -> Result<(), TableFault>
-        ensures ok { OnOk result (self.new
-            ≡ holding (with_balance self.old.holdings place.now.0 place.now.1 amount) self.old) }
-        ensures err { OnErr result (self.new ≡ spent_now self.old) }
+        ensures changes { Changes (with_balance self.old.holdings place.now.0 place.now.1 amount)
+            self.old self.new result }
         ensures cost { steps.new ≡ steps.old + 1 }
     {
         if amount != 0 {
@@ -176,9 +174,8 @@ impl Tables {
         amount: u128,
         steps: &mut Steps<L>,
     ) -> Result<(), TableFault>
-        ensures ok { OnOk result
-            (self.new ≡ holding (with_supply self.old.holdings denom.now amount) self.old) }
-        ensures err { OnErr result (self.new ≡ spent_now self.old) }
+        ensures changes { Changes (with_supply self.old.holdings denom.now amount)
+            self.old self.new result }
         ensures cost { steps.new ≡ steps.old + 1 }
     {
         if amount != 0 {

@@ -1,12 +1,10 @@
 ghost use Rattle.std.specs.Prelude.{◌≡◌, ℕ, ◌<◌, ◌≤◌, [], List, IfOk, OnOk};
 ghost use Rattle.stk_coins.specs.Coins.{amount_of};
 ghost use Rattle.stk_keep.specs.Holdings.{IsBacked};
-ghost use Rattle.stk_bank.specs.Booked.{behind};
+ghost use Rattle.stk_bank.specs.Booked.{behind, new_book};
 
-use std::alloc::Global;
-use std::marker::Brand;
 use std::process::Abort;
-use std::sync::ledger::{Blank, Ledger};
+use std::sync::ledger::Ledger;
 use std::test::Fail;
 use stk_bank::Book;
 use stk_coins::{Coin, Coins};
@@ -47,16 +45,33 @@ fn purse(rt: &(impl Abort + AllocGlobal), stake: u128, atoms: u128) -> Result<Co
     Ok(Coins::of(list)?)
 }
 
+/// A book of two accounts, one that holds nothing, and the facts so far.
+#[derive(Drop)]
+pub(crate) struct Scene {
+    book: Book,
+    empty: Book,
+    facts: Facts,
+}
+
 /// A user with 3 stake and 10 uatom, and one with 5 uatom.
-fn started<L: Ledger>(rt: &(impl Abort + AllocGlobal), steps: &mut Steps<L>) -> Result<Book, Fail>
-    ensures backed { IfOk result (λ book. IsBacked book.holdings) }
-    ensures marks { IfOk result (λ book. book.marks ≡ []) }
+pub(crate) fn opened<L: Ledger>(
+    rt: &(impl Abort + AllocGlobal),
+    steps: &mut Steps<L>,
+) -> Result<Scene, Fail>
+    ensures backed { IfOk result (λ scene. IsBacked scene.book.holdings) }
+    ensures marks { IfOk result (λ scene. scene.book.marks ≡ []) }
+    ensures empty { IfOk result (λ scene. scene.empty ≡ new_book) }
 {
     let accounts = [
         (user(rt, 9), purse(rt, 0, 5)?),
         (user(rt, 7), purse(rt, 3, 10)?),
     ];
-    Ok(Book::start(rt.alloc(), &accounts, steps)?)
+    let book = Book::start(rt.alloc(), &accounts, steps)?;
+    Ok(Scene {
+        book,
+        empty: Book::new(rt.alloc()),
+        facts: Facts::new(rt.alloc()),
+    })
 }
 
 /// Whether an account holds this and there is so much of it, over any bank.
@@ -71,34 +86,52 @@ fn holds<B: Bank, L: Ledger>(
     bank.balance(who, denom, steps) == amount && bank.supply(denom, steps) == supply
 }
 
-/// A user sends all stake and 4 uatom to another.
+/// What a message of a user that sends coins to an account answers.
 fn send_message<L: Ledger>(
     rt: &(impl Abort + AllocGlobal),
-    book: &mut Book,
-    facts: &mut Facts,
+    scene: &mut Scene,
+    from: u8,
+    to: &Account,
+    coins: &Coins,
     steps: &mut Steps<L>,
-) -> Result<(), Fail>
-    requires { IsBacked book.old.holdings }
-    ensures backed { IsBacked book.new.holdings }
-    ensures behind { behind book.new ≡ behind book.old }
+) -> Result<(), Stop>
+    requires { IsBacked scene.old.book.holdings }
+    ensures backed { IsBacked scene.new.book.holdings }
+    ensures behind { behind scene.new.book ≡ behind scene.old.book }
 {
-    let coins = purse(rt, 3, 4)?;
-    Ok(book.transfer(rt.alloc(), facts, &addr(rt, 7), &user(rt, 9), &coins, steps)?)
+    let from = addr(rt, from);
+    scene
+        .book
+        .transfer(rt.alloc(), &mut scene.facts, &from, to, coins, steps)
 }
 
-/// A user sends all uatom to a module, over any bank.
+/// A user sends all stake and 4 uatom to another.
+fn send_most<L: Ledger>(
+    rt: &(impl Abort + AllocGlobal),
+    scene: &mut Scene,
+    steps: &mut Steps<L>,
+) -> Result<Result<(), Stop>, Fail>
+    requires { IsBacked scene.old.book.holdings }
+    ensures backed { OnOk result (IsBacked scene.new.book.holdings) }
+    ensures behind { OnOk result (behind scene.new.book ≡ behind scene.old.book) }
+{
+    let coins = purse(rt, 3, 4)?;
+    Ok(send_message(rt, scene, 7, &user(rt, 9), &coins, steps))
+}
+
+/// A user sends 9 uatom to a module, over any bank.
 fn send_to_module<B: Bank, L: Ledger>(
     rt: &(impl Abort + AllocGlobal),
     bank: &mut B,
     facts: &mut Facts,
     steps: &mut Steps<L>,
-) -> Result<(), Fail>
+) -> Result<Result<(), BankFault>, Fail>
     requires { IsBacked (B.holdings bank.old) }
-    ensures { IsBacked (B.holdings bank.new) }
+    ensures { OnOk result (IsBacked (B.holdings bank.new)) }
 {
     let coins = purse(rt, 0, 9)?;
     let pool = Account::Module(Module::NotBonded);
-    Ok(bank.send(rt.alloc(), facts, &user(rt, 9), &pool, &coins, steps)?)
+    Ok(bank.send(rt.alloc(), facts, &user(rt, 9), &pool, &coins, steps))
 }
 
 /// Burns 2 uatom of a module's account, over any bank.
@@ -121,152 +154,147 @@ fn burn_two<B: Bank, L: Ledger>(
 
 /// Whether the users hold what they do after the message.
 fn is_sent<L: Ledger>(rt: &impl Abort, book: &Book, steps: &mut Steps<L>) -> bool {
-    holds(book, &user(rt, 9), &atom(rt), 9, 15, steps)
-        && holds(book, &user(rt, 7), &denom(rt, b"stake"), 0, 3, steps)
+    let sent = holds(book, &user(rt, 9), &atom(rt), 9, 15, steps);
+    sent & holds(book, &user(rt, 7), &denom(rt, b"stake"), 0, 3, steps)
 }
 
-/// A message, then coins to a module, of which some burn, and of which another has none.
-fn sends_and_burns<L: Ledger>(rt: &(impl Abort + AllocGlobal), blank: Blank) -> Result<bool, Fail>
-    requires name { blank.name ≡ L.name }
-    requires parts { blank.parts ≡ L.parts }
-    requires some { 0 < L.parts }
-{
-    let mut steps: Steps<L> = Steps::new(blank);
-    let mut facts = Facts::new(rt.alloc());
-    let mut book = started(rt, &mut steps)?;
-    send_message(rt, &mut book, &mut facts, &mut steps)?;
-    let sent = is_sent(rt, &book, &mut steps);
-    send_to_module(rt, &mut book, &mut facts, &mut steps)?;
-    burn_two(rt, &mut book, &mut facts, Module::NotBonded, &mut steps)?;
-    let short = burn_two(rt, &mut book, &mut facts, Module::Bonded, &mut steps);
-    let pool = Account::Module(Module::NotBonded);
-    let burned = holds(&book, &pool, &atom(rt), 7, 13, &mut steps);
-    Ok(sent && burned && short == Err(BankFault::Short) && facts.len() == 3)
-}
-
-#[test]
-fn a_book_starts_sends_and_burns(rt: HostRuntime) -> Result<(), Fail> {
-    assert!(rt; sends_and_burns::<Brand>(&rt, Blank::new(1))?);
-    Ok(())
-}
-
-/// Whether these are so much stake and then so many uatom.
-fn is_purse(rt: &impl Abort, coins: &Coins, stake: u128, atoms: u128) -> bool {
-    coins.len() == 2
-        && coins.amount_of(&denom(rt, b"stake")) == stake
-        && coins.amount_of(&atom(rt)) == atoms
-}
-
-/// The coins of accounts that hold two denominations, one, and none.
-fn lists_coins<L: Ledger>(rt: &(impl Abort + AllocGlobal), blank: Blank) -> Result<bool, Fail>
-    requires name { blank.name ≡ L.name }
-    requires parts { blank.parts ≡ L.parts }
-    requires some { 0 < L.parts }
-{
-    let mut steps: Steps<L> = Steps::new(blank);
-    let book = started(rt, &mut steps)?;
-    let two = book.coins_of(rt.alloc(), &user(rt, 7), &mut steps)?;
-    let one = book.coins_of(rt.alloc(), &user(rt, 9), &mut steps)?;
-    let none = book.coins_of(rt.alloc(), &user(rt, 8), &mut steps)?;
-    Ok(is_purse(rt, &two, 3, 10) && one.len() == 1 && none.len() == 0)
-}
-
-#[test]
-fn the_coins_of_an_account_are_listed(rt: HostRuntime) -> Result<(), Fail> {
-    assert!(rt; lists_coins::<Brand>(&rt, Blank::new(1))?);
-    Ok(())
-}
-
-/// What sending so many uatom from a user with 5 to an account answers.
-fn outcome<L: Ledger>(
+/// A message, and coins to a module.
+fn sends<L: Ledger>(
     rt: &(impl Abort + AllocGlobal),
-    to: &Account,
-    atoms: u128,
+    scene: &mut Scene,
     steps: &mut Steps<L>,
-) -> Result<Result<(), Stop>, Fail>
-    requires { atoms ≤ 1000 }
+) -> Result<bool, Fail>
+    requires { IsBacked scene.old.book.holdings }
+    ensures { OnOk result (IsBacked scene.new.book.holdings) }
 {
-    let mut facts = Facts::new(rt.alloc());
-    let mut book = started(rt, steps)?;
-    let coins = purse(rt, 0, atoms)?;
-    Ok(book.transfer(rt.alloc(), &mut facts, &addr(rt, 9), to, &coins, steps))
+    let answer = send_most(rt, scene, steps)?;
+    let sent = is_sent(rt, &scene.book, steps);
+    let to_module = send_to_module(rt, &mut scene.book, &mut scene.facts, steps)?;
+    Ok((answer == Ok(())) & sent & (to_module == Ok(())))
 }
 
-/// Whether a message without coins, one to a module and one that is short are refused in this order.
-fn refuses<L: Ledger>(rt: &(impl Abort + AllocGlobal), blank: Blank) -> Result<bool, Fail>
-    requires name { blank.name ≡ L.name }
-    requires parts { blank.parts ≡ L.parts }
-    requires some { 0 < L.parts }
+/// Coins of a module's account burn; another has none.
+fn burns<L: Ledger>(
+    rt: &(impl Abort + AllocGlobal),
+    scene: &mut Scene,
+    steps: &mut Steps<L>,
+) -> bool
+    requires { IsBacked scene.old.book.holdings }
 {
-    let mut steps: Steps<L> = Steps::new(blank);
-    let module = Account::Module(Module::Distribution);
-    let nothing = outcome(rt, &module, 0, &mut steps)?;
-    let to_module = outcome(rt, &module, 6, &mut steps)?;
-    let short = outcome(rt, &user(rt, 7), 6, &mut steps)?;
-    let enough = outcome(rt, &user(rt, 7), 5, &mut steps)?;
-    Ok(
-        nothing == Err(Stop::Refused(Refusal::NonPositive))
-            && to_module == Err(Stop::Refused(Refusal::ModuleRecipient))
-            && short == Err(Stop::Refused(Refusal::InsufficientFunds))
-            && enough == Ok(()),
-    )
+    let done = burn_two(
+        rt,
+        &mut scene.book,
+        &mut scene.facts,
+        Module::NotBonded,
+        steps,
+    );
+    let short = burn_two(rt, &mut scene.book, &mut scene.facts, Module::Bonded, steps);
+    let pool = Account::Module(Module::NotBonded);
+    let burnt = holds(&scene.book, &pool, &atom(rt), 7, 13, steps);
+    (done == Ok(())) & (short == Err(BankFault::Short)) & burnt
 }
 
-#[test]
-fn a_message_is_refused_in_order(rt: HostRuntime) -> Result<(), Fail> {
-    assert!(rt; refuses::<Brand>(&rt, Blank::new(1))?);
-    Ok(())
+/// A message, then coins to a module, of which some burn, and of which another has none; three facts tell it.
+pub(crate) fn sends_and_burns<L: Ledger>(
+    rt: &(impl Abort + AllocGlobal),
+    scene: &mut Scene,
+    steps: &mut Steps<L>,
+) -> Result<bool, Fail>
+    requires { IsBacked scene.old.book.holdings }
+{
+    let sent = sends(rt, scene, steps)?;
+    let burnt = burns(rt, scene, steps);
+    Ok(sent & burnt & (scene.facts.len() == 3))
 }
 
-/// Goes back over a message, and then forgets a mark before it.
-fn goes_back<L: Ledger>(rt: &(impl Abort + AllocGlobal), blank: Blank) -> Result<bool, Fail>
-    requires name { blank.name ≡ L.name }
-    requires parts { blank.parts ≡ L.parts }
-    requires some { 0 < L.parts }
+/// What is listed of a user's coins: so many denominations, so much stake and so many uatom.
+pub(crate) fn lists_coins<L: Ledger>(
+    rt: &(impl Abort + AllocGlobal),
+    scene: &Scene,
+    byte: u8,
+    want: (usize, u128, u128),
+    steps: &mut Steps<L>,
+) -> Result<bool, Fail>
+    requires { IsBacked scene.now.book.holdings }
 {
-    let mut steps: Steps<L> = Steps::new(blank);
-    let mut book = started(rt, &mut steps)?;
-    message_gone_back(rt, &mut book, &mut steps)?;
-    let back = holds(&book, &user(rt, 9), &atom(rt), 5, 15, &mut steps);
-    message_kept(rt, &mut book, &mut steps)?;
-    Ok(back && is_sent(rt, &book, &mut steps))
+    let coins = scene.book.coins_of(rt.alloc(), &user(rt, byte), steps)?;
+    let stake = coins.amount_of(&denom(rt, b"stake"));
+    Ok((coins.len() == want.0) & (stake == want.1) & (coins.amount_of(&atom(rt)) == want.2))
+}
+
+/// A message of so many uatom, from a user with 5 to a user or a module, is answered so.
+pub(crate) fn answers<L: Ledger>(
+    rt: &(impl Abort + AllocGlobal),
+    scene: &mut Scene,
+    to: Option<Module>,
+    atoms: u8,
+    want: Option<Refusal>,
+    steps: &mut Steps<L>,
+) -> Result<bool, Fail>
+    requires { IsBacked scene.old.book.holdings }
+{
+    let coins = purse(rt, 0, u128::from(atoms))?;
+    let to = receiver(rt, to);
+    let answer = send_message(rt, scene, 9, &to, &coins, steps);
+    Ok(answer == wanted(want))
+}
+
+/// A module's account, or that of a user.
+fn receiver(rt: &impl Abort, module: Option<Module>) -> Account {
+    match module {
+        Some(module) => Account::Module(module),
+        None => user(rt, 7),
+    }
+}
+
+fn wanted(want: Option<Refusal>) -> Result<(), Stop> {
+    match want {
+        Some(why) => Err(Stop::Refused(why)),
+        None => Ok(()),
+    }
 }
 
 /// A message that is undone.
 fn message_gone_back<L: Ledger>(
     rt: &(impl Abort + AllocGlobal),
-    book: &mut Book,
+    scene: &mut Scene,
     steps: &mut Steps<L>,
-) -> Result<(), Fail>
-    requires { IsBacked book.old.holdings }
-    ensures { OnOk result (book.new.holdings ≡ book.old.holdings) }
+) -> Result<bool, Fail>
+    requires { IsBacked scene.old.book.holdings }
+    ensures { OnOk result (scene.new.book.holdings ≡ scene.old.book.holdings) }
 {
-    let mut facts = Facts::new(rt.alloc());
-    book.mark(rt.alloc(), steps)?;
-    send_message(rt, book, &mut facts, steps)?;
-    book.back(steps);
-    Ok(())
+    scene.book.mark(rt.alloc(), steps)?;
+    let answer = send_most(rt, scene, steps)?;
+    scene.book.back(steps);
+    Ok(answer == Ok(()))
 }
 
 /// A message behind a mark that is forgotten.
 fn message_kept<L: Ledger>(
     rt: &(impl Abort + AllocGlobal),
-    book: &mut Book,
+    scene: &mut Scene,
     steps: &mut Steps<L>,
-) -> Result<(), Fail>
-    requires { IsBacked book.old.holdings }
+) -> Result<bool, Fail>
+    requires { IsBacked scene.old.book.holdings }
 {
-    let mut facts = Facts::new(rt.alloc());
-    book.mark(rt.alloc(), steps)?;
-    send_message(rt, book, &mut facts, steps)?;
-    book.forget(steps);
-    Ok(())
+    scene.book.mark(rt.alloc(), steps)?;
+    let answer = send_most(rt, scene, steps)?;
+    scene.book.forget(steps);
+    Ok(answer == Ok(()))
 }
 
-#[test]
-fn a_book_goes_back(rt: HostRuntime) -> Result<(), Fail> {
-    assert!(rt; goes_back::<Brand>(&rt, Blank::new(1))?);
-    Ok(())
+/// Goes back over a message, and then forgets a mark before it.
+pub(crate) fn goes_back<L: Ledger>(
+    rt: &(impl Abort + AllocGlobal),
+    scene: &mut Scene,
+    steps: &mut Steps<L>,
+) -> Result<bool, Fail>
+    requires { IsBacked scene.old.book.holdings }
+{
+    let undone = message_gone_back(rt, scene, steps)?;
+    let back = holds(&scene.book, &user(rt, 9), &atom(rt), 5, 15, steps);
+    let kept = message_kept(rt, scene, steps)?;
+    Ok(undone & back & kept & is_sent(rt, &scene.book, steps))
 }
 
 /// Whether an item is this balance of uatom.
@@ -288,51 +316,95 @@ fn is_supply(item: Option<&Item>, expected: u128) -> bool {
     matches!(item, Some(Item::Supply { amount, .. }) if *amount == expected)
 }
 
-/// A settled book of two items that were loaded: so many uatom of an account, which are all.
-fn loaded<L: Ledger>(
+/// Two items are loaded and settled: 10 uatom of a user, which are all.
+fn load_two<L: Ledger>(
     rt: &(impl Abort + AllocGlobal),
-    account: Account,
-    amount: u128,
+    book: &mut Book,
     steps: &mut Steps<L>,
-) -> Result<Book, Fail>
-    ensures { IfOk result (λ book. book.marks ≡ []) }
+) -> Result<(), Fail>
+    requires { book.old ≡ new_book }
 {
     let denom = atom(rt);
     let balance = Item::Balance {
-        account,
+        account: user(rt, 7),
         denom,
-        amount,
+        amount: 10,
     };
-    let mut book = Book::new(rt.alloc());
     book.load(rt.alloc(), &balance, steps)?;
-    book.load(rt.alloc(), &Item::Supply { denom, amount }, steps)?;
+    book.load(rt.alloc(), &Item::Supply { denom, amount: 10 }, steps)?;
     book.settle(steps);
-    Ok(book)
+    Ok(())
 }
 
-/// The items of a book that was loaded from two.
-fn items_again<L: Ledger>(rt: &(impl Abort + AllocGlobal), blank: Blank) -> Result<bool, Fail>
-    requires name { blank.name ≡ L.name }
-    requires parts { blank.parts ≡ L.parts }
-    requires some { 0 < L.parts }
-{
-    let mut steps: Steps<L> = Steps::new(blank);
-    let alice = user(rt, 7);
-    let book = loaded(rt, alice, 10, &mut steps)?;
+/// The items of a book.
+fn items_of<L: Ledger>(
+    rt: &(impl Abort + AllocGlobal),
+    book: &Book,
+    steps: &mut Steps<L>,
+) -> Result<Vec<Item>, Fail> {
     let mut items = Vec::new(rt.alloc());
-    book.items_into(&mut items, &mut steps)?;
-    let mut changes = Vec::new(rt.alloc());
-    book.changes_into(&mut changes, &mut steps)?;
-    Ok(
-        items.len() == 2
-            && is_balance(items.get(0), &alice, 10)
-            && is_supply(items.get(1), 10)
-            && changes.is_empty(),
-    )
+    book.items_into(&mut items, steps)?;
+    Ok(items)
 }
 
-/// Whether the changes of the message are told: who sent has no stake any more, and who received has 9 uatom.
-fn tells_message(rt: &impl Abort, changes: &[(Item, bool)]) -> bool {
+/// The changes of a book.
+fn changes_of<L: Ledger>(
+    rt: &(impl Abort + AllocGlobal),
+    book: &Book,
+    steps: &mut Steps<L>,
+) -> Result<Vec<(Item, bool)>, Fail> {
+    let mut changes = Vec::new(rt.alloc());
+    book.changes_into(&mut changes, steps)?;
+    Ok(changes)
+}
+
+/// Whether the items of a book are the two that are loaded.
+fn lists_two<L: Ledger>(
+    rt: &(impl Abort + AllocGlobal),
+    book: &Book,
+    steps: &mut Steps<L>,
+) -> Result<bool, Fail> {
+    let items = items_of(rt, book, steps)?;
+    let balance = is_balance(items.get(0), &user(rt, 7), 10);
+    Ok((items.len() == 2) & balance & is_supply(items.get(1), 10))
+}
+
+/// Whether a book tells so many changes.
+fn tells<L: Ledger>(
+    rt: &(impl Abort + AllocGlobal),
+    book: &Book,
+    count: usize,
+    steps: &mut Steps<L>,
+) -> Result<bool, Fail> {
+    let changes = changes_of(rt, book, steps)?;
+    Ok(changes.len() == count)
+}
+
+/// The items of a book that was loaded from two, and no changes.
+pub(crate) fn loads<L: Ledger>(
+    rt: &(impl Abort + AllocGlobal),
+    scene: &mut Scene,
+    steps: &mut Steps<L>,
+) -> Result<bool, Fail>
+    requires { scene.old.empty ≡ new_book }
+{
+    load_two(rt, &mut scene.empty, steps)?;
+    let listed = lists_two(rt, &scene.empty, steps)?;
+    let settled = tells(rt, &scene.empty, 0, steps)?;
+    Ok(listed & settled)
+}
+
+/// Whether four changes tell the message: who sent has no stake any more, and who received has 9 uatom.
+fn tells_message<L: Ledger>(
+    rt: &(impl Abort + AllocGlobal),
+    book: &Book,
+    steps: &mut Steps<L>,
+) -> Result<bool, Fail> {
+    let changes = changes_of(rt, book, steps)?;
+    Ok((changes.len() == 4) & are_of_message(rt, &changes))
+}
+
+fn are_of_message(rt: &impl Abort, changes: &[(Item, bool)]) -> bool {
     let gone = changes
         .iter()
         .any(|c| !c.1 && is_balance(Some(&c.0), &user(rt, 7), 0));
@@ -342,27 +414,18 @@ fn tells_message(rt: &impl Abort, changes: &[(Item, bool)]) -> bool {
     gone && stands
 }
 
-/// The changes of a book of which nothing is settled, and those after a settling, once a user has sent all.
-fn changes_told<L: Ledger>(rt: &(impl Abort + AllocGlobal), blank: Blank) -> Result<bool, Fail>
-    requires name { blank.name ≡ L.name }
-    requires parts { blank.parts ≡ L.parts }
-    requires some { 0 < L.parts }
+/// The changes of a book of which nothing is settled, and those after a settling, once a user has sent a message.
+pub(crate) fn tells_changes<L: Ledger>(
+    rt: &(impl Abort + AllocGlobal),
+    scene: &mut Scene,
+    steps: &mut Steps<L>,
+) -> Result<bool, Fail>
+    requires backed { IsBacked scene.old.book.holdings }
+    requires marks { scene.old.book.marks ≡ [] }
 {
-    let mut steps: Steps<L> = Steps::new(blank);
-    let mut facts = Facts::new(rt.alloc());
-    let mut book = started(rt, &mut steps)?;
-    let mut first = Vec::new(rt.alloc());
-    book.changes_into(&mut first, &mut steps)?;
-    book.settle(&mut steps);
-    send_message(rt, &mut book, &mut facts, &mut steps)?;
-    let mut later = Vec::new(rt.alloc());
-    book.changes_into(&mut later, &mut steps)?;
-    Ok(first.len() == 5 && later.len() == 4 && tells_message(rt, &later))
-}
-
-#[test]
-fn items_are_loaded_and_listed_again(rt: HostRuntime) -> Result<(), Fail> {
-    assert!(rt; items_again::<Brand>(&rt, Blank::new(1))?);
-    assert!(rt; changes_told::<Brand>(&rt, Blank::new(1))?);
-    Ok(())
+    let first = tells(rt, &scene.book, 5, steps)?;
+    scene.book.settle(steps);
+    let answer = send_most(rt, scene, steps)?;
+    let later = tells_message(rt, &scene.book, steps)?;
+    Ok(first & (answer == Ok(())) & later)
 }

@@ -63,36 +63,36 @@ shares-given v n issued e = given_at v n issued (issued_shares v.tokens v.shares
 
 -- ---- the hooks may be called
 
-module _ (height : ℕ) (s : Staked) (h : IsSoundAt height s) (v : Validator) (f : validator_at s v.operator ≡ Some v) (who : List ℕ) where
-  number_is : (held : Option ℕ) → delegation s who v.operator ≡ held → number_at pair_cmp s.delegations (v.operator, who) ≡ unwrap_or held 0
+module _ (height : ℕ) (s : Staked) (h : IsSoundAt height s) (v : Validator) (f : validator_at s v.operator ≡ Some v) (delegator : List ℕ) where
+  number_is : (held : Option ℕ) → delegation s delegator v.operator ≡ held → number_at pair_cmp s.delegations (v.operator, delegator) ≡ unwrap_or held 0
   number_is held e = ap (λ x. unwrap_or x 0) e
 
   -- a delegation has no more shares than its validator
-  pub held-most : (held : Option ℕ) → delegation s who v.operator ≡ held → unwrap_or held 0 ≤ v.shares
+  pub held-most : (held : Option ℕ) → delegation s delegator v.operator ≡ held → unwrap_or held 0 ≤ v.shares
   held-most held e =
-      let within = held_within s.delegations v.operator who in
+      let within = held_within s.delegations v.operator delegator in
       let one = number_is held e in
       let own = h.shares v.operator v f in
       omega (arith, within, one, own)
 
   module _ {S : Type 0} (t : Tells S) (hs : S) where
-    pub ready-before : (u : View) (held : Option ℕ) → delegation s who v.operator ≡ held → Stand t hs u (lists_of s) → Ready t hs u (hook_before v who held) (lists_of s)
+    pub ready-before : (u : View) (held : Option ℕ) → delegation s delegator v.operator ≡ held → Stand t hs u (lists_of s) → Ready t hs u (hook_before v delegator held) (lists_of s)
     ready-before u None e p = record { stand = p; needs = (ap is_some f, ap is_some e); tokens = (h.validators v.operator v f).tokens }
-    ready-before u (Some m) e p = record { stand = p; needs = (ap is_some e, h.positive (v.operator, who) m e, held-most (Some m) e); tokens = (h.validators v.operator v f).tokens }
+    ready-before u (Some m) e p = record { stand = p; needs = (ap is_some e, h.positive (v.operator, delegator) m e, held-most (Some m) e); tokens = (h.validators v.operator v f).tokens }
 
-    still_operator : (held : Option ℕ) → (after (hook_before v who held) (lists_of s)).operators v.operator ≡ true
+    still_operator : (held : Option ℕ) → (after (hook_before v delegator held) (lists_of s)).operators v.operator ≡ true
     still_operator None = ap is_some f
     still_operator (Some m) = ap is_some f
 
-    not_started : (held : Option ℕ) → delegation s who v.operator ≡ held → (after (hook_before v who held) (lists_of s)).started who v.operator ≡ false
+    not_started : (held : Option ℕ) → delegation s delegator v.operator ≡ held → (after (hook_before v delegator held) (lists_of s)).started delegator v.operator ≡ false
     not_started None e = ap is_some e
-    not_started (Some m) e = itself_started who v.operator false (lists_of s)
+    not_started (Some m) e = itself_started delegator v.operator false (lists_of s)
 
-    pub ready-after : (u : View) (held : Option ℕ) (w : Validator) (total : ℕ) → delegation s who v.operator ≡ held → w.operator ≡ v.operator → 0 < total → total ≤ w.shares → w.tokens ≤ 10 ^ 18
-        → Stand t hs u (after (hook_before v who held) (lists_of s)) → Ready t hs u (modified w who total) (after (hook_before v who held) (lists_of s))
+    pub ready-after : (u : View) (held : Option ℕ) (w : Validator) (total : ℕ) → delegation s delegator v.operator ≡ held → w.operator ≡ v.operator → 0 < total → total ≤ w.shares → w.tokens ≤ 10 ^ 18
+        → Stand t hs u (after (hook_before v delegator held) (lists_of s)) → Ready t hs u (modified w delegator total) (after (hook_before v delegator held) (lists_of s))
     ready-after u held w total e o some most tokens p = record {
       stand = p;
-      needs = (ap (after (hook_before v who held) (lists_of s)).operators o ∙ still_operator held, ap ((after (hook_before v who held) (lists_of s)).started who) o ∙ not_started held e, some, most);
+      needs = (ap (after (hook_before v delegator held) (lists_of s)).operators o ∙ still_operator held, ap ((after (hook_before v delegator held) (lists_of s)).started delegator) o ∙ not_started held e, some, most);
       tokens = tokens;
     }
 
@@ -108,25 +108,25 @@ module _ (height : ℕ) (s : Staked) (h : IsSoundAt height s) (v : Validator) (f
   not_zero : (total : ℕ) → 0 < total → (total == 0) ≡ false
   not_zero total some = grind (arith, nat_tests)
 
-  module _ (w : Validator) (o : w.operator ≡ v.operator) (held : Option ℕ) (e : delegation s who v.operator ≡ held) (total : ℕ) (some : 0 < total) where
+  module _ (w : Validator) (o : w.operator ≡ v.operator) (held : Option ℕ) (e : delegation s delegator v.operator ≡ held) (total : ℕ) (some : 0 < total) where
     abbrev pub after_delegating : Staked
-    after_delegating = put_delegation who v.operator total (put_validator w s)
+    after_delegating = put_delegation delegator v.operator total (put_validator w s)
 
     found_w : validator_at s w.operator ≡ Some v
     found_w = ap (validator_at s) o ∙ f
 
-    is_put : put_with w (with_number pair_cmp s.delegations (w.operator, who) total) s ≡ after_delegating
-    is_put = (λ i. put_with w (with_is total some s.delegations (o i, who) i) s)
+    is_put : put_with w (with_number pair_cmp s.delegations (w.operator, delegator) total) s ≡ after_delegating
+    is_put = (λ i. put_with w (with_is total some s.delegations (o i, delegator) i) s)
 
-    pub lists-after : after (modified w who total) (after (hook_before v who held) (lists_of s)) ≡ lists_of after_delegating
-    lists-after = lists-delegated v w who held total (lists_of s) o
-        ∙ sym (lists-changed s w v who total false h.delegations_ascend found_w (not_zero total some))
+    pub lists-after : after (modified w delegator total) (after (hook_before v delegator held) (lists_of s)) ≡ lists_of after_delegating
+    lists-after = lists-delegated v w delegator held total (lists_of s) o
+        ∙ sym (lists-changed s w v delegator total false h.delegations_ascend found_w (not_zero total some))
         ∙ ap lists_of is_put
 
     pub sound-after : w.cons ≡ v.cons → ValidatorIsSound height w → w.shares + unwrap_or held 0 ≡ v.shares + total → IsSoundAt height after_delegating
     sound-after c ok sums =
         subst (IsSoundAt height) is_put
-        (sound-changed height w v who total s h found_w c ok (ap (λ m. w.shares + m) (ap (λ p. number_at pair_cmp s.delegations (p, who)) o ∙ number_is held e) ∙ sums))
+        (sound-changed height w v delegator total s h found_w c ok (ap (λ m. w.shares + m) (ap (λ p. number_at pair_cmp s.delegations (p, delegator)) o ∙ number_is held e) ∙ sums))
 
     pub tokens-after : (test : BondStatus → Bool) → tokens_where test after_delegating.validators + counted test v ≡ tokens_where test s.validators + counted test w
     tokens-after test = tokens-put test w.operator v w s.validators h.validators_ascend found_w
@@ -196,38 +196,38 @@ not_bonded status = if is_bonded status then false else true
 
 -- The hooks stand as the hook before left them, the accounts have what is owed once the validator has the amount, and it
 -- will not have too many tokens.
-pub record IsReached {S : Type 0} (t : Tells S) (hs : S) (u : View) (s : Staked) (v : Validator) (who : List ℕ) (held : Option ℕ) (n : ℕ) : Type 0 where
-  pub stand : Stand t hs u (after (hook_before v who held) (lists_of s))
+pub record IsReached {S : Type 0} (t : Tells S) (hs : S) (u : View) (s : Staked) (v : Validator) (delegator : List ℕ) (held : Option ℕ) (n : ℕ) : Type 0 where
+  pub stand : Stand t hs u (after (hook_before v delegator held) (lists_of s))
   pub holds : HoldsStake u (bonded_tokens s + cond (is_bonded v.status) n 0) (other_tokens s + cond (is_bonded v.status) 0 n)
   pub tokens : v.tokens + n ≤ 10 ^ 18
 
-module _ (height : ℕ) (s : Staked) (h : IsSoundAt height s) (v : Validator) (f : validator_at s v.operator ≡ Some v) (who : List ℕ) (held : Option ℕ) (e : delegation s who v.operator ≡ held)
-    {S : Type 0} (t : Tells S) (lawful : Lawful t) (hs hs1 : S) (u u1 : View) (stand : Stand t hs u (lists_of s)) (told : Answers (t.told hs (hook_before v who held) u) (λ a. hs1 ≡ a) u1 (Ok tt)) where
-  ready : Ready t hs u (hook_before v who held) (lists_of s)
-  ready = ready-before height s h v f who t hs u held e stand
+module _ (height : ℕ) (s : Staked) (h : IsSoundAt height s) (v : Validator) (f : validator_at s v.operator ≡ Some v) (delegator : List ℕ) (held : Option ℕ) (e : delegation s delegator v.operator ≡ held)
+    {S : Type 0} (t : Tells S) (lawful : Lawful t) (hs hs1 : S) (u u1 : View) (stand : Stand t hs u (lists_of s)) (told : Answers (t.told hs (hook_before v delegator held) u) (λ a. hs1 ≡ a) u1 (Ok tt)) where
+  ready : Ready t hs u (hook_before v delegator held) (lists_of s)
+  ready = ready-before height s h v f delegator t hs u held e stand
 
-  pub stand-before : Stand t hs1 u1 (after (hook_before v who held) (lists_of s))
-  stand-before = Stand-after_ok t lawful hs hs1 (hook_before v who held) u u1 (lists_of s) ready told
+  pub stand-before : Stand t hs1 u1 (after (hook_before v delegator held) (lists_of s))
+  stand-before = Stand-after_ok t lawful hs hs1 (hook_before v delegator held) u u1 (lists_of s) ready told
 
   pub keeps-before : Keeps (t.owes hs ≡ None) u u1
-  keeps-before = keeps-ok t lawful hs hs1 (hook_before v who held) u u1 (lists_of s) ready told
+  keeps-before = keeps-ok t lawful hs hs1 (hook_before v delegator held) u u1 (lists_of s) ready told
 
   module _ (from : Origin) (n : ℕ) (origin : HasOrigin from n s u) where
     pub origin-before : HasOrigin from n s u1
     origin-before = origin-kept from n s (t.owes hs ≡ None) u u1 keeps-before origin
 
-    module _ (some : 0 < n) (holds : HoldsStake u (bonded_tokens s) (other_tokens s)) (u2 : View) (paid : PaysAs (paid_in from who v.status n u1) u2 (Ok tt)) (backed : IsBacked u2.bank) where
+    module _ (some : 0 < n) (holds : HoldsStake u (bonded_tokens s) (other_tokens s)) (u2 : View) (paid : PaysAs (paid_in from delegator v.status n u1) u2 (Ok tt)) (backed : IsBacked u2.bank) where
       accounts : IsPaid from v.status n u1 u2
-      accounts = paid-accounts u1 u2 n some stand-before.in_order.bank v.status from who (can_pay from n s u1 origin-before) paid
+      accounts = paid-accounts u1 u2 n some stand-before.in_order.bank v.status from delegator (can_pay from n s u1 origin-before) paid
 
       then_held : HoldsStake u2 (bonded_tokens s + cond (is_bonded v.status) n 0) (other_tokens s + cond (is_bonded v.status) 0 n)
       then_held = holds-paid from v.status n s u1 u2 accounts origin-before (holds-kept (t.owes hs ≡ None) u u1 (bonded_tokens s) (other_tokens s) keeps-before holds)
 
-      pub reached : IsReached t hs1 u2 s v who held n
+      pub reached : IsReached t hs1 u2 s v delegator held n
       reached =
           let both = few_at (is_bonded v.status) v.tokens n (bonded_tokens s) (other_tokens s) (tokens-within is_bonded v.operator v s.validators f) (tokens-within not_bonded v.operator v s.validators f) in
           record {
-            stand = stand-paid t hs1 (after (hook_before v who held) (lists_of s)) u1 u2 backed from who v.status n paid stand-before;
+            stand = stand-paid t hs1 (after (hook_before v delegator held) (lists_of s)) u1 u2 backed from delegator v.status n paid stand-before;
             holds = then_held;
             tokens = tokens-few (is_bonded v.status) (v.tokens + n) _ _ u2 backed both.0 both.1 then_held;
           }
@@ -244,17 +244,17 @@ sums_up x issued held = omega arith
 no_less : (x i : ℕ) → 0 < i → x + i ≡ 0 → ⊥
 no_less x i p e = omega (arith, p, e)
 
-module _ (height : ℕ) (s : Staked) (h : IsSoundAt height s) (v : Validator) (f : validator_at s v.operator ≡ Some v) (who : List ℕ) (held : Option ℕ) (e : delegation s who v.operator ≡ held)
+module _ (height : ℕ) (s : Staked) (h : IsSoundAt height s) (v : Validator) (f : validator_at s v.operator ≡ Some v) (delegator : List ℕ) (held : Option ℕ) (e : delegation s delegator v.operator ≡ held)
     (n issued total shares : ℕ) (given : IsGivenShares v issued) (shares_is : shares ≡ v.shares + issued) (total_is : total ≡ unwrap_or held 0 + issued)
-    {S : Type 0} (t : Tells S) (hs : S) (u : View) (at_u : IsReached t hs u s v who held n) where
+    {S : Type 0} (t : Tells S) (hs : S) (u : View) (at_u : IsReached t hs u s v delegator held n) where
   some_total : 0 < total
   some_total = let a = given.some in let b = total_is in omega (arith, a, b)
 
   most_total : total ≤ shares
-  most_total = let a = held-most height s h v f who held e in let b = total_is in let c = shares_is in omega (arith, a, b, c)
+  most_total = let a = held-most height s h v f delegator held e in let b = total_is in let c = shares_is in omega (arith, a, b, c)
 
-  pub ready-delegated : Ready t hs u (modified (grown v n shares) who total) (after (hook_before v who held) (lists_of s))
-  ready-delegated = ready-after height s h v f who t hs u held (grown v n shares) total e refl some_total most_total at_u.tokens at_u.stand
+  pub ready-delegated : Ready t hs u (modified (grown v n shares) delegator total) (after (hook_before v delegator held) (lists_of s))
+  ready-delegated = ready-after height s h v f delegator t hs u held (grown v n shares) total e refl some_total most_total at_u.tokens at_u.stand
 
   grown_is_sound : ValidatorIsSound height (grown v n shares)
   grown_is_sound = let old = h.validators v.operator v f in record {
@@ -266,20 +266,20 @@ module _ (height : ℕ) (s : Staked) (h : IsSoundAt height s) (v : Validator) (f
     unbonding_height = old.unbonding_height;
   }
 
-  pub sound-delegated : IsSoundAt height (put_delegation who v.operator total (put_validator (grown v n shares) s))
-  sound-delegated = sound-after height s h v f who (grown v n shares) refl held e total some_total refl grown_is_sound
+  pub sound-delegated : IsSoundAt height (put_delegation delegator v.operator total (put_validator (grown v n shares) s))
+  sound-delegated = sound-after height s h v f delegator (grown v n shares) refl held e total some_total refl grown_is_sound
       (ap (λ x. x + unwrap_or held 0) shares_is ∙ sums_up v.shares issued (unwrap_or held 0) ∙ ap (λ x. v.shares + x) (sym total_is))
 
-  pub lists-delegated_is : after (modified (grown v n shares) who total) (after (hook_before v who held) (lists_of s)) ≡ lists_of (put_delegation who v.operator total (put_validator (grown v n shares) s))
-  lists-delegated_is = lists-after height s h v f who (grown v n shares) refl held e total some_total
+  pub lists-delegated_is : after (modified (grown v n shares) delegator total) (after (hook_before v delegator held) (lists_of s)) ≡ lists_of (put_delegation delegator v.operator total (put_validator (grown v n shares) s))
+  lists-delegated_is = lists-after height s h v f delegator (grown v n shares) refl held e total some_total
 
-  bonded_is : bonded_tokens (put_delegation who v.operator total (put_validator (grown v n shares) s)) ≡ bonded_tokens s + cond (is_bonded v.status) n 0
-  bonded_is = grown_tokens (is_bonded v.status) (bonded_tokens s) _ v.tokens (v.tokens + n) n refl (tokens-after height s h v f who (grown v n shares) refl held e total some_total is_bonded)
+  bonded_is : bonded_tokens (put_delegation delegator v.operator total (put_validator (grown v n shares) s)) ≡ bonded_tokens s + cond (is_bonded v.status) n 0
+  bonded_is = grown_tokens (is_bonded v.status) (bonded_tokens s) _ v.tokens (v.tokens + n) n refl (tokens-after height s h v f delegator (grown v n shares) refl held e total some_total is_bonded)
 
-  other_is : other_tokens (put_delegation who v.operator total (put_validator (grown v n shares) s)) ≡ other_tokens s + cond (is_bonded v.status) 0 n
-  other_is = grown_other (is_bonded v.status) (other_tokens s) _ v.tokens (v.tokens + n) n refl (tokens-after height s h v f who (grown v n shares) refl held e total some_total not_bonded)
+  other_is : other_tokens (put_delegation delegator v.operator total (put_validator (grown v n shares) s)) ≡ other_tokens s + cond (is_bonded v.status) 0 n
+  other_is = grown_other (is_bonded v.status) (other_tokens s) _ v.tokens (v.tokens + n) n refl (tokens-after height s h v f delegator (grown v n shares) refl held e total some_total not_bonded)
 
-  pub holds-delegated : HoldsStake u (bonded_tokens (put_delegation who v.operator total (put_validator (grown v n shares) s))) (other_tokens (put_delegation who v.operator total (put_validator (grown v n shares) s)))
+  pub holds-delegated : HoldsStake u (bonded_tokens (put_delegation delegator v.operator total (put_validator (grown v n shares) s))) (other_tokens (put_delegation delegator v.operator total (put_validator (grown v n shares) s)))
   holds-delegated = record {
     in_bonded = subst (λ x. x ≤ balance_of u.bank (account.Module holder.Bonded) u.ctx.params.bond_denom) (sym bonded_is) at_u.holds.in_bonded;
     in_not_bonded = subst (λ x. x ≤ balance_of u.bank (account.Module holder.NotBonded) u.ctx.params.bond_denom) (sym other_is) at_u.holds.in_not_bonded;

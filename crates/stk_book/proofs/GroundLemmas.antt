@@ -53,13 +53,13 @@ module _ {S : Type 0} (t : Tells S) (s : S) (l : Lists) (v v2 : View) (backed : 
       subst (λ x. Stand t s x l) (λ i. record { bank = v2.bank; ctx = sym (ap (λ x. x.ctx) e) i; facts = v2.facts })
       (Stand-after_send t s from to coins v v2.bank v2.facts l (ap (λ x. x.bank) e) backed f g p)
 
-  pub stand-paid : (from : Origin) (who : List ℕ) (status : BondStatus) (amount : ℕ) → PaysAs (paid_in from who status amount v) v2 (Ok tt) → Stand t s v l → Stand t s v2 l
-  stand-paid wallet who status amount h p = by (is_short v.bank (account.User who) (bond_coins v amount)) h
+  pub stand-paid : (from : Origin) (delegator : List ℕ) (status : BondStatus) (amount : ℕ) → PaysAs (paid_in from delegator status amount v) v2 (Ok tt) → Stand t s v l → Stand t s v2 l
+  stand-paid wallet delegator status amount h p = by (is_short v.bank (account.User delegator) (bond_coins v amount)) h
     where
-      by : (b : Bool) → PaysAs (stop_if b InsufficientFunds >> Ok (sent (account.User who) (account.Module (pool_of status)) (bond_coins v amount) v)) v2 (Ok tt) → Stand t s v2 l
+      by : (b : Bool) → PaysAs (stop_if b InsufficientFunds >> Ok (sent (account.User delegator) (account.Module (pool_of status)) (bond_coins v amount) v)) v2 (Ok tt) → Stand t s v2 l
       by true k = absurd k
-      by false k = stand_sent (account.User who) (account.Module (pool_of status)) (bond_coins v amount) refl (away_from (is_bonded status)) k p
-  stand-paid (pool old) who status amount h p = by (module_number (pool_of old) == module_number (pool_of status)) h
+      by false k = stand_sent (account.User delegator) (account.Module (pool_of status)) (bond_coins v amount) refl (away_from (is_bonded status)) k p
+  stand-paid (pool old) delegator status amount h p = by (module_number (pool_of old) == module_number (pool_of status)) h
     where
       by : (b : Bool) → PaysAs (cond b (Ok v) (Ok (sent (account.Module (pool_of old)) (account.Module (pool_of status)) (bond_coins v amount) v))) v2 (Ok tt) → Stand t s v2 l
       by true k = subst (λ x. Stand t s x l) (sym k) p
@@ -142,23 +142,23 @@ module _ (v v2 : View) (n : ℕ) (some : 0 < n) (b : IsBacked v.bank) (status : 
   same_pool false true m e = absurd cc
   same_pool false false m e = (refl, refl)
 
-  pub paid-accounts : (from : Origin) (who : List ℕ) → CanPay from n v → PaysAs (paid_in from who status n v) v2 (Ok tt) → IsPaid from status n v v2
-  paid-accounts wallet who can h = by (is_short v.bank (account.User who) (bond_coins v n)) refl h
+  pub paid-accounts : (from : Origin) (delegator : List ℕ) → CanPay from n v → PaysAs (paid_in from delegator status n v) v2 (Ok tt) → IsPaid from status n v v2
+  paid-accounts wallet delegator can h = by (is_short v.bank (account.User delegator) (bond_coins v n)) refl h
     where
-      by : (x : Bool) → is_short v.bank (account.User who) (bond_coins v n) ≡ x → PaysAs (stop_if x InsufficientFunds >> Ok (sent (account.User who) (account.Module (pool_of status)) (bond_coins v n) v)) v2 (Ok tt) → IsPaid wallet status n v v2
+      by : (x : Bool) → is_short v.bank (account.User delegator) (bond_coins v n) ≡ x → PaysAs (stop_if x InsufficientFunds >> Ok (sent (account.User delegator) (account.Module (pool_of status)) (bond_coins v n) v)) v2 (Ok tt) → IsPaid wallet status n v v2
       by true e k = absurd k
       by false e k =
-          let has = not_short v (account.User who) n some e in
-          let most = balance-most v.bank (account.User who) d b in
-          let one = moved_one v (account.User who) (account.Module (pool_of status)) (account.Module holder.Bonded) n some b has in
-          let two = moved_one v (account.User who) (account.Module (pool_of status)) (account.Module holder.NotBonded) n some b has in
+          let has = not_short v (account.User delegator) n some e in
+          let most = balance-most v.bank (account.User delegator) d b in
+          let one = moved_one v (account.User delegator) (account.Module (pool_of status)) (account.Module holder.Bonded) n some b has in
+          let two = moved_one v (account.User delegator) (account.Module (pool_of status)) (account.Module holder.NotBonded) n some b has in
           record {
             ctx = ap (λ x. x.ctx) k;
             bonded = ap (λ x. balance_of x.bank (account.Module holder.Bonded) d + 0) k ∙ one ∙ ap (λ m. balance_of v.bank (account.Module holder.Bonded) d + m) (pool_bonded (is_bonded status) n);
             other = ap (λ x. balance_of x.bank (account.Module holder.NotBonded) d + 0) k ∙ two ∙ ap (λ m. balance_of v.bank (account.Module holder.NotBonded) d + m) (pool_other (is_bonded status) n);
             few = omega (arith, has, most);
           }
-  paid-accounts (pool old) who can h = by (module_number (pool_of old) == module_number (pool_of status)) refl h
+  paid-accounts (pool old) delegator can h = by (module_number (pool_of old) == module_number (pool_of status)) refl h
     where
       most : n ≤ 10 ^ 18
       most = let m = balance-most v.bank (account.Module (pool_of old)) d b in omega (arith, can, m)

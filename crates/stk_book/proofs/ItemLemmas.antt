@@ -1,6 +1,6 @@
 -- The items of validators and delegations: told apart by their kinds, and with one more.
-use Rattle.std.proofs.Common.{◌≡◌, ◌∙◌, ℕ, Bool, true, false, List, [], ◌∷◌, ◌++◌, Option, Some, None, refl, sym, ap, subst, inl, inr}
-use Rattle.std.specs.Prelude.{is_some, Contains}
+use Rattle.std.proofs.Common.{◌≡◌, ◌∙◌, ℕ, List, [], ◌∷◌, Option, Some, None, refl, sym, ap, inl, inr}
+use Rattle.std.specs.Prelude.{is_some, ◌⊎◌}
 use Rattle.std.proofs.lemmas.Map.Keys.{IsDistinct-from_sorted}
 use Rattle.std.specs.List.Sorted.{IsStrictlySortedBy}
 use Rattle.std.specs.Map.{keys_of}
@@ -9,7 +9,7 @@ use Rattle.stk_types.specs.Orders.{addr_cmp}
 use Rattle.stk_keep.specs.declared.entities.Validator.{Validator}
 use Rattle.stk_keep.specs.declared.items.Item.{Item}
 use Rattle.stk_keep.specs.declared.items.Item.TheVariants as item
-use Rattle.stk_keep.specs.Items.{no_validator, key_of, HasRoom, IsAdded}
+use Rattle.stk_keep.specs.Items.{no_validator, HasRoom, IsAdded}
 use Rattle.stk_keep.specs.Orders.{pair_cmp}
 use Rattle.stk_keep.specs.Staked.{Staked, validator_at, put_validator}
 use Rattle.stk_rules.specs.Stakes.{put_delegation}
@@ -18,7 +18,8 @@ use Rattle.stk_rules.proofs.SoundLemmas.{exact_addr, exact_pair}
 use Rattle.stk_rows.specs.Kinds.{AreApart}
 use Rattle.stk_rows.specs.Rows.{rows_of, AnyValue, AreFit, IsRowed}
 use Rattle.stk_rows.proofs.KindLemmas.{added-first, added-second}
-use Rattle.stk_rows.proofs.MemberLemmas.{Member, entry-parts, member, contained, member-left, value_of}
+use Rattle.stk_rows.proofs.MemberLemmas.{Member, member, contained, member-left, value_of}
+use Rattle.stk_rows.proofs.RowedLemmas.{IsOfKind, IsOfOther, rowed}
 use Rattle.stk_rows.proofs.RowLemmas.{row-added, row-member, rows-of-kind}
 use Rattle.stk_book.specs.Registered.{Validators, AreKeyed}
 use Rattle.stk_book.specs.Rows.{items_of, validator_item, delegation_item, validator_gone, delegation_gone, validator_entry, delegation_entry, FitsOperator, same_validator, same_shares}
@@ -29,49 +30,23 @@ use Rattle.stk_book.proofs.SameLemmas.{validator-yes, validator-no, shares-yes, 
 one_validator : (v w : Validator) → item.Validator v ≡ item.Validator w → v ≡ w
 one_validator v w e = cc
 
-validator_made : (i : Item) (k : List ℕ) (v : Validator) → validator_entry i ≡ Some (k, v) → (i ≡ validator_item k v) × FitsOperator k v
-validator_made (item.Validator w) k v e =
-    let r = entry-parts w.operator k w v e in
-    (ap item.Validator r.1, sym (ap (λ x. x.operator) r.1) ∙ r.0)
-validator_made _ k v e = absurd cc
-
-validator_kind : (i : Item) → is_some (validator_entry (key_of i)) ≡ is_some (validator_entry i)
-validator_kind (item.Validator v) = refl
-validator_kind _ = refl
+validator_or_not : (i : Item) → IsOfKind FitsOperator validator_item i ⊎ IsOfOther validator_entry i
+validator_or_not (item.Validator v) = inl (record { key = v.operator; value = v; made = refl; fits = refl })
+validator_or_not _ = inr (refl, refl)
 
 pub validator-rowed : IsRowed addr_cmp FitsOperator validator_item validator_gone same_validator validator_entry
-validator-rowed = record {
-  exact = exact_addr;
-  read = λ k v f. λ i. Some (f i, v);
-  made = validator_made;
-  kind = validator_kind;
-  keyed = λ k n f. λ i. item.Validator (no_validator (f i));
-  gone_keyed = λ k. refl;
-  alone = λ k q e. ap (λ v. v.operator) (one_validator (no_validator k) (no_validator q) e);
-  yes = validator-yes;
-  no = validator-no;
-}
+validator-rowed = rowed addr_cmp FitsOperator validator_item validator_gone same_validator validator_entry
+    validator_or_not (λ k v f. λ i. Some (f i, v)) (λ k. refl) (λ k v f. λ i. item.Validator (no_validator (f i))) (λ k. refl)
+    (λ k q e. ap (λ v. v.operator) (one_validator (no_validator k) (no_validator q) e)) exact_addr validator-yes validator-no
 
-delegation_made : (i : Item) (k : List ℕ × List ℕ) (n : ℕ) → delegation_entry i ≡ Some (k, n) → i ≡ delegation_item k n
-delegation_made (item.Delegation o d s) k n e = let r = entry-parts (o, d) k s n e in λ j. delegation_item (r.0 j) (r.1 j)
-delegation_made _ k n e = absurd cc
-
-delegation_kind : (i : Item) → is_some (delegation_entry (key_of i)) ≡ is_some (delegation_entry i)
-delegation_kind (item.Delegation o d s) = refl
-delegation_kind _ = refl
+delegation_or_not : (i : Item) → IsOfKind AnyValue delegation_item i ⊎ IsOfOther delegation_entry i
+delegation_or_not (item.Delegation o d s) = inl (record { key = (o, d); value = s; made = refl; fits = tt })
+delegation_or_not _ = inr (refl, refl)
 
 pub delegation-rowed : IsRowed pair_cmp AnyValue delegation_item delegation_gone same_shares delegation_entry
-delegation-rowed = record {
-  exact = exact_pair;
-  read = λ k v f. refl;
-  made = λ i k v e. (delegation_made i k v e, tt);
-  kind = delegation_kind;
-  keyed = λ k n f. refl;
-  gone_keyed = λ k. refl;
-  alone = λ k q e. let a : k.0 ≡ q.0 = cc in let b : k.1 ≡ q.1 = cc in (λ i. (a i, b i));
-  yes = shares-yes;
-  no = shares-no;
-}
+delegation-rowed = rowed pair_cmp AnyValue delegation_item delegation_gone same_shares delegation_entry
+    delegation_or_not (λ k v f. refl) (λ k. refl) (λ k v f. refl) (λ k. refl)
+    (λ k q e. let a : k.0 ≡ q.0 = cc in let b : k.1 ≡ q.1 = cc in (λ i. (a i, b i))) exact_pair shares-yes shares-no
 
 -- a validator is no delegation
 pub kinds-apart : AreApart (λ i. is_some (validator_entry i)) (λ i. is_some (delegation_entry i))
@@ -101,11 +76,11 @@ module _ (s : Staked) where
       (rows-of-kind pair_cmp pair_total AnyValue delegation_item delegation_gone same_shares delegation_entry delegation-rowed s.delegations (λ k n c. tt))
       (row-added addr_cmp addr_total FitsOperator validator_item validator_gone same_validator validator_entry validator-rowed s.validators fits sorted v.operator v refl)
 
-  pub delegation-added : (who o : List ℕ) (n : ℕ) → AreFit FitsOperator s.validators → IsStrictlySortedBy pair_cmp (keys_of s.delegations) → IsAdded (items_of s) (item.Delegation o who n) (items_of (put_delegation who o n s))
-  delegation-added who o n fits sorted = added-second validator-rowed.kind delegation-rowed.kind kinds-apart
-      (rows_of delegation_item s.delegations) (rows_of delegation_item (insert_entry pair_cmp s.delegations (o, who) n)) (rows_of validator_item s.validators) (item.Delegation o who n) refl
+  pub delegation-added : (delegator o : List ℕ) (n : ℕ) → AreFit FitsOperator s.validators → IsStrictlySortedBy pair_cmp (keys_of s.delegations) → IsAdded (items_of s) (item.Delegation o delegator n) (items_of (put_delegation delegator o n s))
+  delegation-added delegator o n fits sorted = added-second validator-rowed.kind delegation-rowed.kind kinds-apart
+      (rows_of delegation_item s.delegations) (rows_of delegation_item (insert_entry pair_cmp s.delegations (o, delegator) n)) (rows_of validator_item s.validators) (item.Delegation o delegator n) refl
       (rows-of-kind addr_cmp addr_total FitsOperator validator_item validator_gone same_validator validator_entry validator-rowed s.validators fits)
-      (row-added pair_cmp pair_total AnyValue delegation_item delegation_gone same_shares delegation_entry delegation-rowed s.delegations (λ k m c. tt) sorted (o, who) n tt)
+      (row-added pair_cmp pair_total AnyValue delegation_item delegation_gone same_shares delegation_entry delegation-rowed s.delegations (λ k m c. tt) sorted (o, delegator) n tt)
 
 -- where there is room for a validator, its operator has none
 pub room_none : (s : Staked) (v : Validator) → ((o : List ℕ) (w : Validator) → validator_at s o ≡ Some w → w.operator ≡ o) → HasRoom (items_of s) (item.Validator v) → validator_at s v.operator ≡ None

@@ -80,42 +80,42 @@ keeps_same N u = record { ctx = refl; supplies = refl; bonded = λ d. refl; not_
 -- ---- what is left of the delegation
 
 -- The delegation has what is left, the hooks stand for it, and no hook changed what none changes.
-pub record IsLeft {S : Type 0} (t : Tells S) (h1 h2 : S) (u1 u2 : View) (s1 s2 : Staked) (operator who : List ℕ) (left : ℕ) (l : Lists) : Type 0 where
-  pub mine : s2 ≡ record { validators = s1.validators; delegations = with_number pair_cmp s1.delegations (operator, who) left }
-  pub stand : Stand t h2 u2 (with_started who operator (cond (left == 0) false true) l)
+pub record IsLeft {S : Type 0} (t : Tells S) (h1 h2 : S) (u1 u2 : View) (s1 s2 : Staked) (operator delegator : List ℕ) (left : ℕ) (l : Lists) : Type 0 where
+  pub mine : s2 ≡ record { validators = s1.validators; delegations = with_number pair_cmp s1.delegations (operator, delegator) left }
+  pub stand : Stand t h2 u2 (with_started delegator operator (cond (left == 0) false true) l)
   pub keeps : Keeps (t.owes h1 ≡ None) u1 u2
   pub owes : t.owes h1 ≡ None → t.owes h2 ≡ None
 
-module _ {S : Type 0} (t : Tells S) (lawful : Lawful t) (now : Validator) (who : List ℕ) (left : ℕ) (k1 : Log) (s1 : Staked) (h1 : S) (u1 : View) (l : Lists)
-    (ready : 0 < left → Ready t h1 u1 (modified now who left) (with_started who now.operator false l)) (stand : Stand t h1 u1 (with_started who now.operator false l))
+module _ {S : Type 0} (t : Tells S) (lawful : Lawful t) (now : Validator) (delegator : List ℕ) (left : ℕ) (k1 : Log) (s1 : Staked) (h1 : S) (u1 : View) (l : Lists)
+    (ready : 0 < left → Ready t h1 u1 (modified now delegator left) (with_started delegator now.operator false l)) (stand : Stand t h1 u1 (with_started delegator now.operator false l))
     (k2 : Log) (s2 : Staked) (h2 : S) (u2 : View) where
   set_at : Bool → Staked
-  set_at z = record { validators = s1.validators; delegations = cond z (without pair_cmp s1.delegations (now.operator, who)) (with pair_cmp s1.delegations (now.operator, who) left) }
+  set_at z = record { validators = s1.validators; delegations = cond z (without pair_cmp s1.delegations (now.operator, delegator)) (with pair_cmp s1.delegations (now.operator, delegator) left) }
 
   left_by : (z : Bool) → (left == 0) ≡ z
-      → cond z (Ok (behind_log k1 (without_shares who now.operator s1) h1 u1)) (hooked (t.told h1 (modified now who left) u1) (behind_log k1 (put_delegation who now.operator left s1) h1 u1)) ≡ Ok (behind_log k2 s2 h2 u2)
-      → (s2 ≡ set_at z) × Stand t h2 u2 (with_started who now.operator (cond z false true) l) × Keeps (t.owes h1 ≡ None) u1 u2 × (t.owes h1 ≡ None → t.owes h2 ≡ None)
+      → cond z (Ok (behind_log k1 (without_shares delegator now.operator s1) h1 u1)) (hooked (t.told h1 (modified now delegator left) u1) (behind_log k1 (put_delegation delegator now.operator left s1) h1 u1)) ≡ Ok (behind_log k2 s2 h2 u2)
+      → (s2 ≡ set_at z) × Stand t h2 u2 (with_started delegator now.operator (cond z false true) l) × Keeps (t.owes h1 ≡ None) u1 u2 × (t.owes h1 ≡ None → t.owes h2 ≡ None)
   unfolding set_at
   left_by true z e =
-      let is = ok_world (behind_log k1 (without_shares who now.operator s1) h1 u1) (behind_log k2 s2 h2 u2) e in
-      let mine : without_shares who now.operator s1 ≡ s2 = ap (λ w. w.mine) is in
+      let is = ok_world (behind_log k1 (without_shares delegator now.operator s1) h1 u1) (behind_log k2 s2 h2 u2) e in
+      let mine : without_shares delegator now.operator s1 ≡ s2 = ap (λ w. w.mine) is in
       let hooks : h1 ≡ h2 = ap (λ w. w.hooks) is in
       let view : u1 ≡ u2 = ap (λ w. w.view) is in (
         sym mine,
-        subst (λ x. Stand t x u2 (with_started who now.operator false l)) hooks (subst (λ x. Stand t h1 x (with_started who now.operator false l)) view stand),
+        subst (λ x. Stand t x u2 (with_started delegator now.operator false l)) hooks (subst (λ x. Stand t h1 x (with_started delegator now.operator false l)) view stand),
         subst (λ x. Keeps (t.owes h1 ≡ None) u1 x) view (keeps_same (t.owes h1 ≡ None) u1),
         λ n. ap t.owes (sym hooks) ∙ n,
       )
   left_by false z e =
       let some : 0 < left = grind (arith, nat_tests) in
-      let is = hooked_ok (t.told h1 (modified now who left) u1) (behind_log k1 (put_delegation who now.operator left s1) h1 u1) (behind_log k2 s2 h2 u2) e in (
+      let is = hooked_ok (t.told h1 (modified now delegator left) u1) (behind_log k1 (put_delegation delegator now.operator left s1) h1 u1) (behind_log k2 s2 h2 u2) e in (
         is.1.1,
-        subst (Stand t h2 u2) (started-twice who now.operator true false l) (lawful.follows h1 h2 (modified now who left) u1 u2 is.0 (with_started who now.operator false l) (ready some) is.1.0),
-        lawful.keeps h1 h2 (modified now who left) u1 u2 is.0 (with_started who now.operator false l) (ready some) is.1.0,
-        λ n. lawful.owes_nothing h1 h2 (modified now who left) u1 u2 is.0 n is.1.0,
+        subst (Stand t h2 u2) (started-twice delegator now.operator true false l) (lawful.follows h1 h2 (modified now delegator left) u1 u2 is.0 (with_started delegator now.operator false l) (ready some) is.1.0),
+        lawful.keeps h1 h2 (modified now delegator left) u1 u2 is.0 (with_started delegator now.operator false l) (ready some) is.1.0,
+        λ n. lawful.owes_nothing h1 h2 (modified now delegator left) u1 u2 is.0 n is.1.0,
       )
 
-  pub is_left : left_standing t.told now who left (behind_log k1 s1 h1 u1) ≡ Ok (behind_log k2 s2 h2 u2) → IsLeft t h1 h2 u1 u2 s1 s2 now.operator who left l
+  pub is_left : left_standing t.told now delegator left (behind_log k1 s1 h1 u1) ≡ Ok (behind_log k2 s2 h2 u2) → IsLeft t h1 h2 u1 u2 s1 s2 now.operator delegator left l
   unfolding set_at
   is_left e = let r = left_by (left == 0) refl e in record { mine = r.0; stand = r.1; keeps = r.2; owes = r.3 }
 
@@ -133,12 +133,12 @@ all_gone t x part p z = ap (λ b. t - (if b then t else trunc_of (value_even_of 
     nothing : (n : ℕ) → n - n ≡ 0
     nothing n = omega arith
 
-module _ (height : ℕ) (s : Staked) (h : IsSoundAt height s) (v : Validator) (f : validator_at s v.operator ≡ Some v) (who : List ℕ) (held part : ℕ) (e : delegation s who v.operator ≡ Some held) (few : part ≤ held) (b : Bool) where
+module _ (height : ℕ) (s : Staked) (h : IsSoundAt height s) (v : Validator) (f : validator_at s v.operator ≡ Some v) (delegator : List ℕ) (held part : ℕ) (e : delegation s delegator v.operator ≡ Some held) (few : part ≤ held) (b : Bool) where
   pub some_held : 0 < held
-  some_held = h.positive (v.operator, who) held e
+  some_held = h.positive (v.operator, delegator) held e
 
   pub held_few : held ≤ v.shares
-  held_few = held-most height s h v f who (Some held) e
+  held_few = held-most height s h v f delegator (Some held) e
 
   pub valid_less : ValidatorIsSound height (less_of v b part)
   valid_less =
@@ -150,39 +150,39 @@ module _ (height : ℕ) (s : Staked) (h : IsSoundAt height s) (v : Validator) (f
 
   -- the state once what is left of the delegation stands, before the validator
   abbrev pub state_left : Staked
-  state_left = record { validators = (jailed_if b v s).validators; delegations = with_number pair_cmp (jailed_if b v s).delegations (v.operator, who) (held - part) }
+  state_left = record { validators = (jailed_if b v s).validators; delegations = with_number pair_cmp (jailed_if b v s).delegations (v.operator, delegator) (held - part) }
 
   pub stands_left : validator_at state_left v.operator ≡ Some (now_of v b)
   stands_left = found_now b v s f
 
   pub sound_less : IsSoundAt height (put_validator (less_of v b part) state_left)
-  sound_less = sound-changed height (less_of v b part) (now_of v b) who (held - part) (jailed_if b v s) (sound_now height b v s h f) (found_now b v s f) refl valid_less
-      (ap (λ ds. (v.shares - part) + number_at pair_cmp ds (v.operator, who)) (same_delegations b v s) ∙ ap (λ x. (v.shares - part) + unwrap_or x 0) e ∙ sums_left v.shares part held few held_few)
+  sound_less = sound-changed height (less_of v b part) (now_of v b) delegator (held - part) (jailed_if b v s) (sound_now height b v s h f) (found_now b v s f) refl valid_less
+      (ap (λ ds. (v.shares - part) + number_at pair_cmp ds (v.operator, delegator)) (same_delegations b v s) ∙ ap (λ x. (v.shares - part) + unwrap_or x 0) e ∙ sums_left v.shares part held few held_few)
 
-  pub lists_less : (z : Bool) → ((held - part) == 0) ≡ z → lists_of (put_validator (less_of v b part) state_left) ≡ with_started who v.operator (cond z false true) (lists_of s)
+  pub lists_less : (z : Bool) → ((held - part) == 0) ≡ z → lists_of (put_validator (less_of v b part) state_left) ≡ with_started delegator v.operator (cond z false true) (lists_of s)
   lists_less z q =
-      lists-changed (jailed_if b v s) (less_of v b part) (now_of v b) who (held - part) z (sound_now height b v s h f).delegations_ascend (found_now b v s f) q
-      ∙ ap (with_started who v.operator (cond z false true)) (lists_now b v s f)
+      lists-changed (jailed_if b v s) (less_of v b part) (now_of v b) delegator (held - part) z (sound_now height b v s h f).delegations_ascend (found_now b v s f) q
+      ∙ ap (with_started delegator v.operator (cond z false true)) (lists_now b v s f)
 
-  module _ {S : Type 0} (t : Tells S) (lawful : Lawful t) (hs h1 : S) (u u1 : View) (stand : Stand t hs u (lists_of s)) (told : Answers (t.told hs (modifying v who held) u) (λ a. h1 ≡ a) u1 (Ok tt)) where
-    ready_modifying : Ready t hs u (modifying v who held) (lists_of s)
-    ready_modifying = ready-before height s h v f who t hs u (Some held) e stand
+  module _ {S : Type 0} (t : Tells S) (lawful : Lawful t) (hs h1 : S) (u u1 : View) (stand : Stand t hs u (lists_of s)) (told : Answers (t.told hs (modifying v delegator held) u) (λ a. h1 ≡ a) u1 (Ok tt)) where
+    ready_modifying : Ready t hs u (modifying v delegator held) (lists_of s)
+    ready_modifying = ready-before height s h v f delegator t hs u (Some held) e stand
 
-    pub stand_modifying : Stand t h1 (jail_noted b v u1) (with_started who v.operator false (lists_of s))
-    stand_modifying = stand_jailed t h1 b v u1 (with_started who v.operator false (lists_of s)) (Stand-after_ok t lawful hs h1 (modifying v who held) u u1 (lists_of s) ready_modifying told)
+    pub stand_modifying : Stand t h1 (jail_noted b v u1) (with_started delegator v.operator false (lists_of s))
+    stand_modifying = stand_jailed t h1 b v u1 (with_started delegator v.operator false (lists_of s)) (Stand-after_ok t lawful hs h1 (modifying v delegator held) u u1 (lists_of s) ready_modifying told)
 
     pub keeps_modifying : Keeps (t.owes hs ≡ None) u (jail_noted b v u1)
-    keeps_modifying = keeps_jailed (t.owes hs ≡ None) b v u u1 (keeps-ok t lawful hs h1 (modifying v who held) u u1 (lists_of s) ready_modifying told)
+    keeps_modifying = keeps_jailed (t.owes hs ≡ None) b v u u1 (keeps-ok t lawful hs h1 (modifying v delegator held) u u1 (lists_of s) ready_modifying told)
 
     pub owes_modifying : t.owes hs ≡ None → t.owes h1 ≡ None
-    owes_modifying n = let k = told-of_ok (t.told hs (modifying v who held) u) h1 u1 told in lawful.owes_nothing hs h1 (modifying v who held) u u1 k.0 n k.1
+    owes_modifying n = let k = told-of_ok (t.told hs (modifying v delegator held) u) h1 u1 told in lawful.owes_nothing hs h1 (modifying v delegator held) u u1 k.0 n k.1
 
     left_few : held - part ≤ v.shares
     left_few = let within = held_few in omega (arith, few, within)
 
-    pub ready_left : 0 < held - part → Ready t h1 (jail_noted b v u1) (modified (now_of v b) who (held - part)) (with_started who v.operator false (lists_of s))
+    pub ready_left : 0 < held - part → Ready t h1 (jail_noted b v u1) (modified (now_of v b) delegator (held - part)) (with_started delegator v.operator false (lists_of s))
     ready_left some = record {
       stand = stand_modifying;
-      needs = (ap is_some f, itself_started who v.operator false (lists_of s), some, left_few);
+      needs = (ap is_some f, itself_started delegator v.operator false (lists_of s), some, left_few);
       tokens = (h.validators v.operator v f).tokens;
     }

@@ -12,3 +12,6 @@ pub mod LeftLemmas
 pub mod UnbondedLemmas
 pub mod SameLemmas
 pub mod ItemLemmas
+pub mod PlaceLemmas
+pub mod ListedLemmas
+pub mod LogLemmas

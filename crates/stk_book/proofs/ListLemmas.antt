@@ -28,8 +28,8 @@ swapped a b c d e f = (λ i. e i && f i) ∙ order b d
     order false false = refl
 
 -- a delegation's key is found where hooks are told of the pair
-pub pair_is : (o who p w : List ℕ) → is_at (pair_cmp (p, w)) (o, who) ≡ (same_addr who w && same_addr o p)
-pair_is o who p w = pair_found p o w who ∙ swapped (same_addr p o) (same_addr o p) (same_addr w who) (same_addr who w) (same_back p o) (same_back w who)
+pub pair_is : (o delegator p w : List ℕ) → is_at (pair_cmp (p, w)) (o, delegator) ≡ (same_addr delegator w && same_addr o p)
+pair_is o delegator p w = pair_found p o w delegator ∙ swapped (same_addr p o) (same_addr o p) (same_addr w delegator) (same_addr delegator w) (same_back p o) (same_back w delegator)
 
 pub same_lists : (k l : Lists) → ((o : List ℕ) → k.operators o ≡ l.operators o) → ((w o : List ℕ) → k.started w o ≡ l.started w o) → k ≡ l
 same_lists k l e f = λ i. record { operators = λ o. e o i; started = λ w o. f w o i }
@@ -57,25 +57,25 @@ is_zero n b e = (ap (λ z. is_some (cond z None (Some n))) e) ∙ by b
     by false = refl
 
 -- the lists after a validator is put in the place of one, and the number of one of its delegations is set
-pub lists-changed : (s : Staked) (w v : Validator) (who : List ℕ) (n : ℕ) (b : Bool) → IsStrictlySortedBy pair_cmp (keys_of s.delegations) → validator_at s w.operator ≡ Some v → (n == 0) ≡ b
-    → lists_of (put_with w (with_number pair_cmp s.delegations (w.operator, who) n) s) ≡ with_started who w.operator (cond b false true) (lists_of s)
-lists-changed s w v who n b a f z = same_lists _ _ (operators-put s w v f) (λ x o.
-    ap is_some (at-number s.delegations (w.operator, who) (o, x) n a)
-    ∙ some_cond (is_at (pair_cmp (o, x)) (w.operator, who)) (cond (n == 0) None (Some n)) (at pair_cmp s.delegations (o, x))
-    ∙ (λ i. cond (pair_is w.operator who o x i) (is_zero n b z i) (is_some (at pair_cmp s.delegations (o, x)))))
+pub lists-changed : (s : Staked) (w v : Validator) (delegator : List ℕ) (n : ℕ) (b : Bool) → IsStrictlySortedBy pair_cmp (keys_of s.delegations) → validator_at s w.operator ≡ Some v → (n == 0) ≡ b
+    → lists_of (put_with w (with_number pair_cmp s.delegations (w.operator, delegator) n) s) ≡ with_started delegator w.operator (cond b false true) (lists_of s)
+lists-changed s w v delegator n b a f z = same_lists _ _ (operators-put s w v f) (λ x o.
+    ap is_some (at-number s.delegations (w.operator, delegator) (o, x) n a)
+    ∙ some_cond (is_at (pair_cmp (o, x)) (w.operator, delegator)) (cond (n == 0) None (Some n)) (at pair_cmp s.delegations (o, x))
+    ∙ (λ i. cond (pair_is w.operator delegator o x i) (is_zero n b z i) (is_some (at pair_cmp s.delegations (o, x)))))
 
 twice : (c b d x : Bool) → (if c then b else (if c then d else x)) ≡ (if c then b else x)
 twice true b d x = refl
 twice false b d x = refl
 
-pub started-twice : (who o : List ℕ) (b d : Bool) (l : Lists) → with_started who o b (with_started who o d l) ≡ with_started who o b l
-started-twice who o b d l = same_lists _ _ (λ x. refl) (λ x p. twice (same_addr who x && same_addr o p) b d (l.started x p))
+pub started-twice : (delegator o : List ℕ) (b d : Bool) (l : Lists) → with_started delegator o b (with_started delegator o d l) ≡ with_started delegator o b l
+started-twice delegator o b d l = same_lists _ _ (λ x. refl) (λ x p. twice (same_addr delegator x && same_addr o p) b d (l.started x p))
 
 -- the lists after both hooks of a delegation
-pub lists-delegated : (v w : Validator) (who : List ℕ) (held : Option ℕ) (n : ℕ) (l : Lists) → w.operator ≡ v.operator
-    → after (modified w who n) (after (hook_before v who held) l) ≡ with_started who w.operator true l
-lists-delegated v w who None n l e = refl
-lists-delegated v w who (Some m) n l e = ap (λ o. with_started who w.operator true (with_started who o false l)) (sym e) ∙ started-twice who w.operator true false l
+pub lists-delegated : (v w : Validator) (delegator : List ℕ) (held : Option ℕ) (n : ℕ) (l : Lists) → w.operator ≡ v.operator
+    → after (modified w delegator n) (after (hook_before v delegator held) l) ≡ with_started delegator w.operator true l
+lists-delegated v w delegator None n l e = refl
+lists-delegated v w delegator (Some m) n l e = ap (λ o. with_started delegator w.operator true (with_started delegator o false l)) (sym e) ∙ started-twice delegator w.operator true false l
 
 joins : (b : Bool) (w : Validator) (r : Option Validator) → is_some (cond b (Some w) r) ≡ (if b then true else is_some r)
 joins true w r = refl
@@ -91,5 +91,5 @@ leaves false r = refl
 pub lists-left : (s : Staked) (p : List ℕ) → IsStrictlySortedBy addr_cmp (keys_of s.validators) → lists_of (without_validator p s) ≡ with_operator p false (lists_of s)
 lists-left s p a = same_lists _ _ (λ o. ap is_some (found-taken s p o a) ∙ leaves (same_addr o p) (validator_at s o) ∙ ap (λ b. if b then false else is_some (validator_at s o)) (same_back o p)) (λ x o. refl)
 
-pub itself_started : (who o : List ℕ) (b : Bool) (l : Lists) → (with_started who o b l).started who o ≡ b
-itself_started who o b l = (λ i. if same_itself who i && same_itself o i then b else l.started who o)
+pub itself_started : (delegator o : List ℕ) (b : Bool) (l : Lists) → (with_started delegator o b l).started delegator o ≡ b
+itself_started delegator o b l = (λ i. if same_itself delegator i && same_itself o i then b else l.started delegator o)

@@ -14,7 +14,7 @@ use Rattle.stk_book.proofs.SoundLemmas.{no_shares}
 
 pub ready-removed : (height : ℕ) (s : Staked) (v : Validator) → IsSoundAt height s → validator_at s v.operator ≡ Some v → v.shares ≡ 0 → {S : Type 0} (t : Tells S) (hs : S) (u : View) → Stand t hs u (lists_of s)
     → Ready t hs u (removed v) (lists_of s)
-ready-removed height s v h f z t hs u p = record { stand = p; needs = (ap is_some f, λ who. ap is_some (no_shares height s v h f z who)); tokens = (h.validators v.operator v f).tokens }
+ready-removed height s v h f z t hs u p = record { stand = p; needs = (ap is_some f, λ delegator. ap is_some (no_shares height s v h f z delegator)); tokens = (h.validators v.operator v f).tokens }
 
 not_given : {S : Type 0} (over : Over) → IsGiven {S = S} (exceeds over) → ⊥
 not_given over i = let e = i.1.1.1 in cc

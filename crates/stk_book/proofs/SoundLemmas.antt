@@ -55,15 +55,15 @@ sound-set s s2 w v sound f e c n o ok =
 -- ---- a validator goes that has no shares
 
 -- no delegation to a validator without shares
-pub no_shares : (height : ℕ) (s : Staked) (v : Validator) → IsSoundAt height s → validator_at s v.operator ≡ Some v → v.shares ≡ 0 → (who : List ℕ) → delegation s who v.operator ≡ None
-no_shares height s v h f z who = by (delegation s who v.operator) refl
+pub no_shares : (height : ℕ) (s : Staked) (v : Validator) → IsSoundAt height s → validator_at s v.operator ≡ Some v → v.shares ≡ 0 → (delegator : List ℕ) → delegation s delegator v.operator ≡ None
+no_shares height s v h f z delegator = by (delegation s delegator v.operator) refl
   where
-    by : (x : Option ℕ) → delegation s who v.operator ≡ x → x ≡ None
+    by : (x : Option ℕ) → delegation s delegator v.operator ≡ x → x ≡ None
     by None e = refl
     by (Some n) e =
-        let some = h.positive (v.operator, who) n e in
-        let within = held_within s.delegations v.operator who in
-        let is : number_at pair_cmp s.delegations (v.operator, who) ≡ n = ap (λ x. unwrap_or x 0) e in
+        let some = h.positive (v.operator, delegator) n e in
+        let within = held_within s.delegations v.operator delegator in
+        let is : number_at pair_cmp s.delegations (v.operator, delegator) ≡ n = ap (λ x. unwrap_or x 0) e in
         let own = h.shares v.operator v f in
         absurd (omega (arith, some, within, is, own, z))
 

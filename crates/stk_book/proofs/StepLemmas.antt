@@ -5,6 +5,8 @@ use Rattle.std.specs.List.{range_with_len, AllByRecursion}
 use Rattle.std.proofs.lemmas.List.{length_push}
 use Rattle.stk_table.specs.Tabled.{Tabled}
 use Rattle.stk_table.specs.Tabled as table
+use Rattle.stk_book.specs.Listed.{Listed}
+use Rattle.stk_book.specs.Listed as listed
 use Rattle.stk_keep.specs.declared.entities.Validator.{Validator}
 use Rattle.stk_rows.proofs.MarkLemmas.{some_marks}
 use Rattle.stk_book.specs.Registered.{Validators, Delegations, Operators, IsIndex, AreIndexed, AreKeyed, AreInStep, side_by_side, registered, with_mark, IsGoneBack, IsForgotten}
@@ -60,8 +62,8 @@ side-push (x ∷ vs) (y ∷ ds) v d h = let f : length ds ≡ length vs = omega 
 
 -- ---- three tables in step
 
-module _ (v : Tabled (List ℕ) Validator) (o : Tabled (List ℕ) (List ℕ)) (d : Tabled (List ℕ × List ℕ) ℕ) (h : AreInStep v o d) where
-  pub in_step-marked : AreInStep (table.with_mark v) (table.with_mark o) (table.with_mark d)
+module _ (v : Listed) (o : Tabled (List ℕ) (List ℕ)) (d : Tabled (List ℕ × List ℕ) ℕ) (h : AreInStep v o d) where
+  pub in_step-marked : AreInStep (listed.with_mark v) (table.with_mark o) (table.with_mark d)
   in_step-marked = record {
     operators_depth = pushed_length v.marks o.marks v.entries o.entries h.operators_depth;
     delegations_depth = pushed_length v.marks d.marks v.entries d.entries h.delegations_depth;
@@ -72,17 +74,17 @@ module _ (v : Tabled (List ℕ) Validator) (o : Tabled (List ℕ) (List ℕ)) (d
     indexed_at_marks = indexed-push v.marks o.marks v.entries o.entries h.operators_depth h.indexed_at_marks h.indexed;
   }
 
-  pub registered-marked : (spent : Bool) (p : ℕ) → registered (table.with_mark v) (table.with_mark d) spent p ≡ with_mark (registered v d spent p)
-  registered-marked spent p = λ i. record {
+  pub registered-marked : (spent : Bool) → registered (listed.with_mark v) (table.with_mark d) spent ≡ with_mark (registered v d spent)
+  registered-marked spent = λ i. record {
     staked = record { validators = v.entries; delegations = d.entries };
     marks = side-push v.marks d.marks v.entries d.entries h.delegations_depth i;
     settled = record { validators = v.settled; delegations = d.settled };
     spent = spent;
-    power_reduction = p;
+    power_reduction = v.power_reduction;
   }
 
   -- other entries of validators, and their index
-  pub in_step-with : (v2 : Tabled (List ℕ) Validator) (o2 : Tabled (List ℕ) (List ℕ)) → v2.marks ≡ v.marks → v2.settled ≡ v.settled → o2.marks ≡ o.marks
+  pub in_step-with : (v2 : Listed) (o2 : Tabled (List ℕ) (List ℕ)) → v2.marks ≡ v.marks → v2.settled ≡ v.settled → o2.marks ≡ o.marks
       → AreKeyed v2.entries → IsIndex v2.entries o2.entries → AreInStep v2 o2 d
   in_step-with v2 o2 e f g k i = record {
     operators_depth = ap length g ∙ h.operators_depth ∙ sym (ap length e);
@@ -94,7 +96,7 @@ module _ (v : Tabled (List ℕ) Validator) (o : Tabled (List ℕ) (List ℕ)) (d
     indexed_at_marks = subst (λ ms. AreIndexed ms o2.marks) (sym e) (subst (λ is. AreIndexed v.marks is) (sym g) h.indexed_at_marks);
   }
 
-  module _ (v2 : Tabled (List ℕ) Validator) (o2 : Tabled (List ℕ) (List ℕ)) (d2 : Tabled (List ℕ × List ℕ) ℕ) where
+  module _ (v2 : Listed) (o2 : Tabled (List ℕ) (List ℕ)) (d2 : Tabled (List ℕ × List ℕ) ℕ) where
     side-popped : (x : Validators) (z : Delegations) → v2.marks ++ x ∷ [] ≡ v.marks → d2.marks ++ z ∷ [] ≡ d.marks
         → side_by_side v2.marks d2.marks ++ record { validators = x; delegations = z } ∷ [] ≡ side_by_side v.marks d.marks
     side-popped x z p r = sym (side-push v2.marks d2.marks x z (popped_length v.marks v2.marks d.marks d2.marks x z h.delegations_depth p r)) ∙ (λ i. side_by_side (p i) (r i))
@@ -107,7 +109,7 @@ module _ (v : Tabled (List ℕ) Validator) (o : Tabled (List ℕ) (List ℕ)) (d
         indexed-pop v2.marks o2.marks x y (popped_length v.marks v2.marks o.marks o2.marks x y h.operators_depth p q)
         (subst (λ ms. AreIndexed ms (o2.marks ++ y ∷ [])) (sym p) (subst (λ is. AreIndexed v.marks is) (sym q) h.indexed_at_marks))
 
-    pub in_step-back : table.IsGoneBack v v2 → table.IsGoneBack o o2 → table.IsGoneBack d d2 → AreInStep v2 o2 d2
+    pub in_step-back : listed.IsGoneBack v v2 → table.IsGoneBack o o2 → table.IsGoneBack d d2 → AreInStep v2 o2 d2
     in_step-back p q r =
         let k = keyed-popped v2.entries p.restored in
         let i = indexed-popped v2.entries o2.entries p.restored q.restored in
@@ -121,19 +123,19 @@ module _ (v : Tabled (List ℕ) Validator) (o : Tabled (List ℕ) (List ℕ)) (d
           indexed_at_marks = i.0;
         }
 
-    pub registered-back : (spent : Bool) (n : ℕ) → table.IsGoneBack v v2 → table.IsGoneBack d d2 → IsGoneBack (registered v d spent n) (registered v2 d2 spent n)
-    registered-back spent n p r = record {
+    pub registered-back : (spent : Bool) → listed.IsGoneBack v v2 → table.IsGoneBack d d2 → IsGoneBack (registered v d spent) (registered v2 d2 spent)
+    registered-back spent p r = record {
       restored = side-popped v2.entries d2.entries p.restored r.restored;
       rest = λ i. record {
         staked = record { validators = v2.entries; delegations = d2.entries };
         marks = side_by_side v2.marks d2.marks;
         settled = record { validators = ap (λ t. t.settled) p.rest i; delegations = ap (λ t. t.settled) r.rest i };
         spent = spent;
-        power_reduction = n;
+        power_reduction = ap (λ t. t.power_reduction) p.rest i;
       };
     }
 
-    pub in_step-forgotten : table.IsForgotten v v2 → table.IsForgotten o o2 → table.IsForgotten d d2 → AreInStep v2 o2 d2
+    pub in_step-forgotten : listed.IsForgotten v v2 → table.IsForgotten o o2 → table.IsForgotten d d2 → AreInStep v2 o2 d2
     in_step-forgotten p q r =
         let k = keyed-popped p.closed.0 p.closed.1 in
         let i = indexed-popped p.closed.0 q.closed.0 p.closed.1 q.closed.1 in
@@ -149,15 +151,15 @@ module _ (v : Tabled (List ℕ) Validator) (o : Tabled (List ℕ) (List ℕ)) (d
           indexed_at_marks = i.0;
         }
 
-    pub registered-forgotten : (spent : Bool) (n : ℕ) → table.IsForgotten v v2 → table.IsForgotten d d2 → IsForgotten (registered v d spent n) (registered v2 d2 spent n)
-    registered-forgotten spent n p r = record {
+    pub registered-forgotten : (spent : Bool) → listed.IsForgotten v v2 → table.IsForgotten d d2 → IsForgotten (registered v d spent) (registered v2 d2 spent)
+    registered-forgotten spent p r = record {
       closed = (record { validators = p.closed.0; delegations = r.closed.0 }, side-popped p.closed.0 r.closed.0 p.closed.1 r.closed.1);
       rest = λ i. record {
         staked = record { validators = ap (λ t. t.entries) p.rest i; delegations = ap (λ t. t.entries) r.rest i };
         marks = side_by_side v2.marks d2.marks;
         settled = record { validators = ap (λ t. t.settled) p.rest i; delegations = ap (λ t. t.settled) r.rest i };
         spent = spent;
-        power_reduction = n;
+        power_reduction = ap (λ t. t.power_reduction) p.rest i;
       };
     }
 
@@ -165,13 +167,13 @@ module _ (v : Tabled (List ℕ) Validator) (o : Tabled (List ℕ) (List ℕ)) (d
   none_from_length [] e = refl
   none_from_length (x ∷ xs) e = absurd (omega (arith, e))
 
-  pub closed-all : (spent : Bool) (p : ℕ) → (registered v d spent p).marks ≡ [] → (v.marks ≡ []) × (o.marks ≡ []) × (d.marks ≡ [])
-  closed-all spent p m =
+  pub closed-all : (spent : Bool) → (registered v d spent).marks ≡ [] → (v.marks ≡ []) × (o.marks ≡ []) × (d.marks ≡ [])
+  closed-all spent m =
       let n : length v.marks ≡ 0 = sym (length-side v.marks d.marks h.delegations_depth) ∙ ap length m in
       (none_from_length v.marks n, none_from_length o.marks (h.operators_depth ∙ n), none_from_length d.marks (h.delegations_depth ∙ n))
 
   -- where a mark is open, one is in each table
-  pub some_at : (spent : Bool) (p : ℕ) → (registered v d spent p).marks ≢ [] → (0 < length v.marks) × (0 < length o.marks) × (0 < length d.marks)
-  some_at spent p m =
-      let n : 0 < length v.marks = subst (λ n. 0 < n) (length-side v.marks d.marks h.delegations_depth) (some_marks (registered v d spent p).marks m) in
+  pub some_at : (spent : Bool) → (registered v d spent).marks ≢ [] → (0 < length v.marks) × (0 < length o.marks) × (0 < length d.marks)
+  some_at spent m =
+      let n : 0 < length v.marks = subst (λ n. 0 < n) (length-side v.marks d.marks h.delegations_depth) (some_marks (registered v d spent).marks m) in
       (n, subst (λ n. 0 < n) (sym h.operators_depth) n, subst (λ n. 0 < n) (sym h.delegations_depth) n)

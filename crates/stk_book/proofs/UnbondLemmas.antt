@@ -75,9 +75,9 @@ jailed_is : {H : Type 0} (b : Bool) (v : Validator) (k : Log) (s : Staked) (h : 
 jailed_is true v k s h u = refl
 jailed_is false v k s h u = refl
 
-module _ {H : Type 0} (told : H → Hook → View → Told H) (v : Validator) (who : List ℕ) (held part : ℕ) (s : Staked) (h : H) (u : View) (h1 : H) (u1 : View) (k1 : Log) (e : told h (modifying v who held) u ≡ gives h1 u1 k1) where
+module _ {H : Type 0} (told : H → Hook → View → Told H) (v : Validator) (delegator : List ℕ) (held part : ℕ) (s : Staked) (h : H) (u : View) (h1 : H) (u1 : View) (k1 : Log) (e : told h (modifying v delegator held) u ≡ gives h1 u1 k1) where
   abbrev pub falls : Bool
-  falls = falls_below_minimum v who (held - part)
+  falls = falls_below_minimum v delegator (held - part)
 
   abbrev pub going : Going
   going = record { now = now_of v falls; left = held - part; staked = jailed_if falls v s; view = jail_noted falls v u1 }
@@ -87,30 +87,30 @@ module _ {H : Type 0} (told : H → Hook → View → Told H) (v : Validator) (w
   rest w = removed_if_empty told (less_of v falls part) (logged v.operator log.left (over_mine (put_validator (less_of v falls part)) w)) >>= with_number_of (amount_out v.tokens v.shares part)
 
   from_hook : Told H → Result (ℕ × World Staked H) Over
-  from_hook t = hooked t (over s h u) >>= λ w1. left_standing told (now_of v falls) who (held - part) (if falls then put_in_jail v w1 else w1) >>= rest
+  from_hook t = hooked t (over s h u) >>= λ w1. left_standing told (now_of v falls) delegator (held - part) (if falls then put_in_jail v w1 else w1) >>= rest
 
-  unbonded-then : unbonded_shares told v who held part (over s h u) ≡ (left_standing told going.now who going.left (behind_log k1 going.staked h1 going.view) >>= rest)
+  unbonded-then : unbonded_shares told v delegator held part (over s h u) ≡ (left_standing told going.now delegator going.left (behind_log k1 going.staked h1 going.view) >>= rest)
   unfolding from_hook
-  unbonded-then = ap from_hook e ∙ ap (λ w. left_standing told (now_of v falls) who (held - part) w >>= rest) (jailed_is falls v k1 s h1 u1)
+  unbonded-then = ap from_hook e ∙ ap (λ w. left_standing told (now_of v falls) delegator (held - part) w >>= rest) (jailed_is falls v k1 s h1 u1)
 
   module _ (a : Going) (is : a ≡ going) where
-    pub told-left_err : (s2 : Staked) (h2 : H → Type 0) (u2 : View) (fault : HookFault) → Leaves (left_standing told a.now who a.left (behind_log k1 a.staked h1 a.view)) s2 h2 u2 (Err fault)
-        → Follows (unbonded_shares told v who held part (over s h u)) s2 h2 u2 (Err fault)
+    pub told-left_err : (s2 : Staked) (h2 : H → Type 0) (u2 : View) (fault : HookFault) → Leaves (left_standing told a.now delegator a.left (behind_log k1 a.staked h1 a.view)) s2 h2 u2 (Err fault)
+        → Follows (unbonded_shares told v delegator held part (over s h u)) s2 h2 u2 (Err fault)
     told-left_err s2 h2 u2 fault l =
         subst (λ r. Follows r s2 h2 u2 (Err fault)) (sym unbonded-then)
-        (follows_err (left_standing told going.now who going.left (behind_log k1 going.staked h1 going.view)) rest s2 h2 u2 fault
-        (subst (λ b. Leaves (left_standing told b.now who b.left (behind_log k1 b.staked h1 b.view)) s2 h2 u2 (Err fault)) is l))
+        (follows_err (left_standing told going.now delegator going.left (behind_log k1 going.staked h1 going.view)) rest s2 h2 u2 fault
+        (subst (λ b. Leaves (left_standing told b.now delegator b.left (behind_log k1 b.staked h1 b.view)) s2 h2 u2 (Err fault)) is l))
 
-    module _ (s2 : Staked) (h2 : H) (u2 : View) (l : Leaves (left_standing told a.now who a.left (behind_log k1 a.staked h1 a.view)) s2 (λ x. h2 ≡ x) u2 (Ok tt)) where
-      pub left_is : (k2 : Log) × (left_standing told going.now who going.left (behind_log k1 going.staked h1 going.view) ≡ Ok (behind_log k2 s2 h2 u2))
-      left_is = leaves_is (left_standing told going.now who going.left (behind_log k1 going.staked h1 going.view)) s2 h2 u2
-          (subst (λ b. Leaves (left_standing told b.now who b.left (behind_log k1 b.staked h1 b.view)) s2 (λ x. h2 ≡ x) u2 (Ok tt)) is l)
+    module _ (s2 : Staked) (h2 : H) (u2 : View) (l : Leaves (left_standing told a.now delegator a.left (behind_log k1 a.staked h1 a.view)) s2 (λ x. h2 ≡ x) u2 (Ok tt)) where
+      pub left_is : (k2 : Log) × (left_standing told going.now delegator going.left (behind_log k1 going.staked h1 going.view) ≡ Ok (behind_log k2 s2 h2 u2))
+      left_is = leaves_is (left_standing told going.now delegator going.left (behind_log k1 going.staked h1 going.view)) s2 h2 u2
+          (subst (λ b. Leaves (left_standing told b.now delegator b.left (behind_log k1 b.staked h1 b.view)) s2 (λ x. h2 ≡ x) u2 (Ok tt)) is l)
 
       -- the log once shares left the validator
       abbrev pub then_log : Log
       then_log = left_is.0 ++ (v.operator, log.left) ∷ []
 
-      unbonded-last : unbonded_shares told v who held part (over s h u)
+      unbonded-last : unbonded_shares told v delegator held part (over s h u)
           ≡ (removed_if_empty told (less_of v falls part) (behind_log then_log (put_validator (less_of v falls part) s2) h2 u2) >>= with_number_of (amount_out v.tokens v.shares part))
       unbonded-last = unbonded-then ∙ ap (λ r. r >>= rest) left_is.1
 
@@ -118,16 +118,16 @@ module _ {H : Type 0} (told : H → Hook → View → Told H) (v : Validator) (w
         s3_at : s3 ≡ put_validator (less_of v falls part) s2
         s3_at = s3_is ∙ ap (λ x. put_validator x s2) less_is
 
-        pub told-removed_err : (fault : HookFault) → Leaves (removed_if_empty told less (behind_log then_log s3 h2 u2)) s4 h4 u4 (Err fault) → Follows (unbonded_shares told v who held part (over s h u)) s4 h4 u4 (Err fault)
+        pub told-removed_err : (fault : HookFault) → Leaves (removed_if_empty told less (behind_log then_log s3 h2 u2)) s4 h4 u4 (Err fault) → Follows (unbonded_shares told v delegator held part (over s h u)) s4 h4 u4 (Err fault)
         told-removed_err fault m =
             subst (λ r. Follows r s4 h4 u4 (Err fault)) (sym unbonded-last)
             (follows_err (removed_if_empty told (less_of v falls part) (behind_log then_log (put_validator (less_of v falls part) s2) h2 u2)) (with_number_of (amount_out v.tokens v.shares part)) s4 h4 u4 fault
             (subst (λ x. Leaves (removed_if_empty told (less_of v falls part) (behind_log then_log x h2 u2)) s4 h4 u4 (Err fault)) s3_at
             (subst (λ x. Leaves (removed_if_empty told x (behind_log then_log s3 h2 u2)) s4 h4 u4 (Err fault)) less_is m)))
 
-        pub told-removed_ok : (out : ℕ) → out ≡ amount_out v.tokens v.shares part → Leaves (removed_if_empty told less (behind_log then_log s3 h2 u2)) s4 h4 u4 (Ok tt) → Follows (unbonded_shares told v who held part (over s h u)) s4 h4 u4 (Ok out)
+        pub told-removed_ok : (out : ℕ) → out ≡ amount_out v.tokens v.shares part → Leaves (removed_if_empty told less (behind_log then_log s3 h2 u2)) s4 h4 u4 (Ok tt) → Follows (unbonded_shares told v delegator held part (over s h u)) s4 h4 u4 (Ok out)
         told-removed_ok out out_is m =
-            subst (λ n. Follows (unbonded_shares told v who held part (over s h u)) s4 h4 u4 (Ok n)) (sym out_is)
+            subst (λ n. Follows (unbonded_shares told v delegator held part (over s h u)) s4 h4 u4 (Ok n)) (sym out_is)
             (subst (λ r. Follows r s4 h4 u4 (Ok (amount_out v.tokens v.shares part))) (sym unbonded-last)
             (follows_ok (removed_if_empty told (less_of v falls part) (behind_log then_log (put_validator (less_of v falls part) s2) h2 u2)) (amount_out v.tokens v.shares part) s4 h4 u4
             (subst (λ x. Leaves (removed_if_empty told (less_of v falls part) (behind_log then_log x h2 u2)) s4 h4 u4 (Ok tt)) s3_at

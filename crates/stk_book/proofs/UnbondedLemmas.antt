@@ -96,28 +96,28 @@ fewer_other : (x : Bool) (new old t out : ℕ) → out ≤ t → new + cond (if 
 fewer_other true new old t out p e = omega (arith, e)
 fewer_other false new old t out p e = omega (arith, p, e)
 
-module _ (height : ℕ) (s : Staked) (h : IsSoundAt height s) (v : Validator) (f : validator_at s v.operator ≡ Some v) (who : List ℕ) (held part : ℕ) (e : delegation s who v.operator ≡ Some held) (few : part ≤ held) where
+module _ (height : ℕ) (s : Staked) (h : IsSoundAt height s) (v : Validator) (f : validator_at s v.operator ≡ Some v) (delegator : List ℕ) (held part : ℕ) (e : delegation s delegator v.operator ≡ Some held) (few : part ≤ held) where
   abbrev b : Bool
-  b = falls_below_minimum v who (held - part)
+  b = falls_below_minimum v delegator (held - part)
 
   abbrev less : Validator
   less = less_of v b part
 
   abbrev s3 : Staked
-  s3 = put_validator less (state_left height s h v f who held part e few b)
+  s3 = put_validator less (state_left height s h v f delegator held part e few b)
 
   most_part : part ≤ v.shares
-  most_part = let within = held_few height s h v f who held part e few b in omega (arith, few, within)
+  most_part = let within = held_few height s h v f delegator held part e few b in omega (arith, few, within)
 
   now_at : (c : Bool) (o : List ℕ) → cond (same_addr o v.operator) (Some less) (validator_at (jailed_if c v s) o) ≡ cond (same_addr o v.operator) (Some less) (validator_at s o)
   now_at true o = ap (cond (same_addr o v.operator) (Some less)) (found-put s (record v { jailed = true }) o) ∙ same_twice (same_addr o v.operator) less (record v { jailed = true }) (validator_at s o)
   now_at false o = refl
 
   third : (o : List ℕ) → validator_at s3 o ≡ cond (same_addr o v.operator) (Some less) (validator_at s o)
-  third o = found-put (state_left height s h v f who held part e few b) less o ∙ now_at b o
+  third o = found-put (state_left height s h v f delegator held part e few b) less o ∙ now_at b o
 
   ascend3 : IsStrictlySortedBy addr_cmp (keys_of s3.validators)
-  ascend3 = (sound_less height s h v f who held part e few b).validators_ascend
+  ascend3 = (sound_less height s h v f delegator held part e few b).validators_ascend
 
   fourth : (g : Bool) (o : List ℕ) → validator_at (state_gone g v.operator s3) o ≡ cond g (cond (same_addr o v.operator) None (cond (same_addr o v.operator) (Some less) (validator_at s o))) (cond (same_addr o v.operator) (Some less) (validator_at s o))
   fourth true o = found-taken s3 v.operator o ascend3 ∙ ap (cond (same_addr o v.operator) None) (third o)
@@ -127,9 +127,9 @@ module _ (height : ℕ) (s : Staked) (h : IsSoundAt height s) (v : Validator) (f
   left_of out q = ap (λ z. cond (is_unbonded v.status && z) None (Some less)) (no_more v.shares part most_part)
       ∙ ap (λ n. cond (is_unbonded v.status && (v.shares == part)) None (Some (record v { tokens = v.tokens - n; shares = v.shares - part; jailed = v.jailed || b }))) (sym q)
 
-  same_ds : (g : Bool) → (state_gone g v.operator s3).delegations ≡ with_number pair_cmp s.delegations (v.operator, who) (held - part)
-  same_ds true = ap (λ ds. with_number pair_cmp ds (v.operator, who) (held - part)) (same_delegations b v s)
-  same_ds false = ap (λ ds. with_number pair_cmp ds (v.operator, who) (held - part)) (same_delegations b v s)
+  same_ds : (g : Bool) → (state_gone g v.operator s3).delegations ≡ with_number pair_cmp s.delegations (v.operator, delegator) (held - part)
+  same_ds true = ap (λ ds. with_number pair_cmp ds (v.operator, delegator) (held - part)) (same_delegations b v s)
+  same_ds false = ap (λ ds. with_number pair_cmp ds (v.operator, delegator) (held - part)) (same_delegations b v s)
 
   swapped : (x y : Bool) → (x && y) ≡ (y && x)
   swapped true true = refl
@@ -137,11 +137,11 @@ module _ (height : ℕ) (s : Staked) (h : IsSoundAt height s) (v : Validator) (f
   swapped false true = refl
   swapped false false = refl
 
-  gone_shares : (g : Bool) (w o : List ℕ) → delegation (state_gone g v.operator s3) w o ≡ (if same_addr v.operator o && same_addr who w then shares_left held part else delegation s w o)
+  gone_shares : (g : Bool) (w o : List ℕ) → delegation (state_gone g v.operator s3) w o ≡ (if same_addr v.operator o && same_addr delegator w then shares_left held part else delegation s w o)
   gone_shares g w o =
       ap (λ ds. at pair_cmp ds (o, w)) (same_ds g)
-      ∙ at-number s.delegations (v.operator, who) (o, w) (held - part) h.delegations_ascend
-      ∙ (λ i. cond ((pair_is v.operator who o w ∙ swapped (same_addr who w) (same_addr v.operator o)) i) (cond (no_more held part few i) None (Some (held - part))) (at pair_cmp s.delegations (o, w)))
+      ∙ at-number s.delegations (v.operator, delegator) (o, w) (held - part) h.delegations_ascend
+      ∙ (λ i. cond ((pair_is v.operator delegator o w ∙ swapped (same_addr delegator w) (same_addr v.operator o)) i) (cond (no_more held part few i) None (Some (held - part))) (at pair_cmp s.delegations (o, w)))
 
   same_tokens : (test : BondStatus → Bool) (c : Bool) → tokens_where test (jailed_if c v s).validators ≡ tokens_where test s.validators
   same_tokens test true = cancels (cond (test v.status) v.tokens 0) (tokens-put test v.operator v (record v { jailed = true }) s.validators h.validators_ascend f)
@@ -173,14 +173,14 @@ module _ (height : ℕ) (s : Staked) (h : IsSoundAt height s) (v : Validator) (f
       is_zero n r = grind (arith, nat_tests)
   gone_tokens test false q = refl
 
-  pub is_unbonded_so : (s4 : Staked) (out : ℕ) → s4 ≡ state_gone (is_gone less) v.operator s3 → out ≡ amount_out v.tokens v.shares part → out ≤ v.tokens → IsUnbonded who v.operator part out s s4
-  is_unbonded_so s4 out is q within = subst (IsUnbonded who v.operator part out s) (sym is) (record {
+  pub is_unbonded_so : (s4 : Staked) (out : ℕ) → s4 ≡ state_gone (is_gone less) v.operator s3 → out ≡ amount_out v.tokens v.shares part → out ≤ v.tokens → IsUnbonded delegator v.operator part out s s4
+  is_unbonded_so s4 out is q within = subst (IsUnbonded delegator v.operator part out s) (sym is) (record {
     v = v;
     held = held;
     falls = b;
     validator = f;
     shares = e;
-    own = λ r. and_true (same_addr who v.operator) (not v.jailed) _ r;
+    own = λ r. and_true (same_addr delegator v.operator) (not v.jailed) _ r;
     within = within;
     validators = λ o. fourth (is_gone less) o ∙ one_way (same_addr o v.operator) (same_addr v.operator o) (is_gone less) (Some less) (validator_left v part out b) (validator_at s o) (same_back o v.operator) (left_of out q);
     delegations = gone_shares (is_gone less);

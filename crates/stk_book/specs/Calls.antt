@@ -1,5 +1,5 @@
 -- What calls of staking need, and what they leave that no rule says.
-use Rattle.std.specs.Prelude.{◌≡◌, ℕ, ◌+◌, ◌≤◌, ◌^◌, ◌==◌, nat_lt, Bool, true, if◌then◌else◌, List, [], Option, Some, None, option_map, Result, Ok, Err, ⊤}
+use Rattle.std.specs.Prelude.{◌≡◌, ℕ, ◌+◌, ◌≤◌, ◌^◌, ◌==◌, nat_lt, Bool, true, if◌then◌else◌, List, [], Option, Some, None, option_map, Result, Ok, ⊤}
 use Rattle.stk_types.specs.declared.account.Account.TheVariants as account
 use Rattle.stk_types.specs.declared.status.BondStatus.{BondStatus}
 use Rattle.stk_keep.specs.declared.entities.Validator.{Validator}
@@ -9,12 +9,12 @@ use Rattle.stk_keep.specs.declared.messages.CreateValidator.{CreateValidator}
 use Rattle.stk_keep.specs.declared.messages.EditValidator.{EditValidator}
 use Rattle.stk_keep.specs.declared.refusal.Refusal.{Refusal}
 use Rattle.stk_keep.specs.declared.refusal.Refusal.TheVariants.{NonPositive, CommissionRange, MinSelfNotPositive, SelfBelowMinimum, CommissionBelowMinimum}
+use Rattle.stk_keep.specs.Answers.{AsRuled, StopsForMemory, RefusesAs}
 use Rattle.stk_keep.specs.Holdings.{balance_of}
 use Rattle.stk_keep.specs.Staked.{Staked, validator_at, put_validator, bonded_tokens, other_tokens, is_bonded}
 use Rattle.stk_keep.specs.Log.{Log}
 use Rattle.stk_keep.specs.Steps.{◌>>=◌, ◌>>◌, stop_if}
 use Rattle.stk_keep.specs.World.{View, World, noted}
-use Rattle.stk_rules.specs.Answers.{StopsForMemory, RefusesAs}
 use Rattle.stk_rules.specs.Delegating.{Origin, wallet, pool}
 use Rattle.stk_rules.specs.Sound.{StakedIsSound}
 use Rattle.stk_rules.specs.Stakes.{pool_of}
@@ -55,10 +55,7 @@ CanPay (pool from) amount v = amount ≤ balance_of v.bank (account.Module (pool
 
 -- what paying in answers and leaves of the ground: what the rule gives, or its refusal; or memory is wanting
 abbrev pub PaysAs : Result View Refusal → View → Result ⊤ Stop → Type 0
-PaysAs (Ok due) v (Ok _) = v ≡ due
-PaysAs (Ok due) v (Err why) = StopsForMemory why
-PaysAs (Err due) v (Ok _) = ⊥
-PaysAs (Err due) v (Err why) = RefusesAs due why
+PaysAs rule v answer = AsRuled rule answer (λ due a. v ≡ due) StopsForMemory RefusesAs
 
 -- an edit changes validators alone
 abbrev pub edited_over : EditValidator → Staked → View → Result (⊤ × Staked × View) Refusal

@@ -1,8 +1,7 @@
 -- The table of validators and that of the first operator of each consensus address, changed together.
-use Rattle.std.specs.Prelude.{◌≡◌, ℕ, Bool, true, if◌then◌else◌, List, Option, Some, None}
+use Rattle.std.specs.Prelude.{ℕ, Bool, true, if◌then◌else◌, List, Option, Some, None}
 use Rattle.std.specs.Ordering.{is_lt}
 use Rattle.stk_types.specs.Orders.{addr_cmp, cons_cmp}
-use Rattle.stk_table.specs.Tabled.{Tabled}
 use Rattle.stk_keep.specs.declared.entities.Validator.{Validator}
 use Rattle.stk_keep.specs.Entries.{at, with}
 use Rattle.stk_book.specs.Registered.{Operators}
@@ -15,9 +14,3 @@ is_lower o (Some p) = is_lt (addr_cmp o p)
 -- the operators by consensus address once a validator joins
 abbrev pub listed : Validator → Operators → Operators
 listed v index = if is_lower v.operator (at cons_cmp index v.cons) then with cons_cmp index v.cons v.operator else index
-
--- nothing that a table holds is another, but for what is listed as touched, and whether memory was wanting
-pub record Stays {K V : Type 0} (old new : Tabled K V) : Type 0 where
-  pub entries : new.entries ≡ old.entries
-  pub marks : new.marks ≡ old.marks
-  pub settled : new.settled ≡ old.settled

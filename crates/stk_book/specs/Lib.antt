@@ -1,4 +1,6 @@
+pub mod Listed
 pub mod Registered
+pub mod Places
 pub mod Joint
 pub mod Calls
 pub mod Rows

@@ -10,11 +10,10 @@ use Rattle.stk_keep.specs.declared.entities.Validator.{Validator}
 use Rattle.stk_keep.specs.Entries.{at}
 use Rattle.stk_keep.specs.Orders.{pair_cmp}
 use Rattle.stk_keep.specs.Staked.{Staked, validator_at}
+use Rattle.stk_book.specs.Listed.{Listed}
+pub use Rattle.stk_book.specs.Listed.{Validators}
 
--- validators by operator, delegations by operator and delegator, and operators by consensus address
-abbrev pub Validators : Type 0
-Validators = List (List ℕ × Validator)
-
+-- delegations by operator and delegator, and operators by consensus address
 abbrev pub Delegations : Type 0
 Delegations = List ((List ℕ × List ℕ) × ℕ)
 
@@ -109,7 +108,7 @@ lower_of o (Some p) = if is_lt (addr_cmp o p) then o else p
 
 -- Three tables that are marked together: each validator stands under its operator, and the index tells the first operator of
 -- each consensus address.
-pub record AreInStep (validators : Tabled (List ℕ) Validator) (operators : Tabled (List ℕ) (List ℕ)) (delegations : Tabled (List ℕ × List ℕ) ℕ) : Type 0 where
+pub record AreInStep (validators : Listed) (operators : Tabled (List ℕ) (List ℕ)) (delegations : Tabled (List ℕ × List ℕ) ℕ) : Type 0 where
   pub operators_depth : length operators.marks ≡ length validators.marks
   pub delegations_depth : length delegations.marks ≡ length validators.marks
   pub keyed : AreKeyed validators.entries
@@ -119,13 +118,13 @@ pub record AreInStep (validators : Tabled (List ℕ) Validator) (operators : Tab
   pub indexed_at_marks : AreIndexed validators.marks operators.marks
 
 -- what is seen of three tables
-abbrev pub registered : Tabled (List ℕ) Validator → Tabled (List ℕ × List ℕ) ℕ → Bool → ℕ → Registered
-registered validators delegations spent power_reduction = record {
+abbrev pub registered : Listed → Tabled (List ℕ × List ℕ) ℕ → Bool → Registered
+registered validators delegations spent = record {
   staked = record { validators = validators.entries; delegations = delegations.entries };
   marks = side_by_side validators.marks delegations.marks;
   settled = record { validators = validators.settled; delegations = delegations.settled };
   spent = spent;
-  power_reduction = power_reduction;
+  power_reduction = validators.power_reduction;
 }
 
 -- a validator stands under this one's operator, with its consensus address

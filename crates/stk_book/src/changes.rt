@@ -37,7 +37,7 @@ impl Staking {
         ensures fault { IfErr result (λ fault. fault ≡ NoMemory) }
         ensures grown { (more : List Fact) × (facts.new ≡ facts.old ++ more) }
         ensures register { RegisterGoesOn self.old self.new result }
-        ensures cost { steps.new ≤ steps.old + 2 }
+        ensures cost { steps.new ≤ steps.old + 9 }
     {
         self.known();
         let mut v = *self.at(operator, steps).unwrap();
@@ -66,7 +66,7 @@ impl Staking {
         ensures fault { IfErr result (λ fault. fault ≡ NoMemory) }
         ensures grown { (more : List Fact) × (facts.new ≡ facts.old ++ more) }
         ensures register { RegisterGoesOn self.old self.new result }
-        ensures cost { steps.new ≤ steps.old + 2 }
+        ensures cost { steps.new ≤ steps.old + 9 }
     {
         self.known();
         let mut v = *self.at(operator, steps).unwrap();
@@ -101,7 +101,7 @@ impl Staking {
         ensures fault { IfErr result (λ fault. fault ≡ NoMemory) }
         ensures grown { (more : List Fact) × (facts.new ≡ facts.old ++ more) }
         ensures register { RegisterGoesOn self.old self.new result }
-        ensures cost { steps.new ≤ steps.old + 2 }
+        ensures cost { steps.new ≤ steps.old + 9 }
     {
         self.known();
         let mut v = *self.at(operator, steps).unwrap();
@@ -133,7 +133,7 @@ impl Staking {
         ensures sound { OnOk result (IsSoundStake self.new.staked) }
         ensures fault { IfErr result (λ fault. fault ≡ NoMemory) }
         ensures register { RegisterGoesOn self.old self.new result }
-        ensures cost { steps.new ≤ steps.old + 2 }
+        ensures cost { steps.new ≤ steps.old + 9 }
     {
         self.known();
         let mut v = *self.at(operator, steps).unwrap();

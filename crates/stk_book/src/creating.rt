@@ -86,7 +86,7 @@ impl Staking {
 }
 
 /// Whether two denominations are not one.
-fn is_other(denom: &Denom, other: &Denom) -> bool
+pub(crate) fn is_other(denom: &Denom, other: &Denom) -> bool
     ensures { result ≡ not (is_at (denom_cmp denom.now) other.now) }
 {
     denom.cmp(other) != Ordering::Equal

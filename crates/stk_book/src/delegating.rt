@@ -7,16 +7,18 @@ ghost use Rattle.stk_keep.specs.Ground.{seen, CanBeUndone};
 ghost use Rattle.stk_keep.specs.Hooks.{MayCall};
 ghost use Rattle.stk_keep.specs.Log.{Log};
 ghost use Rattle.stk_keep.specs.Staked.{validator_at};
-ghost use Rattle.stk_rules.specs.Delegating.{shares_given, hook_before, delegated};
+ghost use Rattle.stk_rules.specs.Delegating.{shares_given, hook_before, delegated, delegated_by};
 ghost use Rattle.stk_rules.specs.Stakes.{refusal_of_shares};
 ghost use Rattle.stk_book.specs.Calls.{over, behind_log, origin_of, HasOrigin};
 ghost use Rattle.stk_book.specs.Scenes.{IsScene, GoesOn};
 
+use crate::creating::is_other;
 use crate::origin::Origin;
 use crate::paying::pay_in;
 use crate::staking::Staking;
 use std::alloc::Global;
 use std::sync::ledger::Ledger;
+use stk_coins::Coin;
 use stk_dec::Dec;
 use stk_keep::{Bank, Ground, HookFault, Refusal, StakingHooks, Stop, Validator};
 use stk_shares::{ShareFault, issue};
@@ -36,7 +38,7 @@ impl Staking {
         alloc: Global,
         g: &mut Ground<B>,
         hooks: &mut H,
-        who: &Addr,
+        delegator: &Addr,
         operator: &Addr,
         amount: u128,
         origin: Origin,
@@ -51,7 +53,7 @@ impl Staking {
 
         ensures told { (h : H.Held) → H.holds hooks.old h
             → (v : Validator) → validator_at self.old.staked operator.now ≡ Some v
-            → AnswersAs (delegated H.tells.told v who.now amount (origin_of origin)
+            → AnswersAs (delegated H.tells.told v delegator.now amount (origin_of origin)
             (over self.old.staked h (seen B.holdings g.old)))
             self.new.staked (H.holds hooks.new) (seen B.holdings g.new) result }
         ensures scene { OnOk result (IsScene H.tells (H.holds hooks.new)
@@ -63,7 +65,51 @@ impl Staking {
     {
         self.known();
         let v = *self.at(operator, steps).unwrap();
-        self.delegate_to(alloc, g, hooks, &v, who, amount, origin, steps)
+        self.delegate_to(alloc, g, hooks, &v, delegator, amount, origin, steps)
+    }
+
+    /// The message by which a coin is delegated from the delegator's wallet (`msgServer.Delegate`). Answers the
+    /// issued shares.
+    ///
+    /// It is refused as `NonPositive` where the amount is 0, else as `NoValidator`, else as `WrongDenom`; then
+    /// for the causes of [`Staking::delegate`].
+    pub fn delegate_coin<B: Bank, H: StakingHooks, L: Ledger>(
+        &mut self,
+        alloc: Global,
+        g: &mut Ground<B>,
+        hooks: &mut H,
+        delegator: &Addr,
+        operator: &Addr,
+        coin: &Coin,
+        steps: &mut Steps<L>,
+    ) -> Result<Dec, Stop>
+        requires scene { IsScene H.tells (H.holds hooks.old)
+            (seen B.holdings g.old) self.old.staked }
+
+        ensures told { (h : H.Held) → H.holds hooks.old h
+            → AnswersAs (delegated_by H.tells.told delegator.now operator.now coin.now
+            (over self.old.staked h (seen B.holdings g.old)))
+            self.new.staked (H.holds hooks.new) (seen B.holdings g.new) result }
+        ensures scene { OnOk result (IsScene H.tells (H.holds hooks.new)
+            (seen B.holdings g.new) self.new.staked) }
+
+        // Whatever the answer.
+        ensures goes_on { GoesOn B.marks B.touches H.marks
+            g.old g.new hooks.old hooks.new self.old self.new result }
+    {
+        if coin.amount == 0 {
+            return Err(Stop::Refused(Refusal::NonPositive));
+        }
+        self.known();
+        let v = match self.at(operator, steps) {
+            Some(v) => *v,
+            None => return Err(Stop::Refused(Refusal::NoValidator)),
+        };
+        if is_other(&g.ctx.params.bond_denom, &coin.denom) {
+            return Err(Stop::Refused(Refusal::WrongDenom));
+        }
+        let origin = Origin::Wallet;
+        self.delegate_to(alloc, g, hooks, &v, delegator, coin.amount, origin, steps)
     }
 
     /// The same, to this validator.
@@ -73,7 +119,7 @@ impl Staking {
         g: &mut Ground<B>,
         hooks: &mut H,
         v: &Validator,
-        who: &Addr,
+        delegator: &Addr,
         amount: u128,
         origin: Origin,
         steps: &mut Steps<L>,
@@ -86,7 +132,7 @@ impl Staking {
             self.old.staked (seen B.holdings g.old) }
 
         ensures told { (h : H.Held) → H.holds hooks.old h → (log : Log)
-            → AnswersAs (delegated H.tells.told v.now who.now amount (origin_of origin)
+            → AnswersAs (delegated H.tells.told v.now delegator.now amount (origin_of origin)
             (behind_log log self.old.staked h (seen B.holdings g.old)))
             self.new.staked (H.holds hooks.new) (seen B.holdings g.new) result }
         ensures scene { OnOk result (IsScene H.tells (H.holds hooks.new)
@@ -97,9 +143,9 @@ impl Staking {
             g.old g.new hooks.old hooks.new self.old self.new result }
     {
         let issued = shares_given(v, amount)?;
-        let held = self.held(who, &v.operator, steps);
-        call_before(alloc, g, hooks, v, who, &held, steps)?;
-        pay_in(alloc, g, who, v.status, amount, origin, steps)?;
+        let held = self.held(delegator, &v.operator, steps);
+        call_before(alloc, g, hooks, v, delegator, &held, steps)?;
+        pay_in(alloc, g, delegator, v.status, amount, origin, steps)?;
         let grown = Validator {
             tokens: v.tokens + amount,
             shares: v.shares.add(issued).unwrap(),
@@ -107,8 +153,8 @@ impl Staking {
         };
         let shares = total_of(&held, issued);
         self.put(&grown, steps)?;
-        self.put_shares(who, &v.operator, shares, steps)?;
-        hooks.after_delegation_modified(alloc, g, &grown, who, shares, steps)?;
+        self.put_shares(delegator, &v.operator, shares, steps)?;
+        hooks.after_delegation_modified(alloc, g, &grown, delegator, shares, steps)?;
         Ok(issued)
     }
 }
@@ -160,21 +206,22 @@ fn call_before<B: Bank, H: StakingHooks, L: Ledger>(
     g: &mut Ground<B>,
     hooks: &mut H,
     v: &Validator,
-    who: &Addr,
+    delegator: &Addr,
     held: &Option<Dec>,
     steps: &mut Steps<L>,
 ) -> Result<(), HookFault>
-    requires { MayCall (H.holds hooks.old) H.tells (hook_before v.now who.now held.now)
+    requires { MayCall (H.holds hooks.old) H.tells (hook_before v.now delegator.now held.now)
         (seen B.holdings g.old) }
     ensures told { (h : H.Held) → H.holds hooks.old h
-        → Answers (H.tells.told h (hook_before v.now who.now held.now) (seen B.holdings g.old))
+        → Answers (H.tells.told h (hook_before v.now delegator.now held.now)
+        (seen B.holdings g.old))
         (H.holds hooks.new) (seen B.holdings g.new) result }
     ensures undone { CanBeUndone B.marks g.old g.new }
     ensures bank { B.touches g.new.bank ≡ B.touches g.old.bank }
     ensures marks { H.marks hooks.new ≡ H.marks hooks.old }
 {
     match held {
-        None => hooks.before_delegation_created(alloc, g, v, who, steps),
-        Some(shares) => hooks.before_shares_modified(alloc, g, v, who, *shares, steps),
+        None => hooks.before_delegation_created(alloc, g, v, delegator, steps),
+        Some(shares) => hooks.before_shares_modified(alloc, g, v, delegator, *shares, steps),
     }
 }

@@ -39,7 +39,7 @@ impl Staking {
         ensures ground { g.new ≡ g.old }
         ensures sound { OnOk result (IsSoundStake self.new.staked) }
         ensures register { RegisterGoesOn self.old self.new result }
-        ensures cost { steps.new ≤ steps.old + 2 }
+        ensures cost { steps.new ≤ steps.old + 9 }
     {
         self.known();
         form_edit(m)?;

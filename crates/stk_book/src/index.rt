@@ -3,12 +3,13 @@
 
 ghost use Rattle.std.specs.Prelude.{◌≡◌, ◌+◌, Some, None, length, OnOk, OnErr};
 ghost use Rattle.stk_types.specs.Orders.{addr_cmp, cons_cmp};
-ghost use Rattle.stk_table.specs.Tabled.{value_at, with_value, without_key, IsForgotten, IsGoneBack};
-ghost use Rattle.stk_keep.specs.Entries.{without};
+ghost use Rattle.stk_keep.specs.Entries.{at, with, without};
 ghost use Rattle.std.specs.Option.{option_copied};
-ghost use Rattle.stk_book.specs.Registered.{IsIndex, operator_by_cons};
-ghost use Rattle.stk_book.specs.Joint.{listed, is_lower, Stays};
+ghost use Rattle.stk_book.specs.Listed.{having};
+ghost use Rattle.stk_book.specs.Registered.{AreKeyed, IsIndex, operator_by_cons};
+ghost use Rattle.stk_book.specs.Joint.{listed, is_lower};
 
+use crate::listed::ListedValidators;
 use std::cmp::Ordering;
 use std::sync::ledger::Ledger;
 use stk_keep::Validator;
@@ -18,18 +19,20 @@ use stk_types::{Addr, ConsAddr, Steps};
 /// Puts a validator whose operator has none into both tables. Where memory is wanting, the entries of both
 /// stay.
 pub(crate) fn put_both<L: Ledger>(
-    validators: &mut Table<Addr, Validator>,
+    validators: &mut ListedValidators,
     operators: &mut Table<ConsAddr, Addr>,
     v: &Validator,
     steps: &mut Steps<L>,
 ) -> Result<(), TableFault>
-    requires new { value_at addr_cmp validators.old.entries v.now.operator ≡ None }
+    requires new { at addr_cmp validators.old.entries v.now.operator ≡ None }
+    requires keyed { AreKeyed validators.old.entries }
     requires index { IsIndex validators.old.entries operators.old.entries }
     ensures validators { OnOk result
-        (validators.new ≡ with_value addr_cmp validators.old v.now.operator v.now) }
+        (validators.new
+        ≡ having (with addr_cmp validators.old.entries v.now.operator v.now) validators.old) }
     ensures index { OnOk result (IsIndex validators.new.entries operators.new.entries) }
     ensures marks { OnOk result (operators.new.marks ≡ operators.old.marks) }
-    ensures validators_stay { OnErr result (Stays validators.old validators.new) }
+    ensures validators_stay { OnErr result (validators.new ≡ validators.old) }
     ensures operators_entries { OnErr result (operators.new.entries ≡ operators.old.entries) }
     ensures operators_marks { OnErr result (operators.new.marks ≡ operators.old.marks) }
 {
@@ -42,7 +45,7 @@ pub(crate) fn put_both<L: Ledger>(
             return Err(fault);
         }
     }
-    match validators.put(&v.operator, *v, steps) {
+    match validators.put(v, steps) {
         Ok(()) => {
             operators.forget();
             Ok(())
@@ -57,20 +60,22 @@ pub(crate) fn put_both<L: Ledger>(
 /// Takes a validator out of both tables, whose consensus address no other has. Where memory is wanting, the
 /// entries of both stay.
 pub(crate) fn take_both<L: Ledger>(
-    validators: &mut Table<Addr, Validator>,
+    validators: &mut ListedValidators,
     operators: &mut Table<ConsAddr, Addr>,
     v: &Validator,
     steps: &mut Steps<L>,
 ) -> Result<(), TableFault>
-    requires stands { value_at addr_cmp validators.old.entries v.now.operator ≡ Some v.now }
+    requires stands { at addr_cmp validators.old.entries v.now.operator ≡ Some v.now }
+    requires keyed { AreKeyed validators.old.entries }
     requires alone { operator_by_cons (without addr_cmp validators.old.entries v.now.operator)
         v.now.cons ≡ None }
     requires index { IsIndex validators.old.entries operators.old.entries }
     ensures validators { OnOk result
-        (validators.new ≡ without_key addr_cmp validators.old v.now.operator) }
+        (validators.new
+        ≡ having (without addr_cmp validators.old.entries v.now.operator) validators.old) }
     ensures index { OnOk result (IsIndex validators.new.entries operators.new.entries) }
     ensures marks { OnOk result (operators.new.marks ≡ operators.old.marks) }
-    ensures validators_stay { OnErr result (Stays validators.old validators.new) }
+    ensures validators_stay { OnErr result (validators.new ≡ validators.old) }
     ensures operators_entries { OnErr result (operators.new.entries ≡ operators.old.entries) }
     ensures operators_marks { OnErr result (operators.new.marks ≡ operators.old.marks) }
 {
@@ -85,7 +90,7 @@ pub(crate) fn take_both<L: Ledger>(
         }
     }
     match validators.remove(&v.operator, steps) {
-        Ok(_) => {
+        Ok(()) => {
             operators.forget();
             Ok(())
         }

@@ -33,7 +33,7 @@ pub(crate) fn pool_of(status: BondStatus) -> Module
 pub(crate) fn pay_in<B: Bank, L: Ledger>(
     alloc: Global,
     g: &mut Ground<B>,
-    who: &Addr,
+    delegator: &Addr,
     status: BondStatus,
     amount: u128,
     origin: Origin,
@@ -42,7 +42,8 @@ pub(crate) fn pay_in<B: Bank, L: Ledger>(
     requires some { 0 < amount }
     requires backed { IsBacked (B.holdings g.old.bank) }
     requires enough { CanPay (origin_of origin) amount (seen B.holdings g.old) }
-    ensures paid { PaysAs (paid_in (origin_of origin) who.now status amount (seen B.holdings g.old))
+    ensures paid { PaysAs (paid_in (origin_of origin) delegator.now status amount
+        (seen B.holdings g.old))
         (seen B.holdings g.new) result }
     ensures backed { IsBacked (B.holdings g.new.bank) }
     ensures undone { CanBeUndone B.marks g.old g.new }
@@ -50,7 +51,7 @@ pub(crate) fn pay_in<B: Bank, L: Ledger>(
 {
     match origin {
         Origin::Wallet => {
-            let from = Account::User(*who);
+            let from = Account::User(*delegator);
             if g.bank.balance(&from, &g.ctx.params.bond_denom, steps) < amount {
                 return Err(Stop::Refused(Refusal::InsufficientFunds));
             }

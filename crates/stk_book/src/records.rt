@@ -4,14 +4,16 @@ ghost use Rattle.std.specs.Prelude.{◌≡◌, ◌≢◌, ◌++◌, ◌∷◌, [
 ghost use Rattle.stk_table.specs.Tabled.{with_mark};
 ghost use Rattle.stk_keep.specs.Staked.{Staked};
 ghost use Rattle.stk_rows.specs.Rows.{AreFit};
+ghost use Rattle.stk_book.specs.Listed as listed;
 ghost use Rattle.stk_book.specs.Registered.{AreInOrder};
 ghost use Rattle.stk_book.specs.Rows.{items_of, is_stake, FitsOperator};
 
 use crate::items::{DelegationKind, ValidatorKind};
+use crate::listed::ListedValidators;
 use crate::staking::Staking;
 use std::alloc::Global;
 use std::sync::ledger::Ledger;
-use stk_keep::{Delegation, Item, RecordFault, Records, Validator};
+use stk_keep::{Delegation, Item, RecordFault, Records};
 use stk_rows::{Both, Kinds, One};
 use stk_table::{Table, TableFault};
 use stk_types::{Addr, ConsAddr, Steps};
@@ -146,7 +148,7 @@ impl Staking {
     {
         Both {
             first: One {
-                table: &self.validators,
+                table: self.validators.records(),
             },
             second: One {
                 table: &self.delegations,
@@ -155,13 +157,13 @@ impl Staking {
     }
 }
 
-/// Opens a mark of the three tables, or of none.
+/// Opens a mark of the validators, the index and the delegations, or of none.
 fn mark_all(
-    validators: &mut Table<Addr, Validator>,
+    validators: &mut ListedValidators,
     operators: &mut Table<ConsAddr, Addr>,
     delegations: &mut Table<(Addr, Addr), Delegation>,
 ) -> Result<(), TableFault>
-    ensures validators { OnOk result (validators.new ≡ with_mark validators.old) }
+    ensures validators { OnOk result (validators.new ≡ listed.with_mark validators.old) }
     ensures operators { OnOk result (operators.new ≡ with_mark operators.old) }
     ensures delegations { OnOk result (delegations.new ≡ with_mark delegations.old) }
     ensures validators_err { OnErr result (validators.new ≡ validators.old) }

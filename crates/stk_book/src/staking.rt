@@ -9,16 +9,19 @@ ghost use Rattle.stk_keep.specs.Entries.{without};
 ghost use Rattle.stk_keep.specs.Orders.{pair_cmp};
 ghost use Rattle.stk_keep.specs.Staked.{validator_at, validator_by_cons, delegation, put_validator};
 ghost use Rattle.stk_rules.specs.Stakes.{without_validator, put_delegation, without_shares};
+ghost use Rattle.stk_book.specs.Places.{standing, standing_cmp, time_cmp, power_place, bonded_place, maturing_place, in_order};
 ghost use Rattle.stk_book.specs.Registered.{new_register, holding, spent_now, operator_by_cons, Stands};
 
 use crate::index::{put_both, take_both};
+use crate::listed::ListedValidators;
+use crate::places::Standing;
 use std::alloc::Global;
 use std::marker::Model;
 use std::sync::ledger::Ledger;
 use stk_dec::Dec;
 use stk_keep::{Delegation, Validator};
 use stk_table::{Table, TableFault};
-use stk_types::{Addr, ConsAddr, Steps};
+use stk_types::{Addr, ConsAddr, Moment, Steps};
 
 /// Validators and delegations, in tables. Contracts see both, as they stand, at each open mark, and at the
 /// last settling, and whether memory was wanting in a change.
@@ -26,15 +29,14 @@ use stk_types::{Addr, ConsAddr, Steps};
 /// Once memory was wanting in a change, each later change answers `NoMemory`.
 #[derive(Drop)]
 pub struct Staking {
-    /// By operator.
-    pub(crate) validators: Table<Addr, Validator>,
+    /// By operator, with the lists by power, of the bonded ones and of the unbonding ones.
+    pub(crate) validators: ListedValidators,
     /// The first operator of each consensus address.
     pub(crate) operators: Table<ConsAddr, Addr>,
     /// The shares by operator and delegator.
     pub(crate) delegations: Table<(Addr, Addr), Delegation>,
     pub(crate) alloc: Global,
     pub(crate) spent: bool,
-    power_reduction: u64,
 }
 
 impl Model for Staking {
@@ -42,7 +44,7 @@ impl Model for Staking {
 
     ghost Value = { Registered };
 
-    ghost view = { λ s. registered s.validators s.delegations s.spent s.power_reduction };
+    ghost view = { λ s. registered s.validators s.delegations s.spent };
 
     ghost invariant = { λ s. AreInStep s.validators s.operators s.delegations };
 }
@@ -56,12 +58,11 @@ impl Staking {
         ensures { result ≡ new_register power_reduction }
     {
         Staking {
-            validators: Table::new(alloc),
+            validators: ListedValidators::new(alloc, power_reduction),
             operators: Table::new(alloc),
             delegations: Table::new(alloc),
             alloc,
             spent: false,
-            power_reduction,
         }
     }
 
@@ -76,10 +77,55 @@ impl Staking {
             (entry_above addr_cmp self.now.staked.validators (option_copied after.entry)) }
         ensures cost { steps.new ≤ steps.old + 1 }
     {
-        match self.validators.next(after, steps) {
-            Some((_, v)) => Some(v),
-            None => None,
-        }
+        self.validators.next(after, steps)
+    }
+
+    /// The first validator behind the place of so much power and an operator, among those that are not
+    /// jailed and have some power, by falling power and rising operator (`ValidatorsPowerStoreIterator`);
+    /// the first of all for None, and None where there is none. Takes no memory.
+    pub fn next_by_power<L: Ledger>(
+        &self,
+        after: Option<(u64, Addr)>,
+        steps: &mut Steps<L>,
+    ) -> Option<&Validator>
+        ensures validator { option_copied result ≡ option_map (λ e. e.1) (entry_above standing_cmp
+            (in_order standing_cmp (power_place self.now.power_reduction)
+            self.now.staked.validators) (option_map standing after)) }
+        ensures cost { steps.new ≤ steps.old + 2 }
+    {
+        self.validators
+            .next_by_power(standing_of(after).as_ref(), steps)
+    }
+
+    /// The first validator of an operator above `after` among those that are bonded, by rising operator
+    /// (`LastValidatorsIterator`); the first of all for None, and None where there is none. Takes no memory.
+    pub fn next_bonded<L: Ledger>(
+        &self,
+        after: Option<&Addr>,
+        steps: &mut Steps<L>,
+    ) -> Option<&Validator>
+        ensures validator { option_copied result ≡ option_map (λ e. e.1) (entry_above addr_cmp
+            (in_order addr_cmp (bonded_place self.now.power_reduction)
+            self.now.staked.validators) (option_copied after.entry)) }
+        ensures cost { steps.new ≤ steps.old + 2 }
+    {
+        self.validators.next_bonded(after, steps)
+    }
+
+    /// The first validator behind this time and operator among those that are unbonding, by the time at
+    /// which that ends and rising operator (`ValidatorQueueIterator`); the first of all for None, and None
+    /// where there is none. Takes no memory.
+    pub fn next_maturing<L: Ledger>(
+        &self,
+        after: Option<(Moment, Addr)>,
+        steps: &mut Steps<L>,
+    ) -> Option<&Validator>
+        ensures validator { option_copied result ≡ option_map (λ e. e.1) (entry_above time_cmp
+            (in_order time_cmp (maturing_place self.now.power_reduction)
+            self.now.staked.validators) after) }
+        ensures cost { steps.new ≤ steps.old + 2 }
+    {
+        self.validators.next_maturing(after.as_ref(), steps)
     }
 
     /// It tells that the keys ascend.
@@ -120,14 +166,14 @@ impl Staking {
     /// The shares of a delegation.
     pub(crate) fn held<L: Ledger>(
         &self,
-        who: &Addr,
+        delegator: &Addr,
         operator: &Addr,
         steps: &mut Steps<L>,
     ) -> Option<Dec>
-        ensures value { result ≡ delegation self.now.staked who.now operator.now }
+        ensures value { result ≡ delegation self.now.staked delegator.now operator.now }
         ensures cost { steps.new ≡ steps.old + 1 }
     {
-        match self.delegations.get(&(*operator, *who), steps) {
+        match self.delegations.get(&(*operator, *delegator), steps) {
             Some(stake) => Some(stake.shares()),
             None => None,
         }
@@ -144,13 +190,13 @@ impl Staking {
             (self.new ≡ holding (put_validator v.now self.old.staked) self.old) }
         ensures err { OnErr result (self.new ≡ spent_now self.old) }
         ensures spent { self.old.spent ≡ true → IsErr result }
-        ensures cost { steps.new ≤ steps.old + 1 }
+        ensures cost { steps.new ≤ steps.old + 8 }
     {
         if self.spent {
             return Err(TableFault::Spent);
         }
         self.validators.known();
-        match self.validators.put(&v.operator, *v, steps) {
+        match self.validators.put(v, steps) {
             Ok(()) => Ok(()),
             Err(fault) => {
                 self.spent = true;
@@ -212,13 +258,13 @@ impl Staking {
     /// Puts the shares of a delegation.
     pub(crate) fn put_shares<L: Ledger>(
         &mut self,
-        who: &Addr,
+        delegator: &Addr,
         operator: &Addr,
         shares: Dec,
         steps: &mut Steps<L>,
     ) -> Result<(), TableFault>
         ensures ok { OnOk result (self.new
-            ≡ holding (put_delegation who.now operator.now shares self.old.staked) self.old) }
+            ≡ holding (put_delegation delegator.now operator.now shares self.old.staked) self.old) }
         ensures err { OnErr result (self.new ≡ spent_now self.old) }
         ensures spent { self.old.spent ≡ true → IsErr result }
     {
@@ -227,7 +273,7 @@ impl Staking {
         }
         match self
             .delegations
-            .put(&(*operator, *who), Delegation::of(shares), steps)
+            .put(&(*operator, *delegator), Delegation::of(shares), steps)
         {
             Ok(()) => Ok(()),
             Err(fault) => {
@@ -240,24 +286,38 @@ impl Staking {
     /// Takes a delegation out.
     pub(crate) fn take_shares<L: Ledger>(
         &mut self,
-        who: &Addr,
+        delegator: &Addr,
         operator: &Addr,
         steps: &mut Steps<L>,
     ) -> Result<(), TableFault>
         ensures ok { OnOk result
-            (self.new ≡ holding (without_shares who.now operator.now self.old.staked) self.old) }
+            (self.new
+            ≡ holding (without_shares delegator.now operator.now self.old.staked) self.old) }
         ensures err { OnErr result (self.new ≡ spent_now self.old) }
         ensures spent { self.old.spent ≡ true → IsErr result }
     {
         if self.spent {
             return Err(TableFault::Spent);
         }
-        match self.delegations.remove(&(*operator, *who), steps) {
+        match self.delegations.remove(&(*operator, *delegator), steps) {
             Ok(_) => Ok(()),
             Err(fault) => {
                 self.spent = true;
                 Err(fault)
             }
         }
+    }
+}
+
+/// A place by power, where one is given.
+fn standing_of(after: Option<(u64, Addr)>) -> Option<Standing>
+    ensures { result ≡ option_map standing after }
+{
+    match after {
+        Some((power, operator)) => Some(Standing {
+            power: u128::from(power),
+            operator,
+        }),
+        None => None,
     }
 }

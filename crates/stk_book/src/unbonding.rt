@@ -53,11 +53,11 @@ impl Unbonder for Staking {
 
     fn shares_of<L: Ledger>(
         &self,
-        who: &Addr,
+        delegator: &Addr,
         operator: &Addr,
         steps: &mut Steps<L>,
     ) -> Option<Dec> {
-        self.held(who, operator, steps)
+        self.held(delegator, operator, steps)
     }
 
     fn unbond<B: Bank, H: StakingHooks, L: Ledger>(
@@ -65,22 +65,22 @@ impl Unbonder for Staking {
         alloc: Global,
         g: &mut Ground<B>,
         hooks: &mut H,
-        who: &Addr,
+        delegator: &Addr,
         operator: &Addr,
         shares: Dec,
         steps: &mut Steps<L>,
     ) -> Result<u128, HookFault>
-        requires shares { HasShares self.old.staked who.now operator.now shares }
+        requires shares { HasShares self.old.staked delegator.now operator.now shares }
         requires sound { IsSoundStake self.old.staked }
         requires stand { Stands (H.holds hooks.old) H.tells
             (seen B.holdings g.old) (lists_of self.old.staked) }
 
-        ensures told { (h : H.Held) → H.holds hooks.old h
-            → Follows (shares_unbonded H.tells.told who.now operator.now shares
-            (over self.old.staked h (seen B.holdings g.old)))
+        ensures told { (h : H.Held) → H.holds hooks.old h → (log : Log)
+            → Follows (shares_unbonded H.tells.told delegator.now operator.now shares
+            (behind_log log self.old.staked h (seen B.holdings g.old)))
             self.new.staked (H.holds hooks.new) (seen B.holdings g.new) result }
         ensures unbonded { IfOk result (λ out.
-            IsUnbonded who.now operator.now shares out self.old.staked self.new.staked) }
+            IsUnbonded delegator.now operator.now shares out self.old.staked self.new.staked) }
         ensures sound { OnOk result (IsSoundStake self.new.staked) }
         ensures stand { OnOk result (Stands (H.holds hooks.new) H.tells
             (seen B.holdings g.new) (lists_of self.new.staked)) }
@@ -93,8 +93,8 @@ impl Unbonder for Staking {
     {
         self.known();
         let v = *self.at(operator, steps).unwrap();
-        let held = self.held(who, operator, steps).unwrap();
-        self.unbond_from(alloc, g, hooks, &v, who, held, shares, steps)
+        let held = self.held(delegator, operator, steps).unwrap();
+        self.unbond_from(alloc, g, hooks, &v, delegator, held, shares, steps)
     }
 
     ghost looks_up = { λ s. refl };
@@ -110,23 +110,23 @@ impl Staking {
         g: &mut Ground<B>,
         hooks: &mut H,
         v: &Validator,
-        who: &Addr,
+        delegator: &Addr,
         held: Dec,
         part: Dec,
         steps: &mut Steps<L>,
     ) -> Result<u128, HookFault>
         requires stands { validator_at self.old.staked v.now.operator ≡ Some v.now }
-        requires holds { delegation self.old.staked who.now v.now.operator ≡ Some held }
+        requires holds { delegation self.old.staked delegator.now v.now.operator ≡ Some held }
         requires part { part ≤ held }
         requires hooked { IsHooked H.tells (H.holds hooks.old)
             (seen B.holdings g.old) self.old.staked }
 
         ensures told { (h : H.Held) → H.holds hooks.old h
-            → Follows (unbonded_shares H.tells.told v.now who.now held part
+            → Follows (unbonded_shares H.tells.told v.now delegator.now held part
             (over self.old.staked h (seen B.holdings g.old)))
             self.new.staked (H.holds hooks.new) (seen B.holdings g.new) result }
         ensures unbonded { IfOk result (λ out.
-            IsUnbonded who.now v.now.operator part out self.old.staked self.new.staked) }
+            IsUnbonded delegator.now v.now.operator part out self.old.staked self.new.staked) }
         ensures sound { OnOk result (IsSoundStake self.new.staked) }
         ensures stand { OnOk result (Stands (H.holds hooks.new) H.tells
             (seen B.holdings g.new) (lists_of self.new.staked)) }
@@ -137,10 +137,10 @@ impl Staking {
         ensures goes_on { GoesOn B.marks B.touches H.marks
             g.old g.new hooks.old hooks.new self.old self.new result }
     {
-        hooks.before_shares_modified(alloc, g, v, who, held, steps)?;
+        hooks.before_shares_modified(alloc, g, v, delegator, held, steps)?;
         let left = held.sub(part);
-        let now = self.jail_if_low(g, v, who, left, steps)?;
-        match self.leave_standing(alloc, g, hooks, &now, who, left, steps) {
+        let now = self.jail_if_low(g, v, delegator, left, steps)?;
+        match self.leave_standing(alloc, g, hooks, &now, delegator, left, steps) {
             Ok(()) => (),
             Err(fault) => return Err(fault),
         }
@@ -163,7 +163,7 @@ impl Staking {
         &mut self,
         g: &mut Ground<B>,
         v: &Validator,
-        who: &Addr,
+        delegator: &Addr,
         left: Dec,
         steps: &mut Steps<L>,
     ) -> Result<Validator, HookFault>
@@ -172,11 +172,14 @@ impl Staking {
         requires some { 0 < v.now.shares }
         requires left { left ≤ v.now.shares }
         ensures now { IfOk result (λ now. now
-            ≡ record v.now { jailed = v.now.jailed || falls_below_minimum v.now who.now left }) }
+            ≡ record v.now {
+              jailed = v.now.jailed || falls_below_minimum v.now delegator.now left;
+            }) }
         ensures staked { OnOk result (self.new ≡ holding
-            (jailed_if (falls_below_minimum v.now who.now left) v.now self.old.staked) self.old) }
+            (jailed_if (falls_below_minimum v.now delegator.now left) v.now self.old.staked)
+            self.old) }
         ensures ground { OnOk result (seen B.holdings g.new ≡ jail_noted
-            (falls_below_minimum v.now who.now left) v.now (seen B.holdings g.old)) }
+            (falls_below_minimum v.now delegator.now left) v.now (seen B.holdings g.old)) }
         ensures fault { IfErr result (λ fault. fault ≡ NoMemory) }
 
         // Whatever the answer.
@@ -185,7 +188,7 @@ impl Staking {
         ensures behind { behind self.new ≡ behind self.old }
         ensures spent { self.old.spent ≡ true → self.new.spent ≡ true }
     {
-        if !falls_below_minimum(v, who, left) {
+        if !falls_below_minimum(v, delegator, left) {
             return Ok(*v);
         }
         let mut now = *v;
@@ -204,14 +207,14 @@ impl Staking {
         g: &mut Ground<B>,
         hooks: &mut H,
         v: &Validator,
-        who: &Addr,
+        delegator: &Addr,
         left: Dec,
         steps: &mut Steps<L>,
     ) -> Result<(), HookFault>
         requires ready { 0 < left → MayCall (H.holds hooks.old) H.tells
-            (modified v.now who.now left) (seen B.holdings g.old) }
+            (modified v.now delegator.now left) (seen B.holdings g.old) }
         ensures told { (h : H.Held) → H.holds hooks.old h → (log : Log)
-            → Leaves (left_standing H.tells.told v.now who.now left
+            → Leaves (left_standing H.tells.told v.now delegator.now left
             (behind_log log self.old.staked h (seen B.holdings g.old)))
             self.new.staked (H.holds hooks.new) (seen B.holdings g.new) result }
 
@@ -220,11 +223,11 @@ impl Staking {
             g.old g.new hooks.old hooks.new self.old self.new result }
     {
         if left.raw() == 0 {
-            self.take_shares(who, &v.operator, steps)?;
+            self.take_shares(delegator, &v.operator, steps)?;
             return Ok(());
         }
-        self.put_shares(who, &v.operator, left, steps)?;
-        hooks.after_delegation_modified(alloc, g, v, who, left, steps)
+        self.put_shares(delegator, &v.operator, left, steps)?;
+        hooks.after_delegation_modified(alloc, g, v, delegator, left, steps)
     }
 
     /// A validator that is unbonded and has no shares goes.
@@ -265,13 +268,13 @@ impl Staking {
 
 /// Whether the delegator is the validator's operator, which is not jailed, and the shares left are worth
 /// less than its least self-delegation.
-fn falls_below_minimum(v: &Validator, who: &Addr, left: Dec) -> bool
+fn falls_below_minimum(v: &Validator, delegator: &Addr, left: Dec) -> bool
     requires tokens { v.now.tokens ≤ 10 ^ 18 }
     requires some { 0 < v.now.shares }
     requires left { left ≤ v.now.shares }
-    ensures { result ≡ falls_below_minimum v.now who.now left }
+    ensures { result ≡ falls_below_minimum v.now delegator.now left }
 {
-    if !is_same(who, &v.operator) {
+    if !is_same(delegator, &v.operator) {
         return false;
     }
     if v.jailed {

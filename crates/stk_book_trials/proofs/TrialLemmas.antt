@@ -1,12 +1,15 @@
 -- What the calls of tests leave is fit for the next ones.
-use Rattle.std.proofs.Common.{◌≡◌, ◌∙◌, ℕ, ◌+◌, ◌-◌, ◌^◌, ◌<◌, ◌≤◌, Bool, true, false, cond, List, Some, None, sym, ap, subst, arith}
-use Rattle.std.specs.Prelude.{option_map}
+use Rattle.std.proofs.Common.{◌≡◌, ◌∙◌, ℕ, ◌+◌, ◌-◌, ◌^◌, ◌<◌, ◌≤◌, Bool, true, false, cond, List, [], ◌∷◌, Some, None, sym, ap, subst, arith, inl, inr}
+use Rattle.std.specs.Prelude.{option_map, Contains, ◌⊎◌, ◌≢◌}
 use Rattle.std.specs.List.Sorted.{IsStrictlySortedBy}
 use Rattle.stk_types.specs.declared.status.BondStatus.{BondStatus}
 use Rattle.stk_keep.specs.declared.entities.Validator.{Validator}
 use Rattle.stk_types.specs.declared.account.Account.TheVariants as account
 use Rattle.stk_types.specs.declared.account.Module.TheVariants as holder
+use Rattle.stk_keep.specs.declared.items.Item.{Item}
+use Rattle.stk_keep.specs.declared.items.Item.TheVariants as item
 use Rattle.stk_keep.specs.Hooks.{Keeps}
+use Rattle.stk_keep.specs.Items.{HasRoom, IsAdded, IsEmptyPool, key_of}
 use Rattle.stk_keep.specs.Staked.{Staked, validator_at, put_validator, tokens_where, is_bonded, bonded_tokens, other_tokens, IsUnbonded}
 use Rattle.stk_keep.specs.World.{View}
 use Rattle.stk_keep.specs.Ground.{AreInRange, IsInOrder, end_of_blocks}
@@ -98,3 +101,25 @@ fit-opened s v e params time height bank = subst (λ x. IsFit x v) (sym e) (reco
 
     low : (h : ℕ) → h ≡ 1 → h < 2 ^ 63
     low h f = omega (arith, f)
+
+-- ---- items that are loaded
+
+none-contained : (xs : List Item) (i : Item) → xs ≡ [] → Contains xs i → ⊥
+none-contained [] i e h = let less = h.1 in absurd (omega (arith, less))
+none-contained (x ∷ xs) i e h = cc
+
+-- behind the first item there is room for one of another key
+room-behind : (old items : List Item) (first new : Item) → old ≡ [] → IsAdded old first items → (key_of first ≡ key_of new → ⊥) → HasRoom items new
+room-behind old items first new e added other i has same = by ((added i).0 has)
+  where
+    by : (i ≡ first) ⊎ (Contains old i × (key_of i ≢ key_of first)) → IsEmptyPool i
+    by (inl f) = absurd (other (sym (ap key_of f) ∙ same))
+    by (inr h) = absurd (none-contained old i e h.0)
+
+keys-apart : (v : Validator) (operator delegator : List ℕ) (shares : ℕ) → key_of (item.Validator v) ≡ key_of (item.Delegation operator delegator shares) → ⊥
+keys-apart v operator delegator shares e = cc
+
+-- beside a validator there is room for a delegation
+pub room-beside : (old items : List Item) (v : Validator) (operator delegator : List ℕ) (shares : ℕ) → old ≡ [] → IsAdded old (item.Validator v) items → HasRoom items (item.Delegation operator delegator shares)
+room-beside old items v operator delegator shares e added =
+    room-behind old items (item.Validator v) (item.Delegation operator delegator shares) e added (keys-apart v operator delegator shares)

@@ -53,7 +53,7 @@ fn free_first<L: Ledger>(
     Ok(true)
 }
 
-fn set_first<L: Ledger>(
+pub(crate) fn set_first<L: Ledger>(
     rt: &impl Abort,
     scene: &mut Scene,
     status: BondStatus,
@@ -342,9 +342,26 @@ fn loaded<L: Ledger>(
 ) -> Result<Staking, Fail> {
     let mut staking = Staking::new(rt.alloc(), 1_000_000);
     match (items.get(0), items.get(1)) {
-        (Some(validator @ Item::Validator { .. }), Some(delegation @ Item::Delegation { .. })) => {
-            staking.load(rt.alloc(), validator, steps)?;
-            staking.load(rt.alloc(), delegation, steps)?;
+        (
+            Some(Item::Validator { validator }),
+            Some(
+                Item::Delegation {
+                    operator,
+                    delegator,
+                    shares,
+                },
+            ),
+        ) => {
+            let first = Item::Validator {
+                validator: *validator,
+            };
+            let second = Item::Delegation {
+                operator: *operator,
+                delegator: *delegator,
+                shares: *shares,
+            };
+            staking.load(rt.alloc(), &first, steps)?;
+            staking.load(rt.alloc(), &second, steps)?;
         }
         _ => (),
     }

@@ -9,3 +9,5 @@ mod change_tests;
 mod tests;
 #[cfg(test)]
 mod trials;
+#[cfg(test)]
+mod walk_tests;

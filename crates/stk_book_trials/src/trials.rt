@@ -8,6 +8,7 @@ use crate::tests::{
     Creation, DAY, ONE, Scene, creates, edits, exceeds_after_a_burn, has_no_rate,
     issues_after_a_burn, jailed_and_removed, opened, takes_after_a_burn,
 };
+use crate::walk_tests::walks;
 use std::marker::Brand;
 use std::process::Abort;
 use std::sync::ledger::{Blank, Ledger};
@@ -32,6 +33,7 @@ enum Trial {
     Loads,
     TellsChanges,
     Admits,
+    Walks,
 }
 
 fn passes<L: Ledger>(
@@ -58,6 +60,7 @@ fn passes<L: Ledger>(
         Trial::Loads => loads(rt, scene, steps),
         Trial::TellsChanges => tells_changes(rt, scene, steps),
         Trial::Admits => admits(rt, scene, steps),
+        Trial::Walks => walks(rt, scene, steps),
     }
 }
 
@@ -121,6 +124,7 @@ fn staking_answers_and_leaves_what_its_rules_say(rt: HostRuntime) -> Result<(), 
         Trial::Loads,
         Trial::TellsChanges,
         Trial::Admits,
+        Trial::Walks,
     ] {
         assert!(rt; tried::<Brand>(&rt, trial, Blank::new(1))?, "{trial:?}");
     }

@@ -15,9 +15,15 @@ use Rattle.stk_machine.specs.GenesisState.{ground_at_start, empty_over, validato
 use Rattle.stk_machine.proofs.EnterLemmas.{IsEntering, Enters, one_enters, entering}
 use Rattle.stk_machine.proofs.StartLemmas.{entrant, one_added}
 use Rattle.stk_machine.proofs.UnhookedLemmas.{over, validator_added_is}
-use Rattle.stk_chain.specs.Chained.{ground_of, stands, AreAtRest}
+use Rattle.stk_chain.specs.Answers.{IsAdded}
+use Rattle.stk_chain.specs.Chained.{StandsFor, kept_of, ground_of, AreAtRest}
+use Rattle.stk_chain.proofs.StandLemmas.{stands, stands_for, is_state, of_each}
 use Rattle.stk_chain.specs.declared.modules.Modules.{Modules}
 use Rattle.stk_chain.proofs.PlaceLemmas.{next}
+
+-- what was added stands under the modules' state
+pub added_to : (r : Result (World Staked Hooks) Refusal) (m : Modules) → IsAdded r (kept_of m) → r ≡ Ok (staked_in (stands m))
+added_to r m a = a.1 ∙ ap (λ (w : State). Ok (staked_in w)) (is_state (kept_of m) a.0 a.2)
 
 -- ---- all validators join
 
@@ -36,8 +42,8 @@ pub record EnteredSoFar (g : Genesis) (place : ℕ) (first : State) (m : Modules
   pub coming : IsEntering g.params (drop place g.validators) m.staking.staked
   pub rest : each (validator_added no_hook) (drop place g.validators) (staked_in (stands m)) ≡ each (validator_added no_hook) g.validators (staked_in first)
 
-pub entered_first : (g : Genesis) (m : Modules) → start_condition g ≡ None → stands m ≡ empty_over (ground_at_start g) → AreAtRest m → EnteredSoFar g 0 (stands m) m
-entered_first g m e is r = record {
+pub entered_first : (g : Genesis) (m : Modules) → start_condition g ≡ None → StandsFor (kept_of m) (empty_over (ground_at_start g)) → AreAtRest m → EnteredSoFar g 0 (stands m) m
+entered_first g m e empty r = let is : stands m ≡ empty_over (ground_at_start g) = sym (is_state (kept_of m) (empty_over (ground_at_start g)) empty) in record {
   at_rest = r;
   ground = ap (λ (w : State). w.view) is;
   coming = subst (IsEntering g.params g.validators) (sym (ap (λ (w : State). w.mine.staked) is)) (entering g e);
@@ -54,8 +60,9 @@ module _ (g : Genesis) (place : ℕ) (first : State) (m : Modules) (v : GenesisV
   pub address_free : validator_by_cons m.staking.staked v.cons ≡ None
   address_free = here.new_cons
 
-  pub entered_next : (m2 : Modules) → validator_added no_hook v (staked_in (stands m)) ≡ Ok (staked_in (stands m2)) → AreAtRest m2 → EnteredSoFar g (place + 1) first m2
-  entered_next m2 added r =
+  pub entered_next : (m2 : Modules) → ((p : State) → StandsFor (kept_of m) p → IsAdded (validator_added no_hook v (staked_in p)) (kept_of m2)) → AreAtRest m2 → EnteredSoFar g (place + 1) first m2
+  entered_next m2 adds r =
+      let added = added_to (validator_added no_hook v (staked_in (stands m))) m2 (adds (stands m) (stands_for (kept_of m))) in
       let joined = entrant (ground_of m) v in
       let same : staked_in (stands m2) ≡ over idle (put_validator joined m.staking.staked) (ground_of m)
       = same_ok (validator_added no_hook v (staked_in (stands m))) (staked_in (stands m2)) (over idle (put_validator joined m.staking.staked) (ground_of m)) added (validator_added_is idle v m.staking.staked (ground_of m)) in
@@ -68,6 +75,12 @@ module _ (g : Genesis) (place : ℕ) (first : State) (m : Modules) (v : GenesisV
             ∙ so.rest;
       }
 
+-- the validators before this place joined, and no more are to come
+pub all_entered : (g : Genesis) (place : ℕ) (first m : Modules) → drop place g.validators ≡ [] → EnteredSoFar g place (stands first) m
+    → (p : State) → StandsFor (kept_of first) p → IsAdded (each (validator_added no_hook) g.validators (staked_in p)) (kept_of m)
+all_entered g place first m e so = of_each (kept_of first) (λ (p : State). IsAdded (each (validator_added no_hook) g.validators (staked_in p)) (kept_of m))
+    (stands m, sym so.rest ∙ ap (λ (l : List GenesisValidator). each (validator_added no_hook) l (staked_in (stands m))) e, stands_for (kept_of m))
+
 -- ---- all delegations are added
 
 -- the delegations before this place were added, and the rest may be
@@ -76,15 +89,26 @@ pub record AddedSoFar (ds : List GenesisDelegation) (place : ℕ) (first : State
   pub starting : IsStarting (drop place ds) (staked_in (stands m))
   pub rest : each (delegation_added no_hook) (drop place ds) (staked_in (stands m)) ≡ each (delegation_added no_hook) ds (staked_in first)
 
-pub added_first : (ds : List GenesisDelegation) (m : Modules) → IsStarting ds (staked_in (stands m)) → AreAtRest m → AddedSoFar ds 0 (stands m) m
-added_first ds m s r = record { at_rest = r; starting = s; rest = refl }
+pub added_first : (ds : List GenesisDelegation) (m : Modules) → (p : State) × StandsFor (kept_of m) p × IsStarting ds (staked_in p) → AreAtRest m → AddedSoFar ds 0 (stands m) m
+added_first ds m s r = record { at_rest = r; starting = subst (λ (w : State). IsStarting ds (staked_in w)) (is_state (kept_of m) s.0 s.1) s.2; rest = refl }
+
+-- the delegations before this place were added, and no more are to come
+pub all_added : (ds : List GenesisDelegation) (place : ℕ) (first m : Modules) → drop place ds ≡ [] → AddedSoFar ds place (stands first) m
+    → (p : State) → StandsFor (kept_of first) p → IsAdded (each (delegation_added no_hook) ds (staked_in p)) (kept_of m)
+all_added ds place first m e so = of_each (kept_of first) (λ (p : State). IsAdded (each (delegation_added no_hook) ds (staked_in p)) (kept_of m))
+    (stands m, sym so.rest ∙ ap (λ (l : List GenesisDelegation). each (delegation_added no_hook) l (staked_in (stands m))) e, stands_for (kept_of m))
 
 module _ (ds : List GenesisDelegation) (place : ℕ) (first : State) (m : Modules) (d : GenesisDelegation) (lt : place < length ds) (is : d ≡ get_or ds place d) (so : AddedSoFar ds place first m) where
   starting_here : IsStarting (d ∷ drop (place + 1) ds) (staked_in (stands m))
   starting_here = subst (λ l. IsStarting l (staked_in (stands m))) (next ds place d lt is) so.starting
 
-  pub added_next : (m2 : Modules) → delegation_added no_hook d (staked_in (stands m)) ≡ Ok (staked_in (stands m2)) → AreAtRest m2 → AddedSoFar ds (place + 1) first m2
-  added_next m2 added r =
+  -- the next may be added
+  pub may_be_next : (p : State) × (later : List GenesisDelegation) × StandsFor (kept_of m) p × IsStarting (d ∷ later) (staked_in p)
+  may_be_next = (stands m, drop (place + 1) ds, stands_for (kept_of m), starting_here)
+
+  pub added_next : (m2 : Modules) → ((p : State) → StandsFor (kept_of m) p → IsAdded (delegation_added no_hook d (staked_in p)) (kept_of m2)) → AreAtRest m2 → AddedSoFar ds (place + 1) first m2
+  added_next m2 adds r =
+      let added = added_to (delegation_added no_hook d (staked_in (stands m))) m2 (adds (stands m) (stands_for (kept_of m))) in
       let one = one_added d (drop (place + 1) ds) idle m.staking.staked (ground_of m) starting_here in
       let same : over idle one.left (ground_of m) ≡ staked_in (stands m2)
       = same_ok (delegation_added no_hook d (staked_in (stands m))) (over idle one.left (ground_of m)) (staked_in (stands m2)) one.gives added in

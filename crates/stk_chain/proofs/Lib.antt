@@ -1,3 +1,4 @@
+pub mod StandLemmas
 pub mod PlaceLemmas
 pub mod MessageLemmas
 pub mod RepeatLemmas

@@ -33,9 +33,11 @@ use Rattle.stk_machine.specs.GenesisConditions.{creation_of, start_condition}
 use Rattle.stk_machine.specs.GenesisState.{ground_at_start, empty_over, validator_added, delegation_added, stake_added, without_facts}
 use Rattle.stk_machine.proofs.StartLemmas.{no_stake, start_in_order, begun, one_added, Added}
 use Rattle.stk_machine.proofs.UnhookedLemmas.{over, stored_is, validator_added_is}
-use Rattle.stk_chain.specs.Chained.{ground_of, stands, marks_of, no_marks, AreAtRest}
+use Rattle.stk_chain.specs.Answers.{Starts, IsAdded}
+use Rattle.stk_chain.specs.Chained.{StandsFor, kept_of, ground_of, marks_of, no_marks, AreAtRest}
+use Rattle.stk_chain.proofs.StandLemmas.{stands, stands_for, is_state, of_each}
 use Rattle.stk_chain.specs.declared.modules.Modules.{Modules}
-use Rattle.stk_chain.proofs.JoinLemmas.{idle, same_ok}
+use Rattle.stk_chain.proofs.JoinLemmas.{idle, same_ok, added_to}
 
 -- ---- hooks that do nothing
 
@@ -118,15 +120,23 @@ module _ (v : GenesisValidator) (bond : List ℕ) (time : ℕ) (s : Staked) (u :
 
 -- the machine adds it so
 pub admitted_added : (v : GenesisValidator) (m m2 : Modules) → AdmittedAs v m.ground.ctx.params.bond_denom m.ground.ctx.time m.staking.staked (ground_of m) m2.staking.staked (ground_of m2) (Ok tt)
-    → validator_added no_hook v (staked_in (stands m)) ≡ Ok (staked_in (stands m2))
+    → (p : State) → StandsFor (kept_of m) p → IsAdded (validator_added no_hook v (staked_in p)) (kept_of m2)
 admitted_added v m m2 a =
     let bond = m.ground.ctx.params.bond_denom in
     let time = m.ground.ctx.time in
-    validator_added_is idle v m.staking.staked (ground_of m)
-    ∙ ap (λ s. Ok (over idle s (ground_of m))) (sym (admitted_stake v bond time m.staking.staked (ground_of m) m2.staking.staked (ground_of m2) a))
-    ∙ ap (λ u. Ok (over idle m2.staking.staked u)) (sym (admitted_view v bond time m.staking.staked (ground_of m) m2.staking.staked (ground_of m2) a))
+    of_each (kept_of m) (λ (p : State). IsAdded (validator_added no_hook v (staked_in p)) (kept_of m2)) (
+      stands m2,
+      validator_added_is idle v m.staking.staked (ground_of m)
+          ∙ ap (λ s. Ok (over idle s (ground_of m))) (sym (admitted_stake v bond time m.staking.staked (ground_of m) m2.staking.staked (ground_of m2) a))
+          ∙ ap (λ u. Ok (over idle m2.staking.staked u)) (sym (admitted_view v bond time m.staking.staked (ground_of m) m2.staking.staked (ground_of m2) a)),
+      stands_for (kept_of m2),
+    )
 
 -- ---- a delegation is added
+
+-- the next delegation may be added to the modules' state
+pub starting_now : (d : GenesisDelegation) (later : List GenesisDelegation) (m : Modules) (p : State) → StandsFor (kept_of m) p → IsStarting (d ∷ later) (staked_in p) → IsStarting (d ∷ later) (staked_in (stands m))
+starting_now d later m p s i = subst (λ (w : State). IsStarting (d ∷ later) (staked_in w)) (is_state (kept_of m) p s) i
 
 module _ (d : GenesisDelegation) (later : List GenesisDelegation) (m : Modules) (is : IsStarting (d ∷ later) (staked_in (stands m))) where
   -- what one delegation leaves
@@ -150,16 +160,19 @@ module _ (d : GenesisDelegation) (later : List GenesisDelegation) (m : Modules) 
   never_refused s2 u2 (stop.Refused why) a = absurd (delegated_is s2 u2 (Err (stop.Refused why)) a)
   never_refused s2 u2 stop.NoMemory a = tt
 
-  pub delegated_added : (m2 : Modules) (n : ℕ) → DelegatedAs m2.staking.staked (ground_of m2) (Ok n) → delegation_added no_hook d (staked_in (stands m)) ≡ Ok (staked_in (stands m2))
-  delegated_added m2 n a =
-      one.gives
-      ∙ ap (λ s. Ok (over idle s (ground_of m))) (sym (delegated_stake m2.staking.staked (ground_of m2) n a))
-      ∙ ap (λ u. Ok (over idle m2.staking.staked u)) (sym (delegated_view m2.staking.staked (ground_of m2) n a))
+  pub delegated_added : (m2 : Modules) (n : ℕ) → DelegatedAs m2.staking.staked (ground_of m2) (Ok n) → (p : State) → StandsFor (kept_of m) p → IsAdded (delegation_added no_hook d (staked_in p)) (kept_of m2)
+  delegated_added m2 n a = of_each (kept_of m) (λ (p : State). IsAdded (delegation_added no_hook d (staked_in p)) (kept_of m2)) (
+    stands m2,
+    one.gives
+        ∙ ap (λ s. Ok (over idle s (ground_of m))) (sym (delegated_stake m2.staking.staked (ground_of m2) n a))
+        ∙ ap (λ u. Ok (over idle m2.staking.staked u)) (sym (delegated_view m2.staking.staked (ground_of m2) n a)),
+    stands_for (kept_of m2),
+  )
 
 -- ---- all of them
 
 -- once the validators have joined, the delegations may be added
-pub starting_then : (g : Genesis) (first : State) (m : Modules) → start_condition g ≡ None → first ≡ empty_over (ground_at_start g) → each (validator_added no_hook) g.validators (staked_in first) ≡ Ok (staked_in (stands m))
+starting_then : (g : Genesis) (first : State) (m : Modules) → start_condition g ≡ None → first ≡ empty_over (ground_at_start g) → each (validator_added no_hook) g.validators (staked_in first) ≡ Ok (staked_in (stands m))
     → IsStarting g.delegations (staked_in (stands m))
 starting_then g first m e is added =
     let b = begun g idle e in
@@ -172,8 +185,8 @@ starting_then g first m e is added =
 without_none : (m : Modules) → m.ground.facts ≡ [] → without_facts (stands m) ≡ stands m
 without_none m none = ap (λ (fs : List Fact). stake_over m.staking.staked (record { bank = m.ground.bank.holdings; ctx = m.ground.ctx; facts = fs })) (sym none)
 
--- what the machine starts
-pub started_as : (g : Genesis) (first : State) (m1 m2 : Modules) → first ≡ empty_over (ground_at_start g) → each (validator_added no_hook) g.validators (staked_in first) ≡ Ok (staked_in (stands m1))
+-- what the machine starts, over the same in all
+started_as : (g : Genesis) (first : State) (m1 m2 : Modules) → first ≡ empty_over (ground_at_start g) → each (validator_added no_hook) g.validators (staked_in first) ≡ Ok (staked_in (stands m1))
     → each (delegation_added no_hook) g.delegations (staked_in (stands m1)) ≡ Ok (staked_in (stands m2)) → m2.ground.facts ≡ [] → built_start g ≡ Ok (record { facts = m2.ground.facts; state = stands m2 })
 started_as g first m1 m2 is added then none =
     let w = empty_over (ground_at_start g) in
@@ -182,6 +195,25 @@ started_as g first m1 m2 is added then none =
     let told : built_start g ≡ Ok (record { facts = m2.ground.facts; state = without_facts (stands m2) })
     = ap (λ (r : Result (World Staked Hooks) Refusal). r >>= λ s. Ok (record { facts = (with_staked w.mine s).view.facts; state = without_facts (with_staked w.mine s) })) all in
     told ∙ ap (λ (x : State). Ok (record { facts = m2.ground.facts; state = x })) (without_none m2 none)
+
+-- what modules start that added the validators and then the delegations
+pub starts_so : (g : Genesis) (m m1 m2 : Modules) → StandsFor (kept_of m) (empty_over (ground_at_start g)) → IsAdded (each (validator_added no_hook) g.validators (staked_in (stands m))) (kept_of m1)
+    → IsAdded (each (delegation_added no_hook) g.delegations (staked_in (stands m1))) (kept_of m2) → m2.ground.facts ≡ [] → Starts g m2.ground.facts (kept_of m2)
+starts_so g m m1 m2 empty added then none = (
+  stands m2,
+  started_as g (stands m) m1 m2 (sym (is_state (kept_of m) (empty_over (ground_at_start g)) empty)) (added_to (each (validator_added no_hook) g.validators (staked_in (stands m))) m1 added)
+      (added_to (each (delegation_added no_hook) g.delegations (staked_in (stands m1))) m2 then) none,
+  stands_for (kept_of m2),
+)
+
+-- and the delegations may be added to what the validators left
+pub starting_after : (g : Genesis) (m m1 : Modules) → start_condition g ≡ None → StandsFor (kept_of m) (empty_over (ground_at_start g)) → IsAdded (each (validator_added no_hook) g.validators (staked_in (stands m))) (kept_of m1)
+    → (p : State) × StandsFor (kept_of m1) p × IsStarting g.delegations (staked_in p)
+starting_after g m m1 e empty added = (
+  stands m1,
+  stands_for (kept_of m1),
+  starting_then g (stands m) m1 e (sym (is_state (kept_of m) (empty_over (ground_at_start g)) empty)) (added_to (each (validator_added no_hook) g.validators (staked_in (stands m))) m1 added),
+)
 
 -- what follows of two clauses on an answer of Ok
 pub on_both : {A E : Type 0} (P R Q : Type 0) (r : Result A E) → (P → R → Q) → OnOk r P → OnOk r R → OnOk r Q

@@ -1,26 +1,68 @@
 -- Transactions that were applied so far.
-use Rattle.std.proofs.Common.{◌≡◌, ◌∙◌, ℕ, ◌+◌, ◌<◌, List, [], ◌∷◌, ◌++◌, drop, take, length, get_or, append_assoc, Option, Some, Result, Ok, Err, refl, sym, ap, subst}
+use Rattle.std.proofs.Common.{◌≡◌, ◌∙◌, ℕ, ◌+◌, ◌<◌, List, [], ◌∷◌, ◌++◌, drop, take, length, get_or, map, append_assoc, None, Some, Result, Ok, Err, refl, sym, ap, subst}
+use Rattle.std.specs.Prelude.{IfOk}
 use Rattle.stk_keep.specs.declared.facts.Fact.{Fact}
 use Rattle.stk_keep.specs.declared.refusal.Refusal.{Refusal}
 use Rattle.stk_msgs.specs.declared.block.Tx.{Tx}
 use Rattle.stk_msgs.specs.declared.report.TxReport.{TxReport}
 use Rattle.stk_rules.specs.Chain.{State}
-use Rattle.stk_rules.specs.Effects.{Effect, refused_at, effects_of, stands_or_fee}
-use Rattle.stk_machine.specs.Built.{built_effect, built_txs, stake_over}
+use Rattle.stk_keep.specs.World.{View}
+use Rattle.stk_rules.specs.Effects.{Effect, effects_of, stands_or_fee, after_fee, transaction_applied}
+use Rattle.stk_msgs.specs.declared.report.Outcome.{Outcome}
+use Rattle.stk_msgs.specs.declared.report.Outcome.TheVariants.{Accepted, Refused, FeeUnpaid}
+use Rattle.stk_machine.specs.Built.{built_effect, built_txs}
 use Rattle.stk_machine.specs.GenesisState.{without_facts}
-use Rattle.stk_machine.specs.Machine.{TxSteps, tx_applied_by}
+use Rattle.stk_machine.specs.Machine.{TxSteps, reported_as, tx_applied_by}
 use Rattle.stk_chain.specs.declared.modules.Modules.{Modules}
-use Rattle.stk_chain.specs.Answers.{MessagesEnd, Follow}
-use Rattle.stk_chain.specs.Chained.{stands, marks_of, opened, AreSteady}
+use Rattle.stk_chain.specs.Answers.{MessagesEnd, EndsAs, Follow}
+use Rattle.stk_chain.specs.Chained.{KeptState, StandsFor, kept_of, marks_of, opened, AreSteady}
 use Rattle.stk_chain.proofs.MarkLemmas.{restored}
-use Rattle.stk_chain.proofs.MessageLemmas.{next}
+use Rattle.stk_chain.proofs.MessageLemmas.{next, append_nil}
+use Rattle.stk_chain.proofs.StandLemmas.{keeping, stands_same, kept_cleared, stands_cleared}
 
 -- ---- one transaction
 
--- how messages ended of which one was refused, and what they left
-pub none_stands : (paid w : State) (place : ℕ) (why : Refusal) (r : Result State (ℕ × Refusal)) → MessagesEnd r (Some (place, why)) w → stands_or_fee paid r ≡ (refused_at place why, paid)
-none_stands paid w place why (Ok due) e = absurd e
-none_stands paid w place why (Err due) e = ap (λ d. (refused_at d.0 d.1, paid)) (sym e)
+-- messages of which none was refused
+pub accepted_ends : (p : State) (r : Result State (ℕ × Refusal)) (k : KeptState) → MessagesEnd r None k → EndsAs (stands_or_fee p r) Accepted k
+accepted_ends p (Ok due) k e = (refl, e)
+accepted_ends p (Err due) k e = absurd e
+
+-- messages of which one was refused, where what is kept is as before them
+pub refused_ends : (p : State) (r : Result State (ℕ × Refusal)) (left k old : KeptState) (place : ℕ) (why : Refusal) → MessagesEnd r (Some (place, why)) left → k ≡ old → StandsFor old p → EndsAs (stands_or_fee p r) (Refused place why) k
+refused_ends p (Ok due) left k old place why e same s = absurd e
+refused_ends p (Err due) left k old place why e same s = (ap (λ (d : ℕ × Refusal). Refused d.0 d.1) e, stands_same old k p same s)
+
+-- a transaction whose fee was paid ends as its messages
+pub paid_ends : (effects : List Effect) (p due : State) (r : Result State Refusal) (outcome : Outcome) (k : KeptState) → r ≡ Ok due → EndsAs (stands_or_fee due (effects_of 0 effects due)) outcome k → EndsAs (after_fee effects p r) outcome k
+paid_ends effects p due r outcome k e s = subst (λ x. EndsAs (after_fee effects p x) outcome k) (sym e) s
+
+-- the same of an answer
+pub all_paid_ends : {E : Type 0} (effects : List Effect) (p due : State) (r : Result State Refusal) (answer : Result Outcome E) (k : KeptState) → r ≡ Ok due
+    → IfOk answer (λ outcome. EndsAs (stands_or_fee due (effects_of 0 effects due)) outcome k) → IfOk answer (λ outcome. EndsAs (after_fee effects p r) outcome k)
+all_paid_ends effects p due r (Ok outcome) k e s = paid_ends effects p due r outcome k e s
+all_paid_ends effects p due r (Err fault) k e s = tt
+
+-- one whose fee was not changes nothing
+pub unpaid_ends : (effects : List Effect) (p : State) (r : Result State Refusal) (why : Refusal) (k old : KeptState) → r ≡ Err why → k ≡ old → StandsFor old p → EndsAs (after_fee effects p r) FeeUnpaid k
+unpaid_ends effects p r why k old e same s = subst (λ x. EndsAs (after_fee effects p x) FeeUnpaid k) (sym e) (refl, stands_same old k p same s)
+
+-- a state without facts begins as itself
+begins_so : (k : KeptState) (p : State) → k.view.facts ≡ [] → StandsFor k p → without_facts p ≡ p
+begins_so k p none s = λ i. record { mine = p.mine; hooks = p.hooks; view = record { bank = p.view.bank; ctx = p.view.ctx; facts = (sym none ∙ sym (ap (λ (u : View). u.facts) s.view)) i }; log = p.log }
+
+-- the report of a transaction
+pub reported : (tx : Tx) (k k2 : KeptState) (p : State) (outcome : Outcome) → k.view.facts ≡ [] → StandsFor k p → EndsAs (transaction_applied tx.payer tx.fee (map built_effect tx.msgs) p) outcome k2
+    → record { facts = k2.view.facts; outcome = outcome } ≡ (tx_applied_by built_effect tx p).report
+reported tx k k2 p outcome none s e =
+    (λ i. record { facts = (sym (e.1.view) i).facts; outcome = e.0 i })
+    ∙ ap (λ (w : State). (reported_as (transaction_applied tx.payer tx.fee (map built_effect tx.msgs) w)).report) (sym (begins_so k p none s))
+
+-- and what it leaves, without its facts
+pub left_cleared : (tx : Tx) (k k2 : KeptState) (p : State) (outcome : Outcome) → k.view.facts ≡ [] → StandsFor k p → EndsAs (transaction_applied tx.payer tx.fee (map built_effect tx.msgs) p) outcome k2
+    → StandsFor (kept_cleared k2) (without_facts (tx_applied_by built_effect tx p).state)
+left_cleared tx k k2 p outcome none s e =
+    subst (λ (w : State). StandsFor (kept_cleared k2) (without_facts (reported_as (transaction_applied tx.payer tx.fee (map built_effect tx.msgs) w)).state)) (sym (begins_so k p none s))
+    (stands_cleared k2 (transaction_applied tx.payer tx.fee (map built_effect tx.msgs) p).1 e.1)
 
 -- ---- facts that are cut
 
@@ -32,25 +74,17 @@ take_front (x ∷ xs) ys = ap (λ l. x ∷ l) (take_front xs ys)
 pub cut_back : (old new : List Fact) → Follow old new → take (length old) new ≡ old
 cut_back old new f = ap (take (length old)) f.1 ∙ take_front old f.0
 
--- where a message was refused, modules that are gone back stand as before it, with the facts that were told before
-pub undone : (old marked applied back : Modules) (told : ℕ) (facts : List Fact) → stands marked ≡ stands old → marks_of marked ≡ opened old → marks_of applied ≡ marks_of marked → opened back ≡ marks_of applied
+-- where a message was refused, modules that are gone back keep what they kept before it, with the facts that were told before
+pub undone : (old marked applied back : Modules) (told : ℕ) (facts : List Fact) → kept_of marked ≡ kept_of old → marks_of marked ≡ opened old → marks_of applied ≡ marks_of marked → opened back ≡ marks_of applied
     → applied.ground.ctx ≡ marked.ground.ctx → back.ground.ctx ≡ applied.ground.ctx → Follow marked.ground.facts applied.ground.facts → back.ground.facts ≡ applied.ground.facts
     → told ≡ length old.ground.facts → facts ≡ take told back.ground.facts
-    → stake_over back.staking.staked (record { bank = back.ground.bank.holdings; ctx = back.ground.ctx; facts = facts }) ≡ stands old
+    → keeping back.staking.staked (record { bank = back.ground.bank.holdings; ctx = back.ground.ctx; facts = facts }) ≡ kept_of old
 undone old marked applied back told facts same opens kept closes c d follow f t cut =
     let r = restored old back (closes ∙ kept ∙ opens) in
-    let ctx : back.ground.ctx ≡ old.ground.ctx = d ∙ c ∙ ap (λ (w : State). w.view.ctx) same in
-    let first : marked.ground.facts ≡ old.ground.facts = ap (λ (w : State). w.view.facts) same in
+    let ctx : back.ground.ctx ≡ old.ground.ctx = d ∙ c ∙ ap (λ (k : KeptState). k.view.ctx) same in
+    let first : marked.ground.facts ≡ old.ground.facts = ap (λ (k : KeptState). k.view.facts) same in
     let left : facts ≡ old.ground.facts = cut ∙ ap (λ n. take n back.ground.facts) (t ∙ sym (ap length first)) ∙ ap (take (length marked.ground.facts)) f ∙ cut_back marked.ground.facts applied.ground.facts follow ∙ first in
-    λ i. stake_over (r.same_stake i) (record { bank = r.same_holdings i; ctx = ctx i; facts = left i })
-
--- how messages ended of which one was refused, where this stop is known by its parts
-pub refused_ends : (old w u : State) (effects : List Effect) (place : ℕ) (why : Refusal) (o : Option (ℕ × Refusal)) (marked : State) → marked ≡ old → o ≡ Some (place, why) → MessagesEnd (effects_of 0 effects marked) o w → u ≡ old
-    → stands_or_fee old (effects_of 0 effects old) ≡ (refused_at place why, u)
-refused_ends old w u effects place why o marked same is e left =
-    ap (λ x. stands_or_fee old (effects_of 0 effects x)) (sym same)
-    ∙ none_stands old w place why (effects_of 0 effects marked) (subst (λ x. MessagesEnd (effects_of 0 effects marked) x w) is e)
-    ∙ ap (λ x. (refused_at place why, x)) (sym left)
+    λ i. keeping (r.same_stake i) (record { bank = r.same_holdings i; ctx = ctx i; facts = left i })
 
 -- ---- transactions so far
 
@@ -67,16 +101,22 @@ starts_cleared : (txs : List Tx) (w : State) → cleared (built_txs txs w) ≡ c
 starts_cleared [] w = refl
 starts_cleared (tx ∷ txs) w = refl
 
--- The transactions before this place were applied, with these reports.
+-- The transactions before this place were applied, with these reports: from each state that stood first, they lead to one
+-- that stands now.
 pub record AppliedSoFar (txs : List Tx) (place : ℕ) (old new : Modules) (reports : List TxReport) : Type 0 where
   pub steady : AreSteady new
   pub none : new.ground.facts ≡ []
   pub same_ctx : new.ground.ctx ≡ old.ground.ctx
   pub same_marks : marks_of new ≡ marks_of old
-  pub rest : before reports (cleared (built_txs (drop place txs) (stands new))) ≡ cleared (built_txs txs (stands old))
+  pub rest : (p : State) → StandsFor (kept_of old) p
+      → (q : State) × StandsFor (kept_of new) q × (before reports (cleared (built_txs (drop place txs) q)) ≡ cleared (built_txs txs p))
+
+pub none_applied : (txs : List Tx) (m : Modules) → AreSteady m → m.ground.facts ≡ [] → AppliedSoFar txs 0 m m []
+none_applied txs m s n = record { steady = s; none = n; same_ctx = refl; same_marks = refl; rest = λ p k. (p, k, refl) }
 
 pub applied_next : (txs : List Tx) (place : ℕ) (tx : Tx) (old new last : Modules) (reports reports2 : List TxReport) (report : TxReport) → place < length txs → tx ≡ get_or txs place tx
-    → AppliedSoFar txs place old new reports → (tx_applied_by built_effect tx (stands new)).report ≡ report → without_facts (tx_applied_by built_effect tx (stands new)).state ≡ stands last
+    → AppliedSoFar txs place old new reports → ((q : State) → StandsFor (kept_of new) q → report ≡ (tx_applied_by built_effect tx q).report)
+    → ((q : State) → StandsFor (kept_of new) q → StandsFor (kept_of last) (without_facts (tx_applied_by built_effect tx q).state))
     → reports2 ≡ reports ++ report ∷ [] → AreSteady last → last.ground.facts ≡ [] → last.ground.ctx ≡ new.ground.ctx → marks_of last ≡ marks_of new
     → AppliedSoFar txs (place + 1) old last reports2
 applied_next txs place tx old new last reports reports2 report lt is so told left more s n c k = record {
@@ -84,14 +124,32 @@ applied_next txs place tx old new last reports reports2 report lt is so told lef
   none = n;
   same_ctx = c ∙ so.same_ctx;
   same_marks = k ∙ so.same_marks;
-  rest =
+  rest = λ p stood.
+      let r = so.rest p stood in
+      let q = r.0 in
       let others = drop (place + 1) txs in
-      let one = tx_applied_by built_effect tx (stands new) in
-      ap (λ r. before r (cleared (built_txs others (stands last)))) more
-      ∙ ap (λ r. record { reports = r; state = (cleared (built_txs others (stands last))).state }) (append_assoc reports (report ∷ []) (built_txs others (stands last)).reports)
-      ∙ ap (λ (t : TxReport). record { reports = reports ++ t ∷ (built_txs others (stands last)).reports; state = (cleared (built_txs others (stands last))).state }) (sym told)
-      ∙ ap (λ (u : State). record { reports = reports ++ one.report ∷ (built_txs others u).reports; state = without_facts (built_txs others u).state }) (sym left)
-      ∙ ap (λ (x : TxSteps). record { reports = reports ++ one.report ∷ x.reports; state = x.state }) (sym (starts_cleared others one.state))
-      ∙ sym (ap (λ l. before reports (cleared (built_txs l (stands new)))) (next txs place tx lt is))
-      ∙ so.rest;
+      let one = tx_applied_by built_effect tx q in
+      let on = without_facts one.state in (
+        on,
+        left q r.1,
+        ap (λ l. before l (cleared (built_txs others on))) more
+            ∙ ap (λ l. record { reports = l; state = (cleared (built_txs others on)).state }) (append_assoc reports (report ∷ []) (built_txs others on).reports)
+            ∙ ap (λ (t : TxReport). record { reports = reports ++ t ∷ (built_txs others on).reports; state = (cleared (built_txs others on)).state }) (told q r.1)
+            ∙ ap (λ (x : TxSteps). record { reports = reports ++ one.report ∷ x.reports; state = x.state }) (sym (starts_cleared others one.state))
+            ∙ sym (ap (λ l. before reports (cleared (built_txs l q))) (next txs place tx lt is))
+            ∙ r.2,
+      );
 }
+
+-- all transactions were applied
+module _ (txs : List Tx) (place : ℕ) (old new : Modules) (reports : List TxReport) (end : drop place txs ≡ []) (so : AppliedSoFar txs place old new reports) where
+  all_told : (p : State) (stood : StandsFor (kept_of old) p) → record { reports = reports ++ []; state = without_facts (so.rest p stood).0 } ≡ cleared (built_txs txs p)
+  all_told p stood = sym (ap (λ (l : List Tx). before reports (cleared (built_txs l (so.rest p stood).0))) end) ∙ (so.rest p stood).2
+
+  pub all_reported : (p : State) → StandsFor (kept_of old) p → reports ≡ (built_txs txs p).reports
+  all_reported p stood = sym (append_nil reports) ∙ ap (λ (x : TxSteps). x.reports) (all_told p stood)
+
+  pub all_applied : (p : State) → StandsFor (kept_of old) p → StandsFor (kept_of new) (without_facts (built_txs txs p).state)
+  all_applied p stood =
+      let r = so.rest p stood in
+      subst (λ (w : State). StandsFor (kept_of new) w) (sym (begins_so (kept_of new) r.0 so.none r.1) ∙ ap (λ (x : TxSteps). x.state) (all_told p stood)) r.1

@@ -7,16 +7,37 @@ use Rattle.stk_keep.specs.Ground.{seen, IsInOrder}
 use Rattle.stk_keep.specs.Holdings.{Holdings}
 use Rattle.stk_keep.specs.Staked.{Staked, bonded_tokens, other_tokens, HoldsStake}
 use Rattle.stk_keep.specs.World.{View}
-use Rattle.stk_rules.specs.Chain.{State}
+use Rattle.stk_rules.specs.Chain.{State, Hooks}
+use Rattle.stk_rules.specs.Distribution.{nothing_shared}
 use Rattle.stk_bank.specs.Booked.{Booked}
 use Rattle.stk_book.specs.Calls.{IsSoundStake}
-use Rattle.stk_machine.specs.Built.{stake_over}
 use Rattle.stk_machine.specs.Items.{ground_items, staked_items}
 use Rattle.stk_chain.specs.declared.modules.Modules.{Modules}
 
--- the machine's state, and whether memory was wanting in a block
+-- ---- what is kept, and the machine's states for which it stands
+
+-- What modules keep, without their marks: validators and delegations, and the ground. Hooks that do
+-- nothing keep nothing.
+pub record KeptState : Type 0 where
+  pub staked : Staked
+  pub view : View
+
+-- What the hooks keep stands for these plain values: of hooks that do nothing, for nothing
+-- recorded.
+abbrev pub hooks_hold : KeptState → Hooks → Type 0
+hooks_hold k h = h ≡ (nothing_shared, [])
+
+-- What is kept stands for a state of the machine: of what hooks hold by their relation, and all else
+-- is the same. There are no entries yet. A state's log is an output of rules, and no call has one.
+pub record StandsFor (k : KeptState) (p : State) : Type 0 where
+  pub stakes : p.mine ≡ record { staked = k.staked; unbondings = []; redelegations = [] }
+  pub hooks : hooks_hold k p.hooks
+  pub view : p.view ≡ k.view
+  pub log : p.log ≡ []
+
+-- what a chain keeps, and whether memory was wanting in a block
 pub record Chained : Type 0 where
-  pub state : State
+  pub kept : KeptState
   pub spent : Bool
 
 -- ---- the modules
@@ -25,9 +46,8 @@ pub record Chained : Type 0 where
 abbrev pub ground_of : Modules → View
 ground_of m = seen (λ (b : Booked). b.holdings) m.ground
 
--- the machine's state that modules are
-abbrev pub stands : Modules → State
-stands m = stake_over m.staking.staked (ground_of m)
+abbrev pub kept_of : Modules → KeptState
+kept_of m = record { staked = m.staking.staked; view = ground_of m }
 
 -- what each module has at its open marks, the latest last
 pub record Marks : Type 0 where

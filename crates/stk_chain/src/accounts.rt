@@ -47,7 +47,8 @@ pub(crate) fn holders(
     alloc: Global,
     accounts: &[GenesisAccount],
 ) -> Result<Vec<(Account, Coins)>, ChainFault>
-    ensures pairs { IfOk result (λ pairs. pairs.items ≡ map (λ a. (a.address, a.coins)) accounts.now) }
+    ensures pairs { IfOk result
+        (λ pairs. pairs.items ≡ map (λ a. (a.address, a.coins)) accounts.now) }
     ensures money { OnOk result (All (λ a. IsMoney a.coins) accounts.now) }
     ensures fault { IfErr result (λ fault. fault ≡ ChainFault.NoMemory) }
 {

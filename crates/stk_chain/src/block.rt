@@ -2,8 +2,10 @@
 
 ghost use Rattle.std.specs.Prelude.{◌≡◌, ◌<◌, ◌≤◌, ◌^◌, [], None, Ok, IfOk, OnOk};
 ghost use Rattle.stk_machine.specs.Blocks.{block_fault};
-ghost use Rattle.stk_machine.specs.Built.{IsBuilt, built_step};
-ghost use Rattle.stk_chain.specs.Chained.{stands, marks_of, no_marks, AreAtRest};
+ghost use Rattle.stk_machine.specs.Built.{IsBuilt};
+ghost use Rattle.stk_rules.specs.Chain.{State};
+ghost use Rattle.stk_chain.specs.Answers.{StepsTo};
+ghost use Rattle.stk_chain.specs.Chained.{StandsFor, kept_of, marks_of, no_marks, AreAtRest};
 
 use crate::modules::Modules;
 use crate::ranges::is_past_blocks;
@@ -39,9 +41,11 @@ pub(crate) fn apply<L: Ledger>(
     requires some { 0 < L.parts }
     requires built { IsBuilt block.now }
     requires height { block.now.height < 2 ^ 63 }
-    requires follows { block_fault modules.old.ground.ctx.height modules.old.ground.ctx.time block.now ≡ None }
+    requires follows { block_fault modules.old.ground.ctx.height modules.old.ground.ctx.time
+        block.now ≡ None }
     requires rest { AreAtRest modules.old }
-    ensures step { IfOk result (λ report. built_step block.now (stands modules.old) ≡ Ok (record { report = report; state = stands modules.new })) }
+    ensures step { (p : State) → StandsFor (kept_of modules.old) p
+        → IfOk result (λ report. StepsTo block.now p report (kept_of modules.new)) }
     ensures rest { OnOk result (AreAtRest modules.new) }
     ensures unmarked { marks_of modules.new ≡ no_marks }
 {

@@ -1,10 +1,11 @@
 ghost use Rattle.std.specs.Prelude.{◌≡◌, ◌<◌, ◌^◌, [], None, Ok, false, IfOk, IfErr, OnOk};
 ghost use Rattle.stk_machine.specs.Blocks.{block_fault};
-ghost use Rattle.stk_machine.specs.Built.{IsBuilt, built_start, stake_over};
+ghost use Rattle.stk_machine.specs.Built.{IsBuilt, stake_over};
 ghost use Rattle.stk_machine.specs.GenesisConditions.{start_condition};
 ghost use Rattle.stk_machine.specs.Items.{IsInKeyOrder};
-ghost use Rattle.stk_chain.specs.Answers.{IsGenesisFault, Applies};
-ghost use Rattle.stk_chain.specs.Chained.{state_items};
+ghost use Rattle.stk_rules.specs.Chain.{State};
+ghost use Rattle.stk_chain.specs.Answers.{IsGenesisFault, Starts, Applies, LeavesChain};
+ghost use Rattle.stk_chain.specs.Chained.{StandsFor, state_items};
 
 use crate::block::{apply, fault_of};
 use crate::conditions::condition;
@@ -19,7 +20,8 @@ use stk_coins::Coins;
 use stk_keep::{Facts, Item, RecordFault};
 use stk_msgs::{Block, BlockFault, BlockReport, Genesis};
 
-/// A chain. Contracts see the machine's state, and whether memory was wanting in a block.
+/// A chain. Contracts see what it keeps, which stands for a state of the machine, and whether memory was
+/// wanting in a block.
 #[derive(Drop)]
 pub struct Chain {
     modules: Modules,
@@ -28,11 +30,11 @@ pub struct Chain {
 
 impl Model for Chain {
     ghost use Rattle.std.specs.Prelude.{◌≡◌, false};
-    ghost use Rattle.stk_chain.specs.Chained.{Chained, stands, AreAtRest};
+    ghost use Rattle.stk_chain.specs.Chained.{Chained, kept_of, AreAtRest};
 
     ghost Value = { Chained };
 
-    ghost view = { λ c. record { state = stands c.modules; spent = c.spent } };
+    ghost view = { λ c. record { kept = kept_of c.modules; spent = c.spent } };
 
     ghost invariant = { λ c. c.spent ≡ false → AreAtRest c.modules };
 }
@@ -44,7 +46,7 @@ impl Chain {
     /// the smallest number of such, and `NoMemory`.
     pub fn genesis(alloc: Global, genesis: &Genesis) -> Result<(Chain, Facts), ChainFault>
         ensures starts { IfOk result (λ _. start_condition genesis.now ≡ None) }
-        ensures chain { IfOk result (λ first. built_start genesis.now ≡ Ok (record { facts = first.1; state = first.0.state })) }
+        ensures chain { IfOk result (λ first. Starts genesis.now first.1 first.0.kept) }
         ensures unspent { IfOk result (λ first. first.0.spent ≡ false) }
         ensures facts { IfOk result (λ first. first.1 ≡ []) }
         ensures fault { IfErr result (IsGenesisFault (start_condition genesis.now)) }
@@ -69,7 +71,9 @@ impl Chain {
     pub fn apply_block(&mut self, alloc: Global, block: &Block) -> Result<BlockReport, BlockFault>
         requires built { IsBuilt block.now }
         requires height { block.now.height < 2 ^ 63 }
-        ensures { Applies block.now self.old self.new result }
+        ensures applies { (p : State) → StandsFor self.old.kept p
+            → Applies block.now p self.new.kept result }
+        ensures leaves { LeavesChain self.old self.new result }
     {
         if self.spent {
             return Err(BlockFault::NoMemory);
@@ -91,9 +95,11 @@ impl Chain {
     /// operator and delegator. Nothing else is kept yet; keys ascend in each of these lists. The only error is
     /// `NoMemory`.
     pub fn items(&self, alloc: Global) -> Result<Vec<Item>, ChainFault>
-        ensures items { IfOk result (λ items. items.items ≡ state_items self.now.state) }
-        ensures alone { self.now.state ≡ stake_over self.now.state.mine.staked self.now.state.view }
-        ensures order { OnOk result (IsInKeyOrder self.now.state) }
+        ensures items { (p : State) → StandsFor self.now.kept p
+            → IfOk result (λ items. items.items ≡ state_items p) }
+        ensures alone { (p : State) → StandsFor self.now.kept p
+            → p ≡ stake_over p.mine.staked p.view }
+        ensures order { (p : State) → StandsFor self.now.kept p → OnOk result (IsInKeyOrder p) }
         ensures spent { IfOk result (λ _. self.now.spent ≡ false) }
         ensures fault { IfErr result (λ fault. fault ≡ ChainFault.NoMemory) }
     {
@@ -114,7 +120,8 @@ impl Chain {
 
     /// How much there is of each denomination. The only error is `NoMemory`.
     pub fn supply(&self, alloc: Global) -> Result<Coins, ChainFault>
-        ensures coins { IfOk result (λ coins. coins ≡ self.now.state.view.bank.supplies) }
+        ensures coins { (p : State) → StandsFor self.now.kept p
+            → IfOk result (λ coins. coins ≡ p.view.bank.supplies) }
         ensures spent { IfOk result (λ _. self.now.spent ≡ false) }
         ensures fault { IfErr result (λ fault. fault ≡ ChainFault.NoMemory) }
     {

@@ -38,7 +38,8 @@ pub(crate) fn condition(alloc: Global, genesis: &Genesis) -> Result<Option<u8>, 
 
 /// Whether a parameter or the time is out of its range.
 fn is_out_of_range(genesis: &Genesis) -> bool
-    ensures { result ≡ (not (are_in_range genesis.now.params) || nat_le end_of_blocks genesis.now.time) }
+    ensures { result
+        ≡ (not (are_in_range genesis.now.params) || nat_le end_of_blocks genesis.now.time) }
 {
     !are_in_range(&genesis.params) || is_past_blocks(genesis.time)
 }
@@ -48,7 +49,8 @@ fn is_out_of_range(genesis: &Genesis) -> bool
 fn validator_condition(alloc: Global, genesis: &Genesis) -> Result<Option<u8>, ChainFault>
     ensures number { IfOk result (λ number. number ≡ first_that_holds
         ((3, has_operator_twice genesis.now.validators) ∷ (4, has_cons_twice genesis.now.validators)
-        ∷ (5, has_wrong_rate genesis.now.params genesis.now.validators) ∷ (6, has_no_minimum genesis.now.validators) ∷ [])) }
+        ∷ (5, has_wrong_rate genesis.now.params genesis.now.validators)
+        ∷ (6, has_no_minimum genesis.now.validators) ∷ [])) }
     ensures fault { IfErr result (λ fault. fault ≡ ChainFault.NoMemory) }
 {
     let validators = genesis.validators.as_slice();
@@ -70,10 +72,16 @@ fn validator_condition(alloc: Global, genesis: &Genesis) -> Result<Option<u8>, C
 /// The first condition of the delegations and of the amounts.
 fn stake_condition(alloc: Global, genesis: &Genesis) -> Result<Option<u8>, ChainFault>
     ensures number { IfOk result (λ number. number ≡ first_that_holds
-        ((7, has_unknown_operator genesis.now.validators genesis.now.delegations) ∷ (8, has_pair_twice genesis.now.delegations)
-        ∷ (9, has_empty_delegation genesis.now.delegations) ∷ (10, has_lonely_validator genesis.now.validators genesis.now.delegations)
+        ((7, has_unknown_operator genesis.now.validators genesis.now.delegations)
+        ∷ (8, has_pair_twice genesis.now.delegations)
+        ∷ (9, has_empty_delegation genesis.now.delegations)
+        ∷ (10, has_lonely_validator genesis.now.validators genesis.now.delegations)
         ∷ (11, has_too_much (supplies_with (accounts_at_start genesis.now) []))
-        ∷ (12, nat_lt 1_000_000 (denominations_with genesis.now.params.bond_denom (supplies_with (accounts_at_start genesis.now) []))) ∷ [])) }
+        ∷ (
+          12,
+          nat_lt 1_000_000 (denominations_with genesis.now.params.bond_denom
+              (supplies_with (accounts_at_start genesis.now) [])),
+        ) ∷ [])) }
     ensures fault { IfErr result (λ fault. fault ≡ ChainFault.NoMemory) }
 {
     match delegation_condition(alloc, genesis)? {
@@ -86,8 +94,10 @@ fn stake_condition(alloc: Global, genesis: &Genesis) -> Result<Option<u8>, Chain
 /// validator without one.
 fn delegation_condition(alloc: Global, genesis: &Genesis) -> Result<Option<u8>, ChainFault>
     ensures number { IfOk result (λ number. number ≡ first_that_holds
-        ((7, has_unknown_operator genesis.now.validators genesis.now.delegations) ∷ (8, has_pair_twice genesis.now.delegations)
-        ∷ (9, has_empty_delegation genesis.now.delegations) ∷ (10, has_lonely_validator genesis.now.validators genesis.now.delegations) ∷ [])) }
+        ((7, has_unknown_operator genesis.now.validators genesis.now.delegations)
+        ∷ (8, has_pair_twice genesis.now.delegations)
+        ∷ (9, has_empty_delegation genesis.now.delegations)
+        ∷ (10, has_lonely_validator genesis.now.validators genesis.now.delegations) ∷ [])) }
     ensures fault { IfErr result (λ fault. fault ≡ ChainFault.NoMemory) }
 {
     let validators = genesis.validators.as_slice();
@@ -111,7 +121,11 @@ fn delegation_condition(alloc: Global, genesis: &Genesis) -> Result<Option<u8>, 
 fn amount_condition(alloc: Global, genesis: &Genesis) -> Result<Option<u8>, ChainFault>
     ensures number { IfOk result (λ number. number ≡ first_that_holds
         ((11, has_too_much (supplies_with (accounts_at_start genesis.now) []))
-        ∷ (12, nat_lt 1_000_000 (denominations_with genesis.now.params.bond_denom (supplies_with (accounts_at_start genesis.now) []))) ∷ [])) }
+        ∷ (
+          12,
+          nat_lt 1_000_000 (denominations_with genesis.now.params.bond_denom
+              (supplies_with (accounts_at_start genesis.now) [])),
+        ) ∷ [])) }
     ensures fault { IfErr result (λ fault. fault ≡ ChainFault.NoMemory) }
 {
     match supplies_at_start(alloc, genesis)? {
@@ -149,7 +163,8 @@ fn has_wrong_rate(params: &Params, validators: &[GenesisValidator]) -> bool
 /// Whether the rates of a validator are none, or its rate is below the chain's minimum
 /// (`CommissionRates.Validate`).
 fn is_wrong_rate(params: &Params, v: &GenesisValidator) -> bool
-    ensures { result ≡ (are_out_of_range (creation_of params.now.bond_denom v.now) || nat_lt v.now.rate params.now.min_commission_rate) }
+    ensures { result ≡ (are_out_of_range (creation_of params.now.bond_denom v.now)
+        || nat_lt v.now.rate params.now.min_commission_rate) }
 {
     v.max_rate.raw() > ONE
         || v.max_rate.raw() < v.rate.raw()
@@ -168,7 +183,8 @@ fn has_unknown_operator(
     validators: &[GenesisValidator],
     delegations: &[GenesisDelegation],
 ) -> Result<bool, AllocError>
-    ensures { IfOk result (λ unknown. unknown ≡ has_unknown_operator validators.now delegations.now) }
+    ensures { IfOk result
+        (λ unknown. unknown ≡ has_unknown_operator validators.now delegations.now) }
 {
     let delegated = delegated_of(alloc, delegations)?;
     let operators = operators_of(alloc, validators)?;
@@ -227,7 +243,8 @@ fn pairs_of(
     alloc: Global,
     delegations: &[GenesisDelegation],
 ) -> Result<Vec<(Addr, Addr)>, AllocError>
-    ensures { IfOk result (λ keys. keys.items ≡ map (λ d. (d.validator, d.delegator)) delegations.now) }
+    ensures { IfOk result
+        (λ keys. keys.items ≡ map (λ d. (d.validator, d.delegator)) delegations.now) }
 {
     delegations
         .iter()

@@ -1,9 +1,10 @@
 //! The chain: it starts from a genesis, applies blocks one after the other, and lists what it keeps.
 //!
-//! What it answers and keeps is what the machine of `stk_machine` gives, or that memory is wanting. What is
-//! built are geneses with validators and delegations, and blocks of sends, of new and edited validators and of
-//! delegations, over hooks that do nothing: fees stay with the fee collector, and all validators stay unbonded
-//! (Cosmos SDK v0.47: `x/bank`, `x/staking`, the fee of `x/auth`, and `runTx` of `baseapp`).
+//! What it answers is what the machine of `stk_machine` gives, or that memory is wanting; what it keeps stands
+//! for the machine's state. What is built are geneses with validators and delegations, and blocks of sends, of
+//! new and edited validators and of delegations, over hooks that do nothing: fees stay with the fee collector,
+//! and all validators stay unbonded (Cosmos SDK v0.47: `x/bank`, `x/staking`, the fee of `x/auth`, and `runTx`
+//! of `baseapp`).
 #![tactic(auto)]
 
 mod accounts;

@@ -25,7 +25,8 @@ pub(crate) fn append_modules<L: Ledger>(
     requires name { blank.name ≡ L.name }
     requires parts { blank.parts ≡ L.parts }
     requires some { 0 < L.parts }
-    ensures { OnOk result (items.new.items ≡ items.old.items ++ (items_of modules.now.ground.bank.holdings ++ stake_items modules.now.staking.staked)) }
+    ensures { OnOk result (items.new.items ≡ items.old.items
+        ++ (items_of modules.now.ground.bank.holdings ++ stake_items modules.now.staking.staked)) }
 {
     let mut steps: Steps<L> = Steps::new(blank);
     modules.ground.bank.items_into(items, &mut steps)?;

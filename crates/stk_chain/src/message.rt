@@ -1,21 +1,18 @@
 //! The messages, each carried out by its module.
 
-ghost use Rattle.std.specs.Prelude.{◌≡◌, not, true, OnOk};
-ghost use Rattle.std.specs.BTreeMap.{is_at};
-ghost use Rattle.stk_types.specs.Orders.{denom_cmp};
+ghost use Rattle.std.specs.Prelude.{◌≡◌, true, OnOk};
 ghost use Rattle.stk_machine.specs.Built.{is_built, built_effect, delegate_unhooked};
+ghost use Rattle.stk_rules.specs.Chain.{State};
 ghost use Rattle.stk_rules.specs.Effects.{send};
 ghost use Rattle.stk_chain.specs.Answers.{MessageEnds, Follow};
-ghost use Rattle.stk_chain.specs.Chained.{stands, marks_of, AreSteady};
+ghost use Rattle.stk_chain.specs.Chained.{StandsFor, kept_of, marks_of, AreSteady};
 
 use crate::modules::Modules;
 use std::alloc::Global;
-use std::cmp::Ordering;
 use std::sync::ledger::Ledger;
-use stk_book::Origin;
-use stk_keep::{NoHooks, Refusal, Stop, ValidatorView};
+use stk_keep::{NoHooks, Stop};
 use stk_msgs::{Delegate, Msg, Send};
-use stk_types::{Denom, Steps};
+use stk_types::Steps;
 
 impl Modules {
     /// Carries out a message of a kind that is built, or answers why it is refused. After a refusal some of it
@@ -28,7 +25,8 @@ impl Modules {
     ) -> Result<(), Stop>
         requires built { is_built message.now ≡ true }
         requires steady { AreSteady self.old }
-        ensures ends { MessageEnds (built_effect message.now (stands self.old)) (stands self.new) result }
+        ensures ends { (p : State) → StandsFor (kept_of self.old) p
+            → MessageEnds (built_effect message.now p) (kept_of self.new) result }
         ensures steady { OnOk result (AreSteady self.new) }
         ensures ctx { self.new.ground.ctx ≡ self.old.ground.ctx }
         ensures follow { Follow self.old.ground.facts self.new.ground.facts }
@@ -51,7 +49,8 @@ impl Modules {
     /// Coins go from a user to an account (`x/bank`: `msgServer.Send`).
     fn send<L: Ledger>(&mut self, alloc: Global, m: &Send, steps: &mut Steps<L>) -> Result<(), Stop>
         requires steady { AreSteady self.old }
-        ensures ends { MessageEnds (send m.now.from m.now.to m.now.coins (stands self.old)) (stands self.new) result }
+        ensures ends { (p : State) → StandsFor (kept_of self.old) p
+            → MessageEnds (send m.now.from m.now.to m.now.coins p) (kept_of self.new) result }
         ensures steady { OnOk result (AreSteady self.new) }
         ensures ctx { self.new.ground.ctx ≡ self.old.ground.ctx }
         ensures follow { Follow self.old.ground.facts self.new.ground.facts }
@@ -72,30 +71,23 @@ impl Modules {
         steps: &mut Steps<L>,
     ) -> Result<(), Stop>
         requires steady { AreSteady self.old }
-        ensures ends { MessageEnds (delegate_unhooked m.now.delegator m.now.validator m.now.amount (stands self.old)) (stands self.new) result }
+        ensures ends { (p : State) → StandsFor (kept_of self.old) p
+            → MessageEnds (delegate_unhooked m.now.delegator m.now.validator m.now.amount p)
+            (kept_of self.new) result }
         ensures steady { OnOk result (AreSteady self.new) }
         ensures ctx { self.new.ground.ctx ≡ self.old.ground.ctx }
         ensures follow { Follow self.old.ground.facts self.new.ground.facts }
         ensures marks { marks_of self.new ≡ marks_of self.old }
         ensures power { self.new.staking.power_reduction ≡ self.old.staking.power_reduction }
     {
-        if m.amount.amount == 0 {
-            return Err(Stop::Refused(Refusal::NonPositive));
-        }
-        if self.staking.validator(&m.validator, steps).is_none() {
-            return Err(Stop::Refused(Refusal::NoValidator));
-        }
-        if is_other(&self.ground.ctx.params.bond_denom, &m.amount.denom) {
-            return Err(Stop::Refused(Refusal::WrongDenom));
-        }
-        let delegated = self.staking.delegate(
+        let ground = &mut self.ground;
+        let delegated = self.staking.delegate_coin(
             alloc,
-            &mut self.ground,
+            ground,
             &mut NoHooks,
             &m.delegator,
             &m.validator,
-            m.amount.amount,
-            Origin::Wallet,
+            &m.amount,
             steps,
         );
         match delegated {
@@ -103,11 +95,4 @@ impl Modules {
             Err(stop) => Err(stop),
         }
     }
-}
-
-/// Whether two denominations are not one.
-fn is_other(denom: &Denom, other: &Denom) -> bool
-    ensures { result ≡ not (is_at (denom_cmp denom.now) other.now) }
-{
-    denom.cmp(other) != Ordering::Equal
 }

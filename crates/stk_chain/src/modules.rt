@@ -3,7 +3,7 @@
 ghost use Rattle.std.specs.Prelude.{◌≡◌, ◌≢◌, ◌++◌, ◌∷◌, [], List, OnOk, OnErr};
 ghost use Rattle.stk_keep.specs.Holdings.{Holdings};
 ghost use Rattle.stk_keep.specs.Staked.{Staked};
-ghost use Rattle.stk_chain.specs.Chained.{stands, marks_of, opened};
+ghost use Rattle.stk_chain.specs.Chained.{kept_of, marks_of, opened};
 
 use std::alloc::Global;
 use std::sync::ledger::Ledger;
@@ -28,7 +28,7 @@ impl Modules {
     ) -> Result<(), RecordFault>
         ensures opened { OnOk result (marks_of self.new ≡ opened self.old) }
         ensures err { OnErr result (marks_of self.new ≡ marks_of self.old) }
-        ensures same { stands self.new ≡ stands self.old }
+        ensures same { kept_of self.new ≡ kept_of self.old }
         ensures power { self.new.staking.power_reduction ≡ self.old.staking.power_reduction }
     {
         self.ground.bank.mark(alloc, steps)?;
@@ -58,9 +58,11 @@ impl Modules {
     pub(crate) fn forget<L: Ledger>(&mut self, steps: &mut Steps<L>)
         requires bank { (marks_of self.old).bank ≢ [] }
         requires staking { (marks_of self.old).staking ≢ [] }
-        ensures bank { (last : Holdings) × ((marks_of self.new).bank ++ last ∷ [] ≡ (marks_of self.old).bank) }
-        ensures staking { (last : Staked) × ((marks_of self.new).staking ++ last ∷ [] ≡ (marks_of self.old).staking) }
-        ensures same { stands self.new ≡ stands self.old }
+        ensures bank { (last : Holdings)
+            × ((marks_of self.new).bank ++ last ∷ [] ≡ (marks_of self.old).bank) }
+        ensures staking { (last : Staked)
+            × ((marks_of self.new).staking ++ last ∷ [] ≡ (marks_of self.old).staking) }
+        ensures same { kept_of self.new ≡ kept_of self.old }
         ensures power { self.new.staking.power_reduction ≡ self.old.staking.power_reduction }
     {
         self.ground.bank.forget(steps);

@@ -11,7 +11,8 @@ use std::collections::BTreeSet;
 /// Adds a key to a set; false where it was there already.
 fn add_key<K: Ord + Copy>(seen: &mut BTreeSet<K>, key: K) -> Result<bool, AllocError>
     ensures new { IfOk result (λ new. new ≡ not (list_any (is_at (K.cmp key)) seen.old.keys)) }
-    ensures added { IfOk result (λ new. new ≡ true → (test : K → Bool) → list_any test seen.new.keys ≡ (test key || list_any test seen.old.keys)) }
+    ensures added { IfOk result (λ new. new ≡ true → (test : K → Bool)
+        → list_any test seen.new.keys ≡ (test key || list_any test seen.old.keys)) }
     ensures kept { IfOk result (λ new. new ≡ false → seen.new.keys ≡ seen.old.keys) }
 {
     match seen.insert(key) {
@@ -39,7 +40,8 @@ pub(crate) fn are_among<K: Ord + Copy>(
     keys: &[K],
     others: &[K],
 ) -> Result<bool, AllocError>
-    ensures { IfOk result (λ among. among ≡ not (list_any (λ key. not (list_any (λ other. is_at (K.cmp other) key) others.now)) keys.now)) }
+    ensures { IfOk result (λ among. among ≡ not
+        (list_any (λ key. not (list_any (λ other. is_at (K.cmp other) key) others.now)) keys.now)) }
 {
     let mut there = BTreeSet::new(alloc);
     for other in others {

@@ -6,15 +6,16 @@ ghost use Rattle.stk_keep.specs.Holdings.{IsBacked};
 ghost use Rattle.stk_keep.specs.Staked.{validator_at, validator_by_cons};
 ghost use Rattle.stk_keep.specs.Steps.{each};
 ghost use Rattle.stk_rules.specs.Answers.{StopsForMemory};
-ghost use Rattle.stk_rules.specs.Chain.{staked_in};
+ghost use Rattle.stk_rules.specs.Chain.{State, staked_in};
 ghost use Rattle.stk_bank.specs.Booked.{holding, new_book};
 ghost use Rattle.stk_book.specs.Calls.{HasRates};
 ghost use Rattle.stk_msgs.specs.declared.genesis.GenesisDelegation.{GenesisDelegation};
-ghost use Rattle.stk_machine.specs.Built.{built_start, no_hook, IsStarting};
+ghost use Rattle.stk_machine.specs.Built.{no_hook, IsStarting};
 ghost use Rattle.stk_machine.specs.Genesis.{held_at_start};
 ghost use Rattle.stk_machine.specs.GenesisConditions.{start_condition, accounts_at_start, creation_of};
 ghost use Rattle.stk_machine.specs.GenesisState.{ground_at_start, empty_over, validator_added, delegation_added};
-ghost use Rattle.stk_chain.specs.Chained.{stands, AreAtRest};
+ghost use Rattle.stk_chain.specs.Answers.{Starts, IsAdded};
+ghost use Rattle.stk_chain.specs.Chained.{StandsFor, kept_of, AreAtRest};
 
 use crate::accounts::holders;
 use crate::fault::ChainFault;
@@ -39,7 +40,8 @@ pub(crate) fn start<L: Ledger>(
     requires parts { blank.parts ≡ L.parts }
     requires some { 0 < L.parts }
     requires starts { start_condition genesis.now ≡ None }
-    ensures started { IfOk result (λ modules. built_start genesis.now ≡ Ok (record { facts = modules.ground.facts; state = stands modules })) }
+    ensures started { IfOk result
+        (λ modules. Starts genesis.now modules.ground.facts (kept_of modules)) }
     ensures rest { IfOk result AreAtRest }
     ensures fault { IfErr result (λ fault. fault ≡ ChainFault.NoMemory) }
 {
@@ -71,7 +73,8 @@ fn start_book<L: Ledger>(
     steps: &mut Steps<L>,
 ) -> Result<Book, ChainFault>
     requires starts { start_condition genesis.now ≡ None }
-    ensures book { IfOk result (λ book. book ≡ holding (held_at_start (accounts_at_start genesis.now)) new_book) }
+    ensures book { IfOk result
+        (λ book. book ≡ holding (held_at_start (accounts_at_start genesis.now)) new_book) }
     ensures backed { IfOk result (λ book. IsBacked book.holdings) }
     ensures fault { IfErr result (λ fault. fault ≡ ChainFault.NoMemory) }
 {
@@ -123,9 +126,10 @@ impl Modules {
         steps: &mut Steps<L>,
     ) -> Result<(), ChainFault>
         requires starts { start_condition genesis.now ≡ None }
-        requires empty { stands self.old ≡ empty_over (ground_at_start genesis.now) }
+        requires empty { StandsFor (kept_of self.old) (empty_over (ground_at_start genesis.now)) }
         requires rest { AreAtRest self.old }
-        ensures started { OnOk result (built_start genesis.now ≡ Ok (record { facts = self.new.ground.facts; state = stands self.new })) }
+        ensures started { OnOk result
+            (Starts genesis.now self.new.ground.facts (kept_of self.new)) }
         ensures rest { OnOk result (AreAtRest self.new) }
         ensures fault { IfErr result (λ fault. fault ≡ ChainFault.NoMemory) }
     {
@@ -141,9 +145,12 @@ impl Modules {
         steps: &mut Steps<L>,
     ) -> Result<(), ChainFault>
         requires starts { start_condition genesis.now ≡ None }
-        requires empty { stands self.old ≡ empty_over (ground_at_start genesis.now) }
+        requires empty { StandsFor (kept_of self.old) (empty_over (ground_at_start genesis.now)) }
         requires rest { AreAtRest self.old }
-        ensures added { OnOk result (each (validator_added no_hook) genesis.now.validators (staked_in (stands self.old)) ≡ Ok (staked_in (stands self.new))) }
+        ensures added { (p : State) → StandsFor (kept_of self.old) p
+            → OnOk result (IsAdded
+            (each (validator_added no_hook) genesis.now.validators (staked_in p))
+            (kept_of self.new)) }
         ensures rest { OnOk result (AreAtRest self.new) }
         ensures fault { IfErr result (λ fault. fault ≡ ChainFault.NoMemory) }
     {
@@ -165,7 +172,9 @@ impl Modules {
         requires new_cons { validator_by_cons self.old.staking.staked v.now.cons ≡ None }
         requires rates { HasRates (creation_of self.old.ground.ctx.params.bond_denom v.now) }
         requires rest { AreAtRest self.old }
-        ensures added { OnOk result (validator_added no_hook v.now (staked_in (stands self.old)) ≡ Ok (staked_in (stands self.new))) }
+        ensures added { (p : State) → StandsFor (kept_of self.old) p
+            → OnOk result (IsAdded (validator_added no_hook v.now (staked_in p))
+            (kept_of self.new)) }
         ensures rest { OnOk result (AreAtRest self.new) }
         ensures fault { IfErr result (λ fault. fault ≡ ChainFault.NoMemory) }
     {
@@ -187,9 +196,13 @@ impl Modules {
         genesis: &Genesis,
         steps: &mut Steps<L>,
     ) -> Result<(), ChainFault>
-        requires starting { IsStarting genesis.now.delegations (staked_in (stands self.old)) }
+        requires starting { (p : State) × StandsFor (kept_of self.old) p
+            × IsStarting genesis.now.delegations (staked_in p) }
         requires rest { AreAtRest self.old }
-        ensures added { OnOk result (each (delegation_added no_hook) genesis.now.delegations (staked_in (stands self.old)) ≡ Ok (staked_in (stands self.new))) }
+        ensures added { (p : State) → StandsFor (kept_of self.old) p
+            → OnOk result (IsAdded
+            (each (delegation_added no_hook) genesis.now.delegations (staked_in p))
+            (kept_of self.new)) }
         ensures rest { OnOk result (AreAtRest self.new) }
         ensures fault { IfErr result (λ fault. fault ≡ ChainFault.NoMemory) }
     {
@@ -207,9 +220,12 @@ impl Modules {
         d: &GenesisDelegation,
         steps: &mut Steps<L>,
     ) -> Result<(), ChainFault>
-        requires next { (later : List GenesisDelegation) × IsStarting (d.now ∷ later) (staked_in (stands self.old)) }
+        requires next { (p : State) × (later : List GenesisDelegation)
+            × StandsFor (kept_of self.old) p × IsStarting (d.now ∷ later) (staked_in p) }
         requires rest { AreAtRest self.old }
-        ensures added { OnOk result (delegation_added no_hook d.now (staked_in (stands self.old)) ≡ Ok (staked_in (stands self.new))) }
+        ensures added { (p : State) → StandsFor (kept_of self.old) p
+            → OnOk result (IsAdded (delegation_added no_hook d.now (staked_in p))
+            (kept_of self.new)) }
         ensures rest { OnOk result (AreAtRest self.new) }
         ensures fault { IfErr result (λ fault. fault ≡ ChainFault.NoMemory) }
     {

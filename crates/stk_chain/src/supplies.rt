@@ -33,9 +33,13 @@ fn amount_in(supplies: &BTreeMap<Denom, u128>, denom: &Denom) -> u128
 fn join_coin(supplies: &mut BTreeMap<Denom, u128>, coin: &Coin) -> Result<bool, AllocError>
     requires some { 0 < coin.now.amount }
     requires low { IsLow supplies.old.entries }
-    ensures joined { IfOk result (λ fits. fits ≡ true → supplies.new.entries ≡ with_amount supplies.old.entries coin.now.denom (amount_of supplies.old.entries coin.now.denom + coin.now.amount)) }
-    ensures fits { IfOk result (λ fits. fits ≡ true → amount_of supplies.old.entries coin.now.denom + coin.now.amount ≤ 10 ^ 18) }
-    ensures over { IfOk result (λ fits. fits ≡ false → 10 ^ 18 < amount_of supplies.old.entries coin.now.denom + coin.now.amount) }
+    ensures joined { IfOk result (λ fits. fits ≡ true → supplies.new.entries
+        ≡ with_amount supplies.old.entries coin.now.denom
+        (amount_of supplies.old.entries coin.now.denom + coin.now.amount)) }
+    ensures fits { IfOk result (λ fits. fits ≡ true
+        → amount_of supplies.old.entries coin.now.denom + coin.now.amount ≤ 10 ^ 18) }
+    ensures over { IfOk result (λ fits. fits ≡ false
+        → 10 ^ 18 < amount_of supplies.old.entries coin.now.denom + coin.now.amount) }
 {
     let there = amount_in(supplies, &coin.denom);
     if coin.amount > MOST_SUPPLY - there {
@@ -51,8 +55,10 @@ fn join_coin(supplies: &mut BTreeMap<Denom, u128>, coin: &Coin) -> Result<bool, 
 /// be added.
 fn join_coins(supplies: &mut BTreeMap<Denom, u128>, coins: &Coins) -> Result<bool, AllocError>
     requires { IsLow supplies.old.entries }
-    ensures fits { IfOk result (λ fits. fits ≡ true → (supplies.new.entries ≡ coins_joined coins.now supplies.old.entries) × IsLow supplies.new.entries) }
-    ensures over { IfOk result (λ fits. fits ≡ false → IsHigh (coins_joined coins.now supplies.old.entries)) }
+    ensures fits { IfOk result (λ fits. fits ≡ true → (supplies.new.entries
+        ≡ coins_joined coins.now supplies.old.entries) × IsLow supplies.new.entries) }
+    ensures over { IfOk result
+        (λ fits. fits ≡ false → IsHigh (coins_joined coins.now supplies.old.entries)) }
 {
     for place in 0..coins.len() {
         let coin = coins.at(place).unwrap();
@@ -113,7 +119,8 @@ pub(crate) fn supplies_at_start(
     alloc: Global,
     genesis: &Genesis,
 ) -> Result<Option<BTreeMap<Denom, u128>>, AllocError>
-    ensures { IfOk result (λ supplies. MatchOption supplies (IsHigh (supplies_with (accounts_at_start genesis.now) []))
+    ensures { IfOk result (λ supplies. MatchOption supplies
+        (IsHigh (supplies_with (accounts_at_start genesis.now) []))
         (λ s. (s.entries ≡ supplies_with (accounts_at_start genesis.now) []) × IsLow s.entries)) }
 {
     let delegations = genesis.delegations.as_slice();
@@ -130,7 +137,8 @@ fn supplies_with_delegated(
     amount: u128,
 ) -> Result<Option<BTreeMap<Denom, u128>>, AllocError>
     requires { amount ≡ sum (map (λ d. d.amount) genesis.now.delegations) }
-    ensures { IfOk result (λ supplies. MatchOption supplies (IsHigh (supplies_with (accounts_at_start genesis.now) []))
+    ensures { IfOk result (λ supplies. MatchOption supplies
+        (IsHigh (supplies_with (accounts_at_start genesis.now) []))
         (λ s. (s.entries ≡ supplies_with (accounts_at_start genesis.now) []) × IsLow s.entries)) }
 {
     let accounts = genesis.accounts.as_slice();
@@ -149,7 +157,8 @@ fn join_delegated(
     requires accounts { supplies.entries ≡ supplies_with genesis.now.accounts [] }
     requires low { IsLow supplies.entries }
     requires amount { amount ≡ sum (map (λ d. d.amount) genesis.now.delegations) }
-    ensures { IfOk result (λ supplies. MatchOption supplies (IsHigh (supplies_with (accounts_at_start genesis.now) []))
+    ensures { IfOk result (λ supplies. MatchOption supplies
+        (IsHigh (supplies_with (accounts_at_start genesis.now) []))
         (λ s. (s.entries ≡ supplies_with (accounts_at_start genesis.now) []) × IsLow s.entries)) }
 {
     if amount == 0 {

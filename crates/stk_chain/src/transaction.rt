@@ -5,10 +5,11 @@ ghost use Rattle.std.specs.List.{list_all};
 ghost use Rattle.stk_keep.specs.declared.refusal.Refusal.TheVariants as refused;
 ghost use Rattle.stk_machine.specs.Built.{is_built, built_effect, built_txs};
 ghost use Rattle.stk_machine.specs.GenesisState.{without_facts};
-ghost use Rattle.stk_machine.specs.Machine.{tx_applied_by, outcome_of};
-ghost use Rattle.stk_rules.specs.Effects.{Ending, fee_paid, effects_of, stands_or_fee, transaction_applied};
-ghost use Rattle.stk_chain.specs.Answers.{MessagesEnd, Follow};
-ghost use Rattle.stk_chain.specs.Chained.{stands, marks_of, AreSteady};
+ghost use Rattle.stk_machine.specs.Machine.{tx_applied_by};
+ghost use Rattle.stk_rules.specs.Chain.{State};
+ghost use Rattle.stk_rules.specs.Effects.{fee_paid, effects_of, stands_or_fee, transaction_applied};
+ghost use Rattle.stk_chain.specs.Answers.{MessagesEnd, EndsAs, Follow};
+ghost use Rattle.stk_chain.specs.Chained.{StandsFor, kept_of, marks_of, AreSteady};
 
 use crate::modules::Modules;
 use std::alloc::Global;
@@ -28,8 +29,15 @@ impl Modules {
         steps: &mut Steps<L>,
     ) -> Result<bool, RecordFault>
         requires steady { AreSteady self.old }
-        ensures paid { IfOk result (λ paid. paid ≡ true → fee_paid tx.now.payer tx.now.fee (stands self.old) ≡ Ok (stands self.new)) }
-        ensures unpaid { IfOk result (λ paid. paid ≡ false → (fee_paid tx.now.payer tx.now.fee (stands self.old) ≡ Err refused.FeeUnpaid) × (stands self.new ≡ stands self.old)) }
+        ensures paid { (p : State) → StandsFor (kept_of self.old) p
+            → IfOk result (λ paid. paid ≡ true
+            → (due : State) × (fee_paid tx.now.payer tx.now.fee p ≡ Ok due)
+            × StandsFor (kept_of self.new) due) }
+        ensures unpaid { (p : State) → StandsFor (kept_of self.old) p
+            → IfOk result (λ paid. paid ≡ false
+            → fee_paid tx.now.payer tx.now.fee p ≡ Err refused.FeeUnpaid) }
+        ensures unchanged { IfOk result
+            (λ paid. paid ≡ false → kept_of self.new ≡ kept_of self.old) }
         ensures steady { AreSteady self.new }
         ensures ctx { self.new.ground.ctx ≡ self.old.ground.ctx }
         ensures marks { marks_of self.new ≡ marks_of self.old }
@@ -58,7 +66,9 @@ impl Modules {
     ) -> Result<Option<(usize, Refusal)>, RecordFault>
         requires built { list_all is_built messages.now ≡ true }
         requires steady { AreSteady self.old }
-        ensures ends { IfOk result (λ stop. MessagesEnd (effects_of 0 (map built_effect messages.now) (stands self.old)) stop (stands self.new)) }
+        ensures ends { (p : State) → StandsFor (kept_of self.old) p → IfOk result
+            (λ stop. MessagesEnd (effects_of 0 (map built_effect messages.now) p) stop
+            (kept_of self.new)) }
         ensures steady { IfOk result (λ stop. stop ≡ None → AreSteady self.new) }
         ensures ctx { self.new.ground.ctx ≡ self.old.ground.ctx }
         ensures follow { Follow self.old.ground.facts self.new.ground.facts }
@@ -84,8 +94,9 @@ impl Modules {
     ) -> Result<Outcome, RecordFault>
         requires built { list_all is_built messages.now ≡ true }
         requires steady { AreSteady self.old }
-        ensures ended { IfOk result (λ outcome. (ending : Ending) × (outcome ≡ outcome_of ending)
-            × (stands_or_fee (stands self.old) (effects_of 0 (map built_effect messages.now) (stands self.old)) ≡ (ending, stands self.new))) }
+        ensures ended { (p : State) → StandsFor (kept_of self.old) p → IfOk result
+            (λ outcome. EndsAs (stands_or_fee p (effects_of 0 (map built_effect messages.now) p))
+            outcome (kept_of self.new)) }
         ensures steady { OnOk result (AreSteady self.new) }
         ensures ctx { OnOk result (self.new.ground.ctx ≡ self.old.ground.ctx) }
         ensures marks { marks_of self.new ≡ marks_of self.old }
@@ -118,8 +129,10 @@ impl Modules {
     ) -> Result<Outcome, RecordFault>
         requires built { list_all is_built tx.now.msgs ≡ true }
         requires steady { AreSteady self.old }
-        ensures ended { IfOk result (λ outcome. (ending : Ending) × (outcome ≡ outcome_of ending)
-            × (transaction_applied tx.now.payer tx.now.fee (map built_effect tx.now.msgs) (stands self.old) ≡ (ending, stands self.new))) }
+        ensures ended { (p : State) → StandsFor (kept_of self.old) p → IfOk result
+            (λ outcome. EndsAs
+            (transaction_applied tx.now.payer tx.now.fee (map built_effect tx.now.msgs) p)
+            outcome (kept_of self.new)) }
         ensures steady { OnOk result (AreSteady self.new) }
         ensures ctx { OnOk result (self.new.ground.ctx ≡ self.old.ground.ctx) }
         ensures marks { marks_of self.new ≡ marks_of self.old }
@@ -141,8 +154,11 @@ impl Modules {
         requires built { list_all is_built tx.now.msgs ≡ true }
         requires steady { AreSteady self.old }
         requires none { self.old.ground.facts ≡ [] }
-        ensures report { IfOk result (λ report. (tx_applied_by built_effect tx.now (stands self.old)).report ≡ report) }
-        ensures state { OnOk result (without_facts (tx_applied_by built_effect tx.now (stands self.old)).state ≡ stands self.new) }
+        ensures report { (p : State) → StandsFor (kept_of self.old) p
+            → IfOk result (λ report. report ≡ (tx_applied_by built_effect tx.now p).report) }
+        ensures state { (p : State) → StandsFor (kept_of self.old) p
+            → OnOk result (StandsFor (kept_of self.new)
+            (without_facts (tx_applied_by built_effect tx.now p).state)) }
         ensures steady { OnOk result (AreSteady self.new) }
         ensures ctx { OnOk result (self.new.ground.ctx ≡ self.old.ground.ctx) }
         ensures none { OnOk result (self.new.ground.facts ≡ []) }
@@ -163,8 +179,10 @@ impl Modules {
         requires built { All (λ tx. list_all is_built tx.msgs ≡ true) txs.now }
         requires steady { AreSteady self.old }
         requires none { self.old.ground.facts ≡ [] }
-        ensures reports { IfOk result (λ reports. (built_txs txs.now (stands self.old)).reports ≡ reports.items) }
-        ensures state { OnOk result (without_facts (built_txs txs.now (stands self.old)).state ≡ stands self.new) }
+        ensures reports { (p : State) → StandsFor (kept_of self.old) p
+            → IfOk result (λ reports. reports.items ≡ (built_txs txs.now p).reports) }
+        ensures state { (p : State) → StandsFor (kept_of self.old) p → OnOk result
+            (StandsFor (kept_of self.new) (without_facts (built_txs txs.now p).state)) }
         ensures steady { OnOk result (AreSteady self.new) }
         ensures ctx { OnOk result (self.new.ground.ctx ≡ self.old.ground.ctx) }
         ensures none { OnOk result (self.new.ground.facts ≡ []) }

@@ -2,8 +2,10 @@
 #![tactic(auto)]
 
 #[cfg(test)]
-mod genesis_tests;
+mod contents;
 #[cfg(test)]
-mod staking_tests;
+mod listings;
 #[cfg(test)]
-mod tests;
+mod origins;
+#[cfg(test)]
+mod trials;

@@ -64,19 +64,19 @@ count-few k o n kept starts events h found = by (at addr_cmp kept.0.periods o) r
         omega (arith, le)
 
 -- the start of a delegation
-pub start-answers : (k k2 : Kept) (r : Rewards) (o who : List ℕ) (stake height period : ℕ) → KeepsRewards k r → is_some (current_of k o) ≡ true
-    → IsStrictlySortedBy period_cmp (keys_of k.historical) → info_of k who o ≡ None → 1 ≤ running k o → period ≡ running k o - 1
-    → k2 ≡ started_kept who o (record { period = period; stake = stake; height = height }) k
-    → KeepsRewards k2 (with_start who o (started_at (periods_of r o) stake height) r)
-start-answers k k2 r o who stake height period h is sorted new above at_period left =
+pub start-answers : (k k2 : Kept) (r : Rewards) (o delegator : List ℕ) (stake height period : ℕ) → KeepsRewards k r → is_some (current_of k o) ≡ true
+    → IsStrictlySortedBy period_cmp (keys_of k.historical) → info_of k delegator o ≡ None → 1 ≤ running k o → period ≡ running k o - 1
+    → k2 ≡ started_kept delegator o (record { period = period; stake = stake; height = height }) k
+    → KeepsRewards k2 (with_start delegator o (started_at (periods_of r o) stake height) r)
+start-answers k k2 r o delegator stake height period h is sorted new above at_period left =
     let there = periods-there k r o h is in
     let p : Periods = there.0 in
     let running : running k o ≡ p.current = running-is k r o p h there.1 in
     let info : StartingInfo = record { period = period; stake = stake; height = height } in
-    let stands = start-stands k r o who p h there.1 sorted info (omega (arith, above, at_period, running)) (ap (λ es. at pair_cmp es (o, who)) (sym h.starts) ∙ new) in
+    let stands = start-stands k r o delegator p h there.1 sorted info (omega (arith, above, at_period, running)) (ap (λ es. at pair_cmp es (o, delegator)) (sym h.starts) ∙ new) in
     let same : period ≡ last_ended (periods_of r o) = at_period ∙ ap (λ c. c - 1) running ∙ sym (ap last_ended (periods-is k r o p h there.1)) in
-    subst (λ n. KeepsRewards k2 (with_start who o (record { period = n; stake = stake; height = height }) r)) same
-    (subst (λ x. KeepsRewards x (with_start who o info r)) (sym left) stands)
+    subst (λ n. KeepsRewards k2 (with_start delegator o (record { period = n; stake = stake; height = height }) r)) same
+    (subst (λ x. KeepsRewards x (with_start delegator o info r)) (sym left) stands)
 
 -- the last ended period, as it is told
 pub last-is : (k : Kept) (r : Rewards) (o : List ℕ) (period : ℕ) → KeepsRewards k r → is_some (current_of k o) ≡ true → period ≡ running k o - 1 → period ≡ last_ended (periods_of r o)
@@ -106,11 +106,11 @@ started_there None e = cc
 started_there (Some a) e = (a, refl)
 
 -- the end of a delegation's rewards
-pub stop-answers : (k k2 : Kept) (r : Rewards) (o who : List ℕ) (info : StartingInfo) → KeepsRewards k r
-    → IsStrictlySortedBy period_cmp (keys_of k.historical) → info_of k who o ≡ Some info
-    → k2 ≡ stopped_kept who o (Some info) k → KeepsRewards k2 (without_start who o r)
-stop-answers k k2 r o who info h sorted there left =
-    let started : start_of r who o ≡ Some info = ap (λ es. at pair_cmp es (o, who)) (sym h.starts) ∙ there in
-    let has : is_some (at addr_cmp r.periods o) ≡ true = h.sound.started o who (ap is_some started) in
+pub stop-answers : (k k2 : Kept) (r : Rewards) (o delegator : List ℕ) (info : StartingInfo) → KeepsRewards k r
+    → IsStrictlySortedBy period_cmp (keys_of k.historical) → info_of k delegator o ≡ Some info
+    → k2 ≡ stopped_kept delegator o (Some info) k → KeepsRewards k2 (without_start delegator o r)
+stop-answers k k2 r o delegator info h sorted there left =
+    let started : start_of r delegator o ≡ Some info = ap (λ es. at pair_cmp es (o, delegator)) (sym h.starts) ∙ there in
+    let has : is_some (at addr_cmp r.periods o) ≡ true = h.sound.started o delegator (ap is_some started) in
     let p = started_there (at addr_cmp r.periods o) has in
-    subst (λ x. KeepsRewards x (without_start who o r)) (sym left) (stop-stands k r o who p.0 h p.1 sorted info started)
+    subst (λ x. KeepsRewards x (without_start delegator o r)) (sym left) (stop-stands k r o delegator p.0 h p.1 sorted info started)

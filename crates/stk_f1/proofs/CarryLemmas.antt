@@ -50,9 +50,9 @@ module _ (k k2 : Kept) (r : Rewards) (o : List ℕ) (p : Periods) (h : KeepsRewa
     periods = each-operator (λ q. (x : Periods) → at addr_cmp (with_periods o p r).periods q ≡ Some x → AreSound x (starts_of r q)) o
         (λ x e. subst (λ y. AreSound y (starts_of r o)) (ap (λ s. unwrap_or s p) (sym (periods-own r o p) ∙ e)) c.sound)
         (λ q apart x e. h.sound.periods q x (sym (periods-other r o q p apart) ∙ e));
-    started = each-operator (λ q. (who : List ℕ) → is_some (start_of r who q) ≡ true → is_some (at addr_cmp (with_periods o p r).periods q) ≡ true) o
-        (λ who e. ap is_some (periods-own r o p))
-        (λ q apart who e. ap is_some (periods-other r o q p apart) ∙ h.sound.started q who e);
+    started = each-operator (λ q. (delegator : List ℕ) → is_some (start_of r delegator q) ≡ true → is_some (at addr_cmp (with_periods o p r).periods q) ≡ true) o
+        (λ delegator e. ap is_some (periods-own r o p))
+        (λ q apart delegator e. ap is_some (periods-other r o q p apart) ∙ h.sound.started q delegator e);
   }
 
   pub carry-periods : KeepsRewards k2 (with_periods o p r)
@@ -79,7 +79,7 @@ pub record StartsChange (k k2 : Kept) (r r2 : Rewards) (o : List ℕ) (p : Perio
   pub other_records : (q : List ℕ) (n : ℕ) → same_addr q o ≡ false → record_of k2 q n ≡ record_of k q n
   pub starts : k2.starts ≡ r2.starts
   pub other_starts : (q : List ℕ) → same_addr q o ≡ false → starts_of r2 q ≡ starts_of r q
-  pub other_start : (q who : List ℕ) → same_addr q o ≡ false → start_of r2 who q ≡ start_of r who q
+  pub other_start : (q delegator : List ℕ) → same_addr q o ≡ false → start_of r2 delegator q ≡ start_of r delegator q
   pub ascend : IsStrictlySortedBy pair_cmp (keys_of r2.starts)
   pub events : k2.events ≡ k.events
   pub sound : AreSound p (starts_of r2 o)
@@ -99,8 +99,8 @@ carry-starts k k2 r r2 o p h c = record {
     periods = each-operator (λ q. (x : Periods) → at addr_cmp r2.periods q ≡ Some x → AreSound x (starts_of r2 q)) o
         (λ x e. subst (λ y. AreSound y (starts_of r2 o)) (ap (λ s. unwrap_or s p) (sym c.is ∙ ap (λ es. at addr_cmp es o) (sym c.periods) ∙ e)) c.sound)
         (λ q apart x e. subst (AreSound x) (sym (c.other_starts q apart)) (h.sound.periods q x (ap (λ es. at addr_cmp es q) (sym c.periods) ∙ e)));
-    started = each-operator (λ q. (who : List ℕ) → is_some (start_of r2 who q) ≡ true → is_some (at addr_cmp r2.periods q) ≡ true) o
-        (λ who e. ap is_some (ap (λ es. at addr_cmp es o) c.periods ∙ c.is))
-        (λ q apart who e. ap (λ es. is_some (at addr_cmp es q)) c.periods ∙ h.sound.started q who (ap is_some (sym (c.other_start q who apart)) ∙ e));
+    started = each-operator (λ q. (delegator : List ℕ) → is_some (start_of r2 delegator q) ≡ true → is_some (at addr_cmp r2.periods q) ≡ true) o
+        (λ delegator e. ap is_some (ap (λ es. at addr_cmp es o) c.periods ∙ c.is))
+        (λ q apart delegator e. ap (λ es. is_some (at addr_cmp es q)) c.periods ∙ h.sound.started q delegator (ap is_some (sym (c.other_start q delegator apart)) ∙ e));
   };
 }

@@ -76,7 +76,7 @@ first_same : (a b : Bool) → (a && b) ≡ true → a ≡ true
 first_same true b h = refl
 first_same false b h = cc
 
-module _ (k : Kept) (r : Rewards) (o : List ℕ) (h : KeepsRewards k r) (is : is_some (current_of k o) ≡ true) (current : IsStrictlySortedBy addr_cmp (keys_of k.current)) (none : (who : List ℕ) → info_of k who o ≡ None) where
+module _ (k : Kept) (r : Rewards) (o : List ℕ) (h : KeepsRewards k r) (is : is_some (current_of k o) ≡ true) (current : IsStrictlySortedBy addr_cmp (keys_of k.current)) (none : (delegator : List ℕ) → info_of k delegator o ≡ None) where
   own_periods : at addr_cmp (without_periods o r).periods o ≡ None
   own_periods = at-taken addr_cmp addr_total r.periods o o h.sound.operators_ascend ∙ ap (λ b. cond b None (at addr_cmp r.periods o)) (same_itself o)
 
@@ -87,8 +87,8 @@ module _ (k : Kept) (r : Rewards) (o : List ℕ) (h : KeepsRewards k r) (is : is
   not_some None e t = cc
   not_some (Some a) e t = cc
 
-  no_start : (who : List ℕ) → is_some (start_of r who o) ≡ true → ⊥
-  no_start who t = not_some (start_of r who o) (ap (λ es. at pair_cmp es (o, who)) (sym h.starts) ∙ none who) t
+  no_start : (delegator : List ℕ) → is_some (start_of r delegator o) ≡ true → ⊥
+  no_start delegator t = not_some (start_of r delegator o) (ap (λ es. at pair_cmp es (o, delegator)) (sym h.starts) ∙ none delegator) t
 
   -- the records of the operator are gone, and the others' stay
   pub clear-stands : KeepsRewards (without_operator o k) (without_periods o r)
@@ -113,8 +113,8 @@ module _ (k : Kept) (r : Rewards) (o : List ℕ) (h : KeepsRewards k r) (is : is
       periods = each-operator (λ q. (p : Periods) → at addr_cmp (without_periods o r).periods q ≡ Some p → AreSound p (starts_of r q)) o
           (λ p e. let no : None ≡ Some p = sym own_periods ∙ e in cc)
           (λ q apart p e. h.sound.periods q p (sym (other_periods q apart) ∙ e));
-      started = each-operator (λ q. (who : List ℕ) → is_some (start_of r who q) ≡ true → is_some (at addr_cmp (without_periods o r).periods q) ≡ true) o
-          (λ who t. absurd (no_start who t))
-          (λ q apart who t. ap is_some (other_periods q apart) ∙ h.sound.started q who t);
+      started = each-operator (λ q. (delegator : List ℕ) → is_some (start_of r delegator q) ≡ true → is_some (at addr_cmp (without_periods o r).periods q) ≡ true) o
+          (λ delegator t. absurd (no_start delegator t))
+          (λ q apart delegator t. ap is_some (other_periods q apart) ∙ h.sound.started q delegator t);
     };
   }

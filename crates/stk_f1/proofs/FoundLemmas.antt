@@ -92,7 +92,7 @@ current-other k o q n h = current-with k o q n ∙ ap (λ b. cond b (Some n) (cu
 same_back : (a b : List ℕ) → same_addr a b ≡ true → same_addr b a ≡ true
 same_back a b h = ap (λ x. same_addr b x) (same_is a b h) ∙ same_itself b
 
-no_entries : (o : List ℕ) (es : List ((List ℕ × List ℕ) × StartingInfo)) → ((who : List ℕ) → at pair_cmp es (o, who) ≡ None) → filter (λ e. same_addr e.0.0 o) es ≡ []
+no_entries : (o : List ℕ) (es : List ((List ℕ × List ℕ) × StartingInfo)) → ((delegator : List ℕ) → at pair_cmp es (o, delegator) ≡ None) → filter (λ e. same_addr e.0.0 o) es ≡ []
 no_entries o [] h = refl
 no_entries o (e ∷ es) h = by (same_addr e.0.0 o) refl (λ rest. no_entries o es rest)
   where
@@ -101,14 +101,14 @@ no_entries o (e ∷ es) h = by (same_addr e.0.0 o) refl (λ rest. no_entries o e
     both true false p q = cc
     both false b p q = cc
 
-    later : (who : List ℕ) → at pair_cmp es (o, who) ≡ None
-    later who = rest (is_at (pair_cmp (o, who)) e.0) (h who)
+    later : (delegator : List ℕ) → at pair_cmp es (o, delegator) ≡ None
+    later delegator = rest (is_at (pair_cmp (o, delegator)) e.0) (h delegator)
       where
-        rest : (b : Bool) → cond b (Some e.1) (at pair_cmp es (o, who)) ≡ None → at pair_cmp es (o, who) ≡ None
+        rest : (b : Bool) → cond b (Some e.1) (at pair_cmp es (o, delegator)) ≡ None → at pair_cmp es (o, delegator) ≡ None
         rest true t = cc
         rest false t = t
 
-    by : (b : Bool) → same_addr e.0.0 o ≡ b → (((who : List ℕ) → at pair_cmp es (o, who) ≡ None) → filter (λ d. same_addr d.0.0 o) es ≡ []) → cond b (e ∷ filter (λ d. same_addr d.0.0 o) es) (filter (λ d. same_addr d.0.0 o) es) ≡ []
+    by : (b : Bool) → same_addr e.0.0 o ≡ b → (((delegator : List ℕ) → at pair_cmp es (o, delegator) ≡ None) → filter (λ d. same_addr d.0.0 o) es ≡ []) → cond b (e ∷ filter (λ d. same_addr d.0.0 o) es) (filter (λ d. same_addr d.0.0 o) es) ≡ []
     by true t f =
         let hit : is_at (pair_cmp (o, e.0.1)) e.0 ≡ true = pair_found o e.0.0 e.0.1 e.0.1 ∙ both _ _ (same_back e.0.0 o t) (same_itself e.0.1) in
         let apart : Some e.1 ≡ None = sym (ap (λ b. cond b (Some e.1) (at pair_cmp es (o, e.0.1))) hit) ∙ h e.0.1 in cc
@@ -122,11 +122,11 @@ not_there : {A : Type 0} (x : Option A) → x ≡ None → is_some x ≡ true �
 not_there None e h = cc
 not_there (Some a) e h = cc
 
-pub no-starts : (r : Rewards) (o : List ℕ) → ((who : List ℕ) → start_of r who o ≡ None) → starts_of r o ≡ []
+pub no-starts : (r : Rewards) (o : List ℕ) → ((delegator : List ℕ) → start_of r delegator o ≡ None) → starts_of r o ≡ []
 no-starts r o h = ap (map (λ e. e.1)) (no_entries o r.starts h)
 
-pub none-started : (r : Rewards) (o : List ℕ) → IsSound r → at addr_cmp r.periods o ≡ None → (who : List ℕ) → start_of r who o ≡ None
-none-started r o s e who = none_of (start_of r who o) (λ is. not_there (at addr_cmp r.periods o) e (s.started o who is))
+pub none-started : (r : Rewards) (o : List ℕ) → IsSound r → at addr_cmp r.periods o ≡ None → (delegator : List ℕ) → start_of r delegator o ≡ None
+none-started r o s e delegator = none_of (start_of r delegator o) (λ is. not_there (at addr_cmp r.periods o) e (s.started o delegator is))
 
 -- an operator of which no period runs has no periods
 pub no-periods : (k : Kept) (r : Rewards) (o : List ℕ) → KeepsRewards k r → current_of k o ≡ None → at addr_cmp r.periods o ≡ None

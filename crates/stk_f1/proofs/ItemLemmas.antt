@@ -110,13 +110,13 @@ module _ (k : Kept) where
       (added-first historical-rowed.kind by_key_third historical-apart histories (rows_of historical_item (insert_entry period_cmp k.historical (o, p) h)) (starts ++ events) (historical_item (o, p) h) refl of_third
       (row-added period_cmp period_total AnyValue historical_item historical_gone same_history historical_entry historical-rowed k.historical (λ q v m. tt) s (o, p) h tt))
 
-  pub start-added : (who o : List ℕ) (info : StartingInfo) → IsStrictlySortedBy pair_cmp (keys_of k.starts) → IsAdded (items_of k) (item.Start o who info) (items_of (with_info who o info k))
-  start-added who o info s =
-      let more = rows_of start_item (insert_entry pair_cmp k.starts (o, who) info) in
-      in_second (histories ++ (more ++ events)) (start_item (o, who) info) refl
-      (in_third (more ++ events) (start_item (o, who) info) refl
-      (added-first start-rowed.kind event-rowed.kind starts-apart starts more events (start_item (o, who) info) refl of_event
-      (row-added pair_cmp pair_total AnyValue start_item start_gone same_start start_entry start-rowed k.starts (λ q v m. tt) s (o, who) info tt)))
+  pub start-added : (delegator o : List ℕ) (info : StartingInfo) → IsStrictlySortedBy pair_cmp (keys_of k.starts) → IsAdded (items_of k) (item.Start o delegator info) (items_of (with_info delegator o info k))
+  start-added delegator o info s =
+      let more = rows_of start_item (insert_entry pair_cmp k.starts (o, delegator) info) in
+      in_second (histories ++ (more ++ events)) (start_item (o, delegator) info) refl
+      (in_third (more ++ events) (start_item (o, delegator) info) refl
+      (added-first start-rowed.kind event-rowed.kind starts-apart starts more events (start_item (o, delegator) info) refl of_event
+      (row-added pair_cmp pair_total AnyValue start_item start_gone same_start start_entry start-rowed k.starts (λ q v m. tt) s (o, delegator) info tt)))
 
   pub event-added : (o : List ℕ) (e : SlashEvent) → IsStrictlySortedBy event_cmp (keys_of k.events) → IsAdded (items_of k) (item.Event o e) (items_of (with_event o e k))
   event-added o e s =

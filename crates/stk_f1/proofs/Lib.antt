@@ -22,4 +22,3 @@ pub mod SameLemmas
 pub mod KindLemmas
 pub mod ItemLemmas
 pub mod StepLemmas
-pub mod TrialLemmas

@@ -68,7 +68,7 @@ events-count (x ∷ xs) =
     (All-weaker (λ (e : SlashEvent). 1 ≤ count_where (λ (d : SlashEvent). d.period == e.period) xs) (λ (e : SlashEvent). 1 ≤ count_where (λ (d : SlashEvent). d.period == e.period) (x ∷ xs))
     (λ e le. omega (arith, le, one_more (λ d. d.period == e.period) x xs)) xs (events-count xs))
 
-module _ (k : Kept) (r : Rewards) (o who : List ℕ) (p : Periods) (s : StartingInfo) (h : KeepsRewards k r) (is : at addr_cmp r.periods o ≡ Some p) (start : start_of r who o ≡ Some s) where
+module _ (k : Kept) (r : Rewards) (o delegator : List ℕ) (p : Periods) (s : StartingInfo) (h : KeepsRewards k r) (is : at addr_cmp r.periods o ≡ Some p) (start : start_of r delegator o ≡ Some s) where
   old : AreSound p (starts_of r o)
   old = sound-is k r o p h is
 
@@ -81,7 +81,7 @@ module _ (k : Kept) (r : Rewards) (o who : List ℕ) (p : Periods) (s : Starting
   start-refers : refs s.period ≢ 0
   start-refers z =
       let one : tally pair_cmp (λ key. same_addr key.0 o) (λ x. x.period == s.period) r.starts ≡ tally pair_cmp (λ key. same_addr key.0 o) (λ x. x.period == s.period) _ + 1
-      = tally-some pair_cmp (λ key. same_addr key.0 o) (λ x. x.period == s.period) (pairs-respect o) r.starts (o, who) s start (same_itself o) (grind (arith, nat_tests)) in
+      = tally-some pair_cmp (λ key. same_addr key.0 o) (λ x. x.period == s.period) (pairs-respect o) r.starts (o, delegator) s start (same_itself o) (grind (arith, nat_tests)) in
       omega (arith, z, one)
 
   events-same : events_of k o ≡ p.events

@@ -1,5 +1,5 @@
 -- What the calls answer and leave.
-use Rattle.std.specs.Prelude.{◌≡◌, ℕ, List, [], ◌∷◌, ◌++◌, Result, Ok, Err, ⊤}
+use Rattle.std.specs.Prelude.{◌≡◌, ℕ, List, [], ◌∷◌, ◌++◌, Result, Err, ⊤}
 use Rattle.stk_dec.specs.declared.over.Over.{Over}
 use Rattle.stk_coins.specs.declared.fault.CoinFault.{CoinFault}
 use Rattle.stk_coins.specs.declared.fault.CoinFault.TheVariants as coin
@@ -8,29 +8,21 @@ use Rattle.stk_keep.specs.declared.facts.Fact.{Fact}
 use Rattle.stk_keep.specs.declared.facts.Fact.TheVariants.{Period}
 use Rattle.stk_keep.specs.declared.faults.HookFault.{HookFault}
 use Rattle.stk_keep.specs.declared.faults.HookFault.TheVariants as hook
+use Rattle.stk_keep.specs.Answers.{AsRuled, WantsMemory, ExceedsAs}
 use Rattle.stk_rules.specs.Periods.{Periods, Rewards, with_periods, last_ended}
 use Rattle.stk_f1.specs.Kept.{Kept}
 use Rattle.stk_f1.specs.Stands.{KeepsRewards}
 
 -- What a call answers that gives what a rule gives: that, or its excess; or memory is wanting.
 abbrev pub Gives : {A : Type 0} → Result A Over → Result A HookFault → Type 0
-Gives (Ok due) (Ok given) = given ≡ due
-Gives (Ok due) (Err (hook.Over over)) = ⊥
-Gives (Ok due) (Err hook.NoMemory) = ⊤
-Gives (Err due) (Ok given) = ⊥
-Gives (Err due) (Err (hook.Over over)) = over ≡ due
-Gives (Err due) (Err hook.NoMemory) = ⊤
+Gives rule answer = AsRuled rule answer (λ due given. given ≡ due) WantsMemory ExceedsAs
 
 -- The same of the end of a period, with what it leaves: the records stand for what the rule leaves, and the period and
 -- its ratio are told.
 abbrev pub Ends : List ℕ → Rewards → List Fact → Result (Money × Periods) Over → Kept → List Fact → Result ℕ HookFault → Type 0
-Ends operator r facts (Ok due) k facts2 (Ok period) =
-    (period ≡ last_ended due.1) × KeepsRewards k (with_periods operator due.1 r) × (facts2 ≡ facts ++ Period operator period due.0 ∷ [])
-Ends operator r facts (Ok due) k facts2 (Err (hook.Over over)) = ⊥
-Ends operator r facts (Ok due) k facts2 (Err hook.NoMemory) = ⊤
-Ends operator r facts (Err due) k facts2 (Ok period) = ⊥
-Ends operator r facts (Err due) k facts2 (Err (hook.Over over)) = over ≡ due
-Ends operator r facts (Err due) k facts2 (Err hook.NoMemory) = ⊤
+Ends operator r facts rule k facts2 answer = AsRuled rule answer
+    (λ due period. (period ≡ last_ended due.1) × KeepsRewards k (with_periods operator due.1 r)
+    × (facts2 ≡ facts ++ Period operator period due.0 ∷ [])) WantsMemory ExceedsAs
 
 -- the fault of a call on coins that can be over or want memory
 abbrev pub fault_of : CoinFault → HookFault

@@ -54,7 +54,7 @@ count_of k operator period = option_map (λ h. h.count) (record_of k operator pe
 
 -- where the rewards of a delegation begin
 abbrev pub info_of : Kept → List ℕ → List ℕ → Option StartingInfo
-info_of k who operator = at pair_cmp k.starts (operator, who)
+info_of k delegator operator = at pair_cmp k.starts (operator, delegator)
 
 -- the slash event of an entry: its height and period are those of the key
 abbrev pub event_at : (List ℕ × ℕ × ℕ) × ℕ → SlashEvent
@@ -97,11 +97,11 @@ released operator period k = recounted (record_of k operator period) (λ n. n - 
 
 -- with where the rewards of a delegation begin
 abbrev pub with_info : List ℕ → List ℕ → StartingInfo → Kept → Kept
-with_info who operator s k = record k { starts = with pair_cmp k.starts (operator, who) s }
+with_info delegator operator s k = record k { starts = with pair_cmp k.starts (operator, delegator) s }
 
 -- without it
 abbrev pub without_info : List ℕ → List ℕ → Kept → Kept
-without_info who operator k = record k { starts = without pair_cmp k.starts (operator, who) }
+without_info delegator operator k = record k { starts = without pair_cmp k.starts (operator, delegator) }
 
 -- with a slash event
 abbrev pub with_event : List ℕ → SlashEvent → Kept → Kept

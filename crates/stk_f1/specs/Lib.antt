@@ -1,5 +1,6 @@
 pub mod Kept
 pub mod Stands
+pub mod Scenes
 pub mod Answers
 pub mod Steps
 pub mod Grouped

@@ -31,7 +31,7 @@ pub record IsSound (r : Rewards) : Type 0 where
   pub operators_ascend : IsStrictlySortedBy addr_cmp (keys_of r.periods)
   pub starts_ascend : IsStrictlySortedBy pair_cmp (keys_of r.starts)
   pub periods : (operator : List ℕ) (p : Periods) → at addr_cmp r.periods operator ≡ Some p → AreSound p (starts_of r operator)
-  pub started : (operator who : List ℕ) → is_some (start_of r who operator) ≡ true → is_some (at addr_cmp r.periods operator) ≡ true
+  pub started : (operator delegator : List ℕ) → is_some (start_of r delegator operator) ≡ true → is_some (at addr_cmp r.periods operator) ≡ true
 
 -- the record of a period, by the periods of its operator and the starts of its delegations
 abbrev pub history_of : Option Periods → List StartingInfo → ℕ → Option Historical

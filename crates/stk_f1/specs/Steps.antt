@@ -40,7 +40,7 @@ ended_kept ratio operator k = with_current operator (running k operator + 1)
 
 -- the rewards of a delegation begin behind the last ended period
 abbrev pub started_kept : List ℕ → List ℕ → StartingInfo → Kept → Kept
-started_kept who operator s k = referred operator s.period (with_info who operator s k)
+started_kept delegator operator s k = referred operator s.period (with_info delegator operator s k)
 
 -- a slash event stands
 abbrev pub slashed_kept : List ℕ → SlashEvent → Kept → Kept
@@ -48,5 +48,5 @@ slashed_kept operator e k = referred operator e.period (with_event operator e k)
 
 -- a start that stood is gone, with its reference
 abbrev pub stopped_kept : List ℕ → List ℕ → Option StartingInfo → Kept → Kept
-stopped_kept who operator None k = without_info who operator k
-stopped_kept who operator (Some s) k = released operator s.period (without_info who operator k)
+stopped_kept delegator operator None k = without_info delegator operator k
+stopped_kept delegator operator (Some s) k = released operator s.period (without_info delegator operator k)

@@ -4,6 +4,7 @@ ghost use Rattle.std.specs.Prelude.{◌≡◌, ◌≢◌, [], true, length, filt
 ghost use Rattle.stk_keep.specs.Orders.{same_addr};
 ghost use Rattle.stk_table.specs.Tabled.{value_at};
 ghost use Rattle.stk_f1.specs.Kept.{behind, keeping, others, without_operator};
+ghost use Rattle.stk_f1.specs.Scenes.{LeavesBehind};
 
 use crate::keyed::Keyed;
 use crate::tables::Tables;
@@ -20,8 +21,7 @@ impl Tables {
     ) -> Result<(), TableFault>
         ensures ok { OnOk result
             (self.new ≡ keeping (without_operator operator.now self.old.kept) self.old) }
-        ensures behind { behind self.new ≡ behind self.old }
-        ensures spent { self.old.spent ≡ true → self.new.spent ≡ true }
+        ensures left { LeavesBehind self.old self.new }
         ensures spent_answer { self.old.spent ≡ true → IsErr result }
     {
         if self.spent {

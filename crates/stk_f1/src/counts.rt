@@ -4,7 +4,8 @@ ghost use Rattle.std.specs.Prelude.{◌≡◌, ◌+◌, ◌-◌, ◌≤◌, ◌<
 ghost use Rattle.stk_coins.specs.Coins.{coins_added};
 ghost use Rattle.stk_keep.specs.declared.entities.Historical.{Historical};
 ghost use Rattle.stk_f1.specs.Answers.{fault_of, IsExcessOf};
-ghost use Rattle.stk_f1.specs.Kept.{behind, keeping, record_of, current_of, referred, released};
+ghost use Rattle.stk_f1.specs.Kept.{keeping, record_of, current_of, referred, released};
+ghost use Rattle.stk_f1.specs.Scenes.{LeavesBehind};
 ghost use Rattle.stk_f1.specs.Steps.{next_ratio, ended_kept, made_kept, running};
 
 use crate::tables::Tables;
@@ -31,8 +32,7 @@ impl Tables {
             → h.count + 1 < 2 ^ 128 }
         ensures ok { OnOk result
             (self.new ≡ keeping (referred operator.now period self.old.kept) self.old) }
-        ensures behind { behind self.new ≡ behind self.old }
-        ensures spent { self.old.spent ≡ true → self.new.spent ≡ true }
+        ensures left { LeavesBehind self.old self.new }
         ensures cost { steps.new ≤ steps.old + 2 }
     {
         let Some(history) = self.record(operator, period, steps) else {
@@ -55,8 +55,7 @@ impl Tables {
     ) -> Result<(), TableFault>
         ensures ok { OnOk result
             (self.new ≡ keeping (released operator.now period self.old.kept) self.old) }
-        ensures behind { behind self.new ≡ behind self.old }
-        ensures spent { self.old.spent ≡ true → self.new.spent ≡ true }
+        ensures left { LeavesBehind self.old self.new }
         ensures cost { steps.new ≤ steps.old + 2 }
     {
         let Some(history) = self.record(operator, period, steps) else {
@@ -75,8 +74,7 @@ impl Tables {
     ) -> Result<(), TableFault>
         ensures ok { OnOk result
             (self.new ≡ keeping (made_kept operator.now self.old.kept) self.old) }
-        ensures behind { behind self.new ≡ behind self.old }
-        ensures spent { self.old.spent ≡ true → self.new.spent ≡ true }
+        ensures left { LeavesBehind self.old self.new }
         ensures spent_answer { self.old.spent ≡ true → IsErr result }
         ensures cost { steps.new ≤ steps.old + 2 }
     {
@@ -136,8 +134,7 @@ impl Tables {
         requires room { period + 1 < 2 ^ 64 }
         ensures ok { OnOk result
             (self.new ≡ keeping (ended_kept ratio operator.now self.old.kept) self.old) }
-        ensures behind { behind self.new ≡ behind self.old }
-        ensures spent { self.old.spent ≡ true → self.new.spent ≡ true }
+        ensures left { LeavesBehind self.old self.new }
         ensures spent_answer { self.old.spent ≡ true → IsErr result }
         ensures cost { steps.new ≤ steps.old + 4 }
     {

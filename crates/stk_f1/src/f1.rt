@@ -1,11 +1,12 @@
-ghost use Rattle.std.specs.Prelude.{◌≡◌, ℕ, List, ◌+◌, ◌*◌, ◌≤◌, ◌≢◌, ◌^◌, true, [], ◌∷◌, ◌++◌, length, is_some, Some, None, All, OnOk, OnErr, IfErr, IsErr};
+ghost use Rattle.std.specs.Prelude.{◌≡◌, ℕ, List, ◌+◌, ◌*◌, ◌≤◌, ◌≢◌, ◌^◌, true, [], ◌∷◌, ◌++◌, length, is_some, Some, None, All, OnOk, OnErr, IfOk, IfErr, IsErr};
 ghost use Rattle.stk_keep.specs.declared.faults.HookFault.TheVariants.{NoMemory};
 ghost use Rattle.stk_keep.specs.declared.facts.Fact.TheVariants as fact;
 ghost use Rattle.stk_keep.specs.declared.entities.StartingInfo.{StartingInfo};
 ghost use Rattle.stk_f1.specs.Answers.{Ends, Gives};
 ghost use Rattle.stk_f1.specs.Earning.{events_since};
-ghost use Rattle.stk_f1.specs.Kept.{behind, current_of, info_of, events_of, new_records};
+ghost use Rattle.stk_f1.specs.Kept.{current_of, info_of, events_of, new_records};
 ghost use Rattle.stk_rules.specs.Periods.{Rewards, initial_records, period_ended, periods_of, last_ended, event_recorded, start_of, reward_at, reward_after, with_periods, without_periods, with_start, without_start};
+ghost use Rattle.stk_f1.specs.Scenes.{HasPeriods, IsStarted, RecordsGoOn};
 ghost use Rattle.stk_f1.specs.Stands.{KeepsRewards, IsKept, no_rewards, started_at, references_at, if_some};
 ghost use Rattle.stk_f1.specs.Steps.{running};
 
@@ -21,7 +22,7 @@ use stk_types::{Addr, Copied, Steps};
 /// Periods, starts and slash events, in tables. Contracts see the records that stand, those at each open
 /// mark, those at the last settling, and whether memory was wanting in a change.
 ///
-/// The records stand for plain ones, of which none is ever deleted: `Keeps` says how. Each call carries
+/// The records stand for plain ones, of which none is ever deleted: `KeepsRewards` says how. Each call carries
 /// them from plain records to those that the rule leaves.
 #[derive(Drop)]
 pub struct F1 {
@@ -62,10 +63,7 @@ impl F1 {
         ensures made { (r : Rewards) → KeepsRewards self.old.kept r → OnOk result
             (KeepsRewards self.new.kept (with_periods operator.now initial_records r)) }
         ensures fault { IfErr result (λ fault. fault ≡ NoMemory) }
-        ensures behind { behind self.new ≡ behind self.old }
-        ensures spent { self.old.spent ≡ true → self.new.spent ≡ true }
-        ensures spent_answer { self.old.spent ≡ true → IsErr result }
-        ensures unspent { OnOk result (self.new.spent ≡ self.old.spent) }
+        ensures records { RecordsGoOn self.old self.new result }
         ensures cost { steps.new ≤ steps.old + 2 }
     {
         self.tables.known();
@@ -86,15 +84,13 @@ impl F1 {
         increment: &DecCoins,
         steps: &mut Steps<L>,
     ) -> Result<u64, HookFault>
-        requires kept { IsKept self.old.kept }
-        requires initialised { is_some (current_of self.old.kept operator.now) ≡ true }
+        requires validator { HasPeriods self.old.kept operator.now }
         ensures ended { (r : Rewards) → KeepsRewards self.old.kept r
-            → Ends operator.now r facts.old (period_ended increment.now (periods_of r operator.now)) self.new.kept facts.new result }
+            → Ends operator.now r facts.old
+            (period_ended increment.now (periods_of r operator.now))
+            self.new.kept facts.new result }
         ensures untold { OnErr result (facts.new ≡ facts.old) }
-        ensures behind { behind self.new ≡ behind self.old }
-        ensures spent { self.old.spent ≡ true → self.new.spent ≡ true }
-        ensures spent_answer { self.old.spent ≡ true → IsErr result }
-        ensures unspent { OnOk result (self.new.spent ≡ self.old.spent) }
+        ensures records { RecordsGoOn self.old self.new result }
         ensures cost { steps.new ≤ steps.old + 6 }
     {
         self.tables.known();
@@ -119,25 +115,23 @@ impl F1 {
     pub fn start<L: Ledger>(
         &mut self,
         facts: &mut Facts,
-        who: &Addr,
+        delegator: &Addr,
         operator: &Addr,
         stake: Dec,
         height: u64,
         steps: &mut Steps<L>,
     ) -> Result<(), HookFault>
-        requires kept { IsKept self.old.kept }
-        requires initialised { is_some (current_of self.old.kept operator.now) ≡ true }
-        requires new { info_of self.old.kept who.now operator.now ≡ None }
+        requires validator { HasPeriods self.old.kept operator.now }
+        requires new { info_of self.old.kept delegator.now operator.now ≡ None }
         ensures started { (r : Rewards) → KeepsRewards self.old.kept r
-            → OnOk result (KeepsRewards self.new.kept (with_start who.now operator.now (started_at (periods_of r operator.now) stake height) r)) }
+            → OnOk result (KeepsRewards self.new.kept (with_start delegator.now operator.now
+            (started_at (periods_of r operator.now) stake height) r)) }
         ensures told { (r : Rewards) → KeepsRewards self.old.kept r
-            → OnOk result (facts.new ≡ facts.old ++ fact.Started who.now operator.now (last_ended (periods_of r operator.now)) stake ∷ []) }
+            → OnOk result (facts.new ≡ facts.old ++ fact.Started delegator.now operator.now
+            (last_ended (periods_of r operator.now)) stake ∷ []) }
         ensures fault { IfErr result (λ fault. fault ≡ NoMemory) }
         ensures untold { OnErr result (facts.new ≡ facts.old) }
-        ensures behind { behind self.new ≡ behind self.old }
-        ensures spent { self.old.spent ≡ true → self.new.spent ≡ true }
-        ensures spent_answer { self.old.spent ≡ true → IsErr result }
-        ensures unspent { OnOk result (self.new.spent ≡ self.old.spent) }
+        ensures records { RecordsGoOn self.old self.new result }
         ensures cost { steps.new ≤ steps.old + 4 }
     {
         self.tables.known();
@@ -147,10 +141,10 @@ impl F1 {
             stake,
             height,
         };
-        self.tables.put_info(who, operator, info, steps)?;
+        self.tables.put_info(delegator, operator, info, steps)?;
         self.tables.refer(operator, period, steps)?;
         facts.push(Fact::Started {
-            delegator: *who,
+            delegator: *delegator,
             validator: *operator,
             period,
             stake,
@@ -169,19 +163,16 @@ impl F1 {
         fraction: Dec,
         steps: &mut Steps<L>,
     ) -> Result<(), HookFault>
-        requires kept { IsKept self.old.kept }
-        requires initialised { is_some (current_of self.old.kept operator.now) ≡ true }
+        requires validator { HasPeriods self.old.kept operator.now }
         requires last { period + 1 ≡ running self.old.kept operator.now }
         requires free { All (λ e. e.period ≢ period) (events_of self.old.kept operator.now) }
         requires heights { All (λ e. e.height ≤ height) (events_of self.old.kept operator.now) }
         requires part { fraction ≤ 10 ^ 18 }
         ensures recorded { (r : Rewards) → KeepsRewards self.old.kept r
-            → OnOk result (KeepsRewards self.new.kept (with_periods operator.now (event_recorded height fraction (periods_of r operator.now)) r)) }
+            → OnOk result (KeepsRewards self.new.kept (with_periods operator.now
+            (event_recorded height fraction (periods_of r operator.now)) r)) }
         ensures fault { IfErr result (λ fault. fault ≡ NoMemory) }
-        ensures behind { behind self.new ≡ behind self.old }
-        ensures spent { self.old.spent ≡ true → self.new.spent ≡ true }
-        ensures spent_answer { self.old.spent ≡ true → IsErr result }
-        ensures unspent { OnOk result (self.new.spent ≡ self.old.spent) }
+        ensures records { RecordsGoOn self.old self.new result }
         ensures cost { steps.new ≤ steps.old + 3 }
     {
         self.tables.known();
@@ -199,23 +190,20 @@ impl F1 {
     pub fn stop<L: Ledger>(
         &mut self,
         alloc: Global,
-        who: &Addr,
+        delegator: &Addr,
         operator: &Addr,
         steps: &mut Steps<L>,
     ) -> Result<(), HookFault>
-        requires kept { IsKept self.old.kept }
-        requires started { is_some (info_of self.old.kept who.now operator.now) ≡ true }
+        requires delegation { IsStarted self.old.kept delegator.now operator.now }
         ensures stopped { (r : Rewards) → KeepsRewards self.old.kept r
-            → OnOk result (KeepsRewards self.new.kept (without_start who.now operator.now r)) }
+            → OnOk result
+            (KeepsRewards self.new.kept (without_start delegator.now operator.now r)) }
         ensures fault { IfErr result (λ fault. fault ≡ NoMemory) }
-        ensures behind { behind self.new ≡ behind self.old }
-        ensures spent { self.old.spent ≡ true → self.new.spent ≡ true }
-        ensures spent_answer { self.old.spent ≡ true → IsErr result }
-        ensures unspent { OnOk result (self.new.spent ≡ self.old.spent) }
+        ensures records { RecordsGoOn self.old self.new result }
         ensures cost { steps.new ≤ steps.old + 3 }
     {
         self.tables.known();
-        let info = self.tables.take_info(who, operator, steps)?.unwrap();
+        let info = self.tables.take_info(delegator, operator, steps)?.unwrap();
         self.tables.release(alloc, operator, info.period, steps)?;
         Ok(())
     }
@@ -227,20 +215,64 @@ impl F1 {
         operator: &Addr,
         steps: &mut Steps<L>,
     ) -> Result<(), HookFault>
-        requires kept { IsKept self.old.kept }
-        requires initialised { is_some (current_of self.old.kept operator.now) ≡ true }
-        requires none { (who : List ℕ) → info_of self.old.kept who operator.now ≡ None }
+        requires validator { HasPeriods self.old.kept operator.now }
+        requires none { (delegator : List ℕ) → info_of self.old.kept delegator operator.now ≡ None }
         ensures cleared { (r : Rewards) → KeepsRewards self.old.kept r
             → OnOk result (KeepsRewards self.new.kept (without_periods operator.now r)) }
         ensures fault { IfErr result (λ fault. fault ≡ NoMemory) }
-        ensures behind { behind self.new ≡ behind self.old }
-        ensures spent { self.old.spent ≡ true → self.new.spent ≡ true }
-        ensures spent_answer { self.old.spent ≡ true → IsErr result }
-        ensures unspent { OnOk result (self.new.spent ≡ self.old.spent) }
+        ensures records { RecordsGoOn self.old self.new result }
     {
         self.tables.known();
         self.tables.clear(operator, steps)?;
         Ok(())
+    }
+
+    /// The period of a validator that runs: None exactly where it has no records
+    /// (`GetValidatorCurrentRewards`). Takes no memory.
+    pub fn current<L: Ledger>(&self, operator: &Addr, steps: &mut Steps<L>) -> Option<u64>
+        ensures period { result ≡ current_of self.now.kept operator.now }
+        ensures cost { steps.new ≡ steps.old + 1 }
+    {
+        self.tables.current(operator, steps)
+    }
+
+    /// Where the rewards of a delegation begin: None exactly where none are started
+    /// (`GetDelegatorStartingInfo`). Takes no memory.
+    pub fn starting_info<L: Ledger>(
+        &self,
+        delegator: &Addr,
+        operator: &Addr,
+        steps: &mut Steps<L>,
+    ) -> Option<StartingInfo>
+        ensures info { result ≡ info_of self.now.kept delegator.now operator.now }
+        ensures cost { steps.new ≡ steps.old + 1 }
+    {
+        self.tables.info(delegator, operator, steps)
+    }
+
+    /// Of how many delegations the rewards are started, at all validators. Takes no memory.
+    pub fn starts(&self) -> usize
+        ensures { result ≡ length self.now.kept.starts }
+    {
+        self.tables.starts.len()
+    }
+
+    /// The slash events of a validator that are not below a height, by height, then by period
+    /// (`IterateValidatorSlashEventsBetween`). The walk is over these alone. The only error is `NoMemory`.
+    pub fn slash_events<L: Ledger>(
+        &self,
+        alloc: Global,
+        operator: &Addr,
+        height: u64,
+        steps: &mut Steps<L>,
+    ) -> Result<Vec<SlashEvent>, HookFault>
+        ensures events { IfOk result
+            (λ events. events.items ≡ events_since height (events_of self.now.kept operator.now)) }
+        ensures fault { IfErr result (λ fault. fault ≡ NoMemory) }
+        ensures cost { steps.new ≤ steps.old
+            + (length (events_since height (events_of self.now.kept operator.now)) + 1) }
+    {
+        self.tables.events_since(alloc, operator, height, steps)
     }
 
     /// How many refer to a period: None exactly where nothing does, as in an operator without records. Takes
@@ -273,22 +305,23 @@ impl F1 {
     pub fn reward<L: Ledger>(
         &self,
         alloc: Global,
-        who: &Addr,
+        delegator: &Addr,
         operator: &Addr,
         ending: u64,
         height: u64,
         value: Dec,
         steps: &mut Steps<L>,
     ) -> Result<DecCoins, HookFault>
-        requires kept { IsKept self.now.kept }
-        requires started { is_some (info_of self.now.kept who.now operator.now) ≡ true }
+        requires delegation { IsStarted self.now.kept delegator.now operator.now }
         requires last { ending + 1 ≡ running self.now.kept operator.now }
         ensures reward { (r : Rewards) → KeepsRewards self.now.kept r
-            → Gives (reward_at (start_of r who.now operator.now) (periods_of r operator.now) ending height value) result }
-        ensures cost { (s : StartingInfo) → info_of self.now.kept who.now operator.now ≡ Some s
-            → steps.new ≤ steps.old + (2 * length (events_since s.height (events_of self.now.kept operator.now)) + 4) }
+            → Gives (reward_at (start_of r delegator.now operator.now) (periods_of r operator.now)
+            ending height value) result }
+        ensures cost { (s : StartingInfo) → info_of self.now.kept delegator.now operator.now ≡ Some s
+            → steps.new ≤ steps.old
+            + (2 * length (events_since s.height (events_of self.now.kept operator.now)) + 4) }
     {
-        let info = self.tables.info(who, operator, steps).unwrap();
+        let info = self.tables.info(delegator, operator, steps).unwrap();
         if info.height == height {
             return Ok(DecCoins::new(alloc));
         }
@@ -305,24 +338,25 @@ impl F1 {
     pub fn reward_after<L: Ledger>(
         &self,
         alloc: Global,
-        who: &Addr,
+        delegator: &Addr,
         operator: &Addr,
         increment: &DecCoins,
         height: u64,
         value: Dec,
         steps: &mut Steps<L>,
     ) -> Result<DecCoins, HookFault>
-        requires kept { IsKept self.now.kept }
-        requires initialised { is_some (current_of self.now.kept operator.now) ≡ true }
-        requires started { is_some (info_of self.now.kept who.now operator.now) ≡ true }
+        requires validator { HasPeriods self.now.kept operator.now }
+        requires delegation { IsStarted self.now.kept delegator.now operator.now }
         ensures reward { (r : Rewards) → KeepsRewards self.now.kept r
-            → Gives (reward_after (start_of r who.now operator.now) (periods_of r operator.now) increment.now height value) result }
-        ensures cost { (s : StartingInfo) → info_of self.now.kept who.now operator.now ≡ Some s
-            → steps.new ≤ steps.old + (2 * length (events_since s.height (events_of self.now.kept operator.now)) + 5) }
+            → Gives (reward_after (start_of r delegator.now operator.now) (periods_of r operator.now)
+            increment.now height value) result }
+        ensures cost { (s : StartingInfo) → info_of self.now.kept delegator.now operator.now ≡ Some s
+            → steps.new ≤ steps.old
+            + (2 * length (events_since s.height (events_of self.now.kept operator.now)) + 5) }
     {
         // It tells that the increment is a list of coins.
         let _ = increment.len();
-        let info = self.tables.info(who, operator, steps).unwrap();
+        let info = self.tables.info(delegator, operator, steps).unwrap();
         let (_, ratio) = match self.tables.next_ratio(alloc, operator, increment, steps) {
             Ok(next) => next,
             Err(fault) => return Err(fault),

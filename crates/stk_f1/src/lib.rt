@@ -20,6 +20,3 @@ mod worked;
 
 pub use f1::F1;
 pub use worked::{references_by_example, rewards_by_example};
-
-#[cfg(test)]
-mod tests;

@@ -35,9 +35,11 @@ impl Tables {
     ) -> Result<DecCoins, HookFault>
         requires { (ending : ℕ) × CanEarn self.now.kept operator.now info ending ratio.now }
         ensures reward { (ending : ℕ) → CanEarn self.now.kept operator.now info ending ratio.now
-            → IfOk result (λ reward. kept_reward self.now.kept operator.now info ending ratio.now value ≡ Ok reward) }
+            → IfOk result (λ reward.
+            kept_reward self.now.kept operator.now info ending ratio.now value ≡ Ok reward) }
         ensures fault { (ending : ℕ) → CanEarn self.now.kept operator.now info ending ratio.now
-            → IfErr result (IsExcessOf (kept_reward self.now.kept operator.now info ending ratio.now value)) }
+            → IfErr result (IsExcessOf
+            (kept_reward self.now.kept operator.now info ending ratio.now value)) }
         ensures cost { steps.new ≤ steps.old
             + (2 * length (events_since info.height (events_of self.now.kept operator.now)) + 2) }
     {

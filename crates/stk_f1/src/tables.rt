@@ -7,6 +7,7 @@ ghost use Rattle.std.specs.Option.{option_copied};
 ghost use Rattle.stk_types.specs.Orders.{addr_cmp};
 ghost use Rattle.stk_keep.specs.Orders.{pair_cmp};
 ghost use Rattle.stk_f1.specs.Kept.{new_records, current_of, record_of, info_of, with_current, with_record, with_info, without_info, with_event, with_history, with_mark, IsGoneBack, IsForgotten, keeping, spent_now, period_cmp, event_cmp, record_set};
+ghost use Rattle.stk_f1.specs.Scenes.{Changes};
 ghost use Rattle.stk_table.specs.Tabled.{spent_now as table_spent, with_mark as table_marked, with_value};
 
 use crate::items::{CurrentKind, EventKind, HistoricalKind, StartKind};
@@ -49,9 +50,19 @@ impl Model for Tables {
     ghost Value = { Recorded };
 
     ghost view = { λ t. record {
-      kept = record { current = t.current.entries; historical = t.historical.entries; starts = t.starts.entries; events = t.events.entries };
+      kept = record {
+        current = t.current.entries;
+        historical = t.historical.entries;
+        starts = t.starts.entries;
+        events = t.events.entries;
+      };
       marks = side_by_side t.current.marks t.historical.marks t.starts.marks t.events.marks;
-      settled = record { current = t.current.settled; historical = t.historical.settled; starts = t.starts.settled; events = t.events.settled };
+      settled = record {
+        current = t.current.settled;
+        historical = t.historical.settled;
+        starts = t.starts.settled;
+        events = t.events.settled;
+      };
       spent = t.spent;
     } };
 
@@ -156,14 +167,14 @@ impl Tables {
     /// Where the rewards of a delegation begin.
     pub(crate) fn info<L: Ledger>(
         &self,
-        who: &Addr,
+        delegator: &Addr,
         operator: &Addr,
         steps: &mut Steps<L>,
     ) -> Option<StartingInfo>
-        ensures info { result ≡ info_of self.now.kept who.now operator.now }
+        ensures info { result ≡ info_of self.now.kept delegator.now operator.now }
         ensures cost { steps.new ≡ steps.old + 1 }
     {
-        self.starts.get(&(*operator, *who), steps).copied()
+        self.starts.get(&(*operator, *delegator), steps).copied()
     }
 
     /// Puts the period of an operator that runs.
@@ -173,10 +184,8 @@ impl Tables {
         period: u64,
         steps: &mut Steps<L>,
     ) -> Result<(), TableFault>
-        ensures ok { OnOk result
-            (self.new ≡ keeping (with_current operator.now period self.old.kept) self.old) }
-        ensures err { OnErr result (self.new ≡ spent_now self.old) }
-        ensures spent { self.old.spent ≡ true → IsErr result }
+        ensures changes { Changes (with_current operator.now period self.old.kept)
+            self.old self.new result }
         ensures cost { steps.new ≤ steps.old + 1 }
     {
         if self.spent {
@@ -199,10 +208,9 @@ impl Tables {
         history: Historical,
         steps: &mut Steps<L>,
     ) -> Result<(), TableFault>
-        ensures ok { OnOk result (self.new ≡ keeping
-            (with_record operator.now period history.ratio history.count self.old.kept) self.old) }
-        ensures err { OnErr result (self.new ≡ spent_now self.old) }
-        ensures spent { self.old.spent ≡ true → IsErr result }
+        ensures changes { Changes
+            (with_record operator.now period history.ratio history.count self.old.kept)
+            self.old self.new result }
         ensures cost { steps.new ≤ steps.old + 1 }
     {
         if self.spent {
@@ -242,21 +250,19 @@ impl Tables {
     /// Puts where the rewards of a delegation begin.
     pub(crate) fn put_info<L: Ledger>(
         &mut self,
-        who: &Addr,
+        delegator: &Addr,
         operator: &Addr,
         info: StartingInfo,
         steps: &mut Steps<L>,
     ) -> Result<(), TableFault>
-        ensures ok { OnOk result
-            (self.new ≡ keeping (with_info who.now operator.now info self.old.kept) self.old) }
-        ensures err { OnErr result (self.new ≡ spent_now self.old) }
-        ensures spent { self.old.spent ≡ true → IsErr result }
+        ensures changes { Changes (with_info delegator.now operator.now info self.old.kept)
+            self.old self.new result }
         ensures cost { steps.new ≤ steps.old + 1 }
     {
         if self.spent {
             return Err(TableFault::Spent);
         }
-        match self.starts.put(&(*operator, *who), info, steps) {
+        match self.starts.put(&(*operator, *delegator), info, steps) {
             Ok(()) => Ok(()),
             Err(fault) => {
                 self.spent = true;
@@ -268,21 +274,19 @@ impl Tables {
     /// Takes out where the rewards of a delegation begin, and answers what stood there.
     pub(crate) fn take_info<L: Ledger>(
         &mut self,
-        who: &Addr,
+        delegator: &Addr,
         operator: &Addr,
         steps: &mut Steps<L>,
     ) -> Result<Option<StartingInfo>, TableFault>
-        ensures info { IfOk result (λ info. info ≡ info_of self.old.kept who.now operator.now) }
-        ensures ok { OnOk result
-            (self.new ≡ keeping (without_info who.now operator.now self.old.kept) self.old) }
-        ensures err { OnErr result (self.new ≡ spent_now self.old) }
-        ensures spent { self.old.spent ≡ true → IsErr result }
+        ensures info { IfOk result (λ info. info ≡ info_of self.old.kept delegator.now operator.now) }
+        ensures changes { Changes (without_info delegator.now operator.now self.old.kept)
+            self.old self.new result }
         ensures cost { steps.new ≤ steps.old + 1 }
     {
         if self.spent {
             return Err(TableFault::Spent);
         }
-        match self.starts.remove(&(*operator, *who), steps) {
+        match self.starts.remove(&(*operator, *delegator), steps) {
             Ok(info) => Ok(info),
             Err(fault) => {
                 self.spent = true;
@@ -298,10 +302,8 @@ impl Tables {
         event: SlashEvent,
         steps: &mut Steps<L>,
     ) -> Result<(), TableFault>
-        ensures ok { OnOk result
-            (self.new ≡ keeping (with_event operator.now event self.old.kept) self.old) }
-        ensures err { OnErr result (self.new ≡ spent_now self.old) }
-        ensures spent { self.old.spent ≡ true → IsErr result }
+        ensures changes { Changes (with_event operator.now event self.old.kept)
+            self.old self.new result }
         ensures cost { steps.new ≤ steps.old + 1 }
     {
         if self.spent {

@@ -172,7 +172,8 @@ fn paid<'a>(
     coins: &'a Coins,
 ) -> Result<(), LineFault>
     ensures ok { OnOk result (out.new.items ≡ out.old.items
-        ++ line_of (fact_data height (Fact.Paid delegator.now validator.now to.now reward.now coins.now))) }
+        ++ line_of (fact_data height
+        (Fact.Paid delegator.now validator.now to.now reward.now coins.now))) }
     ensures fault { IfErr result (λ fault. fault ≡ LineFault.NoMemory) }
 {
     let members = [

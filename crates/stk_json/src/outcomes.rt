@@ -49,7 +49,8 @@ fn refused(
     reason: Refusal,
 ) -> Result<(), LineFault>
     ensures ok { OnOk result (out.new.items ≡ out.old.items ++ line_of
-        (told_at height (codes "refused") (refused_members place message (refusal_number reason) []))) }
+        (told_at height (codes "refused")
+        (refused_members place message (refusal_number reason) []))) }
     ensures fault { IfErr result (λ fault. fault ≡ LineFault.NoMemory) }
 {
     let members = [
@@ -72,7 +73,8 @@ fn still_jailed(
     until: Moment,
 ) -> Result<(), LineFault>
     ensures ok { OnOk result (out.new.items ≡ out.old.items
-        ++ line_of (outcome_data height place (Outcome.Refused message (Refusal.StillJailed until)))) }
+        ++ line_of (outcome_data height place
+        (Outcome.Refused message (Refusal.StillJailed until)))) }
     ensures fault { IfErr result (λ fault. fault ≡ LineFault.NoMemory) }
 {
     let members = [

@@ -30,30 +30,51 @@ Burns from c h facts h2 facts2 (Ok _) = (c.amount ≤ balance_of h (account.Modu
 Burns from c h facts h2 facts2 (Err bank.Short) = (balance_of h (account.Module from) c.denom < c.amount) × (h2 ≡ h) × (facts2 ≡ facts)
 Burns from c h facts h2 facts2 (Err bank.NoMemory) = (h2 ≡ h) × (facts2 ≡ facts)
 
+-- What a rule gives, against what a call answers. Where the rule gives something, a call that succeeds is tied to it by the
+-- first test, and one that fails passes the second. Where the rule has an error, the call fails, and its error passes the
+-- third.
+abbrev pub AsRuled : {W E A F : Type 0} → Result W E → Result A F → (W → A → Type 0) → (F → Type 0) → (E → F → Type 0) → Type 0
+AsRuled (Ok due) (Ok a) stands wanting errs = stands due a
+AsRuled (Ok due) (Err fault) stands wanting errs = wanting fault
+AsRuled (Err due) (Ok a) stands wanting errs = ⊥
+AsRuled (Err due) (Err fault) stands wanting errs = errs due fault
+
+-- an error of a rule that may exceed, against that of a call: the same excess, or memory is wanting
+abbrev pub ExceedsAs : Over → HookFault → Type 0
+ExceedsAs due (hook.Over over) = over ≡ due
+ExceedsAs due hook.NoMemory = ⊤
+
+-- a call whose rule gives something has no error but want of memory
+abbrev pub WantsMemory : HookFault → Type 0
+WantsMemory (hook.Over over) = ⊥
+WantsMemory hook.NoMemory = ⊤
+
+-- the same of a message, which may be refused
+abbrev pub RefusesAs : Refusal → Stop → Type 0
+RefusesAs due (stop.Refused why) = why ≡ due
+RefusesAs due stop.NoMemory = ⊤
+
+-- a message whose rule gives something stops for want of memory alone
+abbrev pub StopsForMemory : Stop → Type 0
+StopsForMemory (stop.Refused why) = ⊥
+StopsForMemory stop.NoMemory = ⊤
+
+-- what is told of a hook, as what a rule gives
+abbrev pub outcome : {H : Type 0} → Told H → Result (H × View) Over
+outcome (gives h v log) = Ok (h, v)
+outcome (exceeds over) = Err over
+
 -- What a hook of which this is told answers, and leaves of the hooks and of the ground: what is given is held, or the
 -- excess; or memory is wanting.
 abbrev pub Answers : {H : Type 0} → Told H → (H → Type 0) → View → Result ⊤ HookFault → Type 0
-Answers (gives h v2 log) holds v (Ok _) = holds h × (v ≡ v2)
-Answers (gives h v2 log) holds v (Err (hook.Over over)) = ⊥
-Answers (gives h v2 log) holds v (Err hook.NoMemory) = ⊤
-Answers (exceeds due) holds v (Ok _) = ⊥
-Answers (exceeds due) holds v (Err (hook.Over over)) = over ≡ due
-Answers (exceeds due) holds v (Err hook.NoMemory) = ⊤
+Answers told holds v answer = AsRuled (outcome told) answer (λ due a. holds due.0 × (v ≡ due.1)) WantsMemory ExceedsAs
 
--- The same of a call that follows a rule with a number: what the rule gives, or its excess; or memory is wanting.
+-- The same of a call that follows a rule with a number, over records, hooks and ground.
 abbrev pub Follows : {S H : Type 0} → Result (ℕ × World S H) Over → S → (H → Type 0) → View → Result ℕ HookFault → Type 0
-Follows (Ok p) s holds v (Ok n) = (n ≡ p.0) × (s ≡ p.1.mine) × holds p.1.hooks × (v ≡ p.1.view)
-Follows (Ok p) s holds v (Err (hook.Over over)) = ⊥
-Follows (Ok p) s holds v (Err hook.NoMemory) = ⊤
-Follows (Err due) s holds v (Ok n) = ⊥
-Follows (Err due) s holds v (Err (hook.Over over)) = over ≡ due
-Follows (Err due) s holds v (Err hook.NoMemory) = ⊤
+Follows rule s holds v answer = AsRuled rule answer
+    (λ due n. (n ≡ due.0) × (s ≡ due.1.mine) × holds due.1.hooks × (v ≡ due.1.view)) WantsMemory ExceedsAs
 
 -- The same of a message, which may be refused.
 abbrev pub AnswersAs : {A S H : Type 0} → Result (A × World S H) Refusal → S → (H → Type 0) → View → Result A Stop → Type 0
-AnswersAs (Ok p) s holds v (Ok a) = (a ≡ p.0) × (s ≡ p.1.mine) × holds p.1.hooks × (v ≡ p.1.view)
-AnswersAs (Ok p) s holds v (Err (stop.Refused why)) = ⊥
-AnswersAs (Ok p) s holds v (Err stop.NoMemory) = ⊤
-AnswersAs (Err due) s holds v (Ok a) = ⊥
-AnswersAs (Err due) s holds v (Err (stop.Refused why)) = why ≡ due
-AnswersAs (Err due) s holds v (Err stop.NoMemory) = ⊤
+AnswersAs rule s holds v answer = AsRuled rule answer
+    (λ due a. (a ≡ due.0) × (s ≡ due.1.mine) × holds due.1.hooks × (v ≡ due.1.view)) StopsForMemory RefusesAs

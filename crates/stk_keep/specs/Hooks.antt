@@ -20,19 +20,19 @@ abbrev pub validator_in : Hook → Validator
 validator_in (created v) = v
 validator_in (removed v) = v
 validator_in (bonded v) = v
-validator_in (starting v who) = v
-validator_in (modifying v who shares) = v
-validator_in (modified v who shares) = v
+validator_in (starting v delegator) = v
+validator_in (modifying v delegator shares) = v
+validator_in (modified v delegator shares) = v
 validator_in (slashing v fraction) = v
 
 -- what each hook needs of the lists and of its arguments
 abbrev pub Needs : Hook → Lists → Type 0
 Needs (created v) l = l.operators v.operator ≡ false
-Needs (removed v) l = (l.operators v.operator ≡ true) × ((who : List ℕ) → l.started who v.operator ≡ false)
+Needs (removed v) l = (l.operators v.operator ≡ true) × ((delegator : List ℕ) → l.started delegator v.operator ≡ false)
 Needs (bonded v) l = l.operators v.operator ≡ true
-Needs (starting v who) l = (l.operators v.operator ≡ true) × (l.started who v.operator ≡ false)
-Needs (modifying v who shares) l = (l.started who v.operator ≡ true) × (0 < shares) × (shares ≤ v.shares)
-Needs (modified v who shares) l = (l.operators v.operator ≡ true) × (l.started who v.operator ≡ false) × (0 < shares) × (shares ≤ v.shares)
+Needs (starting v delegator) l = (l.operators v.operator ≡ true) × (l.started delegator v.operator ≡ false)
+Needs (modifying v delegator shares) l = (l.started delegator v.operator ≡ true) × (0 < shares) × (shares ≤ v.shares)
+Needs (modified v delegator shares) l = (l.operators v.operator ≡ true) × (l.started delegator v.operator ≡ false) × (0 < shares) × (shares ≤ v.shares)
 Needs (slashing v fraction) l = (l.operators v.operator ≡ true) × (fraction ≤ 10 ^ 18)
 
 -- the lists with the operator, or without it
@@ -41,16 +41,16 @@ with_operator operator b l = record { operators = λ o. if same_addr operator o 
 
 -- the lists with the pair started, or not
 abbrev pub with_started : List ℕ → List ℕ → Bool → Lists → Lists
-with_started who operator b l = record { operators = l.operators; started = λ w o. if same_addr who w && same_addr operator o then b else l.started w o }
+with_started delegator operator b l = record { operators = l.operators; started = λ w o. if same_addr delegator w && same_addr operator o then b else l.started w o }
 
 -- the lists after a hook
 abbrev pub after : Hook → Lists → Lists
 after (created v) l = with_operator v.operator true l
 after (removed v) l = with_operator v.operator false l
 after (bonded v) l = l
-after (starting v who) l = l
-after (modifying v who shares) l = with_started who v.operator false l
-after (modified v who shares) l = with_started who v.operator true l
+after (starting v delegator) l = l
+after (modifying v delegator shares) l = with_started delegator v.operator false l
+after (modified v delegator shares) l = with_started delegator v.operator true l
 after (slashing v fraction) l = l
 
 -- What hooks tell of themselves, apart from how they keep it: what a call gives; for which lists they stand; what they

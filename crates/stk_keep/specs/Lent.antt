@@ -1,5 +1,5 @@
 -- What calls that are lent something are told of it, and what slashes leave.
-use Rattle.std.specs.Prelude.{◌≡◌, ℕ, ◌+◌, ◌≤◌, false, true, List, [], ◌∷◌, ◌++◌, Option, Some, None, Result, Ok, Err, ⊤}
+use Rattle.std.specs.Prelude.{◌≡◌, ℕ, ◌+◌, ◌≤◌, false, true, List, [], ◌∷◌, ◌++◌, Option, Some, None, Result}
 use Rattle.std.specs.BTreeMap.{is_at}
 use Rattle.stk_dec.specs.declared.over.Over.{Over}
 use Rattle.stk_types.specs.declared.account.Account.{Account}
@@ -11,7 +11,7 @@ use Rattle.stk_keep.specs.declared.entities.Validator.{Validator}
 use Rattle.stk_keep.specs.declared.facts.Fact.{Fact}
 use Rattle.stk_keep.specs.declared.facts.Fact.TheVariants.{Jailed}
 use Rattle.stk_keep.specs.declared.faults.HookFault.{HookFault}
-use Rattle.stk_keep.specs.declared.faults.HookFault.TheVariants as hook
+use Rattle.stk_keep.specs.Answers.{AsRuled, WantsMemory, ExceedsAs}
 use Rattle.stk_keep.specs.Entries.{at, with}
 use Rattle.stk_keep.specs.Holdings.{balance_of, supply_of}
 use Rattle.stk_keep.specs.Staked.{Staked, of_bond}
@@ -25,12 +25,8 @@ pub record Unbonds (D H : Type 0) : Type 0 where
 -- What a call answers and leaves that follows a rule over lent delegations: what the rule gives, or its excess; or memory
 -- is wanting.
 abbrev pub FollowsLent : {S D H : Type 0} → Result (ℕ × S × World D H) Over → S → D → (H → Type 0) → View → Result ℕ HookFault → Type 0
-FollowsLent (Ok p) s d holds v (Ok n) = (n ≡ p.0) × (s ≡ p.1) × (d ≡ p.2.mine) × holds p.2.hooks × (v ≡ p.2.view)
-FollowsLent (Ok p) s d holds v (Err (hook.Over over)) = ⊥
-FollowsLent (Ok p) s d holds v (Err hook.NoMemory) = ⊤
-FollowsLent (Err due) s d holds v (Ok n) = ⊥
-FollowsLent (Err due) s d holds v (Err (hook.Over over)) = over ≡ due
-FollowsLent (Err due) s d holds v (Err hook.NoMemory) = ⊤
+FollowsLent rule s d holds v answer = AsRuled rule answer
+    (λ due n. (n ≡ due.0) × (s ≡ due.1) × (d ≡ due.2.mine) × holds due.2.hooks × (v ≡ due.2.view)) WantsMemory ExceedsAs
 
 -- what a call counted, and leaves, that follows a rule without hooks
 abbrev pub IsAsTold : {S : Type 0} → ℕ × S × View → S → View → ℕ → Type 0

@@ -30,7 +30,7 @@ validator_by_cons s cons = find (λ v. is_eq (cons_cmp v.cons cons)) (values_of 
 
 -- the shares of a delegation
 abbrev pub delegation : Staked → List ℕ → List ℕ → Option ℕ
-delegation s who operator = at pair_cmp s.delegations (operator, who)
+delegation s delegator operator = at pair_cmp s.delegations (operator, delegator)
 
 -- the validators with this one
 abbrev pub put_validator : Validator → Staked → Staked
@@ -102,7 +102,7 @@ SameButJailedByCons old new = (cons : List ℕ) → option_map but_jailed (valid
 
 -- the delegation exists and has the shares
 abbrev pub HasShares : Staked → List ℕ → List ℕ → ℕ → Type 0
-HasShares s who operator shares = (held : ℕ) × ((delegation s who operator ≡ Some held) × (shares ≤ held))
+HasShares s delegator operator shares = (held : ℕ) × ((delegation s delegator operator ≡ Some held) × (shares ≤ held))
 
 -- what is left of a delegation
 abbrev pub shares_left : ℕ → ℕ → Option ℕ
@@ -117,16 +117,16 @@ validator_left v part out falls =
 -- Shares were unbonded: they left the delegation and its validator, and with them so many tokens left the validator. It is
 -- jailed where it falls below its least self-delegation, which only its own operator can bring about. No other
 -- delegation and no other validator changes.
-pub record IsUnbonded (who operator : List ℕ) (part out : ℕ) (old new : Staked) : Type 0 where
+pub record IsUnbonded (delegator operator : List ℕ) (part out : ℕ) (old new : Staked) : Type 0 where
   pub v : Validator
   pub held : ℕ
   pub falls : Bool
   pub validator : validator_at old operator ≡ Some v
-  pub shares : delegation old who operator ≡ Some held
-  pub own : falls ≡ true → same_addr who operator ≡ true
+  pub shares : delegation old delegator operator ≡ Some held
+  pub own : falls ≡ true → same_addr delegator operator ≡ true
   pub within : out ≤ v.tokens
   pub validators : (o : List ℕ) → validator_at new o ≡ (if same_addr operator o then validator_left v part out falls else validator_at old o)
-  pub delegations : (w o : List ℕ) → delegation new w o ≡ (if same_addr operator o && same_addr who w then shares_left held part else delegation old w o)
+  pub delegations : (w o : List ℕ) → delegation new w o ≡ (if same_addr operator o && same_addr delegator w then shares_left held part else delegation old w o)
   pub bonded : bonded_tokens new + (if is_bonded v.status then out else 0) ≡ bonded_tokens old
   pub other : other_tokens new + (if is_bonded v.status then 0 else out) ≡ other_tokens old
 

@@ -86,12 +86,13 @@ pub trait StakingHooks {
         alloc: Global,
         g: &mut Ground<B>,
         v: &Validator,
-        who: &Addr,
+        delegator: &Addr,
         steps: &mut Steps<L>,
     ) -> Result<(), HookFault>
-        requires { MayCall (holds self.old) tells (starting v.now who.now) (seen B.holdings g.old) }
+        requires { MayCall (holds self.old) tells (starting v.now delegator.now)
+            (seen B.holdings g.old) }
         ensures told { (h : Held) → holds self.old h → Answers (tells.told h
-            (starting v.now who.now) (seen B.holdings g.old)) (holds self.new)
+            (starting v.now delegator.now) (seen B.holdings g.old)) (holds self.new)
             (seen B.holdings g.new) result }
         ensures undone { CanBeUndone B.marks g.old g.new }
         ensures bank { B.touches g.new.bank ≡ B.touches g.old.bank }
@@ -103,14 +104,14 @@ pub trait StakingHooks {
         alloc: Global,
         g: &mut Ground<B>,
         v: &Validator,
-        who: &Addr,
+        delegator: &Addr,
         shares: Dec,
         steps: &mut Steps<L>,
     ) -> Result<(), HookFault>
-        requires { MayCall (holds self.old) tells (modifying v.now who.now shares)
+        requires { MayCall (holds self.old) tells (modifying v.now delegator.now shares)
             (seen B.holdings g.old) }
         ensures told { (h : Held) → holds self.old h → Answers (tells.told h
-            (modifying v.now who.now shares) (seen B.holdings g.old)) (holds self.new)
+            (modifying v.now delegator.now shares) (seen B.holdings g.old)) (holds self.new)
             (seen B.holdings g.new) result }
         ensures undone { CanBeUndone B.marks g.old g.new }
         ensures bank { B.touches g.new.bank ≡ B.touches g.old.bank }
@@ -122,14 +123,14 @@ pub trait StakingHooks {
         alloc: Global,
         g: &mut Ground<B>,
         v: &Validator,
-        who: &Addr,
+        delegator: &Addr,
         shares: Dec,
         steps: &mut Steps<L>,
     ) -> Result<(), HookFault>
-        requires { MayCall (holds self.old) tells (modified v.now who.now shares)
+        requires { MayCall (holds self.old) tells (modified v.now delegator.now shares)
             (seen B.holdings g.old) }
         ensures told { (h : Held) → holds self.old h → Answers (tells.told h
-            (modified v.now who.now shares) (seen B.holdings g.old)) (holds self.new)
+            (modified v.now delegator.now shares) (seen B.holdings g.old)) (holds self.new)
             (seen B.holdings g.new) result }
         ensures undone { CanBeUndone B.marks g.old g.new }
         ensures bank { B.touches g.new.bank ≡ B.touches g.old.bank }

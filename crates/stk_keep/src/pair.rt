@@ -65,13 +65,13 @@ impl<X: StakingHooks, Y: StakingHooks> StakingHooks for HookPair<X, Y> {
         alloc: Global,
         g: &mut Ground<B>,
         v: &Validator,
-        who: &Addr,
+        delegator: &Addr,
         steps: &mut Steps<L>,
     ) -> Result<(), HookFault> {
         self.first
-            .before_delegation_created(alloc, g, v, who, steps)?;
+            .before_delegation_created(alloc, g, v, delegator, steps)?;
         self.second
-            .before_delegation_created(alloc, g, v, who, steps)
+            .before_delegation_created(alloc, g, v, delegator, steps)
     }
 
     fn before_shares_modified<B: Bank, L: Ledger>(
@@ -79,14 +79,14 @@ impl<X: StakingHooks, Y: StakingHooks> StakingHooks for HookPair<X, Y> {
         alloc: Global,
         g: &mut Ground<B>,
         v: &Validator,
-        who: &Addr,
+        delegator: &Addr,
         shares: Dec,
         steps: &mut Steps<L>,
     ) -> Result<(), HookFault> {
         self.first
-            .before_shares_modified(alloc, g, v, who, shares, steps)?;
+            .before_shares_modified(alloc, g, v, delegator, shares, steps)?;
         self.second
-            .before_shares_modified(alloc, g, v, who, shares, steps)
+            .before_shares_modified(alloc, g, v, delegator, shares, steps)
     }
 
     fn after_delegation_modified<B: Bank, L: Ledger>(
@@ -94,14 +94,14 @@ impl<X: StakingHooks, Y: StakingHooks> StakingHooks for HookPair<X, Y> {
         alloc: Global,
         g: &mut Ground<B>,
         v: &Validator,
-        who: &Addr,
+        delegator: &Addr,
         shares: Dec,
         steps: &mut Steps<L>,
     ) -> Result<(), HookFault> {
         self.first
-            .after_delegation_modified(alloc, g, v, who, shares, steps)?;
+            .after_delegation_modified(alloc, g, v, delegator, shares, steps)?;
         self.second
-            .after_delegation_modified(alloc, g, v, who, shares, steps)
+            .after_delegation_modified(alloc, g, v, delegator, shares, steps)
     }
 
     fn before_validator_slashed<B: Bank, L: Ledger>(

@@ -1,4 +1,4 @@
-ghost use Rattle.std.specs.Prelude.{◌≡◌, ℕ, ◌+◌, ◌*◌, ◌^◌, ◌≤◌, List, [], ◌++◌, Option, Some, None, Result, OnOk, IfOk, IfErr, IsSome};
+ghost use Rattle.std.specs.Prelude.{◌≡◌, ℕ, ◌+◌, ◌*◌, ◌^◌, ◌≤◌, List, ◌++◌, Option, Some, None, Result, OnOk, IfOk, IfErr, IsSome};
 ghost use Rattle.std.specs.Option.{option_copied};
 ghost use Rattle.stk_dec.specs.declared.over.Over.{Over};
 ghost use Rattle.stk_types.specs.Orders.{cons_cmp};
@@ -10,6 +10,7 @@ ghost use Rattle.stk_keep.specs.Entries.{at};
 ghost use Rattle.stk_keep.specs.Ground.{seen, IsInOrder, CanBeUndone};
 ghost use Rattle.stk_keep.specs.Hooks.{Stands};
 ghost use Rattle.stk_keep.specs.Lent.{Unbonds, FollowsLent, IsAsTold, IsBurned, jail_told, IsBanned};
+ghost use Rattle.stk_keep.specs.Log.{Log};
 ghost use Rattle.stk_keep.specs.Staked.{Staked, validator_by_cons, lists_of, bonded_tokens, other_tokens, HoldsStake, StakeFalls, StillStand, StillStandByCons, SameButJailed, SameButJailedByCons, IsJailed};
 ghost use Rattle.stk_keep.specs.World.{View, Hook, Told, World};
 
@@ -121,7 +122,7 @@ pub trait RedelegationSlash {
         requires accounts { HoldsStake (seen B.holdings g.old) (bonded_tokens
             (D.stake (D.held delegations.old))) (other_tokens (D.stake (D.held delegations.old))) }
 
-        ensures told { (h : H.Held) → H.holds hooks.old h → FollowsLent
+        ensures told { (h : H.Held) → H.holds hooks.old h → (log : Log) → FollowsLent
             (slashes D.Held H.Held (record {
               stake = D.stake;
               unbond = D.unbonds H.Held
@@ -131,7 +132,7 @@ pub trait RedelegationSlash {
               mine = D.held delegations.old;
               hooks = h;
               view = seen B.holdings g.old;
-              log = [];
+              log = log;
             })) (held self.new) (D.held delegations.new) (H.holds hooks.new)
             (seen B.holdings g.new) result }
         ensures most { IfOk result (λ counted. counted ≤ 10 ^ 18) }
@@ -206,12 +207,12 @@ pub trait Slasher: ValidatorView {
         requires accounts { HoldsStake (seen B.holdings g.old) (bonded_tokens
             (stake (held self.old))) (other_tokens (stake (held self.old)) + owed (held self.old)) }
 
-        ensures told { (h : H.Held) → H.holds hooks.old h → Follows (slashes H.Held H.tells.told
-            cons.now infraction power factor (record {
+        ensures told { (h : H.Held) → H.holds hooks.old h → (log : Log) → Follows
+            (slashes H.Held H.tells.told cons.now infraction power factor (record {
               mine = held self.old;
               hooks = h;
               view = seen B.holdings g.old;
-              log = [];
+              log = log;
             })) (held self.new) (H.holds hooks.new)
             (seen B.holdings g.new) result }
         ensures falls { OnOk result (StakeFalls (seen B.holdings g.old) (seen B.holdings g.new)

@@ -1,9 +1,10 @@
-ghost use Rattle.std.specs.Prelude.{◌≡◌, ℕ, ◌+◌, ◌≤◌, List, [], Option, Some, None, Result, OnOk, IfOk};
+ghost use Rattle.std.specs.Prelude.{◌≡◌, ℕ, ◌+◌, ◌≤◌, List, Option, Some, None, Result, OnOk, IfOk};
 ghost use Rattle.std.specs.Option.{option_copied};
 ghost use Rattle.stk_dec.specs.declared.over.Over.{Over};
 ghost use Rattle.stk_keep.specs.Answers.{Follows};
 ghost use Rattle.stk_keep.specs.Ground.{seen, CanBeUndone};
 ghost use Rattle.stk_keep.specs.Hooks.{Stand, Stands, Keeps};
+ghost use Rattle.stk_keep.specs.Log.{Log};
 ghost use Rattle.stk_keep.specs.Staked.{Staked, validator_at, validator_by_cons, delegation, lists_of, HasShares, IsUnbonded};
 ghost use Rattle.stk_keep.specs.World.{View, Hook, Told, World};
 
@@ -58,8 +59,13 @@ pub trait Unbonder: ValidatorView {
     ghost marks: { Self → Marks };
 
     /// The shares of a delegation, or None exactly where there is none.
-    fn shares_of<L: Ledger>(&self, who: &Addr, operator: &Addr, steps: &mut Steps<L>) -> Option<Dec>
-        ensures { result ≡ delegation (stake (held self.now)) who.now operator.now };
+    fn shares_of<L: Ledger>(
+        &self,
+        delegator: &Addr,
+        operator: &Addr,
+        steps: &mut Steps<L>,
+    ) -> Option<Dec>
+        ensures { result ≡ delegation (stake (held self.now)) delegator.now operator.now };
 
     /// Takes shares out of a delegation, and answers the tokens that go out with them, in units of the bond
     /// denomination. The coins stay where they are. `Over` comes exactly where a hook exceeds.
@@ -68,25 +74,26 @@ pub trait Unbonder: ValidatorView {
         alloc: Global,
         g: &mut Ground<B>,
         hooks: &mut H,
-        who: &Addr,
+        delegator: &Addr,
         operator: &Addr,
         shares: Dec,
         steps: &mut Steps<L>,
     ) -> Result<u128, HookFault>
-        requires shares { HasShares (stake (held self.old)) who.now operator.now shares }
+        requires shares { HasShares (stake (held self.old)) delegator.now operator.now shares }
         requires sound { sound (held self.old) }
         requires stand { Stands (H.holds hooks.old) H.tells (seen B.holdings g.old)
             (lists_of (stake (held self.old))) }
 
-        ensures told { (h : H.Held) → H.holds hooks.old h → Follows (unbonds H.Held H.tells.told
-            who.now operator.now shares (record {
+        // A slash unbonds one delegation after another, behind the log of those before.
+        ensures told { (h : H.Held) → H.holds hooks.old h → (log : Log) → Follows
+            (unbonds H.Held H.tells.told delegator.now operator.now shares (record {
               mine = held self.old;
               hooks = h;
               view = seen B.holdings g.old;
-              log = [];
+              log = log;
             })) (held self.new) (H.holds hooks.new)
             (seen B.holdings g.new) result }
-        ensures unbonded { IfOk result (λ out. IsUnbonded who.now operator.now shares out
+        ensures unbonded { IfOk result (λ out. IsUnbonded delegator.now operator.now shares out
             (stake (held self.old)) (stake (held self.new))) }
         ensures sound { OnOk result (sound (held self.new)) }
         ensures stand { OnOk result (Stands (H.holds hooks.new) H.tells (seen B.holdings g.new)

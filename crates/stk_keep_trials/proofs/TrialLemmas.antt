@@ -11,27 +11,27 @@ use Rattle.stk_keep.specs.Entries.{at}
 use Rattle.stk_keep.specs.Staked.{validator_by_cons, lists_of, but_jailed, SameButJailed, SameButJailedByCons, IsJailed}
 use Rattle.stk_keep_trials.specs.Trials.{under_own, staked_once, HasOne, jailed, jailed_by_cons}
 
-found : (v : Validator) (who : List ℕ) (shares : ℕ) (cons : List ℕ) → IsSome (validator_by_cons (staked_once v None who shares) cons) → validator_by_cons (staked_once v None who shares) cons ≡ Some v
-found v who shares cons = by (is_eq (cons_cmp v.cons cons))
+found : (v : Validator) (delegator : List ℕ) (shares : ℕ) (cons : List ℕ) → IsSome (validator_by_cons (staked_once v None delegator shares) cons) → validator_by_cons (staked_once v None delegator shares) cons ≡ Some v
+found v delegator shares cons = by (is_eq (cons_cmp v.cons cons))
   where
     by : (b : Bool) → IsSome (cond b (Some v) None) → cond b (Some v) None ≡ Some v
     by true k = refl
     by false k = absurd cc
 
-replaced : (v : Validator) (who : List ℕ) (shares : ℕ) → jailed (Some v) (staked_once v None who shares) ≡ staked_once (record v { jailed = true }) None who shares
-replaced v who shares =
-    ap (λ r. record { validators = match_ordering r ((v.operator, record v { jailed = true }) ∷ (v.operator, v) ∷ []) ((v.operator, record v { jailed = true }) ∷ []) ((v.operator, v) ∷ (v.operator, record v { jailed = true }) ∷ []); delegations = ((v.operator, who), shares) ∷ [] })
+replaced : (v : Validator) (delegator : List ℕ) (shares : ℕ) → jailed (Some v) (staked_once v None delegator shares) ≡ staked_once (record v { jailed = true }) None delegator shares
+replaced v delegator shares =
+    ap (λ r. record { validators = match_ordering r ((v.operator, record v { jailed = true }) ∷ (v.operator, v) ∷ []) ((v.operator, record v { jailed = true }) ∷ []) ((v.operator, v) ∷ (v.operator, record v { jailed = true }) ∷ []); delegations = ((v.operator, delegator), shares) ∷ [] })
     (tied_itself nat_list_cmp_total v.operator)
 
-pub jailed-once : (v : Validator) (spare : Option Validator) (who : List ℕ) (shares : ℕ) (cons : List ℕ) → HasOne (staked_once v spare who shares).validators → IsSome (validator_by_cons (staked_once v spare who shares) cons)
-    → staked_once (record v { jailed = true }) spare who shares ≡ jailed_by_cons cons (staked_once v spare who shares)
-jailed-once v None who shares cons one k = sym (ap (λ o. jailed o (staked_once v None who shares)) (found v who shares cons k) ∙ replaced v who shares)
-jailed-once v (Some w) who shares cons one k = absurd one
+pub jailed-once : (v : Validator) (spare : Option Validator) (delegator : List ℕ) (shares : ℕ) (cons : List ℕ) → HasOne (staked_once v spare delegator shares).validators → IsSome (validator_by_cons (staked_once v spare delegator shares) cons)
+    → staked_once (record v { jailed = true }) spare delegator shares ≡ jailed_by_cons cons (staked_once v spare delegator shares)
+jailed-once v None delegator shares cons one k = sym (ap (λ o. jailed o (staked_once v None delegator shares)) (found v delegator shares cons k) ∙ replaced v delegator shares)
+jailed-once v (Some w) delegator shares cons one k = absurd one
 
-pub is_jailed-once : (v : Validator) (spare : Option Validator) (who : List ℕ) (shares : ℕ) (cons : List ℕ) → HasOne (staked_once v spare who shares).validators → IsSome (validator_by_cons (staked_once v spare who shares) cons)
-    → IsJailed cons (staked_once v spare who shares) (staked_once (record v { jailed = true }) spare who shares)
-is_jailed-once v None who shares cons one k = (v, (found v who shares cons k, sym (replaced v who shares)))
-is_jailed-once v (Some w) who shares cons one k = absurd one
+pub is_jailed-once : (v : Validator) (spare : Option Validator) (delegator : List ℕ) (shares : ℕ) (cons : List ℕ) → HasOne (staked_once v spare delegator shares).validators → IsSome (validator_by_cons (staked_once v spare delegator shares) cons)
+    → IsJailed cons (staked_once v spare delegator shares) (staked_once (record v { jailed = true }) spare delegator shares)
+is_jailed-once v None delegator shares cons one k = (v, (found v delegator shares cons k, sym (replaced v delegator shares)))
+is_jailed-once v (Some w) delegator shares cons one k = absurd one
 
 -- ---- who stands where, and what is owed: the spare validator, where there is one, stands as before
 
@@ -43,11 +43,11 @@ known_by : (b : Bool) (v : Validator) (o : Option Validator) → is_some (cond b
 known_by true v o = refl
 known_by false v o = refl
 
-pub same-once : (v : Validator) (spare : Option Validator) (who : List ℕ) (shares : ℕ) → SameButJailed (staked_once v spare who shares) (staked_once (record v { jailed = true }) spare who shares)
-same-once v spare who shares operator = same_by (is_at (addr_cmp operator) v.operator) v (at addr_cmp (under_own spare) operator)
+pub same-once : (v : Validator) (spare : Option Validator) (delegator : List ℕ) (shares : ℕ) → SameButJailed (staked_once v spare delegator shares) (staked_once (record v { jailed = true }) spare delegator shares)
+same-once v spare delegator shares operator = same_by (is_at (addr_cmp operator) v.operator) v (at addr_cmp (under_own spare) operator)
 
-pub same_by_cons-once : (v : Validator) (spare : Option Validator) (who : List ℕ) (shares : ℕ) → SameButJailedByCons (staked_once v spare who shares) (staked_once (record v { jailed = true }) spare who shares)
-same_by_cons-once v spare who shares cons = same_by (is_eq (cons_cmp v.cons cons)) v (find (λ w. is_eq (cons_cmp w.cons cons)) (values_of (under_own spare)))
+pub same_by_cons-once : (v : Validator) (spare : Option Validator) (delegator : List ℕ) (shares : ℕ) → SameButJailedByCons (staked_once v spare delegator shares) (staked_once (record v { jailed = true }) spare delegator shares)
+same_by_cons-once v spare delegator shares cons = same_by (is_eq (cons_cmp v.cons cons)) v (find (λ w. is_eq (cons_cmp w.cons cons)) (values_of (under_own spare)))
 
-pub lists-once : (v : Validator) (spare : Option Validator) (who : List ℕ) (shares : ℕ) → lists_of (staked_once (record v { jailed = true }) spare who shares) ≡ lists_of (staked_once v spare who shares)
-lists-once v spare who shares = λ i. record { operators = λ o. known_by (is_at (addr_cmp o) v.operator) v (at addr_cmp (under_own spare) o) i; started = (lists_of (staked_once v spare who shares)).started }
+pub lists-once : (v : Validator) (spare : Option Validator) (delegator : List ℕ) (shares : ℕ) → lists_of (staked_once (record v { jailed = true }) spare delegator shares) ≡ lists_of (staked_once v spare delegator shares)
+lists-once v spare delegator shares = λ i. record { operators = λ o. known_by (is_at (addr_cmp o) v.operator) v (at addr_cmp (under_own spare) o) i; started = (lists_of (staked_once v spare delegator shares)).started }

@@ -16,10 +16,10 @@ use Rattle.stk_keep.specs.World.{View, Hook, starting, modified, Told, World, ca
 
 -- a hook, then coins from a user to the not-bonded account, then a hook
 abbrev pub sent_between_hooks : {H : Type 0} → (H → Hook → View → Told H) → Validator → List ℕ → Money → ℕ → World ⊤ H → Result (⊤ × World ⊤ H) Refusal
-sent_between_hooks told v who coins shares w = do
-  w1 ← stopping Overflow (call told (starting v who) w)
-  stop_if (is_short w1.view.bank (account.User who) coins) InsufficientFunds
-  w2 ← stopping Overflow (call told (modified v who shares) (over_view (sent (account.User who) (account.Module NotBonded) coins) w1))
+sent_between_hooks told v delegator coins shares w = do
+  w1 ← stopping Overflow (call told (starting v delegator) w)
+  stop_if (is_short w1.view.bank (account.User delegator) coins) InsufficientFunds
+  w2 ← stopping Overflow (call told (modified v delegator shares) (over_view (sent (account.User delegator) (account.Module NotBonded) coins) w1))
   Ok (tt, w2)
 
 -- there is a validator that is not unbonded

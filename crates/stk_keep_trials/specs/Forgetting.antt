@@ -18,9 +18,9 @@ abbrev pub heights_after : List ℕ → Hook → View → List ℕ
 heights_after ns (created v) u = ns
 heights_after ns (removed v) u = ns
 heights_after ns (bonded v) u = u.ctx.height ∷ ns
-heights_after ns (starting v who) u = ns
-heights_after ns (modifying v who shares) u = ns
-heights_after ns (modified v who shares) u = ns
+heights_after ns (starting v delegator) u = ns
+heights_after ns (modifying v delegator shares) u = ns
+heights_after ns (modified v delegator shares) u = ns
 heights_after ns (slashing v fraction) u = ns
 
 -- the ground after a hook: the start of a delegation is told, with the latest height
@@ -28,9 +28,9 @@ abbrev pub view_after : List ℕ → Hook → View → View
 view_after ns (created v) u = u
 view_after ns (removed v) u = u
 view_after ns (bonded v) u = u
-view_after ns (starting v who) u = noted (Started who v.operator (latest ns) v.shares) u
-view_after ns (modifying v who shares) u = u
-view_after ns (modified v who shares) u = u
+view_after ns (starting v delegator) u = noted (Started delegator v.operator (latest ns) v.shares) u
+view_after ns (modifying v delegator shares) u = u
+view_after ns (modified v delegator shares) u = u
 view_after ns (slashing v fraction) u = u
 
 abbrev pub forgetting_tells : Tells (List ℕ)
@@ -48,27 +48,27 @@ keeps_after : {N : Type 0} (ns : List ℕ) (h : Hook) (u : View) → Keeps N u (
 keeps_after ns (created v) u = Keeps-same u
 keeps_after ns (removed v) u = Keeps-same u
 keeps_after ns (bonded v) u = Keeps-same u
-keeps_after ns (starting v who) u = record { ctx = refl; supplies = refl; bonded = λ d. refl; not_bonded = λ d. refl; fee_collector = λ d. refl; distribution = λ n d. refl; facts = (Started who v.operator (latest ns) v.shares ∷ [], refl) }
-keeps_after ns (modifying v who shares) u = Keeps-same u
-keeps_after ns (modified v who shares) u = Keeps-same u
+keeps_after ns (starting v delegator) u = record { ctx = refl; supplies = refl; bonded = λ d. refl; not_bonded = λ d. refl; fee_collector = λ d. refl; distribution = λ n d. refl; facts = (Started delegator v.operator (latest ns) v.shares ∷ [], refl) }
+keeps_after ns (modifying v delegator shares) u = Keeps-same u
+keeps_after ns (modified v delegator shares) u = Keeps-same u
 keeps_after ns (slashing v fraction) u = Keeps-same u
 
 late_after : (ns : List ℕ) (h : Hook) (u : View) → latest ns ≤ u.ctx.height → latest (heights_after ns h u) ≤ (view_after ns h u).ctx.height
 late_after ns (created v) u p = p
 late_after ns (removed v) u p = p
 late_after ns (bonded v) u p = omega arith
-late_after ns (starting v who) u p = p
-late_after ns (modifying v who shares) u p = p
-late_after ns (modified v who shares) u p = p
+late_after ns (starting v delegator) u p = p
+late_after ns (modifying v delegator shares) u p = p
+late_after ns (modified v delegator shares) u p = p
 late_after ns (slashing v fraction) u p = p
 
 in_order_after : (ns : List ℕ) (h : Hook) (u : View) → IsInOrder u → IsInOrder (view_after ns h u)
 in_order_after ns (created v) u i = i
 in_order_after ns (removed v) u i = i
 in_order_after ns (bonded v) u i = i
-in_order_after ns (starting v who) u i = record { params = i.params; time = i.time; height = i.height; bank = i.bank }
-in_order_after ns (modifying v who shares) u i = i
-in_order_after ns (modified v who shares) u i = i
+in_order_after ns (starting v delegator) u i = record { params = i.params; time = i.time; height = i.height; bank = i.bank }
+in_order_after ns (modifying v delegator shares) u i = i
+in_order_after ns (modified v delegator shares) u i = i
 in_order_after ns (slashing v fraction) u i = i
 
 given_heights : (s s2 : List ℕ) (v v2 : View) (k log : Log) → gives s v k ≡ gives s2 v2 log → s ≡ s2

@@ -13,7 +13,7 @@ under_own (Some v) = (v.operator, v) ∷ []
 
 -- one validator, maybe another, and one delegation to the first
 abbrev pub staked_once : Validator → Option Validator → List ℕ → ℕ → Staked
-staked_once v spare who shares = record { validators = (v.operator, v) ∷ under_own spare; delegations = ((v.operator, who), shares) ∷ [] }
+staked_once v spare delegator shares = record { validators = (v.operator, v) ∷ under_own spare; delegations = ((v.operator, delegator), shares) ∷ [] }
 
 -- there is exactly one validator
 abbrev pub HasOne : List (List ℕ × Validator) → Type 0

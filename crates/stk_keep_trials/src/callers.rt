@@ -27,27 +27,34 @@ pub fn send_between_hooks<B: Bank, H: StakingHooks, L: Ledger>(
     g: &mut Ground<B>,
     hooks: &mut H,
     v: &Validator,
-    who: &Addr,
+    delegator: &Addr,
     coins: &Coins,
     shares: Dec,
     steps: &mut Steps<L>,
 ) -> Result<(), Stop>
-    requires ready { MayCall (H.holds hooks.old) H.tells (starting v.now who.now)
+    requires ready { MayCall (H.holds hooks.old) H.tells (starting v.now delegator.now)
         (seen B.holdings g.old) }
     requires some { 0 < shares }
     requires most { shares ≤ v.now.shares }
     ensures { (h : H.Held) → H.holds hooks.old h → AnswersAs (sent_between_hooks H.tells.told v.now
-        who.now coins.now shares (record {
+        delegator.now coins.now shares (record {
           mine = tt;
           hooks = h;
           view = seen B.holdings g.old;
           log = [];
         })) tt (H.holds hooks.new) (seen B.holdings g.new) result }
 {
-    hooks.before_delegation_created(alloc, g, v, who, steps)?;
+    hooks.before_delegation_created(alloc, g, v, delegator, steps)?;
     let to = Account::Module(Module::NotBonded);
-    g.bank.send(alloc, &mut g.facts, &Account::User(*who), &to, coins, steps)?;
-    hooks.after_delegation_modified(alloc, g, v, who, shares, steps)?;
+    g.bank.send(
+        alloc,
+        &mut g.facts,
+        &Account::User(*delegator),
+        &to,
+        coins,
+        steps,
+    )?;
+    hooks.after_delegation_modified(alloc, g, v, delegator, shares, steps)?;
     Ok(())
 }
 

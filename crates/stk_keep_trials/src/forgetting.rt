@@ -63,11 +63,11 @@ impl StakingHooks for Forgetting {
         _alloc: Global,
         g: &mut Ground<B>,
         v: &Validator,
-        who: &Addr,
+        delegator: &Addr,
         _steps: &mut Steps<L>,
     ) -> Result<(), HookFault> {
         g.facts.push(Fact::Started {
-            delegator: *who,
+            delegator: *delegator,
             validator: v.operator,
             period: self.latest,
             stake: v.shares,

@@ -112,7 +112,7 @@ fn one(rt: &impl Abort, v: &Validator) -> OneValidator
     OneValidator {
         validator: *v,
         spare: None,
-        who: user(rt),
+        delegator: user(rt),
         shares: dec(rt, 1_000_000_000_000_000_000),
     }
 }
@@ -127,13 +127,13 @@ fn wants_memory<L: Ledger>(rt: &(impl Abort + AllocGlobal), blank: Blank) -> boo
     let v = validator(rt, 0);
     let mut g = empty_ground(rt);
     let mut one = one(rt, &v);
-    let who = user(rt);
-    match one.shares_of(&who, &v.operator, &mut steps) {
+    let delegator = user(rt);
+    match one.shares_of(&delegator, &v.operator, &mut steps) {
         Some(shares) => one.unbond(
             rt.alloc(),
             &mut g,
             &mut NoHooks,
-            &who,
+            &delegator,
             &v.operator,
             shares,
             &mut steps,

@@ -90,12 +90,12 @@ impl Bank for EmptyBank {
 pub struct OneValidator {
     pub validator: Validator,
     pub spare: Option<Validator>,
-    pub who: Addr,
+    pub delegator: Addr,
     pub shares: Dec,
 }
 
 impl ValidatorView for OneValidator {
-    ghost staked = { λ s. staked_once s.validator s.spare s.who s.shares };
+    ghost staked = { λ s. staked_once s.validator s.spare s.delegator s.shares };
 
     fn validator<L: Ledger>(&self, operator: &Addr, _steps: &mut Steps<L>) -> Option<&Validator> {
         match operator.cmp(&self.validator.operator) {
@@ -127,13 +127,13 @@ impl ValidatorView for OneValidator {
 impl Unbonder for OneValidator {
     ghost Held = { Staked };
 
-    ghost held = { λ s. staked_once s.validator s.spare s.who s.shares };
+    ghost held = { λ s. staked_once s.validator s.spare s.delegator s.shares };
 
     ghost stake = { λ h. h };
 
     ghost sound = { λ h. Unit {0} };
 
-    ghost unbonds = { λ H told who operator shares w. Ok (0, w) };
+    ghost unbonds = { λ H told delegator operator shares w. Ok (0, w) };
 
     ghost Marks = { Unit {0} };
 
@@ -141,11 +141,11 @@ impl Unbonder for OneValidator {
 
     fn shares_of<L: Ledger>(
         &self,
-        who: &Addr,
+        delegator: &Addr,
         operator: &Addr,
         _steps: &mut Steps<L>,
     ) -> Option<Dec> {
-        match (operator, who).cmp(&(&self.validator.operator, &self.who)) {
+        match (operator, delegator).cmp(&(&self.validator.operator, &self.delegator)) {
             Ordering::Equal => Some(self.shares),
             _ => None,
         }
@@ -170,7 +170,7 @@ impl Unbonder for OneValidator {
 impl Slasher for OneValidator {
     ghost Held = { Staked };
 
-    ghost held = { λ s. staked_once s.validator s.spare s.who s.shares };
+    ghost held = { λ s. staked_once s.validator s.spare s.delegator s.shares };
 
     ghost stake = { λ h. h };
 

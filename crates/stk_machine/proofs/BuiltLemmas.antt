@@ -65,9 +65,9 @@ pub record KeptBySteps (P : Staked → View → Type 0) : Type 0 where
   pub edits : (s : Staked) (v : View) (operator : List ℕ) (x : Validator) (rate updated minimum : ℕ) → P s v → validator_at s operator ≡ Some x
       → (rate ≡ x.commission.rate) ⊎ (rate ≤ x.commission.max_rate) → P (put_validator (edited_to x rate updated minimum) s) v
   -- a delegation from a wallet
-  pub delegates : (s : Staked) (v : View) (operator : List ℕ) (x : Validator) (who : List ℕ) (amount issued : ℕ) → P s v → validator_at s operator ≡ Some x → 0 < amount
-      → shares_given x amount ≡ Ok issued → is_short v.bank (account.User who) (bond_coins v amount) ≡ false
-      → P (grown_stake x who amount issued s) (sent (account.User who) (account.Module (pool_of x.status)) (bond_coins v amount) v)
+  pub delegates : (s : Staked) (v : View) (operator : List ℕ) (x : Validator) (delegator : List ℕ) (amount issued : ℕ) → P s v → validator_at s operator ≡ Some x → 0 < amount
+      → shares_given x amount ≡ Ok issued → is_short v.bank (account.User delegator) (bond_coins v amount) ≡ false
+      → P (grown_stake x delegator amount issued s) (sent (account.User delegator) (account.Module (pool_of x.status)) (bond_coins v amount) v)
   -- other facts, and the next block
   pub tells : (s : Staked) (v : View) (f : List Fact → List Fact) → P s v → P s (over_facts f v)
   pub follows : (s : Staked) (v : View) (height time : ℕ) → P s v → height ≡ v.ctx.height + 1 → time < end_of_blocks
@@ -188,25 +188,25 @@ module _ (P : Staked → View → Type 0) where
         by true = tt
         by false = tt
 
-    delegated_kept : (s : Staked) (v : View) (operator : List ℕ) (x : Validator) (who : List ℕ) (amount : ℕ) → P s v → validator_at s operator ≡ Some x → 0 < amount
-        → StakeKept (delegated nothing_told.told x who amount wallet (over tt s v))
-    delegated_kept s v operator x who amount p f some = by (shares_given x amount) refl (is_short v.bank (account.User who) (bond_coins v amount)) refl
+    delegated_kept : (s : Staked) (v : View) (operator : List ℕ) (x : Validator) (delegator : List ℕ) (amount : ℕ) → P s v → validator_at s operator ≡ Some x → 0 < amount
+        → StakeKept (delegated nothing_told.told x delegator amount wallet (over tt s v))
+    delegated_kept s v operator x delegator amount p f some = by (shares_given x amount) refl (is_short v.bank (account.User delegator) (bond_coins v amount)) refl
       where
-        by : (given : Result ℕ Refusal) → shares_given x amount ≡ given → (short : Bool) → is_short v.bank (account.User who) (bond_coins v amount) ≡ short
-            → StakeKept (given >>= λ issued. (stop_if short InsufficientFunds >> Ok (sent (account.User who) (account.Module (pool_of x.status)) (bond_coins v amount) v)) >>= λ u. Ok (issued, over tt (grown_stake x who amount issued s) u))
+        by : (given : Result ℕ Refusal) → shares_given x amount ≡ given → (short : Bool) → is_short v.bank (account.User delegator) (bond_coins v amount) ≡ short
+            → StakeKept (given >>= λ issued. (stop_if short InsufficientFunds >> Ok (sent (account.User delegator) (account.Module (pool_of x.status)) (bond_coins v amount) v)) >>= λ u. Ok (issued, over tt (grown_stake x delegator amount issued s) u))
         by (Err why) e short g = tt
         by (Ok issued) e true g = tt
-        by (Ok issued) e false g = k.delegates s v operator x who amount issued p f some e g
+        by (Ok issued) e false g = k.delegates s v operator x delegator amount issued p f some e g
 
-    delegate_kept : (s : Staked) (v : View) (who operator : List ℕ) (coin : Coin) → P s v → StakeKept (delegated_by nothing_told.told who operator coin (over tt s v))
-    delegate_kept s v who operator coin p = by (coin.amount == 0) refl (validator_at s operator) refl (is_wrong coin v)
+    delegate_kept : (s : Staked) (v : View) (delegator operator : List ℕ) (coin : Coin) → P s v → StakeKept (delegated_by nothing_told.told delegator operator coin (over tt s v))
+    delegate_kept s v delegator operator coin p = by (coin.amount == 0) refl (validator_at s operator) refl (is_wrong coin v)
       where
         by : (none : Bool) → (coin.amount == 0) ≡ none → (found : Option Validator) → validator_at s operator ≡ found → (wrong : Bool)
-            → StakeKept (stop_if none NonPositive >> (or_stop found NoValidator >>= λ x. stop_if wrong WrongDenom >> delegated nothing_told.told x who coin.amount wallet (over tt s v)))
+            → StakeKept (stop_if none NonPositive >> (or_stop found NoValidator >>= λ x. stop_if wrong WrongDenom >> delegated nothing_told.told x delegator coin.amount wallet (over tt s v)))
         by true e found f wrong = tt
         by false e None f wrong = tt
         by false e (Some x) f true = tt
-        by false e (Some x) f false = delegated_kept s v operator x who coin.amount p f (positive coin.amount e)
+        by false e (Some x) f false = delegated_kept s v operator x delegator coin.amount p f (positive coin.amount e)
 
     create_kept : (s : Staked) (v : View) (m : CreateValidator) → P s v → StakeKept (created nothing_told.told m (over tt s v))
     create_kept s v m p =

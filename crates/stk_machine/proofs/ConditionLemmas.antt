@@ -67,38 +67,38 @@ shares_refused x n next rest h =
     ∙ given_by x bad r next rest h
     ∙ ap (λ i. first_of (when bad RateInvalid ∷ issue_over x i ∷ when (is_nothing i) TinyDelegation ∷ rest)) (sym (issued_is x n))
 
-module _ {H : Type 0} (w : World Staked H) (who : List ℕ) (n : ℕ) where
+module _ {H : Type 0} (w : World Staked H) (delegator : List ℕ) (n : ℕ) where
   -- the wallet is short
   abbrev short : Bool
-  short = is_short w.view.bank (account.User who) (bond_coins w.view n)
+  short = is_short w.view.bank (account.User delegator) (bond_coins w.view n)
 
   -- what is left of a delegation once its shares are given
   abbrev then_paid : Validator → ℕ → Result (ℕ × World Staked H) Refusal
   then_paid x i =
-      (stop_if short InsufficientFunds >> Ok (sent (account.User who) (account.Module (pool_of x.status)) (bond_coins w.view n) w.view))
-      >>= λ u. Ok (i, record { mine = grown_stake x who n i w.mine; hooks = w.hooks; view = u; log = (w.log ++ []) ++ [] })
+      (stop_if short InsufficientFunds >> Ok (sent (account.User delegator) (account.Module (pool_of x.status)) (bond_coins w.view n) w.view))
+      >>= λ u. Ok (i, record { mine = grown_stake x delegator n i w.mine; hooks = w.hooks; view = u; log = (w.log ++ []) ++ [] })
 
   paid_refused : (x : Validator) (i : ℕ) → refused_in (then_paid x i) ≡ first_of (when short InsufficientFunds ∷ [])
   paid_refused x i = by short
     where
-      by : (b : Bool) → refused_in {A = ℕ × World Staked H} ((stop_if b InsufficientFunds >> Ok (sent (account.User who) (account.Module (pool_of x.status)) (bond_coins w.view n) w.view))
-          >>= λ u. Ok (i, record { mine = grown_stake x who n i w.mine; hooks = w.hooks; view = u; log = (w.log ++ []) ++ [] })) ≡ first_of (when b InsufficientFunds ∷ [])
+      by : (b : Bool) → refused_in {A = ℕ × World Staked H} ((stop_if b InsufficientFunds >> Ok (sent (account.User delegator) (account.Module (pool_of x.status)) (bond_coins w.view n) w.view))
+          >>= λ u. Ok (i, record { mine = grown_stake x delegator n i w.mine; hooks = w.hooks; view = u; log = (w.log ++ []) ++ [] })) ≡ first_of (when b InsufficientFunds ∷ [])
       by true = refl
       by false = refl
 
-  delegated_refused : (x : Validator) → refused_in (delegated no_hook x who n wallet w)
+  delegated_refused : (x : Validator) → refused_in (delegated no_hook x delegator n wallet w)
       ≡ first_of (when (has_invalid_rate x.tokens x.shares) RateInvalid ∷ issue_over x (issued_shares x.tokens x.shares n) ∷ when (is_nothing (issued_shares x.tokens x.shares n)) TinyDelegation ∷ when short InsufficientFunds ∷ [])
   delegated_refused x = shares_refused x n (then_paid x) (when short InsufficientFunds ∷ []) (paid_refused x)
 
 -- ---- delegating
 
-delegates_refused : (who operator : List ℕ) (coin : Coin) (w : State) → refusal_of (delegate_unhooked who operator coin) w ≡ first_of (against_delegating who operator coin w)
-delegates_refused who operator coin w =
-    mapped (delegated_by no_hook who operator coin (staked_in w)) (λ p. with_staked w.mine p.1)
+delegates_refused : (delegator operator : List ℕ) (coin : Coin) (w : State) → refusal_of (delegate_unhooked delegator operator coin) w ≡ first_of (against_delegating delegator operator coin w)
+delegates_refused delegator operator coin w =
+    mapped (delegated_by no_hook delegator operator coin (staked_in w)) (λ p. with_staked w.mine p.1)
     ∙ by (validator_at w.mine.staked operator)
   where
     by : (found : Option Validator)
-        → refused_in (stop_if (coin.amount == 0) NonPositive >> (or_stop found NoValidator >>= λ x. stop_if (is_wrong coin w.view) WrongDenom >> delegated no_hook x who coin.amount wallet (staked_in w)))
+        → refused_in (stop_if (coin.amount == 0) NonPositive >> (or_stop found NoValidator >>= λ x. stop_if (is_wrong coin w.view) WrongDenom >> delegated no_hook x delegator coin.amount wallet (staked_in w)))
         ≡ first_of (
         when (coin.amount == 0) NonPositive
         ∷ when (is_none found) NoValidator
@@ -106,10 +106,10 @@ delegates_refused who operator coin w =
         ∷ when (unwrap_or (option_map (λ v. has_invalid_rate v.tokens v.shares) found) false) RateInvalid
         ∷ unwrap_or (option_map (λ v. issue_over v (issued_shares v.tokens v.shares coin.amount)) found) None
         ∷ when (unwrap_or (option_map (λ v. is_nothing (issued_shares v.tokens v.shares coin.amount)) found) false) TinyDelegation
-        ∷ when (is_short w.view.bank (account.User who) (bond_coins w.view coin.amount)) InsufficientFunds
+        ∷ when (is_short w.view.bank (account.User delegator) (bond_coins w.view coin.amount)) InsufficientFunds
         ∷ [])
     by None = stop_step (coin.amount == 0) NonPositive (Err NoValidator) _ refl
-    by (Some x) = stop_step (coin.amount == 0) NonPositive _ _ (stop_step (is_wrong coin w.view) WrongDenom _ _ (delegated_refused (staked_in w) who coin.amount x))
+    by (Some x) = stop_step (coin.amount == 0) NonPositive _ _ (stop_step (is_wrong coin w.view) WrongDenom _ _ (delegated_refused (staked_in w) delegator coin.amount x))
 
 -- ---- creating
 

@@ -135,32 +135,32 @@ module _ (p : Params) (all : Money) where
           = tokens-put others x.operator x (edited_to x rate updated minimum) s.validators h.ascend here in
           omega (arith, put)
 
-  delegated_held : (s : Staked) (v : View) (operator : List ℕ) (x : Validator) (who : List ℕ) (n issued : ℕ) → Held s v → validator_at s operator ≡ Some x
-      → is_short v.bank (account.User who) (bond_coins v n) ≡ false → Held (grown_stake x who n issued s) (sent (account.User who) (account.Module holder.NotBonded) (bond_coins v n) v)
-  delegated_held s v operator x who n issued h f e =
+  delegated_held : (s : Staked) (v : View) (operator : List ℕ) (x : Validator) (delegator : List ℕ) (n issued : ℕ) → Held s v → validator_at s operator ≡ Some x
+      → is_short v.bank (account.User delegator) (bond_coins v n) ≡ false → Held (grown_stake x delegator n issued s) (sent (account.User delegator) (account.Module holder.NotBonded) (bond_coins v n) v)
+  delegated_held s v operator x delegator n issued h f e =
       let bond = v.ctx.params.bond_denom in
       let coins = bond_coins v n in
       let grown : Validator = record x { tokens = x.tokens + n; shares = x.shares + issued } in
       let unbonded : is_unbonded x.status ≡ true = all-found (λ (e : List ℕ × Validator). is_unbonded e.1.status ≡ true) operator x s.validators h.unbonded f in
       let here : validator_at s x.operator ≡ Some x = ap (λ o. validator_at s o) (all-found (λ (e : List ℕ × Validator). e.1.operator ≡ e.0) operator x s.validators h.operators f) ∙ f in
-      let has = enough v.bank (account.User who) bond n e in
-      let most = balance-most v.bank (account.User who) bond h.backed in
+      let has = enough v.bank (account.User delegator) bond n e in
+      let most = balance-most v.bank (account.User delegator) bond h.backed in
       let money : IsMoney coins = one-money bond n (omega (arith, has, most)) in
       let put : tokens_where others (with addr_cmp s.validators x.operator grown) + counted others x ≡ other_tokens s + counted others grown = tokens-put others x.operator x grown s.validators h.ascend here in
       let own : counted others x ≡ x.tokens = other-counted x.status x.tokens unbonded in
       let own2 : counted others grown ≡ x.tokens + n = other-counted x.status (x.tokens + n) unbonded in
-      let more : other_tokens (grown_stake x who n issued s) ≡ other_tokens s + n = omega (arith, put, own, own2) in
+      let more : other_tokens (grown_stake x delegator n issued s) ≡ other_tokens s + n = omega (arith, put, own, own2) in
       record {
         params = h.params;
         time = h.time;
-        supplies = supplies-moved coins v.bank (account.User who) (account.Module holder.NotBonded) ∙ h.supplies;
-        backed = backed-moved coins v.bank (account.User who) (account.Module holder.NotBonded) h.backed money e;
+        supplies = supplies-moved coins v.bank (account.User delegator) (account.Module holder.NotBonded) ∙ h.supplies;
+        backed = backed-moved coins v.bank (account.User delegator) (account.Module holder.NotBonded) h.backed money e;
         ascend = ascend-put addr_cmp addr_total s.validators x.operator grown h.ascend;
         operators = all-put (λ (e : List ℕ × Validator). e.1.operator ≡ e.0) x.operator grown s.validators refl h.operators;
         unbonded = all-put (λ (e : List ℕ × Validator). is_unbonded e.1.status ≡ true) x.operator grown s.validators unbonded h.unbonded;
-        bonded = λ d. balance-moved_elsewhere coins v.bank (account.User who) (account.Module holder.NotBonded) (account.Module holder.Bonded) d h.backed.balances_ascend refl refl ∙ h.bonded d;
+        bonded = λ d. balance-moved_elsewhere coins v.bank (account.User delegator) (account.Module holder.NotBonded) (account.Module holder.Bonded) d h.backed.balances_ascend refl refl ∙ h.bonded d;
         not_bonded = λ d. more_of_bond (is_at (denom_cmp bond) d) (is_at (denom_cmp d) bond) (balance_of v.bank (account.Module holder.NotBonded) d) _ n (other_tokens s) _ (same_back bond d)
-            (moves_by_amounts v.bank (account.User who) (account.Module holder.NotBonded) coins h.backed money e (account.Module holder.NotBonded) d
+            (moves_by_amounts v.bank (account.User delegator) (account.Module holder.NotBonded) coins h.backed money e (account.Module holder.NotBonded) d
             ∙ ap (λ k. balance_of v.bank (account.Module holder.NotBonded) d + k) (one-amount bond d n))
             (h.not_bonded d) more;
       }
@@ -172,9 +172,9 @@ module _ (p : Params) (all : Money) where
     sends = λ s v from to coins h money e. elsewhere s v from (account.User to) coins refl refl h money e;
     creates = λ s v m h rates new cons. created_held s v (new_validator m v.ctx.time) h new refl refl;
     edits = λ s v operator x rate updated minimum h f c. edited_held s v operator x rate updated minimum h f;
-    delegates = λ s v operator x who n issued h f some given e.
-        subst (λ (m : Module). Held (grown_stake x who n issued s) (sent (account.User who) (account.Module m) (bond_coins v n) v))
-        (pool_is x.status (all-found (λ (e : List ℕ × Validator). is_unbonded e.1.status ≡ true) operator x s.validators h.unbonded f)) (delegated_held s v operator x who n issued h f e);
+    delegates = λ s v operator x delegator n issued h f some given e.
+        subst (λ (m : Module). Held (grown_stake x delegator n issued s) (sent (account.User delegator) (account.Module m) (bond_coins v n) v))
+        (pool_is x.status (all-found (λ (e : List ℕ × Validator). is_unbonded e.1.status ≡ true) operator x s.validators h.unbonded f)) (delegated_held s v operator x delegator n issued h f e);
     tells = λ s v g h. record { params = h.params; time = h.time; supplies = h.supplies; backed = h.backed; ascend = h.ascend; operators = h.operators; unbonded = h.unbonded; bonded = h.bonded; not_bonded = h.not_bonded };
     follows = λ s v height time h due before. record { params = h.params; time = before; supplies = h.supplies; backed = h.backed; ascend = h.ascend; operators = h.operators; unbonded = h.unbonded; bonded = h.bonded; not_bonded = h.not_bonded };
   }

@@ -14,15 +14,15 @@ module _ (height : ℕ) (w x : Validator) (s : Staked) (h : IsSoundAt height s) 
   sound-set n = sound-put height w x s h f (record { operator = sym (h.operators w.operator x f); cons = c; shares = n; sound = ok })
 
   -- it has more shares, as one delegation
-  module _ (who : List ℕ) (issued : ℕ) (some : 0 < issued) where
+  module _ (delegator : List ℕ) (issued : ℕ) (some : 0 < issued) where
     abbrev held : ℕ
-    held = unwrap_or (delegation s who w.operator) 0
+    held = unwrap_or (delegation s delegator w.operator) 0
 
     abbrev after : Delegations
-    after = with pair_cmp s.delegations (w.operator, who) (held + issued)
+    after = with pair_cmp s.delegations (w.operator, delegator) (held + issued)
 
-    as_number : with_number pair_cmp s.delegations (w.operator, who) (held + issued) ≡ after
-    as_number = ap (λ b. cond b (without pair_cmp s.delegations (w.operator, who)) after) (not_zero (held + issued) (omega (arith, some)))
+    as_number : with_number pair_cmp s.delegations (w.operator, delegator) (held + issued) ≡ after
+    as_number = ap (λ b. cond b (without pair_cmp s.delegations (w.operator, delegator)) after) (not_zero (held + issued) (omega (arith, some)))
       where
         not_zero : (n : ℕ) → 0 < n → (n == 0) ≡ false
         not_zero n p = grind (arith, nat_tests)
@@ -30,4 +30,4 @@ module _ (height : ℕ) (w x : Validator) (s : Staked) (h : IsSoundAt height s) 
     pub sound-more : w.shares ≡ x.shares + issued → IsSoundAt height (put_with w after s)
     sound-more n =
         subst (λ ds. IsSoundAt height (put_with w ds s)) as_number
-        (sound-changed height w x who (held + issued) s h f c ok (omega (arith, n)))
+        (sound-changed height w x delegator (held + issued) s h f c ok (omega (arith, n)))

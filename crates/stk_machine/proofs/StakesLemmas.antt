@@ -117,14 +117,14 @@ edited_sound height s o x rate updated minimum h f c =
     at_most_highest l (inl e) = omega (arith, l, e)
     at_most_highest l (inr e) = e
 
-grown_sound : (height : ℕ) (s : Staked) (o : List ℕ) (x : Validator) (who : List ℕ) (n issued : ℕ) → IsSoundAt height s → validator_at s o ≡ Some x → 0 < issued → x.tokens + n ≤ 10 ^ 18
-    → IsSoundAt height (grown_stake x who n issued s)
-grown_sound height s o x who n issued h f some most =
+grown_sound : (height : ℕ) (s : Staked) (o : List ℕ) (x : Validator) (delegator : List ℕ) (n issued : ℕ) → IsSoundAt height s → validator_at s o ≡ Some x → 0 < issued → x.tokens + n ≤ 10 ^ 18
+    → IsSoundAt height (grown_stake x delegator n issued s)
+grown_sound height s o x delegator n issued h f some most =
     let old = h.validators o x f in
     let grown : Validator = record x { tokens = x.tokens + n; shares = x.shares + issued } in
     sound-more height grown x s h (ap (validator_at s) (h.operators o x f) ∙ f) refl
     (record { max_rate = old.max_rate; rate = old.rate; max_change = old.max_change; tokens = most; empty = λ z. absurd (not_empty x.shares z); unbonding_height = old.unbonding_height })
-    who issued some refl
+    delegator issued some refl
   where
     not_empty : (k : ℕ) → k + issued ≡ 0 → ⊥
     not_empty k z = omega (arith, z, some)
@@ -143,19 +143,19 @@ sound_by_steps p all =
       sends = λ s v from to coins h money e. (k.sends s v from to coins h.0 money e, h.1);
       creates = λ s v m h rates new cons. (k.creates s v m h.0 rates new cons, created_sound v.ctx.height s m v.ctx.time h.1 rates new cons);
       edits = λ s v operator x rate updated minimum h f c. (k.edits s v operator x rate updated minimum h.0 f c, edited_sound v.ctx.height s operator x rate updated minimum h.1 f c);
-      delegates = λ s v operator x who n issued h f some given e.
-          let held = k.delegates s v operator x who n issued h.0 f some given e in (
+      delegates = λ s v operator x delegator n issued h f some given e.
+          let held = k.delegates s v operator x delegator n issued h.0 f some given e in (
             held,
-            grown_sound v.ctx.height s operator x who n issued h.1 f (some_issued x n issued given) (no_more s v operator x who n issued h.0 f (owes_no_more p all (grown_stake x who n issued s) _ held)),
+            grown_sound v.ctx.height s operator x delegator n issued h.1 f (some_issued x n issued given) (no_more s v operator x delegator n issued h.0 f (owes_no_more p all (grown_stake x delegator n issued s) _ held)),
           );
       tells = λ s v f h. (k.tells s v f h.0, h.1);
       follows = λ s v height time h due before. (k.follows s v height time h.0 due before, later v.ctx.height height s (omega (arith, due)) h.1);
     }
   where
-    no_more : (s : Staked) (v : View) (o : List ℕ) (x : Validator) (who : List ℕ) (n issued : ℕ) → IsHeld p all s v → validator_at s o ≡ Some x → other_tokens (grown_stake x who n issued s) ≤ 10 ^ 18 → x.tokens + n ≤ 10 ^ 18
-    no_more s v o x who n issued h f l =
+    no_more : (s : Staked) (v : View) (o : List ℕ) (x : Validator) (delegator : List ℕ) (n issued : ℕ) → IsHeld p all s v → validator_at s o ≡ Some x → other_tokens (grown_stake x delegator n issued s) ≤ 10 ^ 18 → x.tokens + n ≤ 10 ^ 18
+    no_more s v o x delegator n issued h f l =
         let grown : Validator = record x { tokens = x.tokens + n; shares = x.shares + issued } in
-        let left = grown_stake x who n issued s in
+        let left = grown_stake x delegator n issued s in
         let here : at addr_cmp left.validators x.operator ≡ Some grown = found-put s.validators x.operator x.operator grown ∙ ap (λ b. cond b (Some grown) (validator_at s x.operator)) ((eq_by_cmp_equiv addr_total).refl x.operator) in
         let within : counted others grown ≤ other_tokens left = tokens-within others x.operator grown left.validators here in
         let own : counted others grown ≡ x.tokens + n = other-counted x.status (x.tokens + n) (all-found (λ (e : List ℕ × Validator). is_unbonded e.1.status ≡ true) o x s.validators h.unbonded f) in

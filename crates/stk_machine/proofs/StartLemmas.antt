@@ -388,10 +388,10 @@ given_first x n e p m =
 -- ---- one delegation
 
 -- nothing moves between accounts, of which both are the not-bonded one
-nothing_moves : (who : List ℕ) (status : BondStatus) (n : ℕ) (v : View) → is_unbonded status ≡ true → paid_in (pool Unbonded) who status n v ≡ Ok v
-nothing_moves who Bonded n v e = absurd cc
-nothing_moves who Unbonding n v e = absurd cc
-nothing_moves who Unbonded n v e = refl
+nothing_moves : (delegator : List ℕ) (status : BondStatus) (n : ℕ) (v : View) → is_unbonded status ≡ true → paid_in (pool Unbonded) delegator status n v ≡ Ok v
+nothing_moves delegator Bonded n v e = absurd cc
+nothing_moves delegator Unbonding n v e = absurd cc
+nothing_moves delegator Unbonded n v e = refl
 
 some_of : {A : Type 0} (r : Option A) → IsSome r → (a : A) × (r ≡ Some a)
 some_of None h = absurd cc
@@ -401,11 +401,11 @@ some_after : (b : Bool) (x : Validator) (r : Option Validator) → IsSome r → 
 some_after true x r h = refl
 some_after false x r h = h
 
-delegated_is : (x : Validator) (who : List ℕ) (n issued : ℕ) (s : Staked) (v : View) → shares_given x n ≡ Ok issued → paid_in (pool Unbonded) who x.status n v ≡ Ok v
-    → delegated nothing_told.told x who n (pool Unbonded) (over tt s v) ≡ Ok (issued, over tt (grown_stake x who n issued s) v)
-delegated_is x who n issued s v e f =
-    ap (λ (r : Result ℕ Refusal). r >>= λ i. paid_in (pool Unbonded) who x.status n v >>= λ u. Ok (i, over tt (grown_stake x who n i s) u)) e
-    ∙ ap (λ (r : Result View Refusal). r >>= λ u. Ok (issued, over tt (grown_stake x who n issued s) u)) f
+delegated_is : (x : Validator) (delegator : List ℕ) (n issued : ℕ) (s : Staked) (v : View) → shares_given x n ≡ Ok issued → paid_in (pool Unbonded) delegator x.status n v ≡ Ok v
+    → delegated nothing_told.told x delegator n (pool Unbonded) (over tt s v) ≡ Ok (issued, over tt (grown_stake x delegator n issued s) v)
+delegated_is x delegator n issued s v e f =
+    ap (λ (r : Result ℕ Refusal). r >>= λ i. paid_in (pool Unbonded) delegator x.status n v >>= λ u. Ok (i, over tt (grown_stake x delegator n i s) u)) e
+    ∙ ap (λ (r : Result View Refusal). r >>= λ u. Ok (issued, over tt (grown_stake x delegator n issued s) u)) f
 
 added_is : {H : Type 0} (d : GenesisDelegation) (issued : ℕ) (h : H) (s left : Staked) (v : View) (x : Validator) → validator_at s d.validator ≡ Some x
     → delegated nothing_told.told x d.delegator d.amount (pool Unbonded) (over tt s v) ≡ Ok (issued, over tt left v) → delegation_added no_hook d (over h s v) ≡ Ok (over h left v)

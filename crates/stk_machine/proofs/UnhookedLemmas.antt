@@ -44,41 +44,41 @@ as_staked h (Err why) = Err why
 
 -- the stake after an amount was delegated
 abbrev pub grown_stake : Validator → List ℕ → ℕ → ℕ → Staked → Staked
-grown_stake x who amount issued s =
-    put_delegation who x.operator (unwrap_or (delegation s who x.operator) 0 + issued)
+grown_stake x delegator amount issued s =
+    put_delegation delegator x.operator (unwrap_or (delegation s delegator x.operator) 0 + issued)
     (put_validator (record x { tokens = x.tokens + amount; shares = x.shares + issued }) s)
 
 module _ {H : Type 0} (h : H) where
   -- ---- rules
 
-  pub delegated_raised : (x : Validator) (who : List ℕ) (amount : ℕ) (origin : Origin) (s : Staked) (v : View)
-      → delegated no_hook x who amount origin (over h s v) ≡ raised h (delegated nothing_told.told x who amount origin (over tt s v))
-  delegated_raised x who amount origin s v = by (shares_given x amount) (paid_in origin who x.status amount v)
+  pub delegated_raised : (x : Validator) (delegator : List ℕ) (amount : ℕ) (origin : Origin) (s : Staked) (v : View)
+      → delegated no_hook x delegator amount origin (over h s v) ≡ raised h (delegated nothing_told.told x delegator amount origin (over tt s v))
+  delegated_raised x delegator amount origin s v = by (shares_given x amount) (paid_in origin delegator x.status amount v)
     where
       by : (given : Result ℕ Refusal) (paid : Result View Refusal)
-          → (given >>= λ issued. paid >>= λ u. Ok (issued, over h (grown_stake x who amount issued s) u))
-          ≡ raised h (given >>= λ issued. paid >>= λ u. Ok (issued, over tt (grown_stake x who amount issued s) u))
+          → (given >>= λ issued. paid >>= λ u. Ok (issued, over h (grown_stake x delegator amount issued s) u))
+          ≡ raised h (given >>= λ issued. paid >>= λ u. Ok (issued, over tt (grown_stake x delegator amount issued s) u))
       by (Ok issued) (Ok u) = refl
       by (Ok issued) (Err why) = refl
       by (Err why) paid = refl
 
-  pub delegated_by_raised : (who operator : List ℕ) (coin : Coin) (s : Staked) (v : View)
-      → delegated_by no_hook who operator coin (over h s v) ≡ raised h (delegated_by nothing_told.told who operator coin (over tt s v))
-  delegated_by_raised who operator coin s v = by (coin.amount == 0) (validator_at s operator) (is_wrong coin v)
+  pub delegated_by_raised : (delegator operator : List ℕ) (coin : Coin) (s : Staked) (v : View)
+      → delegated_by no_hook delegator operator coin (over h s v) ≡ raised h (delegated_by nothing_told.told delegator operator coin (over tt s v))
+  delegated_by_raised delegator operator coin s v = by (coin.amount == 0) (validator_at s operator) (is_wrong coin v)
     where
       by : (none : Bool) (found : Option Validator) (wrong : Bool)
-          → (stop_if none NonPositive >> (or_stop found NoValidator >>= λ x. stop_if wrong WrongDenom >> delegated no_hook x who coin.amount wallet (over h s v)))
-          ≡ raised h (stop_if none NonPositive >> (or_stop found NoValidator >>= λ x. stop_if wrong WrongDenom >> delegated nothing_told.told x who coin.amount wallet (over tt s v)))
+          → (stop_if none NonPositive >> (or_stop found NoValidator >>= λ x. stop_if wrong WrongDenom >> delegated no_hook x delegator coin.amount wallet (over h s v)))
+          ≡ raised h (stop_if none NonPositive >> (or_stop found NoValidator >>= λ x. stop_if wrong WrongDenom >> delegated nothing_told.told x delegator coin.amount wallet (over tt s v)))
       by true found wrong = refl
       by false None wrong = refl
       by false (Some x) true = refl
-      by false (Some x) false = delegated_raised x who coin.amount wallet s v
+      by false (Some x) false = delegated_raised x delegator coin.amount wallet s v
 
-  created_last : (x : Validator) (who : List ℕ) (amount : ℕ) (s : Staked) (v : View)
-      → ◌≡◌ {A = Result (⊤ × World Staked H) Refusal} (delegated no_hook x who amount wallet (over h s v) >>= λ p. Ok (tt, p.1)) (raised h (delegated nothing_told.told x who amount wallet (over tt s v) >>= λ p. Ok (tt, p.1)))
-  created_last x who amount s v =
-      ap (λ (r : Result (ℕ × World Staked H) Refusal). r >>= λ p. Ok (tt, p.1)) (delegated_raised x who amount wallet s v)
-      ∙ by (delegated nothing_told.told x who amount wallet (over tt s v))
+  created_last : (x : Validator) (delegator : List ℕ) (amount : ℕ) (s : Staked) (v : View)
+      → ◌≡◌ {A = Result (⊤ × World Staked H) Refusal} (delegated no_hook x delegator amount wallet (over h s v) >>= λ p. Ok (tt, p.1)) (raised h (delegated nothing_told.told x delegator amount wallet (over tt s v) >>= λ p. Ok (tt, p.1)))
+  created_last x delegator amount s v =
+      ap (λ (r : Result (ℕ × World Staked H) Refusal). r >>= λ p. Ok (tt, p.1)) (delegated_raised x delegator amount wallet s v)
+      ∙ by (delegated nothing_told.told x delegator amount wallet (over tt s v))
     where
       by : (r : Result (ℕ × World Staked (Unit {0})) Refusal) → ◌≡◌ {A = Result (⊤ × World Staked H) Refusal} (raised h r >>= λ p. Ok (tt, p.1)) (raised h (r >>= λ p. Ok (tt, p.1)))
       by (Ok p) = refl
@@ -151,22 +151,22 @@ create_is m s v =
     ∙ put_back (created nothing_told.told m (over tt s v))
 
 -- Delegating is the message's rule over NoHooks.
-pub delegate_is : (who operator : List ℕ) (coin : Coin) (s : Staked) (v : View)
-    → delegate_unhooked who operator coin (stake_over s v) ≡ as_state (delegated_by nothing_told.told who operator coin (over tt s v))
-delegate_is who operator coin s v =
-    ap (λ (r : Result (ℕ × World Staked Hooks) Refusal). r >>= λ p. Ok (with_staked (stake_over s v).mine p.1)) (delegated_by_raised (nothing_shared, []) who operator coin s v)
-    ∙ put_back (delegated_by nothing_told.told who operator coin (over tt s v))
+pub delegate_is : (delegator operator : List ℕ) (coin : Coin) (s : Staked) (v : View)
+    → delegate_unhooked delegator operator coin (stake_over s v) ≡ as_state (delegated_by nothing_told.told delegator operator coin (over tt s v))
+delegate_is delegator operator coin s v =
+    ap (λ (r : Result (ℕ × World Staked Hooks) Refusal). r >>= λ p. Ok (with_staked (stake_over s v).mine p.1)) (delegated_by_raised (nothing_shared, []) delegator operator coin s v)
+    ∙ put_back (delegated_by nothing_told.told delegator operator coin (over tt s v))
 
 -- The same behind the message's own conditions, by the keeper's rule.
-pub delegate_steps : (who operator : List ℕ) (coin : Coin) (s : Staked) (v : View)
-    → delegate_unhooked who operator coin (stake_over s v)
+pub delegate_steps : (delegator operator : List ℕ) (coin : Coin) (s : Staked) (v : View)
+    → delegate_unhooked delegator operator coin (stake_over s v)
     ≡ (stop_if (coin.amount == 0) NonPositive
-    >> (or_stop (validator_at s operator) NoValidator >>= λ x. stop_if (is_wrong coin v) WrongDenom >> as_state (delegated nothing_told.told x who coin.amount wallet (over tt s v))))
-delegate_steps who operator coin s v = delegate_is who operator coin s v ∙ by (coin.amount == 0) (validator_at s operator) (is_wrong coin v)
+    >> (or_stop (validator_at s operator) NoValidator >>= λ x. stop_if (is_wrong coin v) WrongDenom >> as_state (delegated nothing_told.told x delegator coin.amount wallet (over tt s v))))
+delegate_steps delegator operator coin s v = delegate_is delegator operator coin s v ∙ by (coin.amount == 0) (validator_at s operator) (is_wrong coin v)
   where
     by : (none : Bool) (found : Option Validator) (wrong : Bool)
-        → as_state (stop_if none NonPositive >> (or_stop found NoValidator >>= λ x. stop_if wrong WrongDenom >> delegated nothing_told.told x who coin.amount wallet (over tt s v)))
-        ≡ (stop_if none NonPositive >> (or_stop found NoValidator >>= λ x. stop_if wrong WrongDenom >> as_state (delegated nothing_told.told x who coin.amount wallet (over tt s v))))
+        → as_state (stop_if none NonPositive >> (or_stop found NoValidator >>= λ x. stop_if wrong WrongDenom >> delegated nothing_told.told x delegator coin.amount wallet (over tt s v)))
+        ≡ (stop_if none NonPositive >> (or_stop found NoValidator >>= λ x. stop_if wrong WrongDenom >> as_state (delegated nothing_told.told x delegator coin.amount wallet (over tt s v))))
     by true found wrong = refl
     by false None wrong = refl
     by false (Some x) true = refl

@@ -57,8 +57,8 @@ create_unhooked m w = do
 
 -- an amount is delegated
 abbrev pub delegate_unhooked : List ℕ → List ℕ → Coin → Effect
-delegate_unhooked who operator coin w = do
-  (issued, s) ← delegated_by no_hook who operator coin (staked_in w)
+delegate_unhooked delegator operator coin w = do
+  (issued, s) ← delegated_by no_hook delegator operator coin (staked_in w)
   Ok (with_staked w.mine s)
 
 -- the message is of a kind that is built

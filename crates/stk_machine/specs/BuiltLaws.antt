@@ -61,14 +61,14 @@ BuiltTransactionsEnd = TransactionsEndBy built_effect
 
 -- What delegating may be refused by where no hook pays or exceeds.
 abbrev pub against_delegating : List ℕ → List ℕ → Coin → Order
-against_delegating who operator coin w =
+against_delegating delegator operator coin w =
     when (coin.amount == 0) NonPositive
     ∷ when (lacks_validator operator w) NoValidator
     ∷ when (is_wrong coin w.view) WrongDenom
     ∷ when (has_no_rate operator w) RateInvalid
     ∷ shares_over operator coin.amount w
     ∷ when (is_tiny operator coin.amount w) TinyDelegation
-    ∷ when (is_short w.view.bank (account.User who) (bond_coins w.view coin.amount)) InsufficientFunds
+    ∷ when (is_short w.view.bank (account.User delegator) (bond_coins w.view coin.amount)) InsufficientFunds
     ∷ []
 
 -- the conditions against a message here, in their order; of all but delegating they are those of the whole machine

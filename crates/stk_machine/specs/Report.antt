@@ -38,8 +38,8 @@ unless_over (Err over) = None
 
 -- what a withdrawal at the last height would be paid from; an operator without a validator gives nothing
 abbrev pub pending_at : Option Validator → List ℕ → ℕ → State → Option Money
-pending_at None who shares w = Some []
-pending_at (Some v) who shares w = unless_over (pending v who shares (shared_in w) w.view)
+pending_at None delegator shares w = Some []
+pending_at (Some v) delegator shares w = unless_over (pending v delegator shares (shared_in w) w.view)
 
 -- Each delegation's pending reward, in the order of the delegations (`Querier.DelegationRewards`).
 abbrev pub pending_of : State → List Pending

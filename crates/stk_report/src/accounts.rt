@@ -30,8 +30,10 @@ fn with_coin<'a>(
     amount: u128,
 ) -> Result<Open<'a>, LineFault>
     ensures next { IfOk result (λ next. (rest : List (Account × Money)) →
-        out.new.items ++ text_of (map account_line (joined next.account (coins_seen next.coins.items) rest))
-        ≡ out.old.items ++ text_of (map account_line (opened (option_map (λ o. (o.account, coins_seen o.coins.items)) last.entry)
+        out.new.items ++ text_of (map account_line
+        (joined next.account (coins_seen next.coins.items) rest))
+        ≡ out.old.items ++ text_of (map account_line
+        (opened (option_map (λ o. (o.account, coins_seen o.coins.items)) last.entry)
         (joined account.now ((denom.now, amount) ∷ []) rest)))) }
     ensures fault { IfErr result (λ fault. fault ≡ LineFault.NoMemory) }
 {

@@ -27,7 +27,8 @@ fn push_with_purse(
     purses: &BTreeMap<Addr, &Purse>,
 ) -> Result<(), LineFault>
     ensures ok { OnOk result (out.new.items ≡ out.old.items
-        ++ line_of (validator_line (validator.now, purse_at (seen purses.now.entries) operator.now))) }
+        ++ line_of (validator_line
+        (validator.now, purse_at (seen purses.now.entries) operator.now))) }
     ensures fault { IfErr result (λ fault. fault ≡ LineFault.NoMemory) }
 {
     match purses.get(operator) {

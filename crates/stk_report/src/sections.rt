@@ -109,7 +109,8 @@ pub(crate) fn redelegation_entries(
     items: &[Item],
 ) -> Result<(), LineFault>
     ensures ok { OnOk result (out.new.items
-        ≡ out.old.items ++ text_of (flat_map redelegation_lines (redelegations_of asked items.now))) }
+        ≡ out.old.items ++ text_of (flat_map redelegation_lines
+        (redelegations_of asked items.now))) }
     ensures fault { IfErr result (λ fault. fault ≡ LineFault.NoMemory) }
 {
     push_redelegations(alloc, out, &redelegations(alloc, asked, items)?)

@@ -1,6 +1,6 @@
 -- Items of two kinds side by side: each once, with one more, and as they change.
 use Rattle.std.proofs.Common.{◌≡◌, ◌∙◌, ℕ, ◌<◌, Bool, true, false, List, [], ◌∷◌, ◌++◌, Some, length, append_assoc, refl, sym, ap, subst, arith, inl, inr}
-use Rattle.std.specs.Prelude.{◌||◌, zero, suc, slice_get, ◌≢◌, ◌⊎◌, Contains, Result, Ok, Err, OnOk, OnErr}
+use Rattle.std.specs.Prelude.{◌||◌, suc, slice_get, ◌≢◌, ◌⊎◌, Contains, Result, Ok, Err, OnOk}
 use Rattle.stk_keep.specs.declared.items.Item.{Item}
 use Rattle.stk_keep.specs.Items.{key_of, IsOnce, IsAdded, AreChanges}
 use Rattle.stk_rows.specs.Kinds.{AreApart, AreOf, IsByKey, either}

@@ -1,4 +1,5 @@
 pub mod MemberLemmas
+pub mod RowedLemmas
 pub mod KindLemmas
 pub mod RowLemmas
 pub mod WalkLemmas

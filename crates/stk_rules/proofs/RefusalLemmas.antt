@@ -48,12 +48,12 @@ sends_refused from to coins w =
     mapped (coins_sent from to coins w.view) (λ v. over_view (λ u. v) w)
     ∙ stop_step (is_empty coins) NonPositive _ _ (stop_step (is_module to) ModuleRecipient _ _ (stop_step (is_short w.view.bank (account.User from) coins) InsufficientFunds (Ok (sent (account.User from) to coins w.view)) [] refl))
 
-payee_chosen : (who : List ℕ) (to : Account) (w : State) → refused_in (payee_set who to w.view.ctx.params w.hooks.0) ≡ first_of (against_payee to w)
-payee_chosen who (account.Module m) w = refl
-payee_chosen who (account.User a) w = stop_step (not w.view.ctx.params.withdraw_addr_enabled) WithdrawFixed (Ok (record w.hooks.0 { withdraw = with addr_cmp w.hooks.0.withdraw who a })) [] refl
+payee_chosen : (delegator : List ℕ) (to : Account) (w : State) → refused_in (payee_set delegator to w.view.ctx.params w.hooks.0) ≡ first_of (against_payee to w)
+payee_chosen delegator (account.Module m) w = refl
+payee_chosen delegator (account.User a) w = stop_step (not w.view.ctx.params.withdraw_addr_enabled) WithdrawFixed (Ok (record w.hooks.0 { withdraw = with addr_cmp w.hooks.0.withdraw delegator a })) [] refl
 
-pub payees_refused : (who : List ℕ) (to : Account) (w : State) → refusal_of (set_withdraw_address who to) w ≡ first_of (against_payee to w)
-payees_refused who to w = mapped (payee_set who to w.view.ctx.params w.hooks.0) (λ d. with_shared d w.view [] w) ∙ payee_chosen who to w
+pub payees_refused : (delegator : List ℕ) (to : Account) (w : State) → refusal_of (set_withdraw_address delegator to) w ≡ first_of (against_payee to w)
+payees_refused delegator to w = mapped (payee_set delegator to w.view.ctx.params w.hooks.0) (λ d. with_shared d w.view [] w) ∙ payee_chosen delegator to w
 
 spent : (authority : List ℕ) (to : Account) (coins : Money) (w : State) → refused_in (pool_spent authority to coins w.hooks.0 w.view) ≡ first_of (against_spend authority to coins w)
 spent authority to coins w =

@@ -191,12 +191,12 @@ respects_operator : (o : List ℕ) (k x : List ℕ × List ℕ) → pair_cmp k x
 respects_operator o k x e = ap (λ (y : List ℕ × List ℕ). same_addr y.0 o) (sym (exact_pair k x e))
 
 -- the shares of an operator after one number of them changed
-pub sum-changed : (ds : Delegations) (p who o : List ℕ) (n : ℕ) → IsStrictlySortedBy pair_cmp (keys_of ds)
-    → shares_at (with_number pair_cmp ds (p, who) n) o + cond (same_addr p o) (number_at pair_cmp ds (p, who)) 0 ≡ shares_at ds o + cond (same_addr p o) n 0
-sum-changed ds p who o n a = sum-after pair_cmp pair_total (λ key. same_addr key.0 o) (p, who) n ds (respects_operator o) a
+pub sum-changed : (ds : Delegations) (p delegator o : List ℕ) (n : ℕ) → IsStrictlySortedBy pair_cmp (keys_of ds)
+    → shares_at (with_number pair_cmp ds (p, delegator) n) o + cond (same_addr p o) (number_at pair_cmp ds (p, delegator)) 0 ≡ shares_at ds o + cond (same_addr p o) n 0
+sum-changed ds p delegator o n a = sum-after pair_cmp pair_total (λ key. same_addr key.0 o) (p, delegator) n ds (respects_operator o) a
 
-pub held_within : (ds : Delegations) (p who : List ℕ) → number_at pair_cmp ds (p, who) ≤ shares_at ds p
-held_within ds p who = number-within pair_cmp pair_total (λ key. same_addr key.0 p) (p, who) ds (respects_operator p) (same_itself p)
+pub held_within : (ds : Delegations) (p delegator : List ℕ) → number_at pair_cmp ds (p, delegator) ≤ shares_at ds p
+held_within ds p delegator = number-within pair_cmp pair_total (λ key. same_addr key.0 p) (p, delegator) ds (respects_operator p) (same_itself p)
 
 own_sum : (new held old n total : ℕ) → new + held ≡ old + n → total + held ≡ old + n → total ≡ new
 own_sum new held old n total e f = omega (arith, e, f)
@@ -235,22 +235,22 @@ some_there : (b z : Bool) (n m : ℕ) (r : Option ℕ) → b ≡ false → cond 
 some_there true z n m r f e = absurd cc
 some_there false z n m r f e = e
 
-module _ (height : ℕ) (w v : Validator) (who : List ℕ) (n : ℕ) (s : Staked) (h : IsSoundAt height s) (f : validator_at s w.operator ≡ Some v) where
+module _ (height : ℕ) (w v : Validator) (delegator : List ℕ) (n : ℕ) (s : Staked) (h : IsSoundAt height s) (f : validator_at s w.operator ≡ Some v) where
   -- a validator stands in the place of one, whose shares changed as those of one delegation
-  pub sound-changed : w.cons ≡ v.cons → ValidatorIsSound height w → w.shares + number_at pair_cmp s.delegations (w.operator, who) ≡ v.shares + n
-      → IsSoundAt height (put_with w (with_number pair_cmp s.delegations (w.operator, who) n) s)
-  sound-changed c ok e = sound-put_with height w (with_number pair_cmp s.delegations (w.operator, who) n) s h (record {
+  pub sound-changed : w.cons ≡ v.cons → ValidatorIsSound height w → w.shares + number_at pair_cmp s.delegations (w.operator, delegator) ≡ v.shares + n
+      → IsSoundAt height (put_with w (with_number pair_cmp s.delegations (w.operator, delegator) n) s)
+  sound-changed c ok e = sound-put_with height w (with_number pair_cmp s.delegations (w.operator, delegator) n) s h (record {
     validator = ok;
-    ascend = ascend-after pair_cmp pair_total s.delegations (w.operator, who) n h.delegations_ascend;
-    positive = λ k m g. positive_if (is_at (pair_cmp k) (w.operator, who)) (n == 0) n m (at pair_cmp s.delegations k) (λ z. grind (arith, nat_tests)) (h.positive k) (sym (at-number s.delegations (w.operator, who) k n h.delegations_ascend) ∙ g);
-    existing = λ k m g. is_key (is_at (pair_cmp k) (w.operator, who))
-        (λ b. first_of_and (same_addr k.0 w.operator) (same_addr k.1 who) (sym (pair_found k.0 w.operator k.1 who) ∙ b))
-        (λ b. h.existing k m (some_there (is_at (pair_cmp k) (w.operator, who)) (n == 0) n m (at pair_cmp s.delegations k) b (sym (at-number s.delegations (w.operator, who) k n h.delegations_ascend) ∙ g)));
+    ascend = ascend-after pair_cmp pair_total s.delegations (w.operator, delegator) n h.delegations_ascend;
+    positive = λ k m g. positive_if (is_at (pair_cmp k) (w.operator, delegator)) (n == 0) n m (at pair_cmp s.delegations k) (λ z. grind (arith, nat_tests)) (h.positive k) (sym (at-number s.delegations (w.operator, delegator) k n h.delegations_ascend) ∙ g);
+    existing = λ k m g. is_key (is_at (pair_cmp k) (w.operator, delegator))
+        (λ b. first_of_and (same_addr k.0 w.operator) (same_addr k.1 delegator) (sym (pair_found k.0 w.operator k.1 delegator) ∙ b))
+        (λ b. h.existing k m (some_there (is_at (pair_cmp k) (w.operator, delegator)) (n == 0) n m (at pair_cmp s.delegations k) b (sym (at-number s.delegations (w.operator, delegator) k n h.delegations_ascend) ∙ g)));
     alone = alone_in height w v s h f c;
-    own = own_sum (shares_at (with_number pair_cmp s.delegations (w.operator, who) n) w.operator) (number_at pair_cmp s.delegations (w.operator, who)) (shares_at s.delegations w.operator) n w.shares
-        (cond-yes (same_addr w.operator w.operator) _ _ _ _ (same_itself w.operator) (sum-changed s.delegations w.operator who w.operator n h.delegations_ascend))
-        (subst (λ x. w.shares + number_at pair_cmp s.delegations (w.operator, who) ≡ x + n) (h.shares w.operator v f) e);
-    others = λ o a. plus_nothing (same_addr w.operator o) _ _ _ _ (same_back w.operator o ∙ a) (sum-changed s.delegations w.operator who o n h.delegations_ascend);
+    own = own_sum (shares_at (with_number pair_cmp s.delegations (w.operator, delegator) n) w.operator) (number_at pair_cmp s.delegations (w.operator, delegator)) (shares_at s.delegations w.operator) n w.shares
+        (cond-yes (same_addr w.operator w.operator) _ _ _ _ (same_itself w.operator) (sum-changed s.delegations w.operator delegator w.operator n h.delegations_ascend))
+        (subst (λ x. w.shares + number_at pair_cmp s.delegations (w.operator, delegator) ≡ x + n) (h.shares w.operator v f) e);
+    others = λ o a. plus_nothing (same_addr w.operator o) _ _ _ _ (same_back w.operator o ∙ a) (sum-changed s.delegations w.operator delegator o n h.delegations_ascend);
   })
 
 -- ---- a validator joins

@@ -81,22 +81,22 @@ mature now e = (λ h. grind (arith, nat_tests, h), λ h. grind (arith, nat_tests
 any_with : {A : Type 0} (P Q : A → Type 0) (xs : List A) → ((x : A) → P x → Q x) → Any P xs → Any Q xs
 any_with P Q xs f a = (a.0, a.1, a.2, a.3, f a.1 a.4)
 
-transitive : (r : RedelegationLists) (who source : List ℕ) → is_transitive r who source ≡ true ↔ IsTransitive r who source
-transitive r who source = (
-  λ h. any_with (λ e. passes_both e ≡ true) (λ e. (e.0.0 ≡ who) × (e.0.2 ≡ source)) r (λ e k. let p : (same_addr e.0.0 who ≡ true) × (same_addr e.0.2 source ≡ true) = and_parts (same_addr e.0.0 who) (same_addr e.0.2 source) k in ((same e.0.0 who).0 p.0, (same e.0.2 source).0 p.1)) (Any-from_list_any passes_both r h),
-  λ h. list_any-from_Any passes_both r (any_with (λ e. (e.0.0 ≡ who) × (e.0.2 ≡ source)) (λ e. passes_both e ≡ true) r (λ e k. and_both (same_addr e.0.0 who) (same_addr e.0.2 source) ((same e.0.0 who).1 k.0) ((same e.0.2 source).1 k.1)) h),
+transitive : (r : RedelegationLists) (delegator source : List ℕ) → is_transitive r delegator source ≡ true ↔ IsTransitive r delegator source
+transitive r delegator source = (
+  λ h. any_with (λ e. passes_both e ≡ true) (λ e. (e.0.0 ≡ delegator) × (e.0.2 ≡ source)) r (λ e k. let p : (same_addr e.0.0 delegator ≡ true) × (same_addr e.0.2 source ≡ true) = and_parts (same_addr e.0.0 delegator) (same_addr e.0.2 source) k in ((same e.0.0 delegator).0 p.0, (same e.0.2 source).0 p.1)) (Any-from_list_any passes_both r h),
+  λ h. list_any-from_Any passes_both r (any_with (λ e. (e.0.0 ≡ delegator) × (e.0.2 ≡ source)) (λ e. passes_both e ≡ true) r (λ e k. and_both (same_addr e.0.0 delegator) (same_addr e.0.2 source) ((same e.0.0 delegator).1 k.0) ((same e.0.2 source).1 k.1)) h),
 )
   where
     passes_both : (List ℕ × List ℕ × List ℕ) × List RedelegationEntry → Bool
-    passes_both e = same_addr e.0.0 who && same_addr e.0.2 source
+    passes_both e = same_addr e.0.0 delegator && same_addr e.0.2 source
 
-falls : (v : Validator) (who : List ℕ) (left : ℕ) → falls_below_minimum v who left ≡ true ↔ FallsBelowMinimum v who left
-falls v who left =
+falls : (v : Validator) (delegator : List ℕ) (left : ℕ) → falls_below_minimum v delegator left ≡ true ↔ FallsBelowMinimum v delegator left
+falls v delegator left =
     let n : ℕ = trunc_of (value_even_of v.tokens v.shares left) in (
-      λ h. let p : (same_addr who v.operator && not v.jailed ≡ true) × (nat_lt n v.min_self ≡ true) = and_parts (same_addr who v.operator && not v.jailed) (nat_lt n v.min_self) h in
-          let q : (same_addr who v.operator ≡ true) × (not v.jailed ≡ true) = and_parts (same_addr who v.operator) (not v.jailed) p.0 in
-          ((same who v.operator).0 q.0, not_parts v.jailed q.1, (less n v.min_self).0 p.1),
-      λ h. and_both (same_addr who v.operator && not v.jailed) (nat_lt n v.min_self) (and_both (same_addr who v.operator) (not v.jailed) ((same who v.operator).1 h.0) (not_of v.jailed h.1)) ((less n v.min_self).1 h.2),
+      λ h. let p : (same_addr delegator v.operator && not v.jailed ≡ true) × (nat_lt n v.min_self ≡ true) = and_parts (same_addr delegator v.operator && not v.jailed) (nat_lt n v.min_self) h in
+          let q : (same_addr delegator v.operator ≡ true) × (not v.jailed ≡ true) = and_parts (same_addr delegator v.operator) (not v.jailed) p.0 in
+          ((same delegator v.operator).0 q.0, not_parts v.jailed q.1, (less n v.min_self).0 p.1),
+      λ h. and_both (same_addr delegator v.operator && not v.jailed) (nat_lt n v.min_self) (and_both (same_addr delegator v.operator) (not v.jailed) ((same delegator v.operator).1 h.0) (not_of v.jailed h.1)) ((less n v.min_self).1 h.2),
     )
 
 downtime : (c : Ctx) (s : Signing) (v : Validator) → is_downtime c s v ≡ true ↔ IsDowntime c s v

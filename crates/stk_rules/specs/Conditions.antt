@@ -49,7 +49,7 @@ lacks_validator operator w = is_none (validator_at w.mine.staked operator)
 
 -- there is no such delegation
 abbrev pub lacks_delegation : List ℕ → List ℕ → State → Bool
-lacks_delegation who operator w = is_none (delegation w.mine.staked who operator)
+lacks_delegation delegator operator w = is_none (delegation w.mine.staked delegator operator)
 
 -- shares over no tokens
 abbrev pub has_no_rate : List ℕ → State → Bool
@@ -72,8 +72,8 @@ are_above (Err share.RateInvalid) held = false
 
 -- the amount stands for more shares than the delegation has
 abbrev pub asks_too_much : List ℕ → List ℕ → ℕ → State → Bool
-asks_too_much who operator amount w =
-    said_of false (λ v. are_above (shares_for_amount v.tokens v.shares amount) (unwrap_or (delegation w.mine.staked who operator) 0)) operator w
+asks_too_much delegator operator amount w =
+    said_of false (λ v. are_above (shares_for_amount v.tokens v.shares amount) (unwrap_or (delegation w.mine.staked delegator operator) 0)) operator w
 
 -- what goes out for an amount that is unbonded
 abbrev pub goes_out : Result ℕ ShareFault → Validator → ℕ
@@ -106,36 +106,36 @@ is_tiny operator amount w = said_of false (λ v. is_nothing (issued_shares v.tok
 
 -- the state after the hook before a delegation changes; or the excess of the period's end or of the reward
 abbrev pub after_hook : List ℕ → Validator → State → Result State Over
-after_hook who v w = call chain_told (hook_before v who (delegation w.mine.staked who v.operator)) w
+after_hook delegator v w = call chain_told (hook_before v delegator (delegation w.mine.staked delegator v.operator)) w
 
 -- ending the period, or the reward, is over in the hook
 abbrev pub reward_over : List ℕ → List ℕ → State → Option Refusal
-reward_over who operator w = said_of None (λ v. over_in (after_hook who v w)) operator w
+reward_over delegator operator w = said_of None (λ v. over_in (after_hook delegator v w)) operator w
 
 -- after the hook has paid, the wallet has less than the amount
 abbrev pub is_short_then : List ℕ → ℕ → Result State Over → Bool
-is_short_then who amount (Ok w) = is_short w.view.bank (account.User who) (bond_coins w.view amount)
-is_short_then who amount (Err over) = false
+is_short_then delegator amount (Ok w) = is_short w.view.bank (account.User delegator) (bond_coins w.view amount)
+is_short_then delegator amount (Err over) = false
 
 -- the delegator cannot pay, once the hook has paid it
 abbrev pub cannot_pay : List ℕ → List ℕ → ℕ → State → Bool
-cannot_pay who operator amount w = said_of false (λ v. is_short_then who amount (after_hook who v w)) operator w
+cannot_pay delegator operator amount w = said_of false (λ v. is_short_then delegator amount (after_hook delegator v w)) operator w
 
 -- the pair, and the triple, has the most entries
 abbrev pub has_most_unbondings : List ℕ → List ℕ → State → Bool
-has_most_unbondings who operator w = nat_le w.view.ctx.params.max_entries (length (entries_of w.mine.unbondings who operator))
+has_most_unbondings delegator operator w = nat_le w.view.ctx.params.max_entries (length (entries_of w.mine.unbondings delegator operator))
 
 -- the triple has the most entries
 abbrev pub has_most_redelegations : List ℕ → List ℕ → List ℕ → State → Bool
-has_most_redelegations who source target w = nat_le w.view.ctx.params.max_entries (length (redelegations_of w.mine.redelegations who source target))
+has_most_redelegations delegator source target w = nat_le w.view.ctx.params.max_entries (length (redelegations_of w.mine.redelegations delegator source target))
 
 -- the entry that a cancellation takes
 abbrev pub cancelled_entry : List ℕ → List ℕ → ℕ → State → Option UnbondingEntry
-cancelled_entry who operator height w = find (can_be_cancelled height w.view.ctx.time) (entries_of w.mine.unbondings who operator)
+cancelled_entry delegator operator height w = find (can_be_cancelled height w.view.ctx.time) (entries_of w.mine.unbondings delegator operator)
 
 -- the amount is above the balance of the entry that a cancellation takes
 abbrev pub cancels_too_much : List ℕ → List ℕ → ℕ → ℕ → State → Bool
-cancels_too_much who operator height amount w = unwrap_or (option_map (λ e. nat_lt e.balance amount) (cancelled_entry who operator height w)) false
+cancels_too_much delegator operator height amount w = unwrap_or (option_map (λ e. nat_lt e.balance amount) (cancelled_entry delegator operator height w)) false
 
 -- the operator's own delegation is worth less than its least
 abbrev pub has_too_little : List ℕ → State → Bool

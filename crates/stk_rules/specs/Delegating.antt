@@ -43,37 +43,37 @@ shares_given v amount = do
 -- The coins of a delegation move to the account of the validator's status: from the delegator, who may be short, or from
 -- the account of the origin's status where that is another (`Delegate`: `subtractAccount`).
 abbrev pub paid_in : Origin → List ℕ → BondStatus → ℕ → View → Result View Refusal
-paid_in wallet who status amount v = do
-  stop_if (is_short v.bank (account.User who) (bond_coins v amount)) InsufficientFunds
-  Ok (sent (account.User who) (account.Module (pool_of status)) (bond_coins v amount) v)
-paid_in (pool from) who status amount v =
+paid_in wallet delegator status amount v = do
+  stop_if (is_short v.bank (account.User delegator) (bond_coins v amount)) InsufficientFunds
+  Ok (sent (account.User delegator) (account.Module (pool_of status)) (bond_coins v amount) v)
+paid_in (pool from) delegator status amount v =
     if module_number (pool_of from) == module_number (pool_of status) then Ok v
     else Ok (sent (account.Module (pool_of from)) (account.Module (pool_of status)) (bond_coins v amount) v)
 
 -- the hook before a delegation changes: it is new, or has shares
 abbrev pub hook_before : Validator → List ℕ → Option ℕ → Hook
-hook_before v who None = starting v who
-hook_before v who (Some held) = modifying v who held
+hook_before v delegator None = starting v delegator
+hook_before v delegator (Some held) = modifying v delegator held
 
 module _ {H : Type 0} (told : H → Hook → View → Told H) where
   -- Delegating to a validator, in this order: the hook before; the coins move; tokens and shares grow; the hook after
   -- (`Delegate`). Answers the issued shares.
   abbrev pub delegated : Validator → List ℕ → ℕ → Origin → World Staked H → Result (ℕ × World Staked H) Refusal
-  delegated v who amount origin w = do
+  delegated v delegator amount origin w = do
     issued ← shares_given v amount
-    let held = delegation w.mine who v.operator
+    let held = delegation w.mine delegator v.operator
     let shares = unwrap_or held 0 + issued
     let grown = record v { tokens = v.tokens + amount; shares = v.shares + issued }
-    w1 ← stopping Overflow (call told (hook_before v who held) w)
-    view ← paid_in origin who v.status amount w1.view
-    let w2 = over_view (λ u. view) (over_mine (λ s. put_delegation who v.operator shares (put_validator grown s)) w1)
-    w3 ← stopping Overflow (call told (modified grown who shares) w2)
+    w1 ← stopping Overflow (call told (hook_before v delegator held) w)
+    view ← paid_in origin delegator v.status amount w1.view
+    let w2 = over_view (λ u. view) (over_mine (λ s. put_delegation delegator v.operator shares (put_validator grown s)) w1)
+    w3 ← stopping Overflow (call told (modified grown delegator shares) w2)
     Ok (issued, w3)
 
   -- The message, from the delegator's wallet (`msgServer.Delegate`).
   abbrev pub delegated_by : List ℕ → List ℕ → Coin → World Staked H → Result (ℕ × World Staked H) Refusal
-  delegated_by who operator coin w = do
+  delegated_by delegator operator coin w = do
     stop_if (coin.amount == 0) NonPositive
     v ← or_stop (validator_at w.mine operator) NoValidator
     stop_if (is_wrong coin w.view) WrongDenom
-    delegated v who coin.amount wallet w
+    delegated v delegator coin.amount wallet w

@@ -33,7 +33,7 @@ nothing_shared = record { rewards = record { periods = []; starts = [] }; purses
 
 -- the address to which payments of an address go, by itself its own (`GetDelegatorWithdrawAddr`)
 abbrev pub payee_of : Shared → List ℕ → List ℕ
-payee_of d who = unwrap_or (at addr_cmp d.withdraw who) who
+payee_of d delegator = unwrap_or (at addr_cmp d.withdraw delegator) delegator
 
 -- payments from the distribution account go to the payee
 abbrev pub paid_to : List ℕ → Money → View → View
@@ -63,13 +63,13 @@ ended val d v = do
 -- Starting a delegation's rewards behind the last ended period, with the value of its shares, cut
 -- (`initializeDelegation`).
 abbrev pub started : Validator → List ℕ → ℕ → Shared → View → Shared × View × Log
-started val who shares d v =
+started val delegator shares d v =
     let period = last_ended (periods_of d.rewards val.operator) in
     let stake = value_cut_of val.tokens val.shares shares in
     let info : StartingInfo = record { period = period; stake = stake; height = v.ctx.height } in (
-      record d { rewards = with_start who val.operator info d.rewards },
-      noted (fact.Started who val.operator period stake) v,
-      (val.operator, log.started who shares val.tokens val.shares stake) ∷ [],
+      record d { rewards = with_start delegator val.operator info d.rewards },
+      noted (fact.Started delegator val.operator period stake) v,
+      (val.operator, log.started delegator shares val.tokens val.shares stake) ∷ [],
     )
 
 -- A slash ends the period and is recorded at it (`updateValidatorSlashFraction`).
@@ -81,36 +81,36 @@ slash_recorded val fraction d v = do
 
 -- How each withdrawal begins: the period ends. Answers the reward up to it, of which what is outstanding may not cover all.
 abbrev pub reward_due : Validator → List ℕ → ℕ → Shared → View → Result (Money × Shared × View × Log) Over
-reward_due val who shares d v = do
+reward_due val delegator shares d v = do
   (ending, d1, v1, l) ← ended val d v
   let value = value_even_of val.tokens val.shares shares
-  full ← reward_at (start_of d1.rewards who val.operator) (periods_of d1.rewards val.operator) ending v1.ctx.height value
+  full ← reward_at (start_of d1.rewards delegator val.operator) (periods_of d1.rewards val.operator) ending v1.ctx.height value
   Ok (full, d1, v1, l)
 
 -- Withdrawing a delegation's reward (`withdrawDelegationRewards`): the period ends; the reward, as far as what is
 -- outstanding goes, leaves; its whole coins are paid, its fractions join the pool; the start is gone. Answers the
 -- coins that were paid.
 abbrev pub reward_withdrawn : Validator → List ℕ → ℕ → Shared → View → Result (Money × Shared × View × Log) Over
-reward_withdrawn val who shares d v = do
-  (full, d1, v1, l) ← reward_due val who shares d v
+reward_withdrawn val delegator shares d v = do
+  (full, d1, v1, l) ← reward_due val delegator shares d v
   (reward, p) ← paid_out val.operator full d1.purses
   let coins = whole_coins reward
-  let to = payee_of d1 who
+  let to = payee_of d1 delegator
   let v2 = over_facts (pooled_told (fractions reward)) (paid_to to coins v1)
-  let d2 = record d1 { rewards = without_start who val.operator d1.rewards; purses = p }
-  Ok (coins, d2, noted (fact.Paid who val.operator to reward coins) v2, l)
+  let d2 = record d1 { rewards = without_start delegator val.operator d1.rewards; purses = p }
+  Ok (coins, d2, noted (fact.Paid delegator val.operator to reward coins) v2, l)
 
 -- the same, and its rewards start anew (`WithdrawDelegationRewards`)
 abbrev pub reward_renewed : Validator → List ℕ → ℕ → Shared → View → Result (Money × Shared × View × Log) Over
-reward_renewed val who shares d v = do
-  (coins, d1, v1, l) ← reward_withdrawn val who shares d v
-  let (d2, v2, more) = started val who shares d1 v1
+reward_renewed val delegator shares d v = do
+  (coins, d1, v1, l) ← reward_withdrawn val delegator shares d v
+  let (d2, v2, more) = started val delegator shares d1 v1
   Ok (coins, d2, v2, l ++ more)
 
 -- What a withdrawal now would take from what is outstanding; it changes nothing.
 abbrev pub pending : Validator → List ℕ → ℕ → Shared → View → Result Money Over
-pending val who shares d v = do
-  (full, d1, v1, l) ← reward_due val who shares d v
+pending val delegator shares d v = do
+  (full, d1, v1, l) ← reward_due val delegator shares d v
   Ok (smaller_of full (purse_of d1.purses val.operator).outstanding)
 
 -- Removing a validator: its purse is closed, and its records go (`AfterValidatorRemoved`).
@@ -149,7 +149,7 @@ abbrev pub distribution_told : Shared → Hook → View → Told Shared
 distribution_told d (hook.created val) v = gives (records_made val d) v ((val.operator, log.made) ∷ [])
 distribution_told d (hook.removed val) v = told_of (unlogged (records_removed val d v))
 distribution_told d (hook.bonded val) v = gives d v []
-distribution_told d (hook.starting val who) v = told_of (left_by (ended val d v))
-distribution_told d (hook.modifying val who shares) v = told_of (left_by (reward_withdrawn val who shares d v))
-distribution_told d (hook.modified val who shares) v = told_of (Ok (started val who shares d v))
+distribution_told d (hook.starting val delegator) v = told_of (left_by (ended val d v))
+distribution_told d (hook.modifying val delegator shares) v = told_of (left_by (reward_withdrawn val delegator shares d v))
+distribution_told d (hook.modified val delegator shares) v = told_of (Ok (started val delegator shares d v))
 distribution_told d (hook.slashing val fraction) v = told_of (slash_recorded val fraction d v)

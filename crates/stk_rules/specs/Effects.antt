@@ -53,26 +53,26 @@ edit_validator m w = do
 
 -- an amount is delegated
 abbrev pub delegate : List ℕ → List ℕ → Coin → Effect
-delegate who operator coin w = do
-  (issued, s) ← delegated_by chain_told who operator coin (staked_in w)
+delegate delegator operator coin w = do
+  (issued, s) ← delegated_by chain_told delegator operator coin (staked_in w)
   Ok (with_staked w.mine s)
 
 -- an amount is undelegated
 abbrev pub undelegate : List ℕ → List ℕ → Coin → Effect
-undelegate who operator coin w = do
-  (completes, u, s) ← undelegated chain_told who operator coin w.mine.unbondings (staked_in w)
+undelegate delegator operator coin w = do
+  (completes, u, s) ← undelegated chain_told delegator operator coin w.mine.unbondings (staked_in w)
   Ok (with_staked (record w.mine { unbondings = u }) s)
 
 -- an amount is redelegated
 abbrev pub begin_redelegate : List ℕ → List ℕ → List ℕ → Coin → Effect
-begin_redelegate who source target coin w = do
-  (done, r, s) ← redelegated chain_told who source target coin w.mine.redelegations (staked_in w)
+begin_redelegate delegator source target coin w = do
+  (done, r, s) ← redelegated chain_told delegator source target coin w.mine.redelegations (staked_in w)
   Ok (with_staked (record w.mine { redelegations = r }) s)
 
 -- an unbonding is cancelled
 abbrev pub cancel_unbonding : List ℕ → List ℕ → Coin → ℕ → Effect
-cancel_unbonding who operator coin height w = do
-  (done, u, s) ← cancelled chain_told who operator coin height w.mine.unbondings (staked_in w)
+cancel_unbonding delegator operator coin height w = do
+  (done, u, s) ← cancelled chain_told delegator operator coin height w.mine.unbondings (staked_in w)
   Ok (with_staked (record w.mine { unbondings = u }) s)
 
 -- a validator leaves jail
@@ -83,8 +83,8 @@ unjail operator w = do
 
 -- a reward is withdrawn
 abbrev pub withdraw_reward : List ℕ → List ℕ → Effect
-withdraw_reward who operator w = do
-  (coins, d, v, l) ← reward_taken w.mine.staked who operator (shared_in w) w.view
+withdraw_reward delegator operator w = do
+  (coins, d, v, l) ← reward_taken w.mine.staked delegator operator (shared_in w) w.view
   Ok (with_shared d v l w)
 
 -- a commission is withdrawn
@@ -95,8 +95,8 @@ withdraw_commission operator w = do
 
 -- payments go to another address
 abbrev pub set_withdraw_address : List ℕ → Account → Effect
-set_withdraw_address who to w = do
-  d ← payee_set who to w.view.ctx.params (shared_in w)
+set_withdraw_address delegator to w = do
+  d ← payee_set delegator to w.view.ctx.params (shared_in w)
   Ok (with_shared d w.view [] w)
 
 -- coins join the community pool

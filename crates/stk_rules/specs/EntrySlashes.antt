@@ -91,23 +91,23 @@ module _ {D H : Type 0} (lent : Unbonds D H) where
   -- Shares are unbonded at the target, and what goes out is burned from the account of the target's status as it was
   -- before. Nothing is done without a target or of no shares.
   abbrev pub burned_at_target : Option Validator → List ℕ → ℕ → World D H → Result (World D H) Over
-  burned_at_target None who part w = Ok w
-  burned_at_target (Some t) who part w = if part == 0 then Ok w else (do
-    (out, w1) ← lent.unbond who t.operator part w
+  burned_at_target None delegator part w = Ok w
+  burned_at_target (Some t) delegator part w = if part == 0 then Ok w else (do
+    (out, w1) ← lent.unbond delegator t.operator part w
     Ok (over_view (burnt (pool_of t.status) w.view.ctx.params.bond_denom out) w1))
 
   -- the shares that one entry's slash unbonds: the factor of what it gave, at most what the delegation has
   abbrev pub shares_hit : List ℕ → List ℕ → ℕ → RedelegationEntry → World D H → ℕ
-  shares_hit who target factor e w = min (even (factor * e.shares_dst) (10 ^ 18)) (unwrap_or (delegation (lent.stake w.mine) who target) 0)
+  shares_hit delegator target factor e w = min (even (factor * e.shares_dst) (10 ^ 18)) (unwrap_or (delegation (lent.stake w.mine) delegator target) 0)
 
   -- the slash of the entries of one delegator and target, one after another
   abbrev pub targets_slashed : List ℕ → List ℕ → ℕ → ℕ → List RedelegationEntry → World D H → Result (World D H) Over
-  targets_slashed who target infraction factor [] w = Ok w
-  targets_slashed who target infraction factor (e ∷ es) w =
+  targets_slashed delegator target infraction factor [] w = Ok w
+  targets_slashed delegator target infraction factor (e ∷ es) w =
       if is_hit infraction w.view.ctx.time e.created e.completes then (do
-        w1 ← burned_at_target (validator_at (lent.stake w.mine) target) who (shares_hit who target factor e w) w
-        targets_slashed who target infraction factor es w1)
-      else targets_slashed who target infraction factor es w
+        w1 ← burned_at_target (validator_at (lent.stake w.mine) target) delegator (shares_hit delegator target factor e w) w
+        targets_slashed delegator target infraction factor es w1)
+      else targets_slashed delegator target infraction factor es w
 
   -- the same of all entries from an operator, by ascending delegator and target
   abbrev pub sources_slashed : List ℕ → ℕ → ℕ → RedelegationLists → World D H → Result (World D H) Over

@@ -96,13 +96,13 @@ validates n rate = record {
 
 -- who delegates to whom, and how much
 pub record Stake : Type 0 where
-  pub who : ℕ
+  pub delegator : ℕ
   pub operator : ℕ
   pub amount : ℕ
 
 -- so much is delegated by a user to an operator
 abbrev pub stakes : ℕ → ℕ → ℕ → Stake
-stakes who operator amount = record { who = who; operator = operator; amount = amount }
+stakes delegator operator amount = record { delegator = delegator; operator = operator; amount = amount }
 
 -- parameters, what users hold, validators and delegations at rate one
 pub record Beginning : Type 0 where
@@ -131,7 +131,7 @@ validator_begun m w = stopping Overflow (stored chain_told (new_validator m w.vi
 abbrev pub stake_begun : Stake → World Staked Hooks → Result (World Staked Hooks) Refusal
 stake_begun s w = do
   v ← or_stop (validator_at w.mine (addr s.operator)) NoValidator
-  (issued, u) ← delegated chain_told v (addr s.who) s.amount (pool Unbonded) w
+  (issued, u) ← delegated chain_told v (addr s.delegator) s.amount (pool Unbonded) w
   Ok u
 
 -- the state at height 0: the delegated coins stand in the not-bonded account, then the bonded set is made

@@ -55,15 +55,15 @@ longer e (Some s) = Some (record s { entries = s.entries ++ e ∷ [] })
 
 -- a delegator's start begins a span anew, with the exact value of its shares; all else makes it longer
 abbrev pub span_with : List ℕ → LogEntry → Option Span → Option Span
-span_with who (log.started delegator shares tokens all stake) s =
-    if same_addr delegator who then Some (record { first = ratio_of (shares * tokens) all; entries = [] }) else s
-span_with who log.made s = None
-span_with who e s = longer e s
+span_with delegator (log.started other shares tokens all stake) s =
+    if same_addr other delegator then Some (record { first = ratio_of (shares * tokens) all; entries = [] }) else s
+span_with delegator log.made s = None
+span_with delegator e s = longer e s
 
 -- the span from a delegator's last start on
 abbrev pub span_of : List ℕ → List LogEntry → Option Span → Option Span
-span_of who [] s = s
-span_of who (e ∷ es) s = span_of who es (span_with who e s)
+span_of delegator [] s = s
+span_of delegator (e ∷ es) s = span_of delegator es (span_with delegator e s)
 
 -- ---- the ideal of a span, in one denomination
 
@@ -148,8 +148,8 @@ pub record Brackets (d : List ℕ) (s : Span) (raw : ℕ) : Type 0 where
 -- The reward that a withdrawal now would come to, before the smaller of it and what is outstanding is taken, with the
 -- log up to there.
 abbrev pub claimed : Validator → List ℕ → ℕ → Shared → View → Log → Result (Money × Log) Over
-claimed val who shares d v l = do
-  (full, d1, v1, more) ← reward_due val who shares d v
+claimed val delegator shares d v l = do
+  (full, d1, v1, more) ← reward_due val delegator shares d v
   Ok (full, l ++ more)
 
 -- ---- the overclaim

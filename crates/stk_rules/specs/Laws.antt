@@ -47,14 +47,14 @@ pub record KeptByMessages (P : State → State → Type 0) : Type 0 where
   pub sends : (from : List ℕ) (to : Account) (coins : Money) → IsMoney coins → KeptByStep P (send from to coins)
   pub creates : (m : CreateValidator) → KeptByStep P (create_validator m)
   pub edits : (m : EditValidator) → KeptByStep P (edit_validator m)
-  pub delegates : (who operator : List ℕ) (coin : Coin) → KeptByStep P (delegate who operator coin)
-  pub undelegates : (who operator : List ℕ) (coin : Coin) (w : State) → IsSound w → AreWhole w → IfOk (undelegate who operator coin w) (P w)
-  pub redelegates : (who source target : List ℕ) (coin : Coin) → KeptByStep P (begin_redelegate who source target coin)
-  pub cancels : (who operator : List ℕ) (coin : Coin) (height : ℕ) → KeptByStep P (cancel_unbonding who operator coin height)
+  pub delegates : (delegator operator : List ℕ) (coin : Coin) → KeptByStep P (delegate delegator operator coin)
+  pub undelegates : (delegator operator : List ℕ) (coin : Coin) (w : State) → IsSound w → AreWhole w → IfOk (undelegate delegator operator coin w) (P w)
+  pub redelegates : (delegator source target : List ℕ) (coin : Coin) → KeptByStep P (begin_redelegate delegator source target coin)
+  pub cancels : (delegator operator : List ℕ) (coin : Coin) (height : ℕ) → KeptByStep P (cancel_unbonding delegator operator coin height)
   pub unjails : (operator : List ℕ) → KeptByStep P (unjail operator)
-  pub withdraws : (who operator : List ℕ) → KeptByStep P (withdraw_reward who operator)
+  pub withdraws : (delegator operator : List ℕ) → KeptByStep P (withdraw_reward delegator operator)
   pub commissions : (operator : List ℕ) → KeptByStep P (withdraw_commission operator)
-  pub payees : (who : List ℕ) (to : Account) → KeptByStep P (set_withdraw_address who to)
+  pub payees : (delegator : List ℕ) (to : Account) → KeptByStep P (set_withdraw_address delegator to)
   pub funds : (who : List ℕ) (coins : Money) → IsMoney coins → KeptByStep P (fund_community_pool who coins)
   pub spends : (authority : List ℕ) (to : Account) (coins : Money) → IsMoney coins → KeptByStep P (community_pool_spend authority to coins)
 
@@ -113,15 +113,15 @@ BlocksEnd = (w : State) → IsSound w → ((s : State) × (set_step w ≡ Ok s))
 
 -- The reward that a withdrawal of a delegation would come to has a span, and lies in the bracket of it.
 abbrev pub ClaimIsBracketed : List ℕ → State → List ℕ → Validator → ℕ → Type 0
-ClaimIsBracketed d w who v shares =
-    (full : Money) (l : Log) → claimed v who shares (shared_in w) w.view w.log ≡ Ok (full, l)
-    → (s : Span) × (span_of who (history_of v.operator l []) None ≡ Some s) × Brackets d s (amount_of full d)
+ClaimIsBracketed d w delegator v shares =
+    (full : Money) (l : Log) → claimed v delegator shares (shared_in w) w.view w.log ≡ Ok (full, l)
+    → (s : Span) × (span_of delegator (history_of v.operator l []) None ≡ Some s) × Brackets d s (amount_of full d)
 
 -- Every delegation's claim does. Proved of every state that a genesis leads to: `claims_are_bracketed` of `stk_reached`.
 abbrev pub IsBracketed : State → Type 0
 IsBracketed w =
-    (d who : List ℕ) (v : Validator) (shares : ℕ) → validator_at w.mine.staked v.operator ≡ Some v
-    → delegation w.mine.staked who v.operator ≡ Some shares → ClaimIsBracketed d w who v shares
+    (d delegator : List ℕ) (v : Validator) (shares : ℕ) → validator_at w.mine.staked v.operator ≡ Some v
+    → delegation w.mine.staked delegator v.operator ≡ Some shares → ClaimIsBracketed d w delegator v shares
 
 -- the claim of stretches in units of 10^-36: what the ratio grew in each, times its stake, not cut
 abbrev pub exact_claim : List ℕ → (ℕ → Money) → List Stretch → ℕ

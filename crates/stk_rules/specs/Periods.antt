@@ -36,7 +36,7 @@ periods_of r operator = unwrap_or (at addr_cmp r.periods operator) initial_recor
 
 -- where the rewards of a delegation begin
 abbrev pub start_of : Rewards → List ℕ → List ℕ → Option StartingInfo
-start_of r who operator = at pair_cmp r.starts (operator, who)
+start_of r delegator operator = at pair_cmp r.starts (operator, delegator)
 
 -- the rewards with these periods of an operator
 abbrev pub with_periods : List ℕ → Periods → Rewards → Rewards
@@ -48,11 +48,11 @@ without_periods operator r = record r { periods = without addr_cmp r.periods ope
 
 -- the rewards of a delegation begin anew (`SetDelegatorStartingInfo`)
 abbrev pub with_start : List ℕ → List ℕ → StartingInfo → Rewards → Rewards
-with_start who operator s r = record r { starts = with pair_cmp r.starts (operator, who) s }
+with_start delegator operator s r = record r { starts = with pair_cmp r.starts (operator, delegator) s }
 
 -- no rewards of a delegation run (`DeleteDelegatorStartingInfo`)
 abbrev pub without_start : List ℕ → List ℕ → Rewards → Rewards
-without_start who operator r = record r { starts = without pair_cmp r.starts (operator, who) }
+without_start delegator operator r = record r { starts = without pair_cmp r.starts (operator, delegator) }
 
 -- the ratio of a period, or of the nearest one below that stands
 abbrev pub ratio_at : List (ℕ × Money) → ℕ → Money

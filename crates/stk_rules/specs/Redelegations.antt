@@ -25,15 +25,15 @@ RedelegationLists = List ((List ℕ × List ℕ × List ℕ) × List Redelegatio
 
 -- the entries of a delegator, a source and a target
 abbrev pub redelegations_of : RedelegationLists → List ℕ → List ℕ → List ℕ → List RedelegationEntry
-redelegations_of r who source target = unwrap_or (at triple_cmp r (who, source, target)) []
+redelegations_of r delegator source target = unwrap_or (at triple_cmp r (delegator, source, target)) []
 
 -- Some entry of the delegator has the source as its target (`HasReceivingRedelegation`).
 abbrev pub IsTransitive : RedelegationLists → List ℕ → List ℕ → Type 0
-IsTransitive r who source = Any (λ e. (e.0.0 ≡ who) × (e.0.2 ≡ source)) r
+IsTransitive r delegator source = Any (λ e. (e.0.0 ≡ delegator) × (e.0.2 ≡ source)) r
 
 -- the same as a test
 abbrev pub is_transitive : RedelegationLists → List ℕ → List ℕ → Bool
-is_transitive r who source = list_any (λ e. same_addr e.0.0 who && same_addr e.0.2 source) r
+is_transitive r delegator source = list_any (λ e. same_addr e.0.0 delegator && same_addr e.0.2 source) r
 
 -- The height and the completion of an entry (`getBeginInfo`): those of now where the source is bonded or gone, those
 -- of the source's own unbonding where it unbonds, and no entry where it is unbonded.
@@ -45,31 +45,31 @@ begin_info source gone c =
 
 -- One entry more, where there is one; never merged (`SetRedelegationEntry`).
 abbrev pub appended : List ℕ → List ℕ → List ℕ → Option (ℕ × ℕ) → ℕ → ℕ → RedelegationLists → RedelegationLists
-appended who source target None amount shares r = r
-appended who source target (Some t) amount shares r =
+appended delegator source target None amount shares r = r
+appended delegator source target (Some t) amount shares r =
     let entry : RedelegationEntry = record { created = t.0; completes = t.1; initial = amount; shares_dst = shares } in
-    with triple_cmp r (who, source, target) (redelegations_of r who source target ++ entry ∷ [])
+    with triple_cmp r (delegator, source, target) (redelegations_of r delegator source target ++ entry ∷ [])
 
 module _ {H : Type 0} (told : H → Hook → View → Told H) where
   -- Redelegating: shares are unbonded at the source, and what goes out is delegated to the target from the account of
   -- the source's status (`BeginRedelegation`). The target's conditions are judged before anything changes.
   abbrev pub redelegated : List ℕ → List ℕ → List ℕ → Coin → RedelegationLists → World Staked H → Result (⊤ × RedelegationLists × World Staked H) Refusal
-  redelegated who source target coin r w = do
+  redelegated delegator source target coin r w = do
     stop_if (coin.amount == 0) NonPositive
     v ← or_stop (validator_at w.mine source) NoValidator
-    (held, part) ← shares_to_unbond (delegation w.mine who source) v coin.amount
+    (held, part) ← shares_to_unbond (delegation w.mine delegator source) v coin.amount
     stop_if (is_wrong coin w.view) WrongDenom
     stop_if (same_addr source target) SelfRedelegation
     t ← or_stop (validator_at w.mine target) NoValidator
-    stop_if (is_transitive r who source) Transitive
-    stop_if (nat_le w.view.ctx.params.max_entries (length (redelegations_of r who source target))) RedelegationsFull
+    stop_if (is_transitive r delegator source) Transitive
+    stop_if (nat_le w.view.ctx.params.max_entries (length (redelegations_of r delegator source target))) RedelegationsFull
     let amount = amount_out v.tokens v.shares part
     stop_if (amount == 0) TinyRedelegation
     shares_given t amount
-    (out, w1) ← stopping Overflow (unbonded_shares told v who held part w)
-    (issued, w2) ← delegated told t who out (pool v.status) w1
+    (out, w1) ← stopping Overflow (unbonded_shares told v delegator held part w)
+    (issued, w2) ← delegated told t delegator out (pool v.status) w1
     let gone = is_none (validator_at w1.mine source)
-    Ok (tt, appended who source target (begin_info v gone w.view.ctx) out issued r, w2)
+    Ok (tt, appended delegator source target (begin_info v gone w.view.ctx) out issued r, w2)
 
 -- All mature entries go (`CompleteRedelegation`).
 abbrev pub redelegations_completed : ℕ → RedelegationLists → RedelegationLists

@@ -81,64 +81,64 @@ against_edit m w =
 
 -- delegating
 abbrev pub against_delegate : List ℕ → List ℕ → Coin → Order
-against_delegate who operator coin w =
+against_delegate delegator operator coin w =
     when (coin.amount == 0) NonPositive
     ∷ when (lacks_validator operator w) NoValidator
     ∷ when (is_wrong coin w.view) WrongDenom
     ∷ when (has_no_rate operator w) RateInvalid
     ∷ shares_over operator coin.amount w
     ∷ when (is_tiny operator coin.amount w) TinyDelegation
-    ∷ reward_over who operator w
-    ∷ when (cannot_pay who operator coin.amount w) InsufficientFunds
+    ∷ reward_over delegator operator w
+    ∷ when (cannot_pay delegator operator coin.amount w) InsufficientFunds
     ∷ []
 
 -- undelegating
 abbrev pub against_undelegate : List ℕ → List ℕ → Coin → Order
-against_undelegate who operator coin w =
+against_undelegate delegator operator coin w =
     when (coin.amount == 0) NonPositive
     ∷ when (lacks_validator operator w) NoValidator
-    ∷ when (lacks_delegation who operator w) NoDelegation
+    ∷ when (lacks_delegation delegator operator w) NoDelegation
     ∷ when (has_no_tokens operator w) NoTokens
-    ∷ when (asks_too_much who operator coin.amount w) TooManyShares
+    ∷ when (asks_too_much delegator operator coin.amount w) TooManyShares
     ∷ when (is_wrong coin w.view) WrongDenom
-    ∷ when (has_most_unbondings who operator w) UnbondingsFull
-    ∷ reward_over who operator w
+    ∷ when (has_most_unbondings delegator operator w) UnbondingsFull
+    ∷ reward_over delegator operator w
     ∷ []
 
 -- redelegating
 abbrev pub against_redelegate : List ℕ → List ℕ → List ℕ → Coin → Order
-against_redelegate who source target coin w =
+against_redelegate delegator source target coin w =
     when (coin.amount == 0) NonPositive
     ∷ when (lacks_validator source w) NoValidator
-    ∷ when (lacks_delegation who source w) NoDelegation
+    ∷ when (lacks_delegation delegator source w) NoDelegation
     ∷ when (has_no_tokens source w) NoTokens
-    ∷ when (asks_too_much who source coin.amount w) TooManyShares
+    ∷ when (asks_too_much delegator source coin.amount w) TooManyShares
     ∷ when (is_wrong coin w.view) WrongDenom
     ∷ when (same_addr source target) SelfRedelegation
     ∷ when (lacks_validator target w) NoValidator
-    ∷ when (is_transitive w.mine.redelegations who source) Transitive
-    ∷ when (has_most_redelegations who source target w) RedelegationsFull
+    ∷ when (is_transitive w.mine.redelegations delegator source) Transitive
+    ∷ when (has_most_redelegations delegator source target w) RedelegationsFull
     ∷ when (out_for source coin.amount w == 0) TinyRedelegation
     ∷ when (has_no_rate target w) RateInvalid
     ∷ shares_over target (out_for source coin.amount w) w
     ∷ when (is_tiny target (out_for source coin.amount w) w) TinyDelegation
-    ∷ reward_over who source w
-    ∷ reward_over who target w
+    ∷ reward_over delegator source w
+    ∷ reward_over delegator target w
     ∷ []
 
 -- cancelling an unbonding
 abbrev pub against_cancel : List ℕ → List ℕ → Coin → ℕ → Order
-against_cancel who operator coin height w =
+against_cancel delegator operator coin height w =
     when (coin.amount == 0) NonPositive
     ∷ when (is_wrong coin w.view) WrongDenom
     ∷ when (lacks_validator operator w) NoValidator
     ∷ when (has_no_rate operator w) RateInvalid
     ∷ when (is_jailed operator w) Jailed
-    ∷ when (is_none (cancelled_entry who operator height w)) NoEntry
-    ∷ when (cancels_too_much who operator height coin.amount w) CancelTooMuch
+    ∷ when (is_none (cancelled_entry delegator operator height w)) NoEntry
+    ∷ when (cancels_too_much delegator operator height coin.amount w) CancelTooMuch
     ∷ shares_over operator coin.amount w
     ∷ when (is_tiny operator coin.amount w) TinyDelegation
-    ∷ reward_over who operator w
+    ∷ reward_over delegator operator w
     ∷ []
 
 -- what a signing record keeps from leaving jail: a tombstone, or a time that is not over
@@ -161,10 +161,10 @@ against_unjail operator w =
 
 -- withdrawing a reward
 abbrev pub against_reward : List ℕ → List ℕ → Order
-against_reward who operator w =
+against_reward delegator operator w =
     when (lacks_validator operator w) NoValidator
-    ∷ when (lacks_delegation who operator w) NoDelegation
-    ∷ reward_over who operator w
+    ∷ when (lacks_delegation delegator operator w) NoDelegation
+    ∷ reward_over delegator operator w
     ∷ []
 
 -- withdrawing commission
@@ -211,7 +211,7 @@ pub record AreRefusedAnywhere : Type 0 where
   pub edits : (m : EditValidator) (w : State) → refusal_of (edit_validator m) w ≡ first_of (against_edit m w)
   pub unjails : (operator : List ℕ) (w : State) → refusal_of (unjail operator) w ≡ first_of (against_unjail operator w)
   pub commissions : (operator : List ℕ) (w : State) → refusal_of (withdraw_commission operator) w ≡ first_of (against_commission operator w)
-  pub payees : (who : List ℕ) (to : Account) (w : State) → refusal_of (set_withdraw_address who to) w ≡ first_of (against_payee to w)
+  pub payees : (delegator : List ℕ) (to : Account) (w : State) → refusal_of (set_withdraw_address delegator to) w ≡ first_of (against_payee to w)
   pub spends : (authority : List ℕ) (to : Account) (coins : Money) (w : State) → refusal_of (community_pool_spend authority to coins) w ≡ first_of (against_spend authority to coins w)
 
 -- In every sound state a message is refused by the first of its conditions that holds, and accepted where none does.
@@ -221,9 +221,9 @@ IsRefusedBy f order = (w : State) → IsSound w → refusal_of f w ≡ first_of 
 -- So are the others in every sound state. Proved: `messages_name_conditions` of `stk_owed`.
 pub record RefusalsNameConditions : Type 0 where
   pub creates : (m : CreateValidator) → IsRefusedBy (create_validator m) (against_create m)
-  pub delegates : (who operator : List ℕ) (coin : Coin) → IsRefusedBy (delegate who operator coin) (against_delegate who operator coin)
-  pub undelegates : (who operator : List ℕ) (coin : Coin) → IsRefusedBy (undelegate who operator coin) (against_undelegate who operator coin)
-  pub redelegates : (who source target : List ℕ) (coin : Coin) → IsRefusedBy (begin_redelegate who source target coin) (against_redelegate who source target coin)
-  pub cancels : (who operator : List ℕ) (coin : Coin) (height : ℕ) → IsRefusedBy (cancel_unbonding who operator coin height) (against_cancel who operator coin height)
-  pub rewards : (who operator : List ℕ) → IsRefusedBy (withdraw_reward who operator) (against_reward who operator)
+  pub delegates : (delegator operator : List ℕ) (coin : Coin) → IsRefusedBy (delegate delegator operator coin) (against_delegate delegator operator coin)
+  pub undelegates : (delegator operator : List ℕ) (coin : Coin) → IsRefusedBy (undelegate delegator operator coin) (against_undelegate delegator operator coin)
+  pub redelegates : (delegator source target : List ℕ) (coin : Coin) → IsRefusedBy (begin_redelegate delegator source target coin) (against_redelegate delegator source target coin)
+  pub cancels : (delegator operator : List ℕ) (coin : Coin) (height : ℕ) → IsRefusedBy (cancel_unbonding delegator operator coin height) (against_cancel delegator operator coin height)
+  pub rewards : (delegator operator : List ℕ) → IsRefusedBy (withdraw_reward delegator operator) (against_reward delegator operator)
   pub funds : (who : List ℕ) (coins : Money) → IsMoney coins → IsRefusedBy (fund_community_pool who coins) (against_fund who coins)

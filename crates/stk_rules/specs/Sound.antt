@@ -140,7 +140,7 @@ pub record RewardsAreSound (height : ℕ) (r : Rewards) : Type 0 where
 pub record StandsFor (d : Shared) (l : Lists) : Type 0 where
   pub purses : (operator : List ℕ) → is_some (at addr_cmp d.purses.purses operator) ≡ l.operators operator
   pub periods : (operator : List ℕ) → is_some (at addr_cmp d.rewards.periods operator) ≡ l.operators operator
-  pub starts : (who operator : List ℕ) → is_some (start_of d.rewards who operator) ≡ l.started who operator
+  pub starts : (delegator operator : List ℕ) → is_some (start_of d.rewards delegator operator) ≡ l.started delegator operator
 
 -- ---- signing records
 

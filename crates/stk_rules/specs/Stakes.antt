@@ -22,11 +22,11 @@ without_validator operator s = record s { validators = without addr_cmp s.valida
 
 -- the delegations with these shares of a delegator at an operator
 abbrev pub put_delegation : List ℕ → List ℕ → ℕ → Staked → Staked
-put_delegation who operator n s = record s { delegations = with pair_cmp s.delegations (operator, who) n }
+put_delegation delegator operator n s = record s { delegations = with pair_cmp s.delegations (operator, delegator) n }
 
 -- the delegations without that of a delegator at an operator
 abbrev pub without_shares : List ℕ → List ℕ → Staked → Staked
-without_shares who operator s = record s { delegations = without pair_cmp s.delegations (operator, who) }
+without_shares delegator operator s = record s { delegations = without pair_cmp s.delegations (operator, delegator) }
 
 -- a validator of this status waits to be unbonded
 abbrev pub is_unbonding : BondStatus → Bool

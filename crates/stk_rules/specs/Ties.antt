@@ -23,8 +23,8 @@ SetIsDecided = (reduction most : ℕ) (vs : List Validator) (v : Validator) → 
 -- So do the tests of mature entries, transitive sources, falling below the minimum, downtime, and tiny delegations.
 pub record TestsDecide : Type 0 where
   pub mature : (now : ℕ) (e : UnbondingEntry) → is_mature now e ≡ true ↔ IsMature now e
-  pub transitive : (r : RedelegationLists) (who source : List ℕ) → is_transitive r who source ≡ true ↔ IsTransitive r who source
-  pub falls : (v : Validator) (who : List ℕ) (left : ℕ) → falls_below_minimum v who left ≡ true ↔ FallsBelowMinimum v who left
+  pub transitive : (r : RedelegationLists) (delegator source : List ℕ) → is_transitive r delegator source ≡ true ↔ IsTransitive r delegator source
+  pub falls : (v : Validator) (delegator : List ℕ) (left : ℕ) → falls_below_minimum v delegator left ≡ true ↔ FallsBelowMinimum v delegator left
   pub downtime : (c : Ctx) (s : Signing) (v : Validator) → is_downtime c s v ≡ true ↔ IsDowntime c s v
   pub tiny : (v : Validator) (amount : ℕ) → v.shares < 10 ^ 38 → shares_given v amount ≡ Err TinyDelegation ↔ IsTinyDelegation v amount
 

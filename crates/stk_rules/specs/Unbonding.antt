@@ -29,11 +29,11 @@ shares_to_unbond held v amount = do
 -- The delegator is the validator's operator, which is not jailed, and the shares left are worth less than its least
 -- self-delegation (`Unbond`: `isValidatorOperator && !validator.Jailed`).
 abbrev pub FallsBelowMinimum : Validator → List ℕ → ℕ → Type 0
-FallsBelowMinimum v who left = (who ≡ v.operator) × (v.jailed ≡ false) × (trunc_of (value_even_of v.tokens v.shares left) < v.min_self)
+FallsBelowMinimum v delegator left = (delegator ≡ v.operator) × (v.jailed ≡ false) × (trunc_of (value_even_of v.tokens v.shares left) < v.min_self)
 
 -- the same as a test
 abbrev pub falls_below_minimum : Validator → List ℕ → ℕ → Bool
-falls_below_minimum v who left = same_addr who v.operator && not v.jailed && nat_lt (trunc_of (value_even_of v.tokens v.shares left)) v.min_self
+falls_below_minimum v delegator left = same_addr delegator v.operator && not v.jailed && nat_lt (trunc_of (value_even_of v.tokens v.shares left)) v.min_self
 
 -- a validator that is jailed, told by a fact (`jailValidator`)
 abbrev pub put_in_jail : {H : Type 0} → Validator → World Staked H → World Staked H
@@ -53,17 +53,17 @@ module _ {H : Type 0} (told : H → Hook → View → Told H) where
   -- What is left of a delegation stands, with the hook after, at the validator's old tokens and shares; where nothing is
   -- left, the delegation goes (`Unbond`: `RemoveDelegation`, or `SetDelegation` and `AfterDelegationModified`).
   abbrev pub left_standing : Validator → List ℕ → ℕ → World Staked H → Result (World Staked H) Over
-  left_standing v who left w = if left == 0 then Ok (over_mine (without_shares who v.operator) w)
-      else call told (modified v who left) (over_mine (put_delegation who v.operator left) w)
+  left_standing v delegator left w = if left == 0 then Ok (over_mine (without_shares delegator v.operator) w)
+      else call told (modified v delegator left) (over_mine (put_delegation delegator v.operator left) w)
 
   -- Unbonding a part of the shares that a delegator holds, in this order: the hook before; jailing; what is left; the
   -- tokens and shares leave the validator, which may go (`Unbond`). Answers the amount that goes out.
   abbrev pub unbonded_shares : Validator → List ℕ → ℕ → ℕ → World Staked H → Result (ℕ × World Staked H) Over
-  unbonded_shares v who held part w = do
-    w1 ← call told (modifying v who held) w
-    let falls = falls_below_minimum v who (held - part)
+  unbonded_shares v delegator held part w = do
+    w1 ← call told (modifying v delegator held) w
+    let falls = falls_below_minimum v delegator (held - part)
     let now = record v { jailed = v.jailed || falls }
-    w2 ← left_standing now who (held - part) (if falls then put_in_jail v w1 else w1)
+    w2 ← left_standing now delegator (held - part) (if falls then put_in_jail v w1 else w1)
     let out = amount_out v.tokens v.shares part
     let less = record now { tokens = v.tokens - out; shares = v.shares - part }
     w3 ← removed_if_empty less (logged v.operator log.left (over_mine (put_validator less) w2))
@@ -71,10 +71,10 @@ module _ {H : Type 0} (told : H → Hook → View → Told H) where
 
   -- The same for a call that is lent the delegations; without a validator or a delegation nothing goes out.
   abbrev pub unbonded_of : Option Validator → Option ℕ → List ℕ → ℕ → World Staked H → Result (ℕ × World Staked H) Over
-  unbonded_of None held who part w = Ok (0, w)
-  unbonded_of (Some v) None who part w = Ok (0, w)
-  unbonded_of (Some v) (Some held) who part w = unbonded_shares v who held part w
+  unbonded_of None held delegator part w = Ok (0, w)
+  unbonded_of (Some v) None delegator part w = Ok (0, w)
+  unbonded_of (Some v) (Some held) delegator part w = unbonded_shares v delegator held part w
 
   -- The same of the delegation of a delegator to an operator (`Unbond`).
   abbrev pub shares_unbonded : List ℕ → List ℕ → ℕ → World Staked H → Result (ℕ × World Staked H) Over
-  shares_unbonded who operator part w = unbonded_of (validator_at w.mine operator) (delegation w.mine who operator) who part w
+  shares_unbonded delegator operator part w = unbonded_of (validator_at w.mine operator) (delegation w.mine delegator operator) delegator part w

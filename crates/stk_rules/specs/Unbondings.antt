@@ -25,12 +25,12 @@ UnbondingLists = List ((List ℕ × List ℕ) × List UnbondingEntry)
 
 -- the entries of a delegator and an operator
 abbrev pub entries_of : UnbondingLists → List ℕ → List ℕ → List UnbondingEntry
-entries_of u who operator = unwrap_or (at pair_cmp u (who, operator)) []
+entries_of u delegator operator = unwrap_or (at pair_cmp u (delegator, operator)) []
 
 -- with these entries, and without the key where there are none (`RemoveUnbondingDelegation`)
 abbrev pub with_entries : List ℕ → List ℕ → List UnbondingEntry → UnbondingLists → UnbondingLists
-with_entries who operator [] u = without pair_cmp u (who, operator)
-with_entries who operator (e ∷ es) u = with pair_cmp u (who, operator) (e ∷ es)
+with_entries delegator operator [] u = without pair_cmp u (delegator, operator)
+with_entries delegator operator (e ∷ es) u = with pair_cmp u (delegator, operator) (e ∷ es)
 
 -- an entry is mature from its completion on (`UnbondingDelegationEntry.IsMature`)
 abbrev pub IsMature : ℕ → UnbondingEntry → Type 0
@@ -68,41 +68,41 @@ module _ {H : Type 0} (told : H → Hook → View → Told H) where
   -- entry is made, also of 0 (`msgServer.Undelegate`, `Undelegate`). Refused where the pair has the most entries, also
   -- where one would only grow. Answers when the entry completes, and leaves the entries and the world.
   abbrev pub undelegated : List ℕ → List ℕ → Coin → UnbondingLists → World Staked H → Result (ℕ × UnbondingLists × World Staked H) Refusal
-  undelegated who operator coin u w = do
+  undelegated delegator operator coin u w = do
     stop_if (coin.amount == 0) NonPositive
     v ← or_stop (validator_at w.mine operator) NoValidator
-    (held, part) ← shares_to_unbond (delegation w.mine who operator) v coin.amount
+    (held, part) ← shares_to_unbond (delegation w.mine delegator operator) v coin.amount
     stop_if (is_wrong coin w.view) WrongDenom
-    let entries = entries_of u who operator
+    let entries = entries_of u delegator operator
     stop_if (nat_le w.view.ctx.params.max_entries (length entries)) UnbondingsFull
-    (out, w1) ← stopping Overflow (unbonded_shares told v who held part w)
+    (out, w1) ← stopping Overflow (unbonded_shares told v delegator held part w)
     let coins = bond_coins w.view out
     let w2 = (if is_bonded v.status then over_view (sent (account.Module holder.Bonded) (account.Module holder.NotBonded) coins) w1 else w1)
     let completes = completion w.view.ctx
-    Ok (completes, with_entries who operator (grown w.view.ctx.height completes out entries) u, w2)
+    Ok (completes, with_entries delegator operator (grown w.view.ctx.height completes out entries) u, w2)
 
   -- Cancelling: the amount is delegated back from the not-bonded account, and leaves the first entry of that height that
   -- is not mature (`msgServer.CancelUnbondingDelegation`).
   abbrev pub cancelled : List ℕ → List ℕ → Coin → ℕ → UnbondingLists → World Staked H → Result (⊤ × UnbondingLists × World Staked H) Refusal
-  cancelled who operator coin height u w = do
+  cancelled delegator operator coin height u w = do
     stop_if (coin.amount == 0) NonPositive
     stop_if (is_wrong coin w.view) WrongDenom
     v ← or_stop (validator_at w.mine operator) NoValidator
     stop_if (has_invalid_rate v.tokens v.shares) RateInvalid
     stop_if v.jailed Jailed
-    let entries = entries_of u who operator
+    let entries = entries_of u delegator operator
     e ← or_stop (find (can_be_cancelled height w.view.ctx.time) entries) NoEntry
     stop_if (nat_lt e.balance coin.amount) CancelTooMuch
-    (issued, w1) ← delegated told v who coin.amount (pool Unbonded) w
-    Ok (tt, with_entries who operator (lowered height w.view.ctx.time coin.amount entries) u, w1)
+    (issued, w1) ← delegated told v delegator coin.amount (pool Unbonded) w
+    Ok (tt, with_entries delegator operator (lowered height w.view.ctx.time coin.amount entries) u, w1)
 
 -- The balances of mature entries are paid from the not-bonded account, one after another (`CompleteUnbonding`).
 abbrev pub paid_back : List ℕ → List UnbondingEntry → View → View
-paid_back who [] v = v
-paid_back who (e ∷ es) v =
+paid_back delegator [] v = v
+paid_back delegator (e ∷ es) v =
     if is_mature v.ctx.time e
-    then paid_back who es (sent (account.Module holder.NotBonded) (account.User who) (bond_coins v e.balance) v)
-    else paid_back who es v
+    then paid_back delegator es (sent (account.Module holder.NotBonded) (account.User delegator) (bond_coins v e.balance) v)
+    else paid_back delegator es v
 
 -- The entries of one key in front, where there are any.
 abbrev pub key_then : {K E : Type 0} → K → List E → List (K × List E) → List (K × List E)

@@ -71,9 +71,9 @@ abbrev pub window_told : Window → Hook → View → Told Window
 window_told i (hook.bonded v) w = gives (signing_started w.ctx.height v.cons i) w []
 window_told i (hook.created v) w = gives i w []
 window_told i (hook.removed v) w = gives i w []
-window_told i (hook.starting v who) w = gives i w []
-window_told i (hook.modifying v who shares) w = gives i w []
-window_told i (hook.modified v who shares) w = gives i w []
+window_told i (hook.starting v delegator) w = gives i w []
+window_told i (hook.modifying v delegator shares) w = gives i w []
+window_told i (hook.modified v delegator shares) w = gives i w []
 window_told i (hook.slashing v fraction) w = gives i w []
 
 -- as many misses as are allowed: the window less its part that is to be signed (`MinSignedPerWindow`)

@@ -23,10 +23,10 @@ use Rattle.stk_rules.specs.Distribution.{Shared, payee_of, paid_to, reward_renew
 -- A delegation's reward is withdrawn, then its rewards start anew (`WithdrawDelegationRewards`). Answers the coins that
 -- were paid.
 abbrev pub reward_taken : Staked → List ℕ → List ℕ → Shared → View → Result (Money × Shared × View × Log) Refusal
-reward_taken s who operator d v = do
+reward_taken s delegator operator d v = do
   val ← or_stop (validator_at s operator) NoValidator
-  shares ← or_stop (delegation s who operator) NoDelegation
-  stopping Overflow (reward_renewed val who shares d v)
+  shares ← or_stop (delegation s delegator operator) NoDelegation
+  stopping Overflow (reward_renewed val delegator shares d v)
 
 -- A validator's commission is paid, in whole coins (`WithdrawValidatorCommission`). Answers the coins that were paid.
 abbrev pub commission_withdrawn : List ℕ → Shared → View → Result (Money × Shared × View) Refusal
@@ -45,10 +45,10 @@ is_module (account.Module m) = true
 
 -- From now on payments of an address go to another, which is no module's (`SetWithdrawAddr`).
 abbrev pub payee_set : List ℕ → Account → Params → Shared → Result Shared Refusal
-payee_set who (account.Module m) p d = Err ModuleRecipient
-payee_set who (account.User to) p d = do
+payee_set delegator (account.Module m) p d = Err ModuleRecipient
+payee_set delegator (account.User to) p d = do
   stop_if (not p.withdraw_addr_enabled) WithdrawFixed
-  Ok (record d { withdraw = with addr_cmp d.withdraw who to })
+  Ok (record d { withdraw = with addr_cmp d.withdraw delegator to })
 
 -- Coins of a user join the community pool (`FundCommunityPool`); no coins are refused (own).
 abbrev pub pool_funded : List ℕ → Money → Shared → View → Result (⊤ × Shared × View) Refusal

@@ -1,29 +1,39 @@
-use Rattle.std.proofs.Common.{◌∙◌, arith}
+use Rattle.std.proofs.Common.{◌∙◌, refl, arith}
 use Rattle.stk_app.specs.Parts.{HasNoEnd}
-use Rattle.stk_app.proofs.PartLemmas.{fed_to_end, end_stops, fed_to_number, piece_fed, piece_stops}
+use Rattle.stk_app.proofs.PartLemmas.{fed_with, fed_first, fed_to_end, end_stops, fed_to_number, piece_fed, piece_stops}
 use Rattle.stk_app.proofs.feeding.feed.Goals as goal
+
+pub loop-end-init : goal.loop-end-init
+loop-end-init g c = record { fed = λ s stood. (s, fed_first _ s _ _ _ c.requires.short, stood); later = omega arith; quiet = refl }
 
 pub end_line-requires-clause-number : goal.end_line-requires-clause-number
 end_line-requires-clause-number g c =
-    let most = fed_to_number _ _ _ _ _ _ _ _ _ _ c.loop-end.invariant.fed in
+    let most = fed_to_number _ _ _ _ _ _ _ _ _ _ (c.loop-end.invariant.fed c.requires.stands.0 c.requires.stands.1).1 in
     omega (arith, c.requires.number, most)
 
 pub returns-in-Err-clause-stops : goal.returns-in-Err-clause-stops
-returns-in-Err-clause-stops g c = end_stops _ _ _ _ _ _ _ _ _ _ _ _ _ c.loop-end.invariant.fed c.in-Some.ensures.end c.in-Err.ensures.stops
+returns-in-Err-clause-stops g c = λ s stood.
+    let f = c.loop-end.invariant.fed s stood in
+    end_stops _ s _ _ _ _ f.0 _ _ _ _ _ _ f.1 c.in-Some.ensures.end (c.in-Err.ensures.stops f.0 f.2)
 
 pub loop-end-preserved : goal.loop-end-preserved
 loop-end-preserved g c = record {
-  fed = rw c.after-rest.ensures (fed_to_end _ _ _ _ _ _ _ _ _ _ _ _ _ _ _ c.loop-end.invariant.fed c.in-Some.ensures.end c.in_default-end_line.ensures.fed);
+  fed = λ s stood.
+      let f = c.loop-end.invariant.fed s stood in
+      let t = c.in_default-end_line.ensures.fed f.0 f.2 in
+      (t.0, rw c.after-rest.ensures (fed_to_end _ s _ _ _ _ f.0 _ _ _ t.0 _ _ _ _ f.1 c.in-Some.ensures.end t.1), t.2);
   later = omega (arith, c.end_line.ensures.later);
   quiet = c.in_default-end_line.ensures.quiet ∙ c.loop-end.invariant.quiet;
 }
 
 pub returns-clause-fed : goal.returns-clause-fed
-returns-clause-fed g c =
+returns-clause-fed g c = λ s stood.
+    let f = c.loop-end.invariant.fed s stood in
     let none : HasNoEnd c.loop-end.rest.now = rw c.in_default.is at c.end_of_line.ensures.none in
-    piece_fed c.extend.result _ _ _ _ _ _ _ _ _ _ _ c.loop-end.invariant.fed none c.extend.ensures.line c.extend.ensures.short
+    fed_with c.extend.result f.0 _ _ (piece_fed c.extend.result _ s _ _ _ _ f.0 _ _ _ _ f.1 none c.extend.ensures.line c.extend.ensures.short) f.2
 
 pub returns-clause-stops : goal.returns-clause-stops
-returns-clause-stops g c =
+returns-clause-stops g c = λ s stood.
+    let f = c.loop-end.invariant.fed s stood in
     let none : HasNoEnd c.loop-end.rest.now = rw c.in_default.is at c.end_of_line.ensures.none in
-    piece_stops c.extend.result _ _ _ _ _ _ _ _ _ _ c.loop-end.invariant.fed none c.extend.ensures.err
+    piece_stops c.extend.result _ s _ _ _ _ f.0 _ _ _ f.1 none c.extend.ensures.err

@@ -6,9 +6,13 @@ use Rattle.stk_app.proofs.finishing.finish.Goals as goal
 pub returns-clause-done : goal.returns-clause-done
 returns-clause-done g c =
     let some : 0 < length c.args.line.now = search rules in
-    on_ok_weaker c.report-2.result (report_done _ _ _ _ _ _ _ some c.in_default.ensures.took) c.report-2.ensures.written
+    λ s stood.
+    let t = c.in_default.ensures.took s stood in
+    on_ok_weaker c.report-2.result (report_done _ s t.0 _ _ _ _ some t.1) (c.report-2.ensures.written t.0 t.2)
 
 pub returns-clause-stops : goal.returns-clause-stops
 returns-clause-stops g c =
     let some : 0 < length c.args.line.now = search rules in
-    report_all c.report-2.result _ _ _ _ _ _ _ some c.in_default.ensures.took c.report-2.ensures.no_line c.report-2.ensures.stops
+    λ s stood.
+    let t = c.in_default.ensures.took s stood in
+    report_all c.report-2.result _ s t.0 _ _ _ _ some t.1 c.report-2.ensures.no_line (c.report-2.ensures.stops t.0 t.2)

@@ -1,11 +1,22 @@
+use Rattle.stk_app.proofs.LineLemmas.{long_only, no_write}
 use Rattle.stk_app.proofs.PartLemmas.{answer_stops, write_stops, full_stops}
+use Rattle.stk_app.proofs.StageLemmas.{took_on}
 use Rattle.stk_app.proofs.line.take_line.Goals as goal
 
+pub returns-in-Ok-clause-took : goal.returns-in-Ok-clause-took
+returns-in-Ok-clause-took g c = λ s stood. took_on _ s _ _ _ _ _ _ (c.in_default.ensures.ok s stood) c.deref.ensures.value c.in-Ok.ensures.ok
+
 pub returns-in-Err-clause-stops : goal.returns-in-Err-clause-stops
-returns-in-Err-clause-stops g c = answer_stops _ _ _ _ _ c.in-Err.ensures.err
+returns-in-Err-clause-stops g c = λ s stood. answer_stops _ _ _ _ _ (c.in-Err.ensures.err s stood)
 
 pub returns-in-Err-Failed-clause-stops : goal.returns-in-Err-Failed-clause-stops
-returns-in-Err-Failed-clause-stops g c = write_stops _ _ _ _ _ _ c.in_default.ensures.ok (rw c.deref.ensures.value at c.in-Err-Failed.ensures.err)
+returns-in-Err-Failed-clause-stops g c = λ s stood. write_stops _ _ _ _ _ _ (c.in_default.ensures.ok s stood).1 (rw c.deref.ensures.value at c.in-Err-Failed.ensures.err)
 
 pub returns-in-Err-NoMemory-clause-stops : goal.returns-in-Err-NoMemory-clause-stops
-returns-in-Err-NoMemory-clause-stops g c = full_stops _ _ _ _ _ _ c.in_default.ensures.ok (rw c.deref.ensures.value at c.in-Err-NoMemory.ensures.err)
+returns-in-Err-NoMemory-clause-stops g c = λ s stood. full_stops _ _ _ _ _ _ (c.in_default.ensures.ok s stood).1 (rw c.deref.ensures.value at c.in-Err-NoMemory.ensures.err)
+
+pub returns-in-Err-clause-long : goal.returns-in-Err-clause-long
+returns-in-Err-clause-long g c = long_only c.in-Err.stop _ c.in-Err.ensures.of_line
+
+pub returns-in-Err-clause-cause : goal.returns-in-Err-clause-cause
+returns-in-Err-clause-cause g c = λ e. absurd (no_write c.in-Err.stop c.args.line.now c.in-Err.ensures.of_line e)

@@ -1,10 +1,13 @@
 use Rattle.std.proofs.Common.{◌∙◌, sym}
-use Rattle.stk_app.proofs.DriveLemmas.{end_stop_status, end_cause}
+use Rattle.stk_app.proofs.DriveLemmas.{done_status, end_stop_status, end_cause}
 use Rattle.stk_app.proofs.running.end.Goals as goal
 
+pub returns-in-Ok-clause-status : goal.returns-in-Ok-clause-status
+returns-in-Ok-clause-status g c = λ s stood. done_status _ s _ _ _ (rw c.deref.ensures.value at (c.in-Ok.ensures.done s stood))
+
 pub returns-in-Err-clause-status : goal.returns-in-Err-clause-status
-returns-in-Err-clause-status g c =
-    let stops = rw c.deref.ensures.value at c.in-Err.ensures.stops in
+returns-in-Err-clause-status g c = λ s stood.
+    let stops = rw c.deref.ensures.value at (c.in-Err.ensures.stops s stood) in
     let long = rw c.deref.ensures.value at c.in-Err.ensures.long in
     rw c.status_at_end.ensures (end_stop_status _ _ _ _ _ _ c.in-Err.stop c.requires long stops)
 

@@ -11,5 +11,5 @@ pub after_delegation_modified-requires : goal.after_delegation_modified-requires
 after_delegation_modified-requires g c =
     let ready = c.requires.ready.1.1.1 in
     let stand = Stands-after_ok _ g.met.H.StakingHooks.lawful _ _ _ _ _ c.requires.ready c.in_ok-before_delegation_created.ensures.told in
-    let sent = Stand-after_send _ _ (account.User c.args.who.now) (account.Module NotBonded) c.args.coins.now _ _ _ _ c.in_ok-send.ensures.sends.1 c.send.ensures.backed refl refl stand.1.1 in
+    let sent = Stand-after_send _ _ (account.User c.args.delegator.now) (account.Module NotBonded) c.args.coins.now _ _ _ _ c.in_ok-send.ensures.sends.1 c.send.ensures.backed refl refl stand.1.1 in
     (stand.0, (stand.1.0, (c.requires.ready.1.1.0, record { stand = sent; needs = (ready.needs.0, ready.needs.1, c.requires.some, c.requires.most); tokens = ready.tokens })))

@@ -7,4 +7,4 @@ use Rattle.stk_bank.proofs.book.BookBank.burn.Goals as goal
 pub returns-clause-backed : goal.returns-clause-backed
 returns-clause-backed g c =
     backed-burnt c.self.inside.tables c.burn.new.self (subst (λ b. IsBacked b.holdings) (sym c.self.view_is) c.requires) c.burn.result (account.Module c.args.from) c.args.coin.now.denom c.args.coin.now.amount
-    (search rules) (omega arith) c.burn.ensures.ok c.burn.ensures.err
+    (search rules) (omega arith) c.burn.ensures.changes.ok c.burn.ensures.changes.err

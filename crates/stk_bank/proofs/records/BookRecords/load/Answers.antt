@@ -22,10 +22,10 @@ pub returns-in_ok-put_balance-in-Balance-clause-added : goal.returns-in_ok-put_b
 returns-in_ok-put_balance-in-Balance-clause-added g c = λ _.
     added-at items_of c.self.inside.tables.holdings _ c.args.self.now.holdings c.put_balance.new.self.holdings _ c.args.item.now
     (balance-added c.self.inside.tables.holdings (c.in-Balance.account, c.in-Balance.denom) c.in-Balance.amount c.put_balance.ensures.ordered)
-    (ap (λ b. b.holdings) c.self.view_is) (ap (λ b. b.holdings) c.in_ok-put_balance-in-Balance.ensures.ok) c.in-Balance.is
+    (ap (λ b. b.holdings) c.self.view_is) (ap (λ b. b.holdings) c.in_ok-put_balance-in-Balance.ensures.changes.ok) c.in-Balance.is
 
 pub returns-in_ok-put_supply-in-Supply-clause-added : goal.returns-in_ok-put_supply-in-Supply-clause-added
 returns-in_ok-put_supply-in-Supply-clause-added g c = λ _.
     added-at items_of c.self.inside.tables.holdings _ c.args.self.now.holdings c.put_supply.new.self.holdings _ c.args.item.now
     (supply-added c.self.inside.tables.holdings c.in-Supply.denom c.in-Supply.amount c.put_supply.ensures.ordered)
-    (ap (λ b. b.holdings) c.self.view_is) (ap (λ b. b.holdings) c.in_ok-put_supply-in-Supply.ensures.ok) c.in-Supply.is
+    (ap (λ b. b.holdings) c.self.view_is) (ap (λ b. b.holdings) c.in_ok-put_supply-in-Supply.ensures.changes.ok) c.in-Supply.is

@@ -4,6 +4,6 @@ use Rattle.stk_bank.proofs.tables.Tables.burn_coin.Goals as goal
 
 pub overflow_sub-supply : goal.overflow_sub-supply
 overflow_sub-supply g c =
-    let within = balance-in_supply c.args.self.now.holdings c.args.place.now.0 c.args.place.now.1 c.requires.backed in
+    let within = balance-in_supply c.args.self.now.holdings c.args.place.now.0 c.args.place.now.1 c.requires.affords.backed in
     let supply = c.supply-supply.ensures.amount in
     omega arith

@@ -8,14 +8,18 @@ loop-place-init g c = record {
   cost = omega arith;
 }
 
-pub move_coin-requires-clause-enough : goal.move_coin-requires-clause-enough
-move_coin-requires-clause-enough g c =
-    moving-enough c.args.from.now c.args.to.now c.args.coins.now c.args.self.now c.loop-place.self (c.coin_at.result.now.denom, c.coin_at.result.now.amount) (drop c.loop-place.place c.args.coins.now) (drop (c.loop-place.place + 1) c.args.coins.now)
-    (drop-at c.args.coins.now c.loop-place.place (c.coin_at.result.now.denom, c.coin_at.result.now.amount) c.coin_at.ensures) c.loop-place.invariant.moving
+pub move_coin-requires : goal.move_coin-requires
+move_coin-requires g c = record {
+  affords = record {
+    backed = c.loop-place.invariant.moving.backed;
+    enough = moving-enough c.args.from.now c.args.to.now c.args.coins.now c.args.self.now c.loop-place.self (c.coin_at.result.now.denom, c.coin_at.result.now.amount) (drop c.loop-place.place c.args.coins.now) (drop (c.loop-place.place + 1) c.args.coins.now)
+        (drop-at c.args.coins.now c.loop-place.place (c.coin_at.result.now.denom, c.coin_at.result.now.amount) c.coin_at.ensures) c.loop-place.invariant.moving;
+  };
+}
 
 pub loop-place-preserved : goal.loop-place-preserved
 loop-place-preserved g c = record {
   moving = moving-next c.args.from.now c.args.to.now c.args.coins.now c.args.self.now c.loop-place.self c.move_coin.new.self (c.coin_at.result.now.denom, c.coin_at.result.now.amount) (drop c.loop-place.place c.args.coins.now) (drop (c.loop-place.place + 1) c.args.coins.now)
-      (drop-at c.args.coins.now c.loop-place.place (c.coin_at.result.now.denom, c.coin_at.result.now.amount) c.coin_at.ensures) c.loop-place.invariant.moving c.in_ok-move_coin.ensures.ok;
+      (drop-at c.args.coins.now c.loop-place.place (c.coin_at.result.now.denom, c.coin_at.result.now.amount) c.coin_at.ensures) c.loop-place.invariant.moving c.in_ok-move_coin.ensures.changes.ok;
   cost = let one = c.in_ok-move_coin.ensures.cost in omega arith;
 }

@@ -13,8 +13,11 @@ invariant_of-self g c =
     let name : is_denom c.args.place.now.1 ≡ true = subst (λ d. is_denom d ≡ true) c.bytes.ensures.value c.bytes.ensures.name in
     in_step-put _ _ c.self.invariant c.args.place.now c.args.amount c.put.new.self name (put_at c.self.inside.balances c.put.new.self c.args.place.now c.args.amount c.in-Ok.ensures.ok)
 
-pub returns-in-Ok-clause-ok : goal.returns-in-Ok-clause-ok
-returns-in-Ok-clause-ok g c = rw (← c.self.view_is) (ap (λ b. booked b c.self.inside.supplies c.self.inside.spent) (put_at c.self.inside.balances c.put.new.self c.args.place.now c.args.amount c.in-Ok.ensures.ok))
+pub returns-in-Ok-clause-changes : goal.returns-in-Ok-clause-changes
+returns-in-Ok-clause-changes g c = record {
+  ok = rw (← c.self.view_is) (ap (λ b. booked b c.self.inside.supplies c.self.inside.spent) (put_at c.self.inside.balances c.put.new.self c.args.place.now c.args.amount c.in-Ok.ensures.ok));
+  err = tt;
+}
 
 pub returns-in-Ok-clause-ordered : goal.returns-in-Ok-clause-ordered
 returns-in-Ok-clause-ordered g c = subst (λ b. IsStrictlySortedBy place_cmp (keys_of b.holdings.balances)) c.self.view_is (ordered_at c.self.inside.balances.entries c.known.ensures.ordered)

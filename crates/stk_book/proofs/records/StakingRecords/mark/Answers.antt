@@ -13,6 +13,6 @@ returns-clause-opened g c =
     let v = c.self.inside.validators in
     let o = c.self.inside.operators in
     let d = c.self.inside.delegations in
-    (λ i. (registered (c.in_ok-mark_all.ensures.validators i) (c.in_ok-mark_all.ensures.delegations i) c.self.inside.spent c.self.inside.power_reduction).marks)
-    ∙ ap (λ r. r.marks) (registered-marked v o d c.self.invariant c.self.inside.spent c.self.inside.power_reduction)
+    (λ i. (registered (c.in_ok-mark_all.ensures.validators i) (c.in_ok-mark_all.ensures.delegations i) c.self.inside.spent).marks)
+    ∙ ap (λ r. r.marks) (registered-marked v o d c.self.invariant c.self.inside.spent)
     ∙ ap (λ r. r.marks ++ r.staked ∷ []) c.self.view_is

@@ -3,10 +3,10 @@ use Rattle.stk_book.proofs.StepLemmas.{closed-all}
 use Rattle.stk_book.proofs.records.StakingRecords.settle.Goals as goal
 
 pub settle-requires : goal.settle-requires
-settle-requires g c = record { closed = (closed-all c.self.inside.validators c.self.inside.operators c.self.inside.delegations c.self.invariant c.self.inside.spent c.self.inside.power_reduction (ap (λ b. b.marks) c.self.view_is ∙ c.requires)).0 }
+settle-requires g c = record { closed = (closed-all c.self.inside.validators c.self.inside.operators c.self.inside.delegations c.self.invariant c.self.inside.spent (ap (λ b. b.marks) c.self.view_is ∙ c.requires)).0 }
 
 pub settle-requires-2 : goal.settle-requires-2
-settle-requires-2 g c = record { closed = (closed-all c.self.inside.validators c.self.inside.operators c.self.inside.delegations c.self.invariant c.self.inside.spent c.self.inside.power_reduction (ap (λ b. b.marks) c.self.view_is ∙ c.requires)).1 }
+settle-requires-2 g c = record { closed = (closed-all c.self.inside.validators c.self.inside.operators c.self.inside.delegations c.self.invariant c.self.inside.spent (ap (λ b. b.marks) c.self.view_is ∙ c.requires)).1 }
 
 pub settle-requires-3 : goal.settle-requires-3
-settle-requires-3 g c = record { closed = (closed-all c.self.inside.validators c.self.inside.operators c.self.inside.delegations c.self.invariant c.self.inside.spent c.self.inside.power_reduction (ap (λ b. b.marks) c.self.view_is ∙ c.requires)).2 }
+settle-requires-3 g c = record { closed = (closed-all c.self.inside.validators c.self.inside.operators c.self.inside.delegations c.self.invariant c.self.inside.spent (ap (λ b. b.marks) c.self.view_is ∙ c.requires)).2 }

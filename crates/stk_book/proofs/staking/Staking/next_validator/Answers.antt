@@ -5,7 +5,7 @@ use Rattle.stk_types.specs.Orders.{addr_cmp}
 use Rattle.stk_table.specs.Tabled.{entry_above}
 use Rattle.stk_book.proofs.staking.Staking.next_validator.Goals as goal
 
-pub returns-in-None-clause-validator : goal.returns-in-None-clause-validator
-returns-in-None-clause-validator g c =
-    ap (option_map (λ e. e.1)) c.in-None.ensures.above
+pub returns-clause-validator : goal.returns-clause-validator
+returns-clause-validator g c =
+    c.next.ensures.above
     ∙ ap (λ r. option_map (λ e. e.1) (entry_above addr_cmp r.staked.validators (option_copied c.args.after))) c.self.view_is

@@ -1,4 +1,4 @@
-use Rattle.stk_chain.specs.Chained.{stands}
+use Rattle.stk_chain.proofs.StandLemmas.{stands}
 use Rattle.stk_chain.proofs.JoinLemmas.{AddedSoFar}
 use Rattle.stk_chain.proofs.modules.Modules.add_delegations.Given as goal
 

@@ -1,4 +1,4 @@
-use Rattle.stk_chain.specs.Chained.{stands}
+use Rattle.stk_chain.proofs.StandLemmas.{stands}
 use Rattle.stk_chain.proofs.JoinLemmas.{EnteredSoFar}
 use Rattle.stk_chain.proofs.modules.Modules.add_validators.Given as goal
 

@@ -10,5 +10,5 @@ returns-clause-cleared g c r h =
     let same : c.self.inside.tables ≡ c.args.self.now = c.self.view_is in
     subst (λ t. KeepsRewards t.kept (without_periods c.args.operator.now r)) (sym c.in_ok-clear.ensures.ok)
     (clear-stands c.self.inside.tables.kept r c.args.operator.now (subst (λ t. KeepsRewards t.kept r) (sym same) h)
-    (ap (λ t. is_some (current_of t.kept c.args.operator.now)) same ∙ c.requires.initialised) c.known.ensures.current
-    (λ who. ap (λ t. info_of t.kept who c.args.operator.now) same ∙ c.requires.none who))
+    (ap (λ t. is_some (current_of t.kept c.args.operator.now)) same ∙ c.requires.validator.initialised) c.known.ensures.current
+    (λ delegator. ap (λ t. info_of t.kept delegator c.args.operator.now) same ∙ c.requires.none delegator))

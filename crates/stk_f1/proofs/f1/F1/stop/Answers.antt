@@ -10,7 +10,7 @@ returns-clause-stopped g c r h =
     let is = c.unwrap-info.ensures in
     let info = c.in_ok-take_info.ensures.info in
     let left = c.in_ok-release.ensures.ok in
-    let taken = c.in_ok-take_info.ensures.ok in
-    stop-answers c.self.inside.tables.kept c.release.new.self.kept r c.args.operator.now c.args.who.now c.unwrap-info.result
+    let taken = c.in_ok-take_info.ensures.changes.ok in
+    stop-answers c.self.inside.tables.kept c.release.new.self.kept r c.args.operator.now c.args.delegator.now c.unwrap-info.result
     (subst (λ t. KeepsRewards t.kept r) (sym same) h) c.known.ensures.historical (sym info ∙ is)
     (ap (λ t. t.kept) left ∙ ap (λ t. released c.args.operator.now c.unwrap-info.result.period t.kept) taken)

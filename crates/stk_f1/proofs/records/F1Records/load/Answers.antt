@@ -22,7 +22,7 @@ pub returns-in_ok-put_current-in-CurrentPeriod-clause-added : goal.returns-in_ok
 returns-in_ok-put_current-in-CurrentPeriod-clause-added g c = λ _.
     added-at items_of c.self.inside.tables.kept _ c.args.self.now.kept c.put_current.new.self.kept _ c.args.item.now
     (current-added c.self.inside.tables.kept c.in-CurrentPeriod.operator c.in-CurrentPeriod.period c.known.ensures.current)
-    (ap (λ b. b.kept) c.self.view_is) (ap (λ b. b.kept) c.in_ok-put_current-in-CurrentPeriod.ensures.ok) c.in-CurrentPeriod.is
+    (ap (λ b. b.kept) c.self.view_is) (ap (λ b. b.kept) c.in_ok-put_current-in-CurrentPeriod.ensures.changes.ok) c.in-CurrentPeriod.is
 
 pub returns-in_ok-add_record-in-Historical-clause-added : goal.returns-in_ok-add_record-in-Historical-clause-added
 returns-in_ok-add_record-in-Historical-clause-added g c = λ _.
@@ -34,10 +34,10 @@ pub returns-in_ok-put_info-in-Start-clause-added : goal.returns-in_ok-put_info-i
 returns-in_ok-put_info-in-Start-clause-added g c = λ _.
     added-at items_of c.self.inside.tables.kept _ c.args.self.now.kept c.put_info.new.self.kept _ c.args.item.now
     (start-added c.self.inside.tables.kept c.in-Start.delegator c.in-Start.operator c.in-Start.info c.known.ensures.starts)
-    (ap (λ b. b.kept) c.self.view_is) (ap (λ b. b.kept) c.in_ok-put_info-in-Start.ensures.ok) c.in-Start.is
+    (ap (λ b. b.kept) c.self.view_is) (ap (λ b. b.kept) c.in_ok-put_info-in-Start.ensures.changes.ok) c.in-Start.is
 
 pub returns-in_ok-put_event-in-Event-clause-added : goal.returns-in_ok-put_event-in-Event-clause-added
 returns-in_ok-put_event-in-Event-clause-added g c = λ _.
     added-at items_of c.self.inside.tables.kept _ c.args.self.now.kept c.put_event.new.self.kept _ c.args.item.now
     (event-added c.self.inside.tables.kept c.in-Event.operator c.in-Event.event c.known.ensures.events)
-    (ap (λ b. b.kept) c.self.view_is) (ap (λ b. b.kept) c.in_ok-put_event-in-Event.ensures.ok) c.in-Event.is
+    (ap (λ b. b.kept) c.self.view_is) (ap (λ b. b.kept) c.in_ok-put_event-in-Event.ensures.changes.ok) c.in-Event.is

@@ -1,0 +1,13 @@
+-- How a line itself may stop a run.
+use Rattle.std.specs.Prelude.{ℕ, ◌<◌, List, length}
+use Rattle.stk_app.specs.declared.status.Stop.{Stop}
+use Rattle.stk_app.specs.declared.status.Stop.TheVariants as stop
+use Rattle.stk_app.specs.Machine.{longest}
+
+-- its answer stops so: by a limit only where the line is over it, and never by a write
+abbrev pub IsOfLine : Stop → List ℕ → Type 0
+IsOfLine (stop.BadInput n fault) line = Unit {0}
+IsOfLine (stop.Long n) line = longest < length line
+IsOfLine (stop.Ratio n over) line = Unit {0}
+IsOfLine stop.Write line = ⊥
+IsOfLine stop.NoMemory line = Unit {0}
