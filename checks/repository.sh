@@ -6,7 +6,7 @@ set -u
 cd "$(dirname "$0")/.."
 bad=0
 # crates of laws, rows and tests alone, which have no body that could be wrong, and the program, whose body is one call
-no_edits=" stk_rules stk_rule_rows stk_bracket stk_owed stk_reached stk_machine stk_histories stk_f1_trials stk_bank_trials stk_book_trials stk_chain_trials stk_json_trials stk_report_trials stk_app_trials stakeplay "
+no_edits=" stk_rules stk_rule_rows stk_bracket stk_owed stk_reached stk_machine stk_histories stk_f1_trials stk_bank_trials stk_book_trials stk_unbonding_trials stk_chain_trials stk_json_trials stk_report_trials stk_app_trials stakeplay "
 wrong_bodies="invents_overflow|rounds_exact_quotient|cuts_slash_fraction|starts_after_removal|skips_slash_at_start|drops_slash_reference"
 wrong_bodies="$wrong_bodies|keeps_dead_records|drops_the_dust|burns_from_bonded|hides_a_burn|keeps_refused_reward|writes_before_commit"
 wrong_bodies="$wrong_bodies|sorts_all_validators|invents_(read|write|store)_fault|invents_not_found|restarts_from_genesis"

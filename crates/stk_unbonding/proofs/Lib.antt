@@ -1,0 +1,17 @@
+pub mod QueueLemmas
+pub mod StepLemmas
+pub mod ItemLemmas
+pub mod SameLemmas
+pub mod EntriesLemmas
+pub mod ChangeLemmas
+pub mod AskedLemmas
+pub mod MoneyLemmas
+pub mod MadeLemmas
+pub mod BackLemmas
+pub mod CancelLemmas
+pub mod WalkedLemmas
+pub mod DueLemmas
+pub mod PaidLemmas
+pub mod CompletedLemmas
+pub mod SlashedLemmas
+pub mod UndoneLemmas

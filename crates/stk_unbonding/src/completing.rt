@@ -1,0 +1,257 @@
+//! Completing: mature entries are paid at the end of a block, and go.
+
+ghost use Rattle.std.specs.Prelude.{◌≡◌, ◌+◌, ◌*◌, ◌≤◌, ℕ, true, ◌∷◌, [], length, if◌then◌else◌, OnOk, IfOk, IfErr};
+ghost use Rattle.stk_types.specs.declared.account.Account.TheVariants as account;
+ghost use Rattle.stk_types.specs.declared.account.Module.TheVariants as holder;
+ghost use Rattle.stk_keep.specs.declared.faults.HookFault.TheVariants.{NoMemory};
+ghost use Rattle.stk_keep.specs.Ground.{seen, IsInOrder, CanBeUndone};
+ghost use Rattle.stk_keep.specs.Holdings.{balance_of, IsBacked};
+ghost use Rattle.stk_keep.specs.Staked.{HoldsStake};
+ghost use Rattle.stk_rules.specs.Amounts.{count_where};
+ghost use Rattle.stk_rules.specs.Owed.{entry_balances};
+ghost use Rattle.stk_rules.specs.Unbondings.{is_mature, entries_of, with_entries, paid_back, completed};
+ghost use Rattle.stk_unbonding.specs.Calls.{AreSoundLists, mature_balances, mature_entries};
+ghost use Rattle.stk_unbonding.specs.Kept.{behind, holding};
+ghost use Rattle.stk_unbonding.specs.Queue.{IsQueue, due_in};
+ghost use Rattle.stk_unbonding.specs.Walked.{keys_where, is_due, paid_at};
+
+use crate::entries::{is_mature, unmatured};
+use crate::paying::send_from;
+use crate::queue::{Lists, Queue};
+use crate::unbondings::Unbondings;
+use std::alloc::Global;
+use std::sync::ledger::Ledger;
+use stk_keep::{Bank, Ground, HookFault, Listed, UnbondingEntry};
+use stk_table::TableFault;
+use stk_types::{Account, Addr, Module, Moment, Steps};
+
+impl Unbondings {
+    /// Pays the balances of all mature entries from the not-bonded account, by delegator, then operator, and
+    /// takes the entries out (`CompleteUnbonding`). It calls no hook, so the only error is `NoMemory`.
+    ///
+    /// It looks at mature entries alone: where none is mature, it takes one step at most.
+    pub fn complete<B: Bank, L: Ledger>(
+        &mut self,
+        alloc: Global,
+        g: &mut Ground<B>,
+        steps: &mut Steps<L>,
+    ) -> Result<(), HookFault>
+        requires entries { AreSoundLists self.old.lists }
+        requires in_order { IsInOrder (seen B.holdings g.old) }
+        requires account { HoldsStake (seen B.holdings g.old) 0 (entry_balances self.old.lists) }
+
+        ensures lists { OnOk result (self.new.lists
+            ≡ (completed self.old.lists (seen B.holdings g.old)).0) }
+        ensures ground { OnOk result (seen B.holdings g.new
+            ≡ (completed self.old.lists (seen B.holdings g.old)).1) }
+        ensures entries { OnOk result (AreSoundLists self.new.lists) }
+        ensures in_order { OnOk result (IsInOrder (seen B.holdings g.new)) }
+        ensures accounts { (bonded other : ℕ)
+            → HoldsStake (seen B.holdings g.old) bonded (other + entry_balances self.old.lists)
+            → OnOk result (HoldsStake (seen B.holdings g.new) bonded
+            (other + entry_balances self.new.lists)) }
+        ensures fault { IfErr result (λ fault. fault ≡ NoMemory) }
+        ensures cost { B.touches g.old.bank ≤ 8 → steps.new ≤ steps.old
+            + 24 * (mature_entries g.old.ctx.time self.old.lists + 1) }
+
+        // Whatever the answer.
+        ensures undone { CanBeUndone B.marks g.old g.new }
+        ensures bank { B.touches g.new.bank ≡ B.touches g.old.bank }
+        ensures behind { behind self.new ≡ behind self.old }
+        ensures spent { self.old.spent ≡ true → self.new.spent ≡ true }
+        ensures unspent { OnOk result (self.new.spent ≡ self.old.spent) }
+    {
+        self.known();
+        let keys = self.due(alloc, g.ctx.time, steps)?;
+        for key in &keys {
+            self.pay(alloc, g, key, steps)?;
+        }
+        Ok(())
+    }
+
+    /// The delegators and operators that have a mature entry, in their order.
+    fn due<L: Ledger>(
+        &self,
+        alloc: Global,
+        now: Moment,
+        steps: &mut Steps<L>,
+    ) -> Result<Vec<(Addr, Addr)>, TableFault>
+        ensures keys { IfOk result
+            (λ keys. keys.items ≡ keys_where (is_due now) self.now.lists) }
+        ensures cost { steps.new ≤ steps.old
+            + (length (keys_where (is_due now) self.now.lists) + 1) }
+    {
+        due(alloc, &self.lists, &self.queue, now, steps)
+    }
+
+    /// Pays the mature entries of a delegator and an operator, and takes them out.
+    fn pay<B: Bank, L: Ledger>(
+        &mut self,
+        alloc: Global,
+        g: &mut Ground<B>,
+        key: &(Addr, Addr),
+        steps: &mut Steps<L>,
+    ) -> Result<(), HookFault>
+        requires backed { IsBacked (B.holdings g.old.bank) }
+        requires enough { mature_balances g.old.ctx.time
+            (entries_of self.old.lists key.now.0 key.now.1)
+            ≤ balance_of (B.holdings g.old.bank) (account.Module holder.NotBonded)
+            g.old.ctx.params.bond_denom }
+        ensures lists { OnOk result (self.new ≡ holding (with_entries key.now.0 key.now.1
+            (paid_at key.now (entries_of self.old.lists key.now.0 key.now.1)
+            (seen B.holdings g.old)).0 self.old.lists) self.old) }
+        ensures ground { OnOk result (seen B.holdings g.new
+            ≡ (paid_at key.now (entries_of self.old.lists key.now.0 key.now.1)
+            (seen B.holdings g.old)).1) }
+        ensures fault { IfErr result (λ fault. fault ≡ NoMemory) }
+        ensures backed { IsBacked (B.holdings g.new.bank) }
+        ensures cost { B.touches g.old.bank ≤ 8 → steps.new ≤ steps.old + (5 + 8 * count_where
+            (is_mature g.old.ctx.time) (entries_of self.old.lists key.now.0 key.now.1)) }
+
+        // Whatever the answer.
+        ensures undone { CanBeUndone B.marks g.old g.new }
+        ensures bank { B.touches g.new.bank ≡ B.touches g.old.bank }
+        ensures behind { behind self.new ≡ behind self.old }
+        ensures spent { self.old.spent ≡ true → self.new.spent ≡ true }
+    {
+        let left = self.pay_at(alloc, g, key, steps)?;
+        self.set(key, left, steps)?;
+        Ok(())
+    }
+
+    /// Pays the mature entries of a delegator and an operator. Answers the others.
+    fn pay_at<B: Bank, L: Ledger>(
+        &self,
+        alloc: Global,
+        g: &mut Ground<B>,
+        key: &(Addr, Addr),
+        steps: &mut Steps<L>,
+    ) -> Result<Listed<UnbondingEntry>, HookFault>
+        requires backed { IsBacked (B.holdings g.old.bank) }
+        requires enough { mature_balances g.old.ctx.time
+            (entries_of self.now.lists key.now.0 key.now.1)
+            ≤ balance_of (B.holdings g.old.bank) (account.Module holder.NotBonded)
+            g.old.ctx.params.bond_denom }
+        ensures left { IfOk result (λ list. list
+            ≡ (paid_at key.now (entries_of self.now.lists key.now.0 key.now.1)
+            (seen B.holdings g.old)).0) }
+        ensures ground { OnOk result (seen B.holdings g.new
+            ≡ (paid_at key.now (entries_of self.now.lists key.now.0 key.now.1)
+            (seen B.holdings g.old)).1) }
+        ensures fault { IfErr result (λ fault. fault ≡ NoMemory) }
+        ensures backed { IsBacked (B.holdings g.new.bank) }
+        ensures undone { CanBeUndone B.marks g.old g.new }
+        ensures bank { B.touches g.new.bank ≡ B.touches g.old.bank }
+        ensures cost { B.touches g.old.bank ≤ 8 → steps.new ≤ steps.old + (1 + 8 * count_where
+            (is_mature g.old.ctx.time) (entries_of self.now.lists key.now.0 key.now.1)) }
+    {
+        let now = g.ctx.time;
+        match self.at(key, steps) {
+            Some(list) => {
+                pay_all(alloc, g, &key.0, list.as_slice(), steps)?;
+                Ok(unmatured(alloc, list.as_slice(), now)?)
+            }
+            None => Ok(Listed::new(alloc)),
+        }
+    }
+}
+
+/// The keys that have a mature entry, in their order.
+fn due<L: Ledger>(
+    alloc: Global,
+    lists: &Lists,
+    queue: &Queue,
+    now: Moment,
+    steps: &mut Steps<L>,
+) -> Result<Vec<(Addr, Addr)>, TableFault>
+    requires queue { IsQueue lists.now.entries queue.now.entries }
+    ensures keys { IfOk result
+        (λ keys. keys.items ≡ keys_where (is_due now) lists.now.entries) }
+    ensures cost { steps.new ≤ steps.old
+        + (length (keys_where (is_due now) lists.now.entries) + 1) }
+{
+    lists.known();
+    queue.known();
+    let mut keys = queued(alloc, queue, now, steps)?;
+    // Each key stands once in the queue.
+    keys.sort_unstable();
+    Ok(keys)
+}
+
+/// The keys that have a mature entry, in the order of the queue.
+fn queued<L: Ledger>(
+    alloc: Global,
+    queue: &Queue,
+    now: Moment,
+    steps: &mut Steps<L>,
+) -> Result<Vec<(Addr, Addr)>, TableFault>
+    ensures keys { IfOk result (λ keys. keys.items ≡ due_in now queue.now.entries) }
+    ensures cost { steps.new ≤ steps.old + (length (due_in now queue.now.entries) + 1) }
+{
+    queue.known();
+    let mut keys = Vec::new(alloc);
+    let mut after: Option<(Moment, (Addr, Addr))> = None;
+    while let Some((place, _stands)) = queue.next(after.as_ref(), steps) {
+        if now.nanos() < place.0.nanos() {
+            return Ok(keys);
+        }
+        keys.push(place.1)?;
+        after = Some(*place);
+    }
+    Ok(keys)
+}
+
+/// Pays the balance of each mature entry of a delegator.
+fn pay_all<B: Bank, L: Ledger>(
+    alloc: Global,
+    g: &mut Ground<B>,
+    delegator: &Addr,
+    entries: &[UnbondingEntry],
+    steps: &mut Steps<L>,
+) -> Result<(), HookFault>
+    requires backed { IsBacked (B.holdings g.old.bank) }
+    requires enough { mature_balances g.old.ctx.time entries.now
+        ≤ balance_of (B.holdings g.old.bank) (account.Module holder.NotBonded)
+        g.old.ctx.params.bond_denom }
+    ensures paid { OnOk result (seen B.holdings g.new
+        ≡ paid_back delegator.now entries.now (seen B.holdings g.old)) }
+    ensures fault { IfErr result (λ fault. fault ≡ NoMemory) }
+    ensures backed { IsBacked (B.holdings g.new.bank) }
+    ensures undone { CanBeUndone B.marks g.old g.new }
+    ensures bank { B.touches g.new.bank ≡ B.touches g.old.bank }
+    ensures cost { B.touches g.old.bank ≤ 8 → steps.new ≤ steps.old
+        + 8 * count_where (is_mature g.old.ctx.time) entries.now }
+{
+    for entry in entries {
+        pay_one(alloc, g, delegator, entry, steps)?;
+    }
+    Ok(())
+}
+
+/// Pays the balance of an entry, if it is mature.
+fn pay_one<B: Bank, L: Ledger>(
+    alloc: Global,
+    g: &mut Ground<B>,
+    delegator: &Addr,
+    entry: &UnbondingEntry,
+    steps: &mut Steps<L>,
+) -> Result<(), HookFault>
+    requires backed { IsBacked (B.holdings g.old.bank) }
+    requires enough { is_mature g.old.ctx.time entry.now ≡ true → entry.now.balance
+        ≤ balance_of (B.holdings g.old.bank) (account.Module holder.NotBonded)
+        g.old.ctx.params.bond_denom }
+    ensures paid { OnOk result (seen B.holdings g.new
+        ≡ paid_back delegator.now (entry.now ∷ []) (seen B.holdings g.old)) }
+    ensures fault { IfErr result (λ fault. fault ≡ NoMemory) }
+    ensures backed { IsBacked (B.holdings g.new.bank) }
+    ensures undone { CanBeUndone B.marks g.old g.new }
+    ensures bank { B.touches g.new.bank ≡ B.touches g.old.bank }
+    ensures cost { B.touches g.old.bank ≤ 8 → steps.new ≤ steps.old
+        + (if is_mature g.old.ctx.time entry.now then 8 else 0) }
+{
+    if !is_mature(entry, g.ctx.time) {
+        return Ok(());
+    }
+    let to = Account::User(*delegator);
+    send_from(alloc, g, Module::NotBonded, &to, entry.balance, steps)
+}

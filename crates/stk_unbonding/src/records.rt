@@ -1,0 +1,124 @@
+//! Unbonding entries as items of the state.
+
+ghost use Rattle.std.specs.Prelude.{◌≡◌, OnOk, OnErr};
+ghost use Rattle.std.specs.List.Sorted.{IsStrictlySortedBy};
+ghost use Rattle.std.specs.Map.{keys_of};
+ghost use Rattle.stk_table.specs.Tabled.{with_mark};
+ghost use Rattle.stk_keep.specs.Orders.{pair_cmp};
+ghost use Rattle.stk_rules.specs.Unbondings.{UnbondingLists};
+ghost use Rattle.stk_unbonding.specs.Rows.{items_of, is_unbonding};
+
+use crate::items::UnbondingKind;
+use crate::queue::{Lists, Queue};
+use crate::unbondings::Unbondings;
+use std::alloc::Global;
+use std::sync::ledger::Ledger;
+use stk_keep::{Item, RecordFault, Records};
+use stk_rows::{Kinds, One};
+use stk_table::TableFault;
+use stk_types::Steps;
+
+impl Records for Unbondings {
+    ghost Kept = { UnbondingLists };
+
+    ghost kept = { λ s. s.lists };
+
+    ghost marks = { λ s. s.marks };
+
+    ghost settled = { λ s. s.settled };
+
+    ghost spent = { λ s. s.spent };
+
+    ghost AreInOrder = { λ lists. IsStrictlySortedBy pair_cmp (keys_of lists) };
+
+    ghost items = { items_of };
+
+    ghost is_kind = { is_unbonding };
+
+    fn ordered(&self) {
+        self.known();
+    }
+
+    fn mark<L: Ledger>(
+        &mut self,
+        _alloc: Global,
+        _steps: &mut Steps<L>,
+    ) -> Result<(), RecordFault> {
+        if self.spent {
+            return Err(RecordFault::NoMemory);
+        }
+        mark_both(&mut self.lists, &mut self.queue)?;
+        Ok(())
+    }
+
+    fn back<L: Ledger>(&mut self, _steps: &mut Steps<L>) {
+        self.lists.back();
+        self.queue.back();
+    }
+
+    fn forget<L: Ledger>(&mut self, _steps: &mut Steps<L>) {
+        self.lists.forget();
+        self.queue.forget();
+    }
+
+    fn items_into<L: Ledger>(
+        &self,
+        out: &mut Vec<Item>,
+        steps: &mut Steps<L>,
+    ) -> Result<(), RecordFault> {
+        let kind = One::<UnbondingKind> { table: &self.lists };
+        kind.items_into(out, steps)
+    }
+
+    fn changes_into<L: Ledger>(
+        &self,
+        out: &mut Vec<(Item, bool)>,
+        steps: &mut Steps<L>,
+    ) -> Result<(), RecordFault> {
+        let kind = One::<UnbondingKind> { table: &self.lists };
+        kind.changes_into(self.alloc, out, steps)
+    }
+
+    fn load<L: Ledger>(
+        &mut self,
+        _alloc: Global,
+        item: &Item,
+        steps: &mut Steps<L>,
+    ) -> Result<bool, RecordFault> {
+        if self.spent {
+            return Err(RecordFault::NoMemory);
+        }
+        self.known();
+        match item {
+            Item::Unbonding {
+                delegator,
+                operator,
+                entries,
+            } => self.put_copy(&(*delegator, *operator), entries, steps)?,
+            _ => return Ok(false),
+        }
+        Ok(true)
+    }
+
+    fn settle<L: Ledger>(&mut self, _steps: &mut Steps<L>) {
+        self.lists.settle();
+        self.queue.settle();
+    }
+}
+
+/// Opens a mark of both tables, or of none.
+fn mark_both(lists: &mut Lists, queue: &mut Queue) -> Result<(), TableFault>
+    ensures lists { OnOk result (lists.new ≡ with_mark lists.old) }
+    ensures queue { OnOk result (queue.new ≡ with_mark queue.old) }
+    ensures lists_err { OnErr result (lists.new ≡ lists.old) }
+    ensures queue_err { OnErr result (queue.new ≡ queue.old) }
+{
+    lists.mark()?;
+    match queue.mark() {
+        Ok(()) => Ok(()),
+        Err(fault) => {
+            lists.back();
+            Err(fault)
+        }
+    }
+}

@@ -1,0 +1,11 @@
+//! Tests of `stk_unbonding` over the bank of `stk_bank`. They stand apart so that neither waits for the other.
+#![tactic(auto)]
+
+#[cfg(test)]
+mod completing_tests;
+#[cfg(test)]
+mod record_tests;
+#[cfg(test)]
+mod tests;
+#[cfg(test)]
+mod trials;

@@ -1,0 +1,152 @@
+//! Entries as records: marks, items and changes.
+
+ghost use Rattle.std.specs.Prelude.{◌≡◌, [], OnOk};
+ghost use Rattle.stk_keep.specs.Ground.{seen};
+ghost use Rattle.stk_unbonding_trials.specs.Trials.{IsFit};
+
+use crate::tests::{Scene, are, cancel, goes_on, has_entries, undelegate};
+use std::process::Abort;
+use std::sync::ledger::Ledger;
+use std::test::Fail;
+use stk_keep::{Item, Records};
+use stk_types::Steps;
+use stk_unbonding::Unbondings;
+
+/// Two entries.
+fn made<L: Ledger>(
+    rt: &(impl Abort + AllocGlobal),
+    scene: &mut Scene,
+    steps: &mut Steps<L>,
+) -> Result<(), Fail>
+    requires { IsFit scene.old.unbondings.lists
+        scene.old.staking.staked (seen (λ b. b.holdings) scene.old.g) }
+    ensures fit { OnOk result (IsFit scene.new.unbondings.lists
+        scene.new.staking.staked (seen (λ b. b.holdings) scene.new.g)) }
+    ensures marks { OnOk result (scene.new.unbondings.marks ≡ scene.old.unbondings.marks) }
+{
+    undelegate(rt, scene, 5, steps)?;
+    goes_on(rt, scene, 2, 1);
+    undelegate(rt, scene, 7, steps)?;
+    Ok(())
+}
+
+/// Going back takes entries away.
+pub(crate) fn goes_back<L: Ledger>(
+    rt: &(impl Abort + AllocGlobal),
+    scene: &mut Scene,
+    steps: &mut Steps<L>,
+) -> Result<bool, Fail>
+    requires { IsFit scene.old.unbondings.lists
+        scene.old.staking.staked (seen (λ b. b.holdings) scene.old.g) }
+{
+    scene.unbondings.mark(rt.alloc(), steps)?;
+    made(rt, scene, steps)?;
+    scene.unbondings.back(steps);
+    has_entries(rt, scene, &[], steps)
+}
+
+/// Forgetting a mark leaves them.
+pub(crate) fn keeps_made<L: Ledger>(
+    rt: &(impl Abort + AllocGlobal),
+    scene: &mut Scene,
+    steps: &mut Steps<L>,
+) -> Result<bool, Fail>
+    requires { IsFit scene.old.unbondings.lists
+        scene.old.staking.staked (seen (λ b. b.holdings) scene.old.g) }
+{
+    scene.unbondings.mark(rt.alloc(), steps)?;
+    made(rt, scene, steps)?;
+    scene.unbondings.forget(steps);
+    has_entries(rt, scene, &[(1, 5, 5), (2, 7, 7)], steps)
+}
+
+/// Entries with these among the items, settled.
+fn loaded<L: Ledger>(
+    rt: &(impl Abort + AllocGlobal),
+    items: &[Item],
+    steps: &mut Steps<L>,
+) -> Result<Unbondings, Fail> {
+    let mut unbondings = Unbondings::new(rt.alloc());
+    match items.get(0) {
+        Some(entries @ Item::Unbonding { .. }) => {
+            unbondings.load(rt.alloc(), entries, steps)?;
+        }
+        _ => (),
+    }
+    unbondings.settle(steps);
+    Ok(unbondings)
+}
+
+/// Whether the one item is of two entries.
+fn are_two(items: &[Item]) -> bool {
+    match items.get(0) {
+        Some(Item::Unbonding { entries, .. }) => {
+            (items.len() == 1) & are(entries.as_slice(), &[(1, 5, 5), (2, 7, 7)])
+        }
+        _ => false,
+    }
+}
+
+/// Whether two entries are listed, which are no change.
+fn lists_two<L: Ledger>(
+    rt: &(impl Abort + AllocGlobal),
+    unbondings: &Unbondings,
+    steps: &mut Steps<L>,
+) -> Result<bool, Fail> {
+    let mut items = Vec::new(rt.alloc());
+    unbondings.items_into(&mut items, steps)?;
+    let mut changes = Vec::new(rt.alloc());
+    unbondings.changes_into(&mut changes, steps)?;
+    Ok(are_two(&items) & changes.is_empty())
+}
+
+/// Items that are loaded and listed again.
+pub(crate) fn loads<L: Ledger>(
+    rt: &(impl Abort + AllocGlobal),
+    scene: &mut Scene,
+    steps: &mut Steps<L>,
+) -> Result<bool, Fail>
+    requires { IsFit scene.old.unbondings.lists
+        scene.old.staking.staked (seen (λ b. b.holdings) scene.old.g) }
+{
+    made(rt, scene, steps)?;
+    let mut items = Vec::new(rt.alloc());
+    scene.unbondings.items_into(&mut items, steps)?;
+    let unbondings = loaded(rt, &items, steps)?;
+    lists_two(rt, &unbondings, steps)
+}
+
+/// Whether the changes since the last settling are one, which is new or gone.
+fn tells_one<L: Ledger>(
+    rt: &(impl Abort + AllocGlobal),
+    scene: &Scene,
+    new: bool,
+    steps: &mut Steps<L>,
+) -> Result<bool, Fail> {
+    let mut changes = Vec::new(rt.alloc());
+    scene.unbondings.changes_into(&mut changes, steps)?;
+    match changes.get(0) {
+        Some((Item::Unbonding { entries, .. }, is_new)) => {
+            Ok((changes.len() == 1) & (*is_new == new) & ((entries.len() == 0) != new))
+        }
+        _ => Ok(false),
+    }
+}
+
+/// The change of an entry that is made, and then that of one that is cancelled.
+pub(crate) fn tells_changes<L: Ledger>(
+    rt: &(impl Abort + AllocGlobal),
+    scene: &mut Scene,
+    steps: &mut Steps<L>,
+) -> Result<bool, Fail>
+    requires fit { IsFit scene.old.unbondings.lists
+        scene.old.staking.staked (seen (λ b. b.holdings) scene.old.g) }
+    requires marks { scene.old.unbondings.marks ≡ [] }
+{
+    undelegate(rt, scene, 5, steps)?;
+    let first = tells_one(rt, scene, true, steps)?;
+    scene.unbondings.settle(steps);
+    cancel(rt, scene, 5, 1, steps)?;
+    let later = tells_one(rt, scene, false, steps)?;
+    Ok(first & later)
+}
