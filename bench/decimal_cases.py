@@ -119,7 +119,7 @@ for call, compute in CALLS.items():
     cases += [operands(call) for _ in range(16)]
     rows += [(call, a, b, c, compute(a, b, c)) for a, b, c in cases]
 
-file = pathlib.Path(__file__).parent.parent / "crates/stk_dec/src/tests/cases.rt"
+file = pathlib.Path(__file__).parent.parent / "crates/stk_ground_trials/src/decimal_cases.rt"
 with open(file, "w") as out:
     print("// Written by bench/decimal_cases.py.", file=out)
     print(f'pub static CASES: &str = "\\', file=out)

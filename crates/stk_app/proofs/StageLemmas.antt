@@ -42,12 +42,6 @@ started_with g r = Ok (told (begun g r))
 
 -- ---- the genesis
 
--- a line that is no genesis has the fault of its reading
-pub genesis_not_read : (n : ℕ) (line : List ℕ) (why : LineFault) → Fails why (genesis_of line) → IsFault (not_read n why) (genesis_answer n (genesis_of line))
-genesis_not_read n line fault.NotJson h = ap (genesis_answer n) h
-genesis_not_read n line (fault.BadShape member) h = ap (genesis_answer n) h
-genesis_not_read n line fault.NoMemory h = tt
-
 -- a genesis that starts a chain is answered by its supply, and the chain stands for its state
 pub begins : (n : ℕ) (line : List ℕ) (g : Genesis) (facts : List Fact) (x : Chained) (coins : Money) (text : List ℕ) → genesis_of line ≡ Ok g → start_condition g ≡ None → Starts g facts x.kept
     → ((p : State) → StandsFor x.kept p → coins ≡ p.view.bank.supplies) → text ≡ text_of_genesis coins → AnswersTo (genesis_answer n (genesis_of line)) text (Some x)
@@ -191,6 +185,3 @@ module _ (x : Chained) (s : Stage) (text text' : List ℕ) (stood : StandsAt (So
   -- all of it was written
   pub report_written : (w w1 w' : Option (List ℕ)) → IfSome w (λ (bytes : List ℕ). w1 ≡ Some (bytes ++ text')) → Stays w1 w' → Finishes 1 s [] w w'
   report_written w w1 w' wrote stays = (text, ap ran_report (reported_at x s text stood reports), λ old at. stays (old ++ text) (grown w w1 text text' same wrote old at))
-
-  pub report_unflushed : (w w1 w' : Option (List ℕ)) → IfSome w (λ (bytes : List ℕ). w1 ≡ Some (bytes ++ text')) → Stays w1 w' → FinishStops 1 s [] w w' ends.Flush
-  report_unflushed w w1 w' wrote stays = λ old at. (text, stays (old ++ text) (grown w w1 text text' same wrote old at), ap ran_report (reported_at x s text stood reports))

@@ -19,8 +19,8 @@ use Rattle.stk_keep.specs.Orders.{place_cmp}
 use Rattle.stk_keep.proofs.HoldingLemmas.{account_total}
 use Rattle.stk_bank.specs.Booked.{AreNamed}
 use Rattle.stk_bank.specs.Rows.{own_coin}
-use Rattle.stk_bank.proofs.KindLemmas.{place_order, place_order_is}
-use Rattle.stk_bank.proofs.KindLemmas.{same_account}
+use Rattle.stk_keep.proofs.HoldingLemmas.{place_order, place_order_is}
+use Rattle.stk_types.proofs.OrderLemmas.{account_exact}
 
 -- ---- no name is before "A--"
 
@@ -78,7 +78,7 @@ module _ (who : Account) where
 
   still_less : (x y : Account × List ℕ) (r : Ordering) → account_cmp x.0 y.0 ≡ r → ordering_then r (denom_cmp x.1 y.1) ≡ Less → account_cmp who x.0 ≡ Less → account_cmp who y.0 ≡ Less
   still_less x y Less p e h = account_total.trans who x.0 y.0 h p
-  still_less x y Equal p e h = subst (λ a. account_cmp who a ≡ Less) (same_account x.0 y.0 p) h
+  still_less x y Equal p e h = subst (λ a. account_cmp who a ≡ Less) (account_exact x.0 y.0 p) h
   still_less x y Greater p e h = absurd cc
 
   all_less : (x : Account × List ℕ) (ks : List (Account × List ℕ)) → account_cmp who x.0 ≡ Less → AllByRecursion (λ y. place_cmp x y ≡ Less) ks → AllByRecursion (λ y. account_cmp who y.0 ≡ Less) ks

@@ -13,11 +13,10 @@ use Rattle.stk_coins.proofs.Order.{Rises, rises_from_money}
 use Rattle.stk_keep.specs.Holdings.{Holdings, balance_of, supply_of, no_holdings}
 use Rattle.stk_keep.specs.Orders.{place_cmp}
 use Rattle.stk_keep.proofs.EntryLemmas.{ascend-after}
-use Rattle.stk_keep.proofs.HoldingLemmas.{place_total, denom_total, balance-changed, ascend-changed, backed-none}
+use Rattle.stk_keep.proofs.HoldingLemmas.{place_total, place_exact, denom_total, balance-changed, ascend-changed, backed-none}
 use Rattle.stk_bank.specs.Given.{coin_given, coins_given, all_given, given_of, given_to}
 use Rattle.stk_bank.specs.Laws.{AreCoins, EachHoldsWhatItIsGiven, SuppliesAreWhatAllAreGiven}
 use Rattle.stk_rows.proofs.MemberLemmas.{same_key}
-use Rattle.stk_bank.proofs.KindLemmas.{same_place}
 use Rattle.stk_bank.proofs.GiveLemmas.{supply-given, amount-cons}
 
 both_at : (r s : Ordering) → is_eq (ordering_then r s) ≡ is_eq r && is_eq s
@@ -35,7 +34,7 @@ balance-given h who d n w e s =
     ∙ ap (λ b. balance_of h w e + cond b n 0) (both_at (account_cmp w who) (denom_cmp e d))
   where
     by : (b : Bool) → is_at (place_cmp (w, e)) (who, d) ≡ b → cond b (balance_of h who d + n) (balance_of h w e) ≡ balance_of h w e + cond b n 0
-    by true p = ap (λ (x : Account × List ℕ). balance_of h x.0 x.1 + n) (sym (same_key place_cmp place_total same_place (w, e) (who, d) p))
+    by true p = ap (λ (x : Account × List ℕ). balance_of h x.0 x.1 + n) (sym (same_key place_cmp place_total place_exact (w, e) (who, d) p))
     by false p = omega arith
 
 -- ---- the coins of an account

@@ -17,7 +17,8 @@ use Rattle.stk_rows.specs.Rows.{rows_of, AnyValue, IsRowed}
 use Rattle.stk_rows.proofs.KindLemmas.{added-first, added-second}
 use Rattle.stk_rows.proofs.RowLemmas.{row-added, rows-of-kind}
 use Rattle.stk_bank.specs.Rows.{balance_item, supply_item, balance_gone, supply_gone, balance_entry, supply_entry, same_amount, items_of, is_holding}
-use Rattle.stk_bank.proofs.KindLemmas.{place_order, place_order_is, balances_are_rowed, supplies_are_rowed}
+use Rattle.stk_keep.proofs.HoldingLemmas.{place_order, place_order_is}
+use Rattle.stk_bank.proofs.KindLemmas.{balances_are_rowed, supplies_are_rowed}
 
 -- a balance is no supply
 pub kinds-apart : AreApart (λ i. is_some (balance_entry i)) (λ i. is_some (supply_entry i))

@@ -1,21 +1,15 @@
 -- The order in which the table of balances keeps its keys is that of places.
 use Rattle.std.proofs.Common.{◌≡◌, ◌∙◌, ℕ, Bool, true, false, List, Option, Some, None, refl, sym, ap, subst}
-use Rattle.std.specs.declared.cmp.Ordering.{Ordering}
 use Rattle.std.specs.Prelude.{not}
-use Rattle.std.proofs.lemmas.Map.Text.{is_eq-slice_cmp}
 use Rattle.std.specs.BTreeMap.{is_at}
-use Rattle.std.specs.Ordering.{ordering_then}
 use Rattle.stk_keep.specs.Holdings.{coin_if}
 use Rattle.stk_bank.specs.Rows.{own_coin}
-use Rattle.stk_bank.proofs.KindLemmas.{place_order, place_order_is}
+use Rattle.stk_keep.proofs.HoldingLemmas.{place_order, place_order_is}
 use Rattle.std.specs.List.Sorted.{IsStrictlySortedBy}
 use Rattle.std.specs.Map.{keys_of}
 use Rattle.stk_types.specs.declared.account.Account.{Account}
-use Rattle.stk_types.specs.declared.account.Account.TheVariants as account
-use Rattle.stk_types.specs.declared.account.Module.TheVariants.{FeeCollector, Bonded, NotBonded, Distribution}
-use Rattle.stk_types.specs.contracts.account.AccountOrd.TheImpl.{ghosts}
-use Rattle.stk_types.specs.contracts.account.AccountPartialEq.TheImpl.{ghosts as equal_ghosts}
-use Rattle.stk_types.specs.Orders.{account_cmp, denom_cmp}
+use Rattle.stk_types.specs.Orders.{account_cmp}
+use Rattle.stk_types.proofs.OrderLemmas.{account_equal, account_equal_at}
 use Rattle.stk_table.specs.Tabled.{Tabled, with_value, without_key}
 use Rattle.stk_keep.specs.Orders.{place_cmp}
 
@@ -30,31 +24,6 @@ ordered_at es s = subst (λ order. IsStrictlySortedBy order (keys_of es)) place_
 
 -- ---- whether two accounts are one
 
--- the derived equality of accounts
-abbrev pub account_equal : Account → Account → Bool
-account_equal a b = equal_ghosts.eq a b
-
-same_test : (a b : Account) → account_equal a b ≡ is_at (account_cmp a) b
-same_test (account.User a) (account.User b) = sym (is_eq-slice_cmp a b)
-same_test (account.User a) (account.Module n) = refl
-same_test (account.Module m) (account.User b) = refl
-same_test (account.Module FeeCollector) (account.Module FeeCollector) = refl
-same_test (account.Module FeeCollector) (account.Module Bonded) = refl
-same_test (account.Module FeeCollector) (account.Module NotBonded) = refl
-same_test (account.Module FeeCollector) (account.Module Distribution) = refl
-same_test (account.Module Bonded) (account.Module FeeCollector) = refl
-same_test (account.Module Bonded) (account.Module Bonded) = refl
-same_test (account.Module Bonded) (account.Module NotBonded) = refl
-same_test (account.Module Bonded) (account.Module Distribution) = refl
-same_test (account.Module NotBonded) (account.Module FeeCollector) = refl
-same_test (account.Module NotBonded) (account.Module Bonded) = refl
-same_test (account.Module NotBonded) (account.Module NotBonded) = refl
-same_test (account.Module NotBonded) (account.Module Distribution) = refl
-same_test (account.Module Distribution) (account.Module FeeCollector) = refl
-same_test (account.Module Distribution) (account.Module Bonded) = refl
-same_test (account.Module Distribution) (account.Module NotBonded) = refl
-same_test (account.Module Distribution) (account.Module Distribution) = refl
-
 negated : (b : Bool) → not b ≡ true → b ≡ false
 negated true h = absurd cc
 negated false h = refl
@@ -66,10 +35,10 @@ affirmed false h = absurd cc
 -- an entry of another account has no coin of this one
 pub coin_of_other : (who : Account) (x : Option ((Account × List ℕ) × ℕ)) (e : (Account × List ℕ) × ℕ) (r : Bool) → x ≡ Some e → r ≡ not (account_equal who e.0.0) → r ≡ true → None ≡ own_coin who x
 coin_of_other who x e r f p q =
-    let other : is_at (account_cmp who) e.0.0 ≡ false = sym (same_test who e.0.0) ∙ negated (account_equal who e.0.0) (sym p ∙ q) in
+    let other : is_at (account_cmp who) e.0.0 ≡ false = sym (account_equal_at who e.0.0) ∙ negated (account_equal who e.0.0) (sym p ∙ q) in
     sym (ap (own_coin who) f ∙ ap (λ b. coin_if b (e.0.1, e.1)) other)
 
 pub coin_of_own : (who : Account) (x : Option ((Account × List ℕ) × ℕ)) (e : (Account × List ℕ) × ℕ) (r : Bool) → x ≡ Some e → r ≡ not (account_equal who e.0.0) → r ≡ false → Some (e.0.1, e.1) ≡ own_coin who x
 coin_of_own who x e r f p q =
-    let own : is_at (account_cmp who) e.0.0 ≡ true = sym (same_test who e.0.0) ∙ affirmed (account_equal who e.0.0) (sym p ∙ q) in
+    let own : is_at (account_cmp who) e.0.0 ≡ true = sym (account_equal_at who e.0.0) ∙ affirmed (account_equal who e.0.0) (sym p ∙ q) in
     sym (ap (own_coin who) f ∙ ap (λ b. coin_if b (e.0.1, e.1)) own)

@@ -20,12 +20,12 @@ use Rattle.stk_coins.proofs.Sorting.{rises_sorted, amount-sorted}
 use Rattle.stk_keep.specs.Holdings.{Holdings, Balances, balance_of, coin_if, coins_of, IsBacked}
 use Rattle.stk_types.proofs.MapLemmas.{equal}
 use Rattle.stk_keep.specs.Orders.{place_cmp}
-use Rattle.stk_keep.proofs.HoldingLemmas.{place_total, denom_total, balance-most}
-use Rattle.stk_bank.proofs.KindLemmas.{place_order}
+use Rattle.stk_types.proofs.OrderLemmas.{account_exact}
+use Rattle.stk_keep.proofs.HoldingLemmas.{place_total, place_exact, denom_total, balance-most}
+use Rattle.stk_keep.proofs.HoldingLemmas.{place_order}
 use Rattle.stk_bank.proofs.OrderLemmas.{ordered_at}
 use Rattle.stk_rows.proofs.MemberLemmas.{Member, value_of}
 use Rattle.stk_rows.proofs.WalkLemmas.{left_of, walk-more, walk-end}
-use Rattle.stk_bank.proofs.KindLemmas.{same_account, same_place}
 use Rattle.stk_bank.proofs.CoinLemmas.{coins}
 
 -- ---- in order
@@ -33,7 +33,7 @@ use Rattle.stk_bank.proofs.CoinLemmas.{coins}
 module _ (who : Account) where
   own_above : (x y : Account × List ℕ) → is_at (account_cmp who) x.0 ≡ true → is_at (account_cmp who) y.0 ≡ true → place_cmp x y ≡ Less → denom_cmp x.1 y.1 ≡ Less
   own_above x y p q e =
-      let a : who ≡ x.0 = same_account who x.0 (equal (account_cmp who x.0) p) in
+      let a : who ≡ x.0 = account_exact who x.0 (equal (account_cmp who x.0) p) in
       let b : account_cmp x.0 y.0 ≡ Equal = ap (λ z. account_cmp z y.0) (sym a) ∙ equal (account_cmp who y.0) q in
       sym (ap (λ r. ordering_then r (denom_cmp x.1 y.1)) b) ∙ e
 
@@ -76,7 +76,7 @@ all_members P (x ∷ xs) h = (h x (inl refl), all_members P xs (λ y m. h y (inr
 
 entry_most : (h : Holdings) (b : IsBacked h) (e : (Account × List ℕ) × ℕ) → Member h.balances e → e.1 < 10 ^ 38
 entry_most h b e m =
-    let here = value_of place_cmp place_total same_place h.balances e.0 e.1 (IsDistinct-from_sorted place_cmp (keys_of h.balances) b.balances_ascend) m in
+    let here = value_of place_cmp place_total place_exact h.balances e.0 e.1 (IsDistinct-from_sorted place_cmp (keys_of h.balances) b.balances_ascend) m in
     let same : balance_of h e.0.0 e.0.1 ≡ e.1 = ap (λ x. unwrap_or x 0) here in
     let most : balance_of h e.0.0 e.0.1 ≤ 10 ^ 18 = balance-most h e.0.0 e.0.1 b in
     omega (arith, same, most)

@@ -1,5 +1,5 @@
 -- Two tables that are marked together, seen as one book.
-use Rattle.std.proofs.Common.{◌≡◌, ◌∙◌, ℕ, ◌+◌, Bool, true, false, cond, List, [], ◌∷◌, ◌++◌, length, refl, sym, ap, subst, arith}
+use Rattle.std.proofs.Common.{◌≡◌, ◌∙◌, ℕ, ◌+◌, Bool, true, false, cond, List, [], ◌∷◌, ◌++◌, length, sym, ap, subst}
 use Rattle.std.specs.Prelude.{suc}
 use Rattle.std.proofs.lemmas.List.{length_push}
 use Rattle.std.specs.declared.cmp.Ordering.{Ordering}
@@ -14,31 +14,11 @@ use Rattle.stk_table.specs.Tabled as table
 use Rattle.stk_coins.specs.Coins.{Money}
 use Rattle.stk_keep.specs.Holdings.{Balances}
 use Rattle.stk_keep.specs.Orders.{place_cmp}
-use Rattle.stk_bank.specs.Booked.{booked, with_mark, side_by_side, IsGoneBack, IsForgotten, AreNamed, AreNamedAtMarks, AreInStep}
-
--- ---- marks side by side
-
-pub length-side : (bs : List Balances) (ss : List Money) → length bs ≡ length ss → length (side_by_side bs ss) ≡ length bs
-length-side [] ss e = refl
-length-side (b ∷ bs) [] e = absurd (omega (arith, e))
-length-side (b ∷ bs) (s ∷ ss) e = let rest : length bs ≡ length ss = omega (arith, e) in let more = length-side bs ss rest in omega (arith, more)
-
-side-push : (bs : List Balances) (ss : List Money) (b : Balances) (s : Money) → length bs ≡ length ss
-    → side_by_side (bs ++ b ∷ []) (ss ++ s ∷ []) ≡ side_by_side bs ss ++ record { balances = b; supplies = s } ∷ []
-side-push [] [] b s e = refl
-side-push [] (x ∷ ss) b s e = absurd (omega (arith, e))
-side-push (y ∷ bs) [] b s e = absurd (omega (arith, e))
-side-push (y ∷ bs) (x ∷ ss) b s e = let rest : length bs ≡ length ss = omega (arith, e) in ap (λ l. record { balances = y; supplies = x } ∷ l) (side-push bs ss b s rest)
+use Rattle.stk_rows.specs.Marks.{side_by_side}
+use Rattle.stk_rows.proofs.MarkLemmas.{none_from_length, popped_length, length-side, side-push, all-push, all-pop}
+use Rattle.stk_bank.specs.Booked.{booked, with_mark, IsGoneBack, IsForgotten, AreNamed, AreNamedAtMarks, AreInStep, holdings_of}
 
 -- ---- names
-
-named_marks-push : (ms : List Balances) (m : Balances) → AreNamedAtMarks ms → AreNamed m → AreNamedAtMarks (ms ++ m ∷ [])
-named_marks-push [] m h n = (n, tt)
-named_marks-push (x ∷ ms) m h n = (h.0, named_marks-push ms m h.1 n)
-
-named_marks-pop : (ms : List Balances) (m : Balances) → AreNamedAtMarks (ms ++ m ∷ []) → AreNamedAtMarks ms × AreNamed m
-named_marks-pop [] m h = (tt, h.0)
-named_marks-pop (x ∷ ms) m h = let rest = named_marks-pop ms m h.1 in ((h.0, rest.0), rest.1)
 
 named-put : (es : Balances) (k : Account × List ℕ) (n : ℕ) → AreNamed es → is_denom k.1 ≡ true → AreNamed (insert_entry place_cmp es k n)
 named-put [] k n h d = (d, tt)
@@ -70,35 +50,29 @@ module _ (b : Tabled (Account × List ℕ) ℕ) (s : Tabled (List ℕ) ℕ) (h :
   in_step-marked = record {
     depth = length_push b.marks b.entries ∙ ap (λ n. n + 1) h.depth ∙ sym (length_push s.marks s.entries);
     named = h.named;
-    named_at_marks = named_marks-push b.marks b.entries h.named_at_marks h.named;
+    named_at_marks = all-push AreNamed b.marks b.entries h.named_at_marks h.named;
   }
 
   pub booked-marked : (spent : Bool) → booked (table.with_mark b) (table.with_mark s) spent ≡ with_mark (booked b s spent)
   booked-marked spent = λ i. record {
     holdings = record { balances = b.entries; supplies = s.entries };
-    marks = side-push b.marks s.marks b.entries s.entries h.depth i;
+    marks = side-push holdings_of b.marks s.marks b.entries s.entries (sym h.depth) i;
     settled = record { balances = b.settled; supplies = s.settled };
     spent = spent;
   }
 
   pub depth-booked : (spent : Bool) → length (booked b s spent).marks ≡ length b.marks
-  depth-booked spent = length-side b.marks s.marks h.depth
+  depth-booked spent = length-side holdings_of b.marks s.marks (sym h.depth)
 
   module _ (b2 : Tabled (Account × List ℕ) ℕ) (s2 : Tabled (List ℕ) ℕ) (x : Balances) (y : Money) (p : b2.marks ++ x ∷ [] ≡ b.marks) (q : s2.marks ++ y ∷ [] ≡ s.marks) where
     depth-popped : length b2.marks ≡ length s2.marks
-    depth-popped =
-        let c = length_push b2.marks x in
-        let d = length_push s2.marks y in
-        let e = ap length p in
-        let f = ap length q in
-        let g = h.depth in
-        omega (arith, c, d, e, f, g)
+    depth-popped = popped_length s.marks s2.marks b.marks b2.marks y x h.depth q p
 
-    side-popped : side_by_side b2.marks s2.marks ++ record { balances = x; supplies = y } ∷ [] ≡ side_by_side b.marks s.marks
-    side-popped = sym (side-push b2.marks s2.marks x y depth-popped) ∙ (λ i. side_by_side (p i) (q i))
+    side-popped : side_by_side holdings_of b2.marks s2.marks ++ holdings_of x y ∷ [] ≡ side_by_side holdings_of b.marks s.marks
+    side-popped = sym (side-push holdings_of b2.marks s2.marks x y (sym depth-popped)) ∙ (λ i. side_by_side holdings_of (p i) (q i))
 
     named-popped : AreNamedAtMarks b2.marks × AreNamed x
-    named-popped = named_marks-pop b2.marks x (subst AreNamedAtMarks (sym p) h.named_at_marks)
+    named-popped = all-pop AreNamed b2.marks x (subst AreNamedAtMarks (sym p) h.named_at_marks)
 
   module _ (b2 : Tabled (Account × List ℕ) ℕ) (s2 : Tabled (List ℕ) ℕ) where
     pub in_step-back : table.IsGoneBack b b2 → table.IsGoneBack s s2 → AreInStep b2 s2
@@ -111,7 +85,7 @@ module _ (b : Tabled (Account × List ℕ) ℕ) (s : Tabled (List ℕ) ℕ) (h :
       restored = side-popped b2 s2 b2.entries s2.entries p.restored q.restored;
       rest = λ i. record {
         holdings = record { balances = b2.entries; supplies = s2.entries };
-        marks = side_by_side b2.marks s2.marks;
+        marks = side_by_side holdings_of b2.marks s2.marks;
         settled = record { balances = ap (λ t. t.settled) p.rest i; supplies = ap (λ t. t.settled) q.rest i };
         spent = spent;
       };
@@ -128,17 +102,13 @@ module _ (b : Tabled (Account × List ℕ) ℕ) (s : Tabled (List ℕ) ℕ) (h :
       closed = (record { balances = p.closed.0; supplies = q.closed.0 }, side-popped b2 s2 p.closed.0 q.closed.0 p.closed.1 q.closed.1);
       rest = λ i. record {
         holdings = record { balances = ap (λ t. t.entries) p.rest i; supplies = ap (λ t. t.entries) q.rest i };
-        marks = side_by_side b2.marks s2.marks;
+        marks = side_by_side holdings_of b2.marks s2.marks;
         settled = record { balances = ap (λ t. t.settled) p.rest i; supplies = ap (λ t. t.settled) q.rest i };
         spent = spent;
       };
     }
 
-  none_from_length : {A : Type 0} (xs : List A) → length xs ≡ 0 → xs ≡ []
-  none_from_length [] e = refl
-  none_from_length (x ∷ xs) e = absurd (omega (arith, e))
-
   pub closed-both : (spent : Bool) → (booked b s spent).marks ≡ [] → (b.marks ≡ []) × (s.marks ≡ [])
   closed-both spent e =
-      let n : length b.marks ≡ 0 = sym (length-side b.marks s.marks h.depth) ∙ ap length e in
+      let n : length b.marks ≡ 0 = sym (length-side holdings_of b.marks s.marks (sym h.depth)) ∙ ap length e in
       (none_from_length b.marks n, none_from_length s.marks (sym h.depth ∙ n))

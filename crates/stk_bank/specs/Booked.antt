@@ -1,5 +1,6 @@
 -- A book as contracts see it, and what its marks and its two tables do.
 use Rattle.std.specs.Prelude.{◌≡◌, ℕ, Bool, true, false, List, [], ◌∷◌, ◌++◌, length}
+use Rattle.std.specs.List.{AllByRecursion}
 use Rattle.std.specs.List.Sorted.{IsStrictlySortedBy}
 use Rattle.std.specs.Map.{keys_of}
 use Rattle.stk_types.specs.declared.account.Account.{Account}
@@ -9,6 +10,7 @@ use Rattle.stk_table.specs.Tabled.{Tabled}
 use Rattle.stk_coins.specs.Coins.{Money, with_amount}
 use Rattle.stk_keep.specs.Holdings.{Holdings, Balances, no_holdings}
 use Rattle.stk_keep.specs.Orders.{place_cmp}
+use Rattle.stk_rows.specs.Marks.{side_by_side}
 
 -- what a book is seen as
 pub record Booked : Type 0 where
@@ -64,17 +66,15 @@ pub record AreInOrder (h : Holdings) : Type 0 where
   pub balances : IsStrictlySortedBy place_cmp (keys_of h.balances)
   pub supplies : IsStrictlySortedBy denom_cmp (keys_of h.supplies)
 
--- the entries of two tables side by side, mark by mark
-abbrev pub side_by_side : List Balances → List Money → List Holdings
-side_by_side [] ss = []
-side_by_side (b ∷ bs) [] = []
-side_by_side (b ∷ bs) (s ∷ ss) = record { balances = b; supplies = s } ∷ side_by_side bs ss
+-- balances and supplies, made one
+abbrev pub holdings_of : Balances → Money → Holdings
+holdings_of balances supplies = record { balances = balances; supplies = supplies }
 
 -- what a book over two tables is seen as
 abbrev pub booked : Tabled (Account × List ℕ) ℕ → Tabled (List ℕ) ℕ → Bool → Booked
 booked balances supplies spent = record {
   holdings = record { balances = balances.entries; supplies = supplies.entries };
-  marks = side_by_side balances.marks supplies.marks;
+  marks = side_by_side holdings_of balances.marks supplies.marks;
   settled = record { balances = balances.settled; supplies = supplies.settled };
   spent = spent;
 }
@@ -86,8 +86,7 @@ AreNamed (e ∷ es) = (is_denom e.0.1 ≡ true) × AreNamed es
 
 -- the same at each mark
 abbrev pub AreNamedAtMarks : List Balances → Type 0
-AreNamedAtMarks [] = Unit {0}
-AreNamedAtMarks (m ∷ ms) = AreNamed m × AreNamedAtMarks ms
+AreNamedAtMarks ms = AllByRecursion AreNamed ms
 
 -- two tables that are marked together
 pub record AreInStep (balances : Tabled (Account × List ℕ) ℕ) (supplies : Tabled (List ℕ) ℕ) : Type 0 where

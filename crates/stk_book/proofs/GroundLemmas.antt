@@ -24,7 +24,7 @@ use Rattle.stk_keep.specs.Staked.{is_bonded, HoldsStake}
 use Rattle.stk_keep.specs.Steps.{◌>>◌, stop_if}
 use Rattle.stk_keep.specs.World.{View, sent}
 use Rattle.stk_keep.proofs.HookLemmas.{Stand-after_send}
-use Rattle.stk_keep.proofs.HoldingLemmas.{balance-most, first_enough}
+use Rattle.stk_keep.proofs.HoldingLemmas.{balance-most, backed-moved, first_enough}
 use Rattle.stk_keep.proofs.AmountLemmas.{moves_by_amounts}
 use Rattle.stk_rules.specs.Amounts.{bond_coins}
 use Rattle.stk_rules.specs.Delegating.{Origin, wallet, pool, paid_in}
@@ -112,7 +112,7 @@ enough_one v who n h = by (nat_lt (balance_of v.bank who v.ctx.params.bond_denom
     by false e = refl
 
 -- coins that move from an account that has them
-moved_one : (v : View) (from to who : Account) (n : ℕ) → 0 < n → IsBacked v.bank → n ≤ balance_of v.bank from v.ctx.params.bond_denom
+pub moved_one : (v : View) (from to who : Account) (n : ℕ) → 0 < n → IsBacked v.bank → n ≤ balance_of v.bank from v.ctx.params.bond_denom
     → balance_of (moved from to (bond_coins v n) v.bank) who v.ctx.params.bond_denom + cond (is_at (account_cmp who) from) n 0 ≡ balance_of v.bank who v.ctx.params.bond_denom + cond (is_at (account_cmp who) to) n 0
 moved_one v from to who n p b h =
     let d = v.ctx.params.bond_denom in
@@ -121,6 +121,14 @@ moved_one v from to who n p b h =
     let law = moves_by_amounts v.bank from to ((d, n) ∷ []) b (is_money v n p few) (enough_one v from n h) who d in
     subst (λ c. balance_of (moved from to c v.bank) who d + cond (is_at (account_cmp who) from) n 0 ≡ balance_of v.bank who d + cond (is_at (account_cmp who) to) n 0) (sym (bond_is v n p))
     (subst (λ a. balance_of (moved from to ((d, n) ∷ []) v.bank) who d + cond (is_at (account_cmp who) from) a 0 ≡ balance_of v.bank who d + cond (is_at (account_cmp who) to) a 0) (amount-one d n) law)
+
+-- and the bank is still in order
+pub moved_backed : (v : View) (from to : Account) (n : ℕ) → 0 < n → IsBacked v.bank → n ≤ balance_of v.bank from v.ctx.params.bond_denom → IsBacked (moved from to (bond_coins v n) v.bank)
+moved_backed v from to n p b h =
+    let d = v.ctx.params.bond_denom in
+    let most = balance-most v.bank from d b in
+    let few : n ≤ 10 ^ 18 = omega (arith, h, most) in
+    subst (λ c. IsBacked (moved from to c v.bank)) (sym (bond_is v n p)) (backed-moved ((d, n) ∷ []) v.bank from to b (is_money v n p few) (enough_one v from n h))
 
 not_short : (v : View) (who : Account) (n : ℕ) → 0 < n → is_short v.bank who (bond_coins v n) ≡ false → n ≤ balance_of v.bank who v.ctx.params.bond_denom
 not_short v who n p h = first_enough v.bank who (v.ctx.params.bond_denom, n) [] (sym (ap (is_short v.bank who) (bond_is v n p)) ∙ h)

@@ -15,3 +15,5 @@ pub mod ItemLemmas
 pub mod PlaceLemmas
 pub mod ListedLemmas
 pub mod LogLemmas
+pub mod BurntLemmas
+pub mod BackLemmas

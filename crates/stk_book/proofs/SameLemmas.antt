@@ -9,7 +9,7 @@ use Rattle.stk_types.specs.declared.status.BondStatus.{BondStatus}
 use Rattle.stk_types.specs.declared.status.BondStatus.TheVariants.{Bonded, Unbonding, Unbonded}
 use Rattle.stk_keep.specs.declared.entities.Commission.{Commission}
 use Rattle.stk_keep.specs.declared.entities.Validator.{Validator}
-use Rattle.stk_rows.proofs.SameLemmas.{both, number, number_itself, bytes, bytes_itself}
+use Rattle.stk_rows.proofs.SameLemmas.{both, number, number_itself, four, four_itself, bytes, bytes_itself}
 use Rattle.stk_book.specs.Rows.{same_flag, same_status, same_commission, same_validator, same_shares}
 use Rattle.stk_rules.proofs.OrderLemmas.{equal, same_itself}
 
@@ -41,17 +41,11 @@ status_itself Unbonded = refl
 
 commission : (a b : Commission) → same_commission a b ≡ true → a ≡ b
 commission a b h =
-    let p = both (((a.rate == b.rate) && (a.max_rate == b.max_rate)) && (a.max_change == b.max_change)) (a.updated == b.updated) h in
-    let q = both ((a.rate == b.rate) && (a.max_rate == b.max_rate)) (a.max_change == b.max_change) p.0 in
-    let r = both (a.rate == b.rate) (a.max_rate == b.max_rate) q.0 in
-    let rate = number a.rate b.rate r.0 in
-    let most = number a.max_rate b.max_rate r.1 in
-    let change = number a.max_change b.max_change q.1 in
-    let updated = number a.updated b.updated p.1 in
-    λ i. record { rate = rate i; max_rate = most i; max_change = change i; updated = updated i }
+    let parts = four a.rate a.max_rate a.max_change a.updated b.rate b.max_rate b.max_change b.updated h in
+    λ i. record { rate = parts.0 i; max_rate = parts.1 i; max_change = parts.2 i; updated = parts.3 i }
 
 commission_itself : (a : Commission) → same_commission a a ≡ true
-commission_itself a = λ i. ((number_itself a.rate i && number_itself a.max_rate i) && number_itself a.max_change i) && number_itself a.updated i
+commission_itself a = four_itself a.rate a.max_rate a.max_change a.updated
 
 true_false : true ≡ false → ⊥
 true_false h = cc

@@ -1,64 +1,15 @@
 -- Three tables that are marked together, seen as one.
-use Rattle.std.proofs.Common.{◌≡◌, ◌≢◌, ◌∙◌, ℕ, ◌+◌, ◌<◌, Bool, List, [], ◌∷◌, ◌++◌, length, refl, sym, ap, subst, arith}
+use Rattle.std.proofs.Common.{◌≡◌, ◌≢◌, ◌∙◌, ℕ, ◌+◌, ◌<◌, Bool, List, [], ◌∷◌, ◌++◌, length, sym, ap, subst}
 use Rattle.std.specs.Prelude.{suc, zero}
 use Rattle.std.specs.List.{range_with_len, AllByRecursion}
-use Rattle.std.proofs.lemmas.List.{length_push}
 use Rattle.stk_table.specs.Tabled.{Tabled}
 use Rattle.stk_table.specs.Tabled as table
 use Rattle.stk_book.specs.Listed.{Listed}
 use Rattle.stk_book.specs.Listed as listed
 use Rattle.stk_keep.specs.declared.entities.Validator.{Validator}
-use Rattle.stk_rows.proofs.MarkLemmas.{some_marks}
-use Rattle.stk_book.specs.Registered.{Validators, Delegations, Operators, IsIndex, AreIndexed, AreKeyed, AreInStep, side_by_side, registered, with_mark, IsGoneBack, IsForgotten}
-
--- ---- marks side by side
-
-popped_length : {A B : Type 0} (ps ps2 : List A) (bs bs2 : List B) (a : A) (b : B) → length bs ≡ length ps → ps2 ++ a ∷ [] ≡ ps → bs2 ++ b ∷ [] ≡ bs → length bs2 ≡ length ps2
-popped_length ps ps2 bs bs2 a b h p q =
-    let c = length_push ps2 a in
-    let d = length_push bs2 b in
-    let e = ap length p in
-    let f = ap length q in
-    omega (arith, c, d, e, f, h)
-
-pushed_length : {A B : Type 0} (ps : List A) (bs : List B) (a : A) (b : B) → length bs ≡ length ps → length (bs ++ b ∷ []) ≡ length (ps ++ a ∷ [])
-pushed_length ps bs a b h = length_push bs b ∙ ap (λ n. n + 1) h ∙ sym (length_push ps a)
-
--- ---- what holds at each mark
-
-all-push : {A : Type 0} (P : A → Type 0) (xs : List A) (x : A) → AllByRecursion P xs → P x → AllByRecursion P (xs ++ x ∷ [])
-all-push P [] x h p = (p, tt)
-all-push P (y ∷ xs) x h p = (h.0, all-push P xs x h.1 p)
-
-all-pop : {A : Type 0} (P : A → Type 0) (xs : List A) (x : A) → AllByRecursion P (xs ++ x ∷ []) → AllByRecursion P xs × P x
-all-pop P [] x h = (tt, h.0)
-all-pop P (y ∷ xs) x h = let r = all-pop P xs x h.1 in ((h.0, r.0), r.1)
-
-indexed-push : (ms : List Validators) (is : List Operators) (m : Validators) (i : Operators) → length is ≡ length ms → AreIndexed ms is → IsIndex m i → AreIndexed (ms ++ m ∷ []) (is ++ i ∷ [])
-indexed-push [] [] m i e h p = (p, tt)
-indexed-push [] (y ∷ is) m i e h p = absurd (omega (arith, e))
-indexed-push (x ∷ ms) [] m i e h p = absurd (omega (arith, e))
-indexed-push (x ∷ ms) (y ∷ is) m i e h p = let f : length is ≡ length ms = omega (arith, e) in (h.0, indexed-push ms is m i f h.1 p)
-
-indexed-pop : (ms : List Validators) (is : List Operators) (m : Validators) (i : Operators) → length is ≡ length ms → AreIndexed (ms ++ m ∷ []) (is ++ i ∷ []) → AreIndexed ms is × IsIndex m i
-indexed-pop [] [] m i e h = (tt, h.0)
-indexed-pop [] (y ∷ is) m i e h = absurd (omega (arith, e))
-indexed-pop (x ∷ ms) [] m i e h = absurd (omega (arith, e))
-indexed-pop (x ∷ ms) (y ∷ is) m i e h = let f : length is ≡ length ms = omega (arith, e) in let r = indexed-pop ms is m i f h.1 in ((h.0, r.0), r.1)
-
--- ---- marks side by side
-
-length-side : (vs : List Validators) (ds : List Delegations) → length ds ≡ length vs → length (side_by_side vs ds) ≡ length vs
-length-side [] ds h = refl
-length-side (v ∷ vs) [] h = absurd (omega (arith, h))
-length-side (v ∷ vs) (d ∷ ds) h = let f : length ds ≡ length vs = omega (arith, h) in let more = length-side vs ds f in omega (arith, more)
-
-side-push : (vs : List Validators) (ds : List Delegations) (v : Validators) (d : Delegations) → length ds ≡ length vs
-    → side_by_side (vs ++ v ∷ []) (ds ++ d ∷ []) ≡ side_by_side vs ds ++ record { validators = v; delegations = d } ∷ []
-side-push [] [] v d h = refl
-side-push [] (y ∷ ds) v d h = absurd (omega (arith, h))
-side-push (x ∷ vs) [] v d h = absurd (omega (arith, h))
-side-push (x ∷ vs) (y ∷ ds) v d h = let f : length ds ≡ length vs = omega (arith, h) in ap (λ l. record { validators = x; delegations = y } ∷ l) (side-push vs ds v d f)
+use Rattle.stk_rows.specs.Marks.{side_by_side}
+use Rattle.stk_rows.proofs.MarkLemmas.{some_marks, none_from_length, pushed_length, popped_length, length-side, side-push, all-push, all-pop, each_mark-push, each_mark-pop}
+use Rattle.stk_book.specs.Registered.{Validators, Delegations, Operators, IsIndex, AreIndexed, AreKeyed, AreInStep, staked_of, registered, with_mark, IsGoneBack, IsForgotten}
 
 -- ---- three tables in step
 
@@ -71,13 +22,13 @@ module _ (v : Listed) (o : Tabled (List ℕ) (List ℕ)) (d : Tabled (List ℕ �
     keyed_then = h.keyed_then;
     keyed_at_marks = all-push AreKeyed v.marks v.entries h.keyed_at_marks h.keyed;
     indexed = h.indexed;
-    indexed_at_marks = indexed-push v.marks o.marks v.entries o.entries h.operators_depth h.indexed_at_marks h.indexed;
+    indexed_at_marks = each_mark-push IsIndex v.marks o.marks v.entries o.entries h.operators_depth h.indexed_at_marks h.indexed;
   }
 
   pub registered-marked : (spent : Bool) → registered (listed.with_mark v) (table.with_mark d) spent ≡ with_mark (registered v d spent)
   registered-marked spent = λ i. record {
     staked = record { validators = v.entries; delegations = d.entries };
-    marks = side-push v.marks d.marks v.entries d.entries h.delegations_depth i;
+    marks = side-push staked_of v.marks d.marks v.entries d.entries h.delegations_depth i;
     settled = record { validators = v.settled; delegations = d.settled };
     spent = spent;
     power_reduction = v.power_reduction;
@@ -98,15 +49,15 @@ module _ (v : Listed) (o : Tabled (List ℕ) (List ℕ)) (d : Tabled (List ℕ �
 
   module _ (v2 : Listed) (o2 : Tabled (List ℕ) (List ℕ)) (d2 : Tabled (List ℕ × List ℕ) ℕ) where
     side-popped : (x : Validators) (z : Delegations) → v2.marks ++ x ∷ [] ≡ v.marks → d2.marks ++ z ∷ [] ≡ d.marks
-        → side_by_side v2.marks d2.marks ++ record { validators = x; delegations = z } ∷ [] ≡ side_by_side v.marks d.marks
-    side-popped x z p r = sym (side-push v2.marks d2.marks x z (popped_length v.marks v2.marks d.marks d2.marks x z h.delegations_depth p r)) ∙ (λ i. side_by_side (p i) (r i))
+        → side_by_side staked_of v2.marks d2.marks ++ staked_of x z ∷ [] ≡ side_by_side staked_of v.marks d.marks
+    side-popped x z p r = sym (side-push staked_of v2.marks d2.marks x z (popped_length v.marks v2.marks d.marks d2.marks x z h.delegations_depth p r)) ∙ (λ i. side_by_side staked_of (p i) (r i))
 
     keyed-popped : (x : Validators) → v2.marks ++ x ∷ [] ≡ v.marks → AllByRecursion AreKeyed v2.marks × AreKeyed x
     keyed-popped x p = all-pop AreKeyed v2.marks x (subst (AllByRecursion AreKeyed) (sym p) h.keyed_at_marks)
 
     indexed-popped : (x : Validators) (y : Operators) → v2.marks ++ x ∷ [] ≡ v.marks → o2.marks ++ y ∷ [] ≡ o.marks → AreIndexed v2.marks o2.marks × IsIndex x y
     indexed-popped x y p q =
-        indexed-pop v2.marks o2.marks x y (popped_length v.marks v2.marks o.marks o2.marks x y h.operators_depth p q)
+        each_mark-pop IsIndex v2.marks o2.marks x y (popped_length v.marks v2.marks o.marks o2.marks x y h.operators_depth p q)
         (subst (λ ms. AreIndexed ms (o2.marks ++ y ∷ [])) (sym p) (subst (λ is. AreIndexed v.marks is) (sym q) h.indexed_at_marks))
 
     pub in_step-back : listed.IsGoneBack v v2 → table.IsGoneBack o o2 → table.IsGoneBack d d2 → AreInStep v2 o2 d2
@@ -128,7 +79,7 @@ module _ (v : Listed) (o : Tabled (List ℕ) (List ℕ)) (d : Tabled (List ℕ �
       restored = side-popped v2.entries d2.entries p.restored r.restored;
       rest = λ i. record {
         staked = record { validators = v2.entries; delegations = d2.entries };
-        marks = side_by_side v2.marks d2.marks;
+        marks = side_by_side staked_of v2.marks d2.marks;
         settled = record { validators = ap (λ t. t.settled) p.rest i; delegations = ap (λ t. t.settled) r.rest i };
         spent = spent;
         power_reduction = ap (λ t. t.power_reduction) p.rest i;
@@ -156,24 +107,20 @@ module _ (v : Listed) (o : Tabled (List ℕ) (List ℕ)) (d : Tabled (List ℕ �
       closed = (record { validators = p.closed.0; delegations = r.closed.0 }, side-popped p.closed.0 r.closed.0 p.closed.1 r.closed.1);
       rest = λ i. record {
         staked = record { validators = ap (λ t. t.entries) p.rest i; delegations = ap (λ t. t.entries) r.rest i };
-        marks = side_by_side v2.marks d2.marks;
+        marks = side_by_side staked_of v2.marks d2.marks;
         settled = record { validators = ap (λ t. t.settled) p.rest i; delegations = ap (λ t. t.settled) r.rest i };
         spent = spent;
         power_reduction = ap (λ t. t.power_reduction) p.rest i;
       };
     }
 
-  none_from_length : {A : Type 0} (xs : List A) → length xs ≡ 0 → xs ≡ []
-  none_from_length [] e = refl
-  none_from_length (x ∷ xs) e = absurd (omega (arith, e))
-
   pub closed-all : (spent : Bool) → (registered v d spent).marks ≡ [] → (v.marks ≡ []) × (o.marks ≡ []) × (d.marks ≡ [])
   closed-all spent m =
-      let n : length v.marks ≡ 0 = sym (length-side v.marks d.marks h.delegations_depth) ∙ ap length m in
+      let n : length v.marks ≡ 0 = sym (length-side staked_of v.marks d.marks h.delegations_depth) ∙ ap length m in
       (none_from_length v.marks n, none_from_length o.marks (h.operators_depth ∙ n), none_from_length d.marks (h.delegations_depth ∙ n))
 
   -- where a mark is open, one is in each table
   pub some_at : (spent : Bool) → (registered v d spent).marks ≢ [] → (0 < length v.marks) × (0 < length o.marks) × (0 < length d.marks)
   some_at spent m =
-      let n : 0 < length v.marks = subst (λ n. 0 < n) (length-side v.marks d.marks h.delegations_depth) (some_marks (registered v d spent).marks m) in
+      let n : 0 < length v.marks = subst (λ n. 0 < n) (length-side staked_of v.marks d.marks h.delegations_depth) (some_marks (registered v d spent).marks m) in
       (n, subst (λ n. 0 < n) (sym h.operators_depth) n, subst (λ n. 0 < n) (sym h.delegations_depth) n)

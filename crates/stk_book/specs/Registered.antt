@@ -10,6 +10,7 @@ use Rattle.stk_keep.specs.declared.entities.Validator.{Validator}
 use Rattle.stk_keep.specs.Entries.{at}
 use Rattle.stk_keep.specs.Orders.{pair_cmp}
 use Rattle.stk_keep.specs.Staked.{Staked, validator_at}
+use Rattle.stk_rows.specs.Marks.{side_by_side, AtEachMark}
 use Rattle.stk_book.specs.Listed.{Listed}
 pub use Rattle.stk_book.specs.Listed.{Validators}
 
@@ -73,11 +74,9 @@ pub record IsForgotten (old new : Registered) : Type 0 where
   pub closed : (last : Staked) × (new.marks ++ last ∷ [] ≡ old.marks)
   pub rest : new ≡ record old { marks = new.marks }
 
--- the entries of two tables side by side, mark by mark
-abbrev pub side_by_side : List Validators → List Delegations → List Staked
-side_by_side [] ds = []
-side_by_side (v ∷ vs) [] = []
-side_by_side (v ∷ vs) (d ∷ ds) = record { validators = v; delegations = d } ∷ side_by_side vs ds
+-- validators and delegations, made one
+abbrev pub staked_of : Validators → Delegations → Staked
+staked_of validators delegations = record { validators = validators; delegations = delegations }
 
 -- ---- the index by consensus address
 
@@ -92,9 +91,7 @@ IsIndex es index = (cons : List ℕ) → at cons_cmp index cons ≡ operator_by_
 
 -- the same at each mark
 abbrev pub AreIndexed : List Validators → List Operators → Type 0
-AreIndexed [] is = Unit {0}
-AreIndexed (m ∷ ms) [] = Unit {0}
-AreIndexed (m ∷ ms) (i ∷ is) = IsIndex m i × AreIndexed ms is
+AreIndexed ms is = AtEachMark IsIndex ms is
 
 -- each validator stands under its operator
 abbrev pub AreKeyed : Validators → Type 0
@@ -121,7 +118,7 @@ pub record AreInStep (validators : Listed) (operators : Tabled (List ℕ) (List 
 abbrev pub registered : Listed → Tabled (List ℕ × List ℕ) ℕ → Bool → Registered
 registered validators delegations spent = record {
   staked = record { validators = validators.entries; delegations = delegations.entries };
-  marks = side_by_side validators.marks delegations.marks;
+  marks = side_by_side staked_of validators.marks delegations.marks;
   settled = record { validators = validators.settled; delegations = delegations.settled };
   spent = spent;
   power_reduction = validators.power_reduction;

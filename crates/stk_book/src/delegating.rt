@@ -161,7 +161,7 @@ impl Staking {
 
 /// The shares that an amount gives (`Validator.AddTokensFromDel`). Refused where shares stand over no
 /// tokens, where the new shares or their sum with the old are over, and where they are 0.
-fn shares_given(v: &Validator, amount: u128) -> Result<Dec, Refusal>
+pub fn shares_given(v: &Validator, amount: u128) -> Result<Dec, Refusal>
     requires { v.now.tokens ≤ 10 ^ 18 }
     ensures { result ≡ shares_given v.now amount }
 {

@@ -18,5 +18,7 @@ mod records;
 mod staking;
 mod unbonding;
 
+pub use delegating::shares_given;
 pub use origin::Origin;
+pub use paying::coins_of;
 pub use staking::Staking;

@@ -10,6 +10,7 @@ use std::cmp::Ordering;
 use std::hash::Hash;
 use std::sync::ledger::Ledger;
 use stk_keep::Validator;
+use stk_rows::mark_both;
 use stk_table::{Table, TableFault};
 use stk_types::{Addr, Copied, Moment, Steps};
 
@@ -127,26 +128,6 @@ impl Lists {
             power_reduction,
             steps,
         )
-    }
-}
-
-/// Opens a mark of both lists, or of none.
-fn mark_both(
-    bonded: &mut Table<Addr, Addr>,
-    maturing: &mut Table<(Moment, Addr), Addr>,
-) -> Result<(), TableFault>
-    ensures bonded { OnOk result (bonded.new ≡ with_mark bonded.old) }
-    ensures maturing { OnOk result (maturing.new ≡ with_mark maturing.old) }
-    ensures bonded_err { OnErr result (bonded.new ≡ bonded.old) }
-    ensures maturing_err { OnErr result (maturing.new ≡ maturing.old) }
-{
-    bonded.mark()?;
-    match maturing.mark() {
-        Ok(()) => Ok(()),
-        Err(fault) => {
-            bonded.back();
-            Err(fault)
-        }
     }
 }
 

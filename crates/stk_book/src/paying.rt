@@ -93,8 +93,8 @@ fn send_bond<B: Bank, L: Ledger>(
     g.bank.send(alloc, &mut g.facts, from, &to, &coins, steps)
 }
 
-/// So much of a denomination, as coins.
-fn coins_of(alloc: Global, denom: &Denom, amount: u128) -> Result<Coins, BankFault>
+/// So much of a denomination, as coins. The only error is `NoMemory`.
+pub fn coins_of(alloc: Global, denom: &Denom, amount: u128) -> Result<Coins, BankFault>
     requires some { 0 < amount }
     requires most { amount < 10 ^ 38 }
     ensures coins { IfOk result (λ coins. coins ≡ (denom.now, amount) ∷ []) }

@@ -14,7 +14,7 @@ use crate::staking::Staking;
 use std::alloc::Global;
 use std::sync::ledger::Ledger;
 use stk_keep::{Delegation, Item, RecordFault, Records};
-use stk_rows::{Both, Kinds, One};
+use stk_rows::{Both, Kinds, One, mark_both};
 use stk_table::{Table, TableFault};
 use stk_types::{Addr, ConsAddr, Steps};
 
@@ -175,26 +175,6 @@ fn mark_all(
         Ok(()) => Ok(()),
         Err(fault) => {
             validators.back();
-            Err(fault)
-        }
-    }
-}
-
-/// Opens a mark of the index and the delegations, or of none.
-fn mark_both(
-    operators: &mut Table<ConsAddr, Addr>,
-    delegations: &mut Table<(Addr, Addr), Delegation>,
-) -> Result<(), TableFault>
-    ensures operators { OnOk result (operators.new ≡ with_mark operators.old) }
-    ensures delegations { OnOk result (delegations.new ≡ with_mark delegations.old) }
-    ensures operators_err { OnErr result (operators.new ≡ operators.old) }
-    ensures delegations_err { OnErr result (delegations.new ≡ delegations.old) }
-{
-    operators.mark()?;
-    match delegations.mark() {
-        Ok(()) => Ok(()),
-        Err(fault) => {
-            operators.back();
             Err(fault)
         }
     }

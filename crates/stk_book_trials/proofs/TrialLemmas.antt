@@ -16,31 +16,17 @@ use Rattle.stk_keep.specs.Ground.{AreInRange, IsInOrder, end_of_blocks}
 use Rattle.stk_keep.specs.Holdings.{IsBacked, balance_of}
 use Rattle.stk_book.specs.Registered.{no_stake}
 use Rattle.stk_book.specs.Calls.{IsSoundStake, with_if, changed_at}
+use Rattle.stk_book.proofs.BurntLemmas.{burnt, owes-burnt}
 use Rattle.stk_book_trials.specs.Trials.{IsFit}
 use Rattle.stk_rules.proofs.SoundLemmas.{IsSoundAt, to_points, from_points}
 use Rattle.stk_rules.proofs.TokenLemmas.{tokens-put}
 
--- with fewer tokens
-abbrev burnt : ℕ → Validator → Validator
-burnt n v = record v { tokens = v.tokens - n }
-
-fewer_counted : (b : Bool) (t n : ℕ) → cond b (t - n) 0 ≤ cond b t 0
-fewer_counted true t n = omega arith
-fewer_counted false t n = omega arith
-
--- what is owed doesn't grow where a validator's tokens are burnt
-owed-burnt : (test : BondStatus → Bool) (height : ℕ) (s : Staked) (v : Validator) (n : ℕ) → IsSoundAt height s → validator_at s v.operator ≡ Some v
-    → tokens_where test (put_validator (burnt n v) s).validators ≤ tokens_where test s.validators
-owed-burnt test height s v n h f =
-    let put = tokens-put test v.operator v (burnt n v) s.validators h.validators_ascend f in
-    let less = fewer_counted (test v.status) v.tokens n in
-    omega (arith, put, less)
-
-fit_with : (s s2 : Staked) (v : Validator) (n : ℕ) (g : View) → IsFit s g → validator_at s v.operator ≡ Some v → s2 ≡ put_validator (burnt n v) s → IsSoundStake s2 → IsFit s2 g
-fit_with s s2 v n g fit f e sound =
-    let h = to_points fit.sound.0 s fit.sound.1 in
-    let bonded : bonded_tokens s2 ≤ bonded_tokens s = subst (λ x. bonded_tokens x ≤ bonded_tokens s) (sym e) (owed-burnt is_bonded fit.sound.0 s v n h f) in
-    let other : other_tokens s2 ≤ other_tokens s = subst (λ x. other_tokens x ≤ other_tokens s) (sym e) (owed-burnt (λ status. cond (is_bonded status) false true) fit.sound.0 s v n h f) in
+-- tokens were burnt
+pub fit-burnt : (s s2 : Staked) (operator : List ℕ) (v : Validator) (n : ℕ) (g : View) → IsFit s g → validator_at s operator ≡ Some v → s2 ≡ changed_at (burnt n) operator s → IsSoundStake s2 → IsFit s2 g
+fit-burnt s s2 operator v n g fit found e sound =
+    let owes = owes-burnt s s2 operator v n fit.sound found e in
+    let bonded = owes.bonded in
+    let other = owes.other in
     let has_bonded = fit.accounts.in_bonded in
     let has_other = fit.accounts.in_not_bonded in
     record {
@@ -48,12 +34,6 @@ fit_with s s2 v n g fit f e sound =
       in_order = fit.in_order;
       accounts = record { in_bonded = omega (arith, bonded, has_bonded); in_not_bonded = omega (arith, other, has_other) };
     }
-
--- tokens were burnt
-pub fit-burnt : (s s2 : Staked) (operator : List ℕ) (v : Validator) (n : ℕ) (g : View) → IsFit s g → validator_at s operator ≡ Some v → s2 ≡ changed_at (burnt n) operator s → IsSoundStake s2 → IsFit s2 g
-fit-burnt s s2 operator v n g fit found e sound =
-    let own : v.operator ≡ operator = (to_points fit.sound.0 s fit.sound.1).operators operator v found in
-    fit_with s s2 v n g fit (ap (validator_at s) own ∙ found) (e ∙ ap (λ o. with_if (option_map (burnt n) o) s) found) sound
 
 within : (new part old held held2 : ℕ) → new + part ≡ old → old ≤ held → held2 ≡ held → new ≤ held2
 within new part old held held2 e l h = omega (arith, e, l, h)

@@ -6,6 +6,8 @@ mod admit_tests;
 #[cfg(test)]
 mod change_tests;
 #[cfg(test)]
+mod coin_tests;
+#[cfg(test)]
 mod tests;
 #[cfg(test)]
 mod trials;

@@ -21,7 +21,7 @@ pub(crate) const ONE: u128 = 1_000_000_000_000_000_000;
 
 pub(crate) const DAY: u128 = 86_400_000_000_000;
 
-fn dec(rt: &impl Abort, raw: u128) -> Dec
+pub(crate) fn dec(rt: &impl Abort, raw: u128) -> Dec
     ensures { result ≡ raw }
 {
     Dec::from_raw(raw).expect(rt, "below the limit")
@@ -37,11 +37,11 @@ pub(crate) fn addr(rt: &impl Abort, byte: u8) -> Addr {
     Addr::of([byte; 20]).expect(rt, "no module's address")
 }
 
-fn denom(rt: &impl Abort, name: &[u8]) -> Denom {
+pub(crate) fn denom(rt: &impl Abort, name: &[u8]) -> Denom {
     Denom::of(name).expect(rt, "a denomination")
 }
 
-fn atom(rt: &impl Abort) -> Denom {
+pub(crate) fn atom(rt: &impl Abort) -> Denom {
     denom(rt, b"uatom")
 }
 
@@ -249,7 +249,7 @@ pub(crate) fn has<L: Ledger>(
 }
 
 /// Whether a module has so many uatom.
-fn pool_has<L: Ledger>(
+pub(crate) fn pool_has<L: Ledger>(
     rt: &impl Abort,
     scene: &Scene,
     module: Module,
@@ -264,7 +264,7 @@ fn pool_has<L: Ledger>(
 }
 
 /// A validator of a user with so many shares, of whose tokens so many are burnt.
-fn burnt<L: Ledger>(
+pub(crate) fn burnt<L: Ledger>(
     rt: &(impl Abort + AllocGlobal),
     scene: &mut Scene,
     user: u8,

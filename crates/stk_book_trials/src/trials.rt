@@ -4,6 +4,7 @@ ghost use Rattle.stk_book_trials.specs.Trials.{IsFit};
 
 use crate::admit_tests::admits;
 use crate::change_tests::{changes, goes_back, keeps, lists_in_order, loads, tells_changes};
+use crate::coin_tests::{Delegated, delegates_a_coin, refuses_a_coin};
 use crate::tests::{
     Creation, DAY, ONE, Scene, creates, edits, exceeds_after_a_burn, has_no_rate,
     issues_after_a_burn, jailed_and_removed, opened, takes_after_a_burn,
@@ -21,6 +22,8 @@ use stk_types::Steps;
 enum Trial {
     IssuesAfterABurn,
     TakesAfterABurn(u128, u128),
+    DelegatesACoin,
+    RefusesACoin(Delegated, Refusal),
     JailedAndRemoved,
     Creates(Creation, Option<Refusal>),
     ExceedsAfterABurn,
@@ -48,6 +51,8 @@ fn passes<L: Ledger>(
     match trial {
         Trial::IssuesAfterABurn => issues_after_a_burn(rt, scene, steps),
         Trial::TakesAfterABurn(part, out) => takes_after_a_burn(rt, scene, part, out, steps),
+        Trial::DelegatesACoin => delegates_a_coin(rt, scene, steps),
+        Trial::RefusesACoin(told, why) => refuses_a_coin(rt, scene, told, why, steps),
         Trial::JailedAndRemoved => jailed_and_removed(rt, scene, steps),
         Trial::Creates(second, want) => creates(rt, scene, second, want, steps),
         Trial::ExceedsAfterABurn => exceeds_after_a_burn(rt, scene, steps),
@@ -89,12 +94,26 @@ fn creation(user: u8, cons: u8, least: u128, amount: u128, in_uatom: bool) -> Cr
     }
 }
 
+fn coin(user: u8, operator: u8, amount: u128, in_uatom: bool) -> Delegated {
+    Delegated {
+        user,
+        operator,
+        amount,
+        in_uatom,
+    }
+}
+
 #[test]
 fn staking_answers_and_leaves_what_its_rules_say(rt: HostRuntime) -> Result<(), Fail> {
     for trial in [
         Trial::IssuesAfterABurn,
         Trial::TakesAfterABurn(10_101_010_101_010_101_010, 10),
         Trial::TakesAfterABurn(98_989_898_989_898_989_898, 97),
+        Trial::DelegatesACoin,
+        Trial::RefusesACoin(coin(2, 3, 0, false), Refusal::NonPositive),
+        Trial::RefusesACoin(coin(2, 3, 10, false), Refusal::NoValidator),
+        Trial::RefusesACoin(coin(2, 1, 10, false), Refusal::WrongDenom),
+        Trial::RefusesACoin(coin(1, 1, 901, true), Refusal::InsufficientFunds),
         Trial::JailedAndRemoved,
         Trial::Creates(creation(1, 2, 1, 100, true), Some(Refusal::ValidatorExists)),
         Trial::Creates(creation(2, 1, 1, 100, true), Some(Refusal::ConsKeyExists)),

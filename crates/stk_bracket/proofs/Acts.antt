@@ -1,5 +1,5 @@
 -- Facts on single acts.
-use Rattle.std.proofs.Common.{◌≡◌, ℕ, zero, suc, ◌+◌, ◌-◌, ◌*◌, ◌==◌, ◌<◌, ◌≤◌, Bool, true, false, cond, List, [], ◌∷◌, filter, refl, arith, ap, ap₂, sym, ◌∙◌, inl, inr}
+use Rattle.std.proofs.Common.{◌≡◌, ℕ, zero, suc, ◌+◌, ◌-◌, ◌*◌, ◌==◌, ◌<◌, ◌≤◌, Bool, true, false, cond, List, [], ◌∷◌, refl, arith, ap, ap₂, sym, ◌∙◌, inl, inr}
 use Rattle.std.proofs.lemmas.Bool.{cases_lt}
 use Rattle.stk_dec.specs.Fractions.{Fraction, fraction_of}
 use Rattle.stk_coins.specs.Coins.{amount_of}
@@ -9,7 +9,7 @@ use Rattle.stk_keep.specs.Log.{LogEntry}
 use Rattle.stk_keep.specs.Log as log
 use Rattle.stk_rules.specs.Ideal.{Ideal, times, ideal_start, ideal_over, shared_out}
 use Rattle.stk_bracket.specs.Account.{increment_of}
-use Rattle.stk_bracket.specs.Laws.{ValuesAreClose, IncrementsAreClose, RemovalsLowerByHalfAUnit, MomentsDoNotMatter, is_shared}
+use Rattle.stk_bracket.specs.Laws.{ValuesAreClose, IncrementsAreClose, RemovalsLowerByHalfAUnit, MomentsDoNotMatter, shared_among}
 use Rattle.stk_bracket.proofs.Rounding.{one, value_cut_low, value_cut_high, value_even_high, value_even_low, increment_low, increment_high}
 use Rattle.stk_bracket.proofs.Steps.{leave_half}
 use Rattle.stk_bracket.proofs.Following.{out_low}
@@ -53,18 +53,20 @@ same_shared i j raw tokens s = given (tokens == 0)
     given true = s
     given false = record { stake = s.stake; reward = ap₂ (λ r q. plus r (times (times (fraction_of raw) q) (ratio_of 1 tokens))) s.reward s.stake }
 
-same_over : (d : List ℕ) (first : Fraction) (es : List LogEntry) (i j : Ideal) → IsSame i j → IsSame (ideal_over d first i es) (ideal_over d first j (filter is_shared es))
+same_over : (d : List ℕ) (first : Fraction) (es : List LogEntry) (i j : Ideal) → IsSame i j → IsSame (ideal_over d first i es) (ideal_over d first j (shared_among es))
 same_over d first [] i j s = s
 same_over d first (log.made ∷ es) i j s = same_over d first es i j s
-same_over d first (log.allocated f t ∷ es) i j s =
-    same_over d first es (shared_out (amount_of f d) t i) (shared_out (amount_of f d) t j) (same_shared i j (amount_of f d) t s)
-same_over d first (log.ended p n ∷ es) i j s = same_over d first es _ j (record { stake = s.stake; reward = s.reward })
+same_over d first (log.allocated f r t ∷ es) i j s =
+    same_over d first es (shared_out (amount_of r d) t i) (shared_out (amount_of r d) t j) (same_shared i j (amount_of r d) t s)
+same_over d first (log.ended p n t ∷ es) i j s = same_over d first es _ j (record { stake = s.stake; reward = s.reward })
 same_over d first (log.started w n t x k ∷ es) i j s = same_over d first es i j s
 same_over d first (log.slashed b t f ∷ es) i j s =
     same_over d first es _ _ (record { stake = ap (λ q. times q (ratio_of (t - b) t)) s.stake; reward = s.reward })
 same_over d first (log.left ∷ es) i j s = same_over d first es _ j (record { stake = s.stake; reward = s.reward })
+same_over d first (log.withdrawn w p f o ∷ es) i j s = same_over d first es i j s
+same_over d first (log.commission c ∷ es) i j s = same_over d first es i j s
 
-same_reward : (d : List ℕ) (first : Fraction) (es : List LogEntry) → (ideal_over d first (ideal_start first) es).reward ≡ (ideal_over d first (ideal_start first) (filter is_shared es)).reward
+same_reward : (d : List ℕ) (first : Fraction) (es : List LogEntry) → (ideal_over d first (ideal_start first) es).reward ≡ (ideal_over d first (ideal_start first) (shared_among es)).reward
 same_reward d first es = (same_over d first es (ideal_start first) (ideal_start first) (record { stake = refl; reward = refl })).reward
 
 pub moments_do_not_matter : MomentsDoNotMatter

@@ -21,9 +21,10 @@ use Rattle.stk_keep.specs.Staked.{validator_at, delegation}
 use Rattle.stk_keep.specs.Steps.{◌>>=◌, or_stop, stopping}
 use Rattle.stk_keep.specs.World.{View}
 use Rattle.stk_rules.specs.Chain.{State, with_shared}
-use Rattle.stk_rules.specs.Distribution.{Shared, started, reward_withdrawn, reward_renewed}
+use Rattle.stk_rules.specs.Distribution.{Shared, started, reward_withdrawn, reward_renewed, payee_of}
 use Rattle.stk_rules.specs.Effects.{withdraw_reward}
 use Rattle.stk_rules.specs.Periods.{periods_of, start_of, with_start, without_start, last_ended}
+use Rattle.stk_rules.specs.Purses.{purse_of}
 use Rattle.stk_rules.specs.Sound.{IsSound}
 use Rattle.stk_rules.specs.Withdrawals.{reward_taken}
 use Rattle.stk_bracket.specs.Account.{Start, Account, IsReached, counted_shares, account_after}
@@ -33,7 +34,8 @@ use Rattle.stk_bracket.proofs.Lists.{all_at, sum_remove}
 use Rattle.stk_bracket.proofs.Following.{own_addr, other_addr}
 use Rattle.stk_bracket.proofs.Denominations.{step_parts}
 use Rattle.stk_bracket.proofs.Entries.{addr_is, pair_is, IsGoneFrom, IsPutInto, put_into, put_outside, history_behind, history_elsewhere}
-use Rattle.stk_bracket.proofs.Reached.{deeds_lead_on, reached_counted, reached_some, reached_apart, apart_rest}
+use Rattle.stk_bracket.proofs.Deeds.{apart_rest}
+use Rattle.stk_bracket.proofs.Reached.{deeds_lead_on, reached_counted, reached_some, reached_apart}
 use Rattle.stk_bracket.proofs.Claims.{IsReady, ready_in, IsEnded, some_of, start_with}
 use Rattle.stk_bracket.proofs.Endings.{same_account, state_then, closed_is, same_some, end_is, ended_reached}
 use Rattle.stk_bracket.proofs.Payments.{IsWithdrawn, withdrawn_is, state_behind, own_gone, paid_account, withdrawn_reached}
@@ -125,7 +127,7 @@ may_begin d w v who shares y ready found held k reached =
     let b : Account = account_in d (state_then w z) v in
     let a : Account = account_in d (state_behind w y) v in
     let before : IsReached d b = ended_reached w v z ready found k.ends reached d v found in
-    let is : a ≡ account_after d b (deed.payment g.place) = paid_account d w v who shares some.0 y k ready found held some.1 i g in
+    let is : a ≡ account_after d b (deed.payment g.place (payee_of z.1 who) k.full (purse_of z.1.purses v.operator).outstanding) = paid_account d w v who shares some.0 y k ready found held some.1 i g in
     let own : st.shares ≡ shares = ap (λ o. unwrap_or o 0) held in
     let positive : 0 < st.shares = all_at (λ s. 0 < s.shares) g.place st b.starts g.was (reached_some d b before) in
     let counted : counted_shares b ≤ b.shares = reached_counted d b before in

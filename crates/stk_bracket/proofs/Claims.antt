@@ -224,7 +224,8 @@ pub record IsEnded (d : List ℕ) (val : Validator) (s : Shared) (v : View) (z :
   pub rewards : z.1.rewards ≡ with_periods val.operator (periods_with (periods_of s.rewards val.operator) ratio) s.rewards
   pub purse : PurseThen d val.operator s.purses val.tokens z.1.purses
   pub height : z.2.ctx.height ≡ v.ctx.height
-  pub logged : z.3 ≡ (val.operator, log.ended (last_ended (periods_with (periods_of s.rewards val.operator) ratio)) increment) ∷ []
+  pub payees : z.1.withdraw ≡ s.withdraw
+  pub logged : z.3 ≡ (val.operator, log.ended (last_ended (periods_with (periods_of s.rewards val.operator) ratio)) increment val.tokens) ∷ []
 
 -- what is left of it, told by the new ratio and the new periods
 abbrev ended_with : Validator → Shared → View → Money × Money × Purses → Money × Periods → ℕ × Shared × View × Log
@@ -232,7 +233,7 @@ ended_with val s v t r = (
   last_ended r.1,
   record s { rewards = with_periods val.operator r.1 s.rewards; purses = t.2 },
   noted (fact.Period val.operator (last_ended r.1) r.0) (over_facts (pooled_told t.1) v),
-  (val.operator, log.ended (last_ended r.1) t.0) ∷ [],
+  (val.operator, log.ended (last_ended r.1) t.0 val.tokens) ∷ [],
 )
 
 ended_of : (d : List ℕ) (val : Validator) (s : Shared) (v : View) (t : Money × Money × Purses) (ratio : Money)
@@ -249,6 +250,7 @@ ended_of d val s v t ratio increment_is ratio_is money purse = record {
   rewards = refl;
   purse = purse;
   height = refl;
+  payees = refl;
   logged = refl;
 }
 
@@ -311,8 +313,8 @@ pub closed_history : (d : List ℕ) (w : State) (v : Validator) (z : ℕ × Shar
 closed_history d w v z k =
     let ps : Periods = periods_of w.hooks.0.rewards v.operator in
     ap (λ more. history_of v.operator (w.log ++ more) []) k.logged
-    ∙ history_behind v.operator w.log (log.ended (ps.current + 1 - 1) k.increment) []
-    ∙ ap (λ n. history_of v.operator w.log [] ++ log.ended n k.increment ∷ []) (omega arith)
+    ∙ history_behind v.operator w.log (log.ended (ps.current + 1 - 1) k.increment v.tokens) []
+    ∙ ap (λ n. history_of v.operator w.log [] ++ log.ended n k.increment v.tokens ∷ []) (omega arith)
 
 -- the reward up to the end of the period
 pub closed_full : (d : List ℕ) (w : State) (v : Validator) (who : List ℕ) (shares : ℕ) (info : StartingInfo) (full : Money) (z : ℕ × Shared × View × Log) (k : IsEnded d v w.hooks.0 w.view z)

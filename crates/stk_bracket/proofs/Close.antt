@@ -1,5 +1,5 @@
--- The coins of a fair payment, beside the ideal reward.
-use Rattle.std.proofs.Common.{◌≡◌, ℕ, ◌+◌, ◌*◌, ◌/◌, ◌^◌, ◌<◌, ◌≤◌, List, refl, arith, sym, ap, subst, ◌∙◌, min, mul-le-mul, mul-le-mul_right}
+-- The coins of a fair withdrawal, beside the ideal reward.
+use Rattle.std.proofs.Common.{◌≡◌, ℕ, ◌+◌, ◌*◌, ◌/◌, ◌^◌, ◌<◌, ◌≤◌, List, refl, arith, min, mul-le-mul, mul-le-mul_right}
 use Rattle.stk_dec.specs.Decimals.{trunc_of}
 use Rattle.stk_coins.specs.Coins.{Money, IsMoney, amount_of}
 use Rattle.stk_coins.proofs.Amounts.{amount-all}
@@ -7,7 +7,7 @@ use Rattle.stk_coins.proofs.Order.{rises_from_money}
 use Rattle.stk_coins.proofs.Results.{smaller_is_money}
 use Rattle.stk_keep.specs.Log.{Log}
 use Rattle.stk_rules.specs.Ideal.{Brackets, ideal_reward, slack_of}
-use Rattle.stk_bracket.specs.Withdrawals.{IsFairPayment, IsCloseToIdeal, FairPaymentsAreClose}
+use Rattle.stk_bracket.specs.Withdrawals.{IsFairReward, reward_paid, coins_paid, IsCloseToIdeal, FairPaymentsAreClose}
 use Rattle.stk_bracket.proofs.Rounding.{floor_low, floor_high}
 use Rattle.stk_bracket.proofs.Unfair.{smaller_amount}
 
@@ -25,15 +25,16 @@ below_times i by n m low high u pos some less e =
 coins_within : (c r : ℕ) → c ≡ r / 10 ^ 18 → (c * 10 ^ 18 ≤ r) × (r < (c + 1) * 10 ^ 18)
 coins_within c r e = (omega (arith, e, floor_low r (10 ^ 18)), omega (arith, e, floor_high r (10 ^ 18) (omega arith)))
 
-close_to_ideal : (l : Log) (who operator : List ℕ) (reward coins : Money) (f : IsFairPayment l who operator reward coins) (d : List ℕ) → IsCloseToIdeal l who operator reward coins f d
-close_to_ideal l who operator reward coins f d =
-    let n : ℕ = amount_of f.full d in
-    let left : ℕ = amount_of f.outstanding d in
-    let c : ℕ = amount_of coins d in
+close_to_ideal : (l : Log) (who operator : List ℕ) (full outstanding : Money) (f : IsFairReward l who operator full outstanding) (d : List ℕ) → IsCloseToIdeal l who operator full outstanding f d
+close_to_ideal l who operator full outstanding f d =
+    let n : ℕ = amount_of full d in
+    let left : ℕ = amount_of outstanding d in
+    let reward : Money = reward_paid full outstanding in
+    let c : ℕ = amount_of (coins_paid full outstanding) d in
     let b : Brackets d f.span n = f.bracketed d in
-    let money : IsMoney reward = subst IsMoney (sym f.reward_is) (smaller_is_money f.full f.outstanding f.full_is) in
-    let paid : amount_of reward d ≡ min n left = ap (λ m. amount_of m d) f.reward_is ∙ smaller_amount d f.full f.outstanding f.full_is in
-    let whole : c ≡ amount_of reward d / 10 ^ 18 = ap (λ m. amount_of m d) f.coins_are ∙ amount-all (λ e m. trunc_of m) (λ e. refl) reward d (rises_from_money reward money) in
+    let money : IsMoney reward = smaller_is_money full outstanding f.full_is in
+    let paid : amount_of reward d ≡ min n left = smaller_amount d full outstanding f.full_is in
+    let whole : c ≡ amount_of reward d / 10 ^ 18 = amount-all (λ e m. trunc_of m) (λ e. refl) reward d (rises_from_money reward money) in
     let within : (c * 10 ^ 18 ≤ amount_of reward d) × (amount_of reward d < (c + 1) * 10 ^ 18) = coins_within c (amount_of reward d) whole in
     record {
       at_most = at_most_times c n (ideal_reward d f.span).numerator (ideal_reward d f.span).denominator (10 ^ 18) (omega (arith, within.0, paid)) b.at_most;
@@ -42,4 +43,4 @@ close_to_ideal l who operator reward coins f d =
     }
 
 pub fair_payments_are_close : FairPaymentsAreClose
-fair_payments_are_close = λ l who operator reward coins f d. close_to_ideal l who operator reward coins f d
+fair_payments_are_close = λ l who operator full outstanding f d. close_to_ideal l who operator full outstanding f d

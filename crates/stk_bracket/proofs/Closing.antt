@@ -1,6 +1,6 @@
 -- The parts of a block that pay no reward: allocation, the bonded set, and what matures. With votes and evidence, all parts
 -- of a block pay fairly.
-use Rattle.std.proofs.Common.{ℕ, ◌-◌, ◌*◌, ◌^◌, Bool, true, false, List, [], ◌∷◌, ◌++◌, subst, Option, Some, None, Result, Ok, Err, append_assoc}
+use Rattle.std.proofs.Common.{ℕ, ◌-◌, ◌*◌, ◌^◌, Bool, true, false, List, [], ◌∷◌, ◌++◌, refl, subst, Option, Some, None, Result, Ok, Err, append_assoc}
 use Rattle.std.specs.Prelude.{IfOk, if◌then◌else◌, ◌&&◌, nat_lt, nat_le, map, sum}
 use Rattle.std.specs.Map.{values_of}
 use Rattle.stk_dec.specs.declared.over.Over.{Over}
@@ -42,15 +42,15 @@ use Rattle.stk_bracket.proofs.Hitting.{votes_pay_fairly, evidence_pays_fairly}
 -- ---- allocation
 
 given_pays : (l : Log) (o : Option Validator) (share : Money) (p : Purses) (fs : List Fact) → IfOk (share_given o share p fs) (λ y. Pays l fs (l ++ y.2) y.1)
-given_pays l None share p fs = pays_logged l [] fs
+given_pays l None share p fs = pays_logged l [] fs tt refl
 given_pays l (Some v) share p fs = by (is_empty share)
   where
     by : (b : Bool) → IfOk {T = Purses × List Fact × Log} {E = Over} (if b then Ok (p, fs, []) else (share_joined share v.commission.rate (purse_of p v.operator) >>= λ x.
-        Ok (record p { purses = with addr_cmp p.purses v.operator x.1 }, fs ++ fact.Allocated v.operator share ∷ [], (v.operator, log.allocated x.0 v.tokens) ∷ []))) (λ y. Pays l fs (l ++ y.2) y.1)
-    by true = pays_logged l [] fs
+        Ok (record p { purses = with addr_cmp p.purses v.operator x.1 }, fs ++ fact.Allocated v.operator share ∷ [], (v.operator, log.allocated share x.0 v.tokens) ∷ []))) (λ y. Pays l fs (l ++ y.2) y.1)
+    by true = pays_logged l [] fs tt refl
     by false = on_step (share_joined share v.commission.rate (purse_of p v.operator)) _ _ (λ x e.
         let told : List Fact = fs ++ fact.Allocated v.operator share ∷ [] in
-        pays_then l l (l ++ (v.operator, log.allocated x.0 v.tokens) ∷ []) fs told told (pays_noted l fs (fact.Allocated v.operator share) (λ who op to reward coins h. cc)) (pays_logged l ((v.operator, log.allocated x.0 v.tokens) ∷ []) told))
+        pays_then l l (l ++ (v.operator, log.allocated share x.0 v.tokens) ∷ []) fs told told (pays_noted l fs (fact.Allocated v.operator share) (λ who op to reward coins h. cc)) (pays_logged l ((v.operator, log.allocated share x.0 v.tokens) ∷ []) told (tt, tt) refl))
 
 shares_pay : (ts : List Vote) (s : Staked) (base : Money) (total : ℕ) (left : Money) (p : Purses) (fs : List Fact) (l start : Log) (first : List Fact) → Pays start first (start ++ l) fs
     → IfOk (shares_allocated s base total ts left p fs l) (λ x. Pays start first (start ++ x.2) x.1)
@@ -73,13 +73,13 @@ allocation_pays votes w =
 
     by : (b : Bool) → IfOk {T = Shared × View × Log} {E = Over} (if b then Ok (w.hooks.0, w.view, []) else (allocated w.mine.staked w.view.ctx.params fees votes w.hooks.0.purses v1.facts >>= λ x.
         Ok (record w.hooks.0 { purses = x.0 }, record v1 { facts = x.1 }, x.2))) (λ x. Pays w.log w.view.facts (w.log ++ x.2) x.1.facts)
-    by true = pays_logged w.log [] w.view.facts
+    by true = pays_logged w.log [] w.view.facts tt refl
     by false =
         let total : ℕ = sum (map (λ t. t.power) votes) in
         on_then (allocated w.mine.staked w.view.ctx.params fees votes w.hooks.0.purses v1.facts) _ (λ x. Pays w.log w.view.facts (w.log ++ x.2) x.1) _
         (on_step (coins_mul_cut (in_units fees) (10 ^ 18 - w.view.ctx.params.community_tax)) _ _ (λ base e.
         shares_pay (sharing total votes) w.mine.staked base total (in_units fees) w.hooks.0.purses v1.facts [] w.log w.view.facts
-        (pays_then w.log w.log (w.log ++ []) w.view.facts v1.facts v1.facts (pays_sent w.log (account.Module holder.FeeCollector) (account.Module holder.Distribution) fees w.view.facts) (pays_logged w.log [] v1.facts))))
+        (pays_then w.log w.log (w.log ++ []) w.view.facts v1.facts v1.facts (pays_sent w.log (account.Module holder.FeeCollector) (account.Module holder.Distribution) fees w.view.facts) (pays_logged w.log [] v1.facts tt refl))))
         (λ x k. k)
 
 -- ---- validators
@@ -97,7 +97,7 @@ each_pays f one (v ∷ vs) y =
 joined_pays : (v : Validator) (y : World Staked Hooks) → IfOk (joined_set chain_told v y) (PaysIn y)
 joined_pays v y =
     let x : World Staked Hooks = changed v Bonded y in
-    pays_then y.log y.log (y.log ++ []) y.view.facts x.view.facts x.view.facts (pays_noted y.log y.view.facts (fact.Changed v.operator Bonded) (λ who op to reward coins e. cc)) (pays_logged y.log [] x.view.facts)
+    pays_then y.log y.log (y.log ++ []) y.view.facts x.view.facts x.view.facts (pays_noted y.log y.view.facts (fact.Changed v.operator Bonded) (λ who op to reward coins e. cc)) (pays_logged y.log [] x.view.facts tt refl)
 
 left_pays : (v : Validator) (y : World Staked Hooks) → IfOk (left_set chain_told v y) (PaysIn y)
 left_pays v y = pays_noted y.log y.view.facts _ (λ who op to reward coins e. cc)

@@ -14,11 +14,11 @@ use Rattle.stk_rules.specs.Ideal.{is_left}
 use Rattle.stk_rules.specs.Laws.{exact_claim, claims_of}
 use Rattle.stk_rules.specs.Periods.{Periods, ratio_at, last_ended, event_recorded, stretches_of, unlimited_stretches_of, falls_after, slashed_stake}
 use Rattle.stk_rules.specs.Slashing.{slash_fraction}
-use Rattle.stk_bracket.specs.Account.{Start, Account, Deed, IsNextRatio, IsFitting, counted_shares, new_account, account_after, period_closed, account_slashed, start_made, payment_of, reward_now, product_cut, ratio_in, earned_in, increment_of, lost_of}
+use Rattle.stk_bracket.specs.Account.{Start, Account, Deed, IsNextRatio, IsFitting, counted_shares, new_account, account_after, period_closed, account_slashed, start_made, owner_of, payment_of, reward_now, product_cut, ratio_in, earned_in, increment_of, lost_of}
 use Rattle.stk_bracket.specs.Account as deed
 use Rattle.stk_bracket.specs.Laws.{CoversClaims, IsCutWithin, overclaim}
 use Rattle.stk_bracket.proofs.Rounding.{one, floor_low}
-use Rattle.stk_bracket.proofs.Lists.{all_map, sum_more, all_within}
+use Rattle.stk_bracket.proofs.Lists.{all_map, sum_more, all_within, some_at}
 use Rattle.stk_bracket.proofs.Walking.{Walk, walk_of, first_walk, walk, crossed, walk_of_behind, walk_of_none, claim_is, earned_is}
 use Rattle.stk_bracket.proofs.Following.{Follows, ratio_old, last_ratio, walk_ended, fraction_is}
 use Rattle.stk_bracket.proofs.Deeds.{Good}
@@ -90,11 +90,6 @@ map_get : (f : Start → Holder) (k : ℕ) (s : Start) (ss : List Start) → sli
 map_get f k s [] e = absurd cc
 map_get f zero s (x ∷ ss) e = let same : x ≡ s = cc in ap (λ y. Some (f y)) same
 map_get f (suc k) s (x ∷ ss) e = map_get f k s ss e
-
-some_at : (k : ℕ) (ss : List Start) → k < length ss → (s : Start) × (slice_get ss k ≡ Some s)
-some_at k [] h = absurd (omega arith)
-some_at zero (s ∷ ss) h = (s, refl)
-some_at (suc k) (s ∷ ss) h = some_at k ss (omega arith)
 
 holder_ended : (d : List ℕ) (a : Account) (increment ratio : Money) (s : Start) → Good d a → IsNextRatio d a increment ratio → Follows d a s
     → holder_of d (period_closed increment ratio a).periods s ≡ raised (increment_of a.current a.tokens) (holder_of d a.periods s)
@@ -179,7 +174,7 @@ covers_ended d a increment ratio next g k =
     let hs : List Holder = holders d a in
     covers_same b (ratio_in d b.periods (last_ended b.periods)) (ratio_in d a.periods (last_ended a.periods) + i) (count_where is_left b.history) (count_where is_left a.history) (holders d b) (map (raised i) hs)
     (last_ratio d a increment ratio g.some_period next)
-    (omega (arith, count_behind a.history (log.ended a.periods.current increment)))
+    (omega (arith, count_behind a.history (log.ended a.periods.current increment a.tokens)))
     (map_changed (holder_of d b.periods) (holder_of d a.periods) (raised i) a.starts
     (all_map (Follows d a) (λ s. holder_of d b.periods s ≡ raised i (holder_of d a.periods s)) (λ s f. holder_ended d a increment ratio s g next f) a.starts g.follows))
     (covers_ends (book_in d a) k)
@@ -223,25 +218,34 @@ covers_begun d a place who shares fit g k =
     (map_insert (holder_of d a.periods) place s a.starts ∙ ap (λ h. insert hs place h) (holder_begun d a who shares g))
     (covers_starts (book_in d a) place shares (omega (arith, fit, held_is d a.periods a.starts)) k)
 
-covers_payment : (d : List ℕ) (a : Account) (place : ℕ) → place < length a.starts → Covers (book_in d a) → Covers (book_in d (account_after d a (deed.payment place)))
-covers_payment d a place fit k = paid (some_at place a.starts fit)
+covers_payment : (d : List ℕ) (a : Account) (place : ℕ) (payee : List ℕ) (full outstanding : Money) → place < length a.starts → Covers (book_in d a)
+    → Covers (book_in d (account_after d a (deed.payment place payee full outstanding)))
+covers_payment d a place payee full outstanding fit k = paid (some_at place a.starts fit)
   where
-    paid : (s : Start) × (slice_get a.starts place ≡ Some s) → Covers (book_in d (account_after d a (deed.payment place)))
+    paid : (s : Start) × (slice_get a.starts place ≡ Some s) → Covers (book_in d (account_after d a (deed.payment place payee full outstanding)))
     paid (s, is) =
         let hs : List Holder = holders d a in
-        let b : Account = record a { outstanding = a.outstanding - min (reward_now d a s) a.outstanding; starts = remove a.starts place } in
+        let b : Account = record a {
+          outstanding = a.outstanding - min (reward_now d a s) a.outstanding;
+          starts = remove a.starts place;
+          history = a.history ++ log.withdrawn s.who payee full outstanding ∷ [];
+        } in
         let all : Covers (book_in d b) =
-        covers_same b (ratio_in d a.periods (last_ended a.periods)) (ratio_in d a.periods (last_ended a.periods)) (count_where is_left a.history) (count_where is_left a.history) (holders d b) (remove hs place)
-        refl refl (map_remove (holder_of d a.periods) place a.starts)
+        covers_same b (ratio_in d a.periods (last_ended a.periods)) (ratio_in d a.periods (last_ended a.periods)) (count_where is_left b.history) (count_where is_left a.history) (holders d b) (remove hs place)
+        refl (omega (arith, count_behind a.history (log.withdrawn s.who payee full outstanding))) (map_remove (holder_of d a.periods) place a.starts)
         (covers_stops (book_in d a) place (reward_now d a s) (holder_of d a.periods s) (map_get (holder_of d a.periods) place s a.starts is) (reward_within d a s) k) in
-        subst (λ o. Covers (book_in d (record a { outstanding = a.outstanding - payment_of d a o; starts = remove a.starts place }))) (sym is) all
+        subst (λ o. Covers (book_in d (record a {
+          outstanding = a.outstanding - payment_of d a o;
+          starts = remove a.starts place;
+          history = a.history ++ log.withdrawn (owner_of o) payee full outstanding ∷ [];
+        }))) (sym is) all
 
 pub covers_after : (d : List ℕ) (a : Account) (act : Deed) → IsFitting d a act → Good d a → Covers (book_in d a) → Covers (book_in d (account_after d a act))
 covers_after d a (deed.block height) fit g k = k
-covers_after d a (deed.allocation commission rest) fit g k =
-    let b : Account = account_after d a (deed.allocation commission rest) in
+covers_after d a (deed.allocation commission share rest) fit g k =
+    let b : Account = account_after d a (deed.allocation commission share rest) in
     covers_same b (ratio_in d a.periods (last_ended a.periods)) (ratio_in d a.periods (last_ended a.periods)) (count_where is_left b.history) (count_where is_left a.history) (holders d a) (holders d a)
-    refl (omega (arith, count_behind a.history (log.allocated rest a.tokens))) refl
+    refl (omega (arith, count_behind a.history (log.allocated share rest a.tokens))) refl
     (covers_allocates (book_in d a) commission (amount_of rest d) k)
 covers_after d a (deed.ending increment ratio) fit g k = covers_ended d a increment ratio fit g k
 covers_after d a (deed.slash burn increment ratio) fit g k = covers_slash d a burn increment ratio fit.0 fit.1 fit.2 fit.3 g k
@@ -253,8 +257,12 @@ covers_after d a (deed.removal part) fit g k =
     refl (count_behind a.history log.left) refl
     (covers_removes (book_in d a) part fit.1 (omega (arith, fit.2, held_is d a.periods a.starts)) k)
 covers_after d a (deed.beginning place who shares) fit g k = covers_begun d a place who shares fit.2 g k
-covers_after d a (deed.payment place) fit g k = covers_payment d a place fit k
-covers_after d a (deed.commission_payment amount) fit g k = covers_takes (book_in d a) amount fit.0 fit.1 k
+covers_after d a (deed.payment place payee full outstanding) fit g k = covers_payment d a place payee full outstanding fit.within k
+covers_after d a (deed.commission_payment coins) fit g k =
+    let b : Account = account_after d a (deed.commission_payment coins) in
+    covers_same b (ratio_in d a.periods (last_ended a.periods)) (ratio_in d a.periods (last_ended a.periods)) (count_where is_left b.history) (count_where is_left a.history) (holders d a) (holders d a)
+    refl (omega (arith, count_behind a.history (log.commission coins))) refl
+    (covers_takes (book_in d a) (amount_of coins d) fit.0 fit.1 k)
 
 pub covers_new : (d : List ℕ) (height : ℕ) → Covers (book_in d (new_account height))
 covers_new d height = record { held = omega arith; backed = λ h. h; above = omega arith; covered = omega arith }

@@ -91,7 +91,7 @@ other_is d w v u z k apart apart' =
     ap (λ es. unwrap_or (at addr_cmp es op) no_purse) k.purse.is ∙ ap (λ o. unwrap_or o no_purse) (put_elsewhere v.operator op k.purse.purse w.hooks.0.purses.purses apart) in
     let periods : periods_of z.1.rewards op ≡ b.periods =
     ap (λ r. periods_of r op) k.rewards ∙ ap (λ o. unwrap_or o initial_records) (put_elsewhere v.operator op ps w.hooks.0.rewards.periods apart) in
-    let entry : LogEntry = log.ended (last_ended ps) k.increment in
+    let entry : LogEntry = log.ended (last_ended ps) k.increment v.tokens in
     same_account u.tokens u.shares a.height b.height a.current b.current a.commission b.commission a.outstanding b.outstanding a.periods b.periods a.starts b.starts a.history b.history
     k.height
     (ap (λ q. amount_of q.current d) purse)

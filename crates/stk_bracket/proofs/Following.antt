@@ -64,7 +64,7 @@ ideal_behind d first i (f ∷ es) e = ideal_behind d first (ideal_after d first 
 abbrev with_entry : Span → LogEntry → Span
 with_entry s e = record s { entries = s.entries ++ e ∷ [] }
 
-now_is : (who : List ℕ) (history : List LogEntry) (e : LogEntry) (s : Option Span) → span_of who history None ≡ s → span_of who (history ++ e ∷ []) None ≡ span_with who e s
+pub now_is : (who : List ℕ) (history : List LogEntry) (e : LogEntry) (s : Option Span) → span_of who history None ≡ s → span_of who (history ++ e ∷ []) None ≡ span_with who e s
 now_is who history e s is = span_behind who history e None ∙ ap (span_with who e) is
 
 stands_with : (d : List ℕ) (s : Span) (e : LogEntry) (x : Exact) → Stands s.first.numerator s.first.denominator x (ideal_after d s.first (ideal_of d s) e)
@@ -89,24 +89,24 @@ block_follows d a height s later k = record {
   fresh = λ h. absurd (omega (arith, k.height));
 }
 
-abbrev pub allocated : List ℕ → Account → ℕ → Money → Account
-allocated d a commission rest = record a {
+abbrev pub allocated : List ℕ → Account → ℕ → Money → Money → Account
+allocated d a commission share rest = record a {
   current = a.current + amount_of rest d;
   commission = a.commission + commission;
   outstanding = a.outstanding + (commission + amount_of rest d);
-  history = a.history ++ log.allocated rest a.tokens ∷ [];
+  history = a.history ++ log.allocated share rest a.tokens ∷ [];
 }
 
-pub allocation_follows : (d : List ℕ) (a : Account) (commission : ℕ) (rest : Money) (s : Start) → s.info.height < a.height → Follows d a s → Follows d (allocated d a commission rest) s
-allocation_follows d a commission rest s h k = let n : ℕ = k.span.first.numerator in let x : ℕ = k.span.first.denominator in record {
-  span = with_entry k.span (log.allocated rest a.tokens);
-  is = now_is s.who a.history (log.allocated rest a.tokens) (Some k.span) k.is;
+pub allocation_follows : (d : List ℕ) (a : Account) (commission : ℕ) (share rest : Money) (s : Start) → s.info.height < a.height → Follows d a s → Follows d (allocated d a commission share rest) s
+allocation_follows d a commission share rest s h k = let n : ℕ = k.span.first.numerator in let x : ℕ = k.span.first.denominator in record {
+  span = with_entry k.span (log.allocated share rest a.tokens);
+  is = now_is s.who a.history (log.allocated share rest a.tokens) (Some k.span) k.is;
   some = k.some;
   some_shares = k.some_shares;
   exact = exact_allocated k.exact (amount_of rest d) a.tokens;
   reckoned = k.reckoned;
   keeps = keeps_allocates (n * one) x s.shares a.tokens a.shares a.current (amount_of rest d) k.exact k.reckoned k.keeps;
-  stands = stands_with d k.span (log.allocated rest a.tokens) (exact_allocated k.exact (amount_of rest d) a.tokens) (stands_allocated n x (amount_of rest d) a.tokens k.exact (ideal_of d k.span) k.stands);
+  stands = stands_with d k.span (log.allocated share rest a.tokens) (exact_allocated k.exact (amount_of rest d) a.tokens) (stands_allocated n x (amount_of rest d) a.tokens k.exact (ideal_of d k.span) k.stands);
   agrees = k.agrees;
   early = k.early;
   height = k.height;
@@ -152,7 +152,7 @@ agrees_ended d a increment ratio s r some next early past g =
 pub end_follows : (d : List ℕ) (a : Account) (increment ratio : Money) (s : Start) → 0 < a.periods.current → AllByRecursion (λ e. e.period < a.periods.current) a.periods.events
     → IsNextRatio d a increment ratio → Follows d a s → Follows d (period_closed increment ratio a) s
 end_follows d a increment ratio s some past next k = let n : ℕ = k.span.first.numerator in let x : ℕ = k.span.first.denominator in
-    let entry : LogEntry = log.ended a.periods.current increment in record {
+    let entry : LogEntry = log.ended a.periods.current increment a.tokens in record {
       span = with_entry k.span entry;
       is = now_is s.who a.history entry (Some k.span) k.is;
       some = k.some;
@@ -331,13 +331,30 @@ own_follows d a place who shares some_period past none some within =
     earlier n [] each = tt
     earlier n (e ∷ es) each = (omega (arith, each.0), earlier n es each.1)
 
--- ---- a payment, and commission that is paid
+-- ---- a payment of another, and commission that is paid
 
-pub paid_follows : (d : List ℕ) (a : Account) (commission outstanding : ℕ) (starts : List Start) (s : Start) → Follows d a s
-    → Follows d (record a { commission = commission; outstanding = outstanding; starts = starts }) s
-paid_follows d a commission outstanding starts s k = record {
+pub withdrawn_follows : (d : List ℕ) (a : Account) (outstanding : ℕ) (starts : List Start) (who payee : List ℕ) (full had : Money) (s : Start) → who ≢ s.who → Follows d a s
+    → Follows d (record a { outstanding = outstanding; starts = starts; history = a.history ++ log.withdrawn who payee full had ∷ [] }) s
+withdrawn_follows d a outstanding starts who payee full had s ne k = record {
   span = k.span;
-  is = k.is;
+  is = now_is s.who a.history (log.withdrawn who payee full had) (Some k.span) k.is ∙ ap (λ b. cond b None (Some k.span)) (other_addr who s.who ne);
+  some = k.some;
+  some_shares = k.some_shares;
+  exact = k.exact;
+  reckoned = k.reckoned;
+  keeps = k.keeps;
+  stands = k.stands;
+  agrees = k.agrees;
+  early = k.early;
+  height = k.height;
+  fresh = k.fresh;
+}
+
+pub paid_follows : (d : List ℕ) (a : Account) (commission outstanding : ℕ) (coins : Money) (s : Start) → Follows d a s
+    → Follows d (record a { commission = commission; outstanding = outstanding; history = a.history ++ log.commission coins ∷ [] }) s
+paid_follows d a commission outstanding coins s k = record {
+  span = k.span;
+  is = now_is s.who a.history (log.commission coins) (Some k.span) k.is;
   some = k.some;
   some_shares = k.some_shares;
   exact = k.exact;

@@ -66,7 +66,7 @@ told_pays x y v burn e = by (v.tokens == 0) e
         let out : World Staked Shared = last one.0 in
         subst (λ t. PaysIn x t) (same_ok out y one.2)
         (pays_then x.log one.0.log out.log x.view.facts one.0.view.facts out.view.facts first
-        (pays_then one.0.log out.log out.log one.0.view.facts one.0.view.facts out.view.facts (pays_logged one.0.log ((v.operator, log.slashed burn v.tokens fraction) ∷ []) one.0.view.facts)
+        (pays_then one.0.log out.log out.log one.0.view.facts one.0.view.facts out.view.facts (pays_logged one.0.log ((v.operator, log.slashed burn v.tokens fraction) ∷ []) one.0.view.facts (tt, tt) refl)
         (pays_noted out.log one.0.view.facts (fact.Slashed v.operator fraction burn) (λ who op to reward coins k. cc))))
 
 validator_pays : (x : World Staked Shared) (v : Validator) (amount : ℕ) (y : ℕ × World Staked Shared) → validator_slashed distribution_told v amount x ≡ Ok y → PaysIn x y.1

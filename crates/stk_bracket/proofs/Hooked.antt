@@ -102,7 +102,7 @@ map_if f true x xs = refl
 map_if f false x xs = refl
 
 -- where no start is found, none is of the delegator
-nobody_started : (s : Staked) (who op : List ℕ) (es : List ((List ℕ × List ℕ) × StartingInfo)) → lookup (is_at (pair_cmp (op, who))) es ≡ None
+pub nobody_started : (s : Staked) (who op : List ℕ) (es : List ((List ℕ × List ℕ) × StartingInfo)) → lookup (is_at (pair_cmp (op, who))) es ≡ None
     → AllByRecursion (λ (t : Start). who ≢ t.who) (map (start_in s op) (filter (λ e. same_addr e.0.0 op) es))
 nobody_started s who op [] none = tt
 nobody_started s who op (e ∷ es) none =

@@ -23,6 +23,7 @@ pub mod Quiet
 pub mod Edits
 pub mod Sharing
 pub mod Hooked
+pub mod Resting
 pub mod Growing
 pub mod Delegating
 pub mod Leaving
@@ -37,6 +38,7 @@ pub mod Beside
 pub mod Slashing
 pub mod Punishing
 pub mod Rising
+pub mod Holding
 pub mod Withdrawing
 pub mod Paying
 pub mod Staking
@@ -47,3 +49,4 @@ pub mod Together
 pub mod Unfair
 pub mod Close
 pub mod Told
+pub mod Finding

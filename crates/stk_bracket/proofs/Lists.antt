@@ -1,5 +1,5 @@
 -- Lists of starts: one more, one less, and their sums.
-use Rattle.std.proofs.Common.{◌≡◌, ℕ, zero, suc, ◌+◌, ◌≤◌, List, [], ◌∷◌, ◌++◌, map, refl, arith, ap, subst}
+use Rattle.std.proofs.Common.{◌≡◌, ℕ, zero, suc, ◌+◌, ◌<◌, ◌≤◌, List, [], ◌∷◌, ◌++◌, length, map, refl, arith, ap, sym, subst}
 use Rattle.std.specs.Prelude.{Some, sum}
 use Rattle.std.specs.List.{AllByRecursion, slice_get, insert, remove}
 use Rattle.std.proofs.lemmas.List.Sums.{sum_by-cons}
@@ -50,6 +50,25 @@ pub all_at : {A : Type 0} (P : A → Type 0) (k : ℕ) (x : A) (xs : List A) →
 all_at P k x [] is e = absurd cc
 all_at P zero x (y ∷ xs) is e = let same : y ≡ x = cc in subst P same e.0
 all_at P (suc k) x (y ∷ xs) is e = all_at P k x xs is e.1
+
+-- something stands at each place
+pub some_at : {A : Type 0} (k : ℕ) (xs : List A) → k < length xs → (x : A) × (slice_get xs k ≡ Some x)
+some_at k [] h = absurd (omega arith)
+some_at zero (x ∷ xs) h = (x, refl)
+some_at (suc k) (x ∷ xs) h = some_at k xs (omega arith)
+
+-- what holds of an item and of all others holds of all
+pub all_put_back : {A : Type 0} (P : A → Type 0) (k : ℕ) (x : A) (xs : List A) → slice_get xs k ≡ Some x → P x → AllByRecursion P (remove xs k) → AllByRecursion P xs
+all_put_back P k x [] is p e = tt
+all_put_back P zero x (y ∷ xs) is p e = let same : y ≡ x = cc in (subst P (sym same) p, e)
+all_put_back P (suc k) x (y ∷ xs) is p e = (e.0, all_put_back P k x xs is p e.1)
+
+-- and what holds of all holds of the one that was put, and of those before
+pub all_before : {A : Type 0} (P : A → Type 0) (y : A) (k : ℕ) (xs : List A) → AllByRecursion P (insert xs k y) → P y × AllByRecursion P xs
+all_before P y zero [] e = (e.0, tt)
+all_before P y (suc k) [] e = (e.0, tt)
+all_before P y zero (x ∷ xs) e = (e.0, e.1)
+all_before P y (suc k) (x ∷ xs) e = let rest : P y × AllByRecursion P xs = all_before P y k xs e.1 in (rest.0, (e.0, rest.1))
 
 pub sum_remove : {A : Type 0} (f : A → ℕ) (x : A) (k : ℕ) (xs : List A) → slice_get xs k ≡ Some x → sum (map f (remove xs k)) + f x ≡ sum (map f xs)
 sum_remove f x k [] is = absurd cc

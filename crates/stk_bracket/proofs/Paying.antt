@@ -1,19 +1,18 @@
--- What steps tell and log: each payment of a reward among the facts is fair, with the log up to it.
-use Rattle.std.proofs.Common.{◌≡◌, ℕ, ◌==◌, Bool, true, false, List, [], ◌∷◌, ◌++◌, refl, sym, ap, subst, ◌∙◌, Option, Some, None, Result, Ok, append-nil, append_assoc}
+-- What steps tell and log: each entry is fair by the log up to it, and the payments that are told are those that are logged.
+use Rattle.std.proofs.Common.{◌≡◌, ℕ, ◌==◌, Bool, true, false, cond, List, [], ◌∷◌, ◌++◌, refl, sym, ap, subst, ◌∙◌, Option, Some, None, Result, Ok, append-nil, append_assoc}
 use Rattle.std.specs.Prelude.{if◌then◌else◌}
-use Rattle.std.specs.List.{AllByRecursion}
 use Rattle.stk_dec.specs.declared.over.Over.{Over}
 use Rattle.stk_types.specs.declared.account.Account.{Account as Holder}
 use Rattle.stk_types.specs.declared.account.Account.TheVariants as account
 use Rattle.stk_types.specs.declared.account.Module.{Module}
 use Rattle.stk_types.specs.declared.account.Module.TheVariants as holder
-use Rattle.stk_coins.specs.Coins.{Money, fractions}
+use Rattle.stk_coins.specs.Coins.{Money, whole_coins, fractions}
 use Rattle.stk_shares.specs.Shares.{value_cut_of}
 use Rattle.stk_keep.specs.declared.entities.Validator.{Validator}
 use Rattle.stk_keep.specs.declared.facts.Fact.{Fact}
 use Rattle.stk_keep.specs.declared.facts.Fact.TheVariants as fact
 use Rattle.stk_keep.specs.Holdings.{transfer_told, burn_told}
-use Rattle.stk_keep.specs.Log.{Log}
+use Rattle.stk_keep.specs.Log.{Log, LogEntry}
 use Rattle.stk_keep.specs.Log as log
 use Rattle.stk_keep.specs.Staked.{validator_at, delegation}
 use Rattle.stk_keep.specs.Steps.{◌>>=◌}
@@ -22,45 +21,58 @@ use Rattle.stk_rules.specs.Amounts.{is_empty, over_facts}
 use Rattle.stk_rules.specs.Chain.{State}
 use Rattle.stk_rules.specs.Delegating.{hook_before}
 use Rattle.stk_rules.specs.Distribution.{Shared, distribution_told, ended, started, current_taken, reward_withdrawn, payee_of}
+use Rattle.stk_rules.specs.Ideal.{span_of, history_of}
 use Rattle.stk_rules.specs.Periods.{Periods, periods_of, with_periods, period_ended, last_ended}
-use Rattle.stk_rules.specs.Purses.{Purses, pooled_told}
+use Rattle.stk_rules.specs.Purses.{Purses, purse_of, pooled_told}
 use Rattle.stk_bracket.specs.States.{AreReached}
-use Rattle.stk_bracket.specs.Withdrawals.{IsFairPayment, IsFairWithin, IsFairFact, IsFairWithdrawal}
-use Rattle.stk_bracket.proofs.Lists.{all_map}
+use Rattle.stk_bracket.specs.Withdrawals.{IsFairEntry, AreInTurn, AreFair, IsFairReward, IsFairWithdrawal, reward_paid, coins_paid, paid_by, payments_of, is_payment, payments_in, IsSent, AreSent}
+use Rattle.stk_bracket.proofs.Following.{now_is, own_addr}
 use Rattle.stk_bracket.proofs.Denominations.{step_parts}
 use Rattle.stk_bracket.proofs.Claims.{IsReady}
 use Rattle.stk_bracket.proofs.Quiet.{same_ok}
 use Rattle.stk_bracket.proofs.Hooked.{answer_of}
-use Rattle.stk_bracket.proofs.Withdrawing.{fair_withdrawal, fair_payment}
+use Rattle.stk_bracket.proofs.Entries.{history_behind}
+use Rattle.stk_bracket.proofs.Withdrawing.{IsMade, made_is, fair_withdrawal, fair_reward}
 
 -- ---- facts and entries one behind the other
 
--- behind this log and these facts come those
+-- Behind this log and these facts come those: each entry that is added is fair, the payments that are told are those of
+-- the withdrawals that are logged, and each is sent.
 pub record Pays (l : Log) (fs : List Fact) (k : Log) (gs : List Fact) : Type 0 where
   pub more : Log
   pub log_is : k ≡ l ++ more
   pub told : List Fact
   pub facts_are : gs ≡ fs ++ told
-  pub fair : AllByRecursion (IsFairFact l more) told
+  pub fair : AreFair l more
+  pub payments : payments_in told ≡ payments_of more
+  pub sent : AreSent fs told
 
-pub all_joined : {A : Type 0} (P : A → Type 0) (xs ys : List A) → AllByRecursion P xs → AllByRecursion P ys → AllByRecursion P (xs ++ ys)
-all_joined P [] ys h k = k
-all_joined P (x ∷ xs) ys h k = (h.0, all_joined P xs ys h.1 k)
+in_turn_joined : {A : Type 0} (P : List A → A → Type 0) (before a b : List A) → AreInTurn P before a → AreInTurn P (before ++ a) b → AreInTurn P before (a ++ b)
+in_turn_joined P before [] b h k = subst (λ m. AreInTurn P m b) (append-nil before) k
+in_turn_joined P before (x ∷ a) b h k =
+    (h.0, in_turn_joined P (before ++ x ∷ []) a b h.1 (subst (λ m. AreInTurn P m b) (sym (append_assoc before (x ∷ []) a)) k))
 
-pub fair_before : (l more next : Log) (f : Fact) → IsFairFact l more f → IsFairFact l (more ++ next) f
-fair_before l more next f h who op to reward coins e =
-    let k : IsFairWithin l more who op reward coins = h who op to reward coins e in
-    record { before = k.before; after = k.after ++ next; parts = ap (λ m. m ++ next) k.parts ∙ append_assoc k.before k.after next; fair = k.fair }
+pub fair_joined : (l a b : Log) → AreFair l a → AreFair (l ++ a) b → AreFair l (a ++ b)
+fair_joined l a b h k = in_turn_joined (λ before e. IsFairEntry before e.0 e.1) l a b h k
 
-pub fair_behind : (l more next : Log) (f : Fact) → IsFairFact (l ++ more) next f → IsFairFact l (more ++ next) f
-fair_behind l more next f h who op to reward coins e =
-    let k : IsFairWithin (l ++ more) next who op reward coins = h who op to reward coins e in
-    record {
-      before = more ++ k.before;
-      after = k.after;
-      parts = ap (λ m. more ++ m) k.parts ∙ sym (append_assoc more k.before k.after);
-      fair = subst (λ x. IsFairPayment x who op reward coins) (append_assoc l more k.before) k.fair;
-    }
+pub sent_joined : (fs a b : List Fact) → AreSent fs a → AreSent (fs ++ a) b → AreSent fs (a ++ b)
+sent_joined fs a b h k = in_turn_joined IsSent fs a b h k
+
+pub told_joined : (fs gs : List Fact) → payments_in (fs ++ gs) ≡ payments_in fs ++ payments_in gs
+told_joined [] gs = refl
+told_joined (f ∷ fs) gs = by (is_payment f) (told_joined fs gs)
+  where
+    by : (b : Bool) → payments_in (fs ++ gs) ≡ payments_in fs ++ payments_in gs → cond b (f ∷ payments_in (fs ++ gs)) (payments_in (fs ++ gs)) ≡ cond b (f ∷ payments_in fs) (payments_in fs) ++ payments_in gs
+    by true rest = ap (λ hs. f ∷ hs) rest
+    by false rest = rest
+
+pub logged_joined : (a b : Log) → payments_of (a ++ b) ≡ payments_of a ++ payments_of b
+logged_joined [] b = refl
+logged_joined (e ∷ a) b = ap (λ fs. paid_by e.0 e.1 ++ fs) (logged_joined a b) ∙ sym (append_assoc (paid_by e.0 e.1) (payments_of a) (payments_of b))
+
+-- what is told and logged in two parts
+pub payments_joined : (fs gs : List Fact) (a b : Log) → payments_in fs ≡ payments_of a → payments_in gs ≡ payments_of b → payments_in (fs ++ gs) ≡ payments_of (a ++ b)
+payments_joined fs gs a b h k = told_joined fs gs ∙ ap (λ x. x ++ payments_in gs) h ∙ ap (λ x. payments_of a ++ x) k ∙ sym (logged_joined a b)
 
 pub pays_then : (l k m : Log) (fs gs hs : List Fact) → Pays l fs k gs → Pays k gs m hs → Pays l fs m hs
 pays_then l k m fs gs hs a b = record {
@@ -68,23 +80,29 @@ pays_then l k m fs gs hs a b = record {
   log_is = b.log_is ∙ ap (λ x. x ++ b.more) a.log_is ∙ append_assoc l a.more b.more;
   told = a.told ++ b.told;
   facts_are = b.facts_are ∙ ap (λ x. x ++ b.told) a.facts_are ∙ append_assoc fs a.told b.told;
-  fair = all_joined (IsFairFact l (a.more ++ b.more)) a.told b.told
-      (all_map (IsFairFact l a.more) (IsFairFact l (a.more ++ b.more)) (λ f h. fair_before l a.more b.more f h) a.told a.fair)
-      (all_map (IsFairFact k b.more) (IsFairFact l (a.more ++ b.more)) (λ f h. fair_behind l a.more b.more f (subst (λ x. IsFairFact x b.more f) a.log_is h)) b.told b.fair);
+  fair = fair_joined l a.more b.more a.fair (subst (λ x. AreFair x b.more) a.log_is b.fair);
+  payments = payments_joined a.told b.told a.more b.more a.payments b.payments;
+  sent = sent_joined fs a.told b.told a.sent (subst (λ x. AreSent x b.told) a.facts_are b.sent);
 }
 
 pub pays_nothing : (l : Log) (fs : List Fact) → Pays l fs l fs
-pays_nothing l fs = record { more = []; log_is = sym (append-nil l); told = []; facts_are = sym (append-nil fs); fair = tt }
+pays_nothing l fs = record { more = []; log_is = sym (append-nil l); told = []; facts_are = sym (append-nil fs); fair = tt; payments = refl; sent = tt }
 
-pub pays_logged : (l more : Log) (fs : List Fact) → Pays l fs (l ++ more) fs
-pays_logged l more fs = record { more = more; log_is = refl; told = []; facts_are = sym (append-nil fs); fair = tt }
+-- entries that are fair, and no withdrawals
+pub pays_logged : (l more : Log) (fs : List Fact) → AreFair l more → payments_of more ≡ [] → Pays l fs (l ++ more) fs
+pays_logged l more fs fair none = record { more = more; log_is = refl; told = []; facts_are = sym (append-nil fs); fair = fair; payments = sym none; sent = tt }
 
 -- a fact of something else
 abbrev pub IsOther : Fact → Type 0
 IsOther f = (who op to : List ℕ) (reward : Money) (coins : Money) → f ≡ fact.Paid who op to reward coins → ⊥
 
+-- it is no payment, and so not sent as one
+none_told : (f : Fact) → IsOther f → (payments_in (f ∷ []) ≡ []) × ((fs : List Fact) → IsSent fs f)
+none_told (fact.Paid who op to reward coins) other = absurd (other who op to reward coins refl)
+none_told f other = (refl, λ fs. tt)
+
 pub pays_noted : (l : Log) (fs : List Fact) (f : Fact) → IsOther f → Pays l fs l (fs ++ f ∷ [])
-pays_noted l fs f other = record { more = []; log_is = sym (append-nil l); told = f ∷ []; facts_are = refl; fair = (λ who op to reward coins e. absurd (other who op to reward coins e), tt) }
+pays_noted l fs f other = record { more = []; log_is = sym (append-nil l); told = f ∷ []; facts_are = refl; fair = tt; payments = (none_told f other).0; sent = ((none_told f other).1 fs, tt) }
 
 pub pays_sent : (l : Log) (from to : Holder) (coins : Money) (fs : List Fact) → Pays l fs l (transfer_told from to coins fs)
 pays_sent l from to [] fs = pays_nothing l fs
@@ -111,7 +129,7 @@ ended_with v d u t r = (
   last_ended r.1,
   record d { rewards = with_periods v.operator r.1 d.rewards; purses = t.2 },
   noted (fact.Period v.operator (last_ended r.1) r.0) (over_facts (pooled_told t.1) u),
-  (v.operator, log.ended (last_ended r.1) t.0) ∷ [],
+  (v.operator, log.ended (last_ended r.1) t.0 v.tokens) ∷ [],
 )
 
 pub pays_ended : (l : Log) (v : Validator) (d : Shared) (u : View) (z : ℕ × Shared × View × Log) → ended v d u ≡ Ok z → Pays l u.facts (l ++ z.3) z.2.facts
@@ -126,35 +144,28 @@ pays_ended l v d u z e =
     let pooled : List Fact = pooled_told t.1 u.facts in
     let told : Pays l u.facts l out.2.facts =
     pays_then l l l u.facts pooled out.2.facts (pays_pooled l t.1 u.facts) (pays_noted l pooled (fact.Period v.operator (last_ended two.0.1) two.0.0) (λ who op to reward coins h. cc)) in
-    subst (λ q. Pays l u.facts (l ++ q.3) q.2.facts) (same_ok out z two.2) (pays_then l l (l ++ out.3) u.facts out.2.facts out.2.facts told (pays_logged l out.3 out.2.facts))
+    subst (λ q. Pays l u.facts (l ++ q.3) q.2.facts) (same_ok out z two.2) (pays_then l l (l ++ out.3) u.facts out.2.facts out.2.facts told (pays_logged l out.3 out.2.facts (tt, tt) refl))
 
-pub pays_started : (l : Log) (v : Validator) (who : List ℕ) (shares : ℕ) (d : Shared) (u : View) → Pays l u.facts (l ++ (started v who shares d u).2) (started v who shares d u).1.facts
-pays_started l v who shares d u =
+-- a start of a delegation whose rewards do not run
+pub pays_started : (l : Log) (v : Validator) (who : List ℕ) (shares : ℕ) (d : Shared) (u : View) → span_of who (history_of v.operator l []) None ≡ None
+    → Pays l u.facts (l ++ (started v who shares d u).2) (started v who shares d u).1.facts
+pays_started l v who shares d u rests =
     let s : Shared × View × Log = started v who shares d u in
     pays_then l l (l ++ s.2) u.facts s.1.facts s.1.facts
-    (pays_noted l u.facts (fact.Started who v.operator (last_ended (periods_of d.rewards v.operator)) (value_cut_of v.tokens v.shares shares)) (λ w op to reward coins h. cc)) (pays_logged l s.2 s.1.facts)
+    (pays_noted l u.facts (fact.Started who v.operator (last_ended (periods_of d.rewards v.operator)) (value_cut_of v.tokens v.shares shares)) (λ w op to reward coins h. cc)) (pays_logged l s.2 s.1.facts (rests, tt) refl)
 
-same_payment : (who op to : List ℕ) (reward coins : Money) (who' op' to' : List ℕ) (reward' coins' : Money) → fact.Paid who op to reward coins ≡ fact.Paid who' op' to' reward' coins' → (who ≡ who') × (op ≡ op') × (reward ≡ reward') × (coins ≡ coins')
-same_payment who op to reward coins who' op' to' reward' coins' e = (cc, cc, cc, cc)
-
-pays_paid : (l : Log) (fs : List Fact) (who op to : List ℕ) (reward coins : Money) → IsFairPayment l who op reward coins → Pays l fs l (fs ++ fact.Paid who op to reward coins ∷ [])
-pays_paid l fs who op to reward coins fair = record {
-  more = [];
-  log_is = sym (append-nil l);
-  told = fact.Paid who op to reward coins ∷ [];
+-- a withdrawal that is logged and told, behind what is sent
+pays_paid : (l : Log) (fs : List Fact) (who op to : List ℕ) (full outstanding : Money) (first : List Fact) → IsFairReward l who op full outstanding
+    → fs ≡ pooled_told (fractions (reward_paid full outstanding)) (transfer_told (account.Module holder.Distribution) (account.User to) (coins_paid full outstanding) first)
+    → Pays l fs (l ++ (op, log.withdrawn who to full outstanding) ∷ []) (fs ++ fact.Paid who op to (reward_paid full outstanding) (coins_paid full outstanding) ∷ [])
+pays_paid l fs who op to full outstanding first fair is = record {
+  more = (op, log.withdrawn who to full outstanding) ∷ [];
+  log_is = refl;
+  told = fact.Paid who op to (reward_paid full outstanding) (coins_paid full outstanding) ∷ [];
   facts_are = refl;
-  fair = (
-    λ who' op' to' reward' coins' e. (
-        let same : (who ≡ who') × (op ≡ op') × (reward ≡ reward') × (coins ≡ coins') = same_payment who op to reward coins who' op' to' reward' coins' e in
-        record {
-          before = [];
-          after = [];
-          parts = refl;
-          fair = subst (λ x. IsFairPayment x who' op' reward' coins') (sym (append-nil l))
-              (subst (λ (q : List ℕ × List ℕ × Money × Money). IsFairPayment l q.0 q.1 q.2 q.3) (λ i. (same.0 i, same.1 i, same.2 i, same.3 i)) fair);
-        }),
-    tt,
-  );
+  fair = (fair, tt);
+  payments = refl;
+  sent = ((first, is), tt);
 }
 
 pub pays_withdrawn : (w : State) (v : Validator) (who : List ℕ) (shares : ℕ) (y : Money × Shared × View × Log) → IsReady w v.operator → validator_at w.mine.staked v.operator ≡ Some v
@@ -163,15 +174,36 @@ pays_withdrawn w v who shares y ready found held reached e =
     let k : IsFairWithdrawal w v who shares y = fair_withdrawal w v who shares y ready found held reached e in
     let l : Log = w.log ++ k.more in
     let to : List ℕ = payee_of k.closed who in
+    let left : Money = (purse_of k.closed.purses v.operator).outstanding in
+    let m : Log = (v.operator, log.withdrawn who to k.full left) ∷ [] in
     let sent_facts : List Fact = transfer_told (account.Module holder.Distribution) (account.User to) y.0 k.ground.facts in
     let pooled : List Fact = pooled_told (fractions k.reward) sent_facts in
-    let paid : List Fact = pooled ++ fact.Paid who v.operator to k.reward y.0 ∷ [] in
+    let paid : List Fact = pooled ++ fact.Paid who v.operator to (reward_paid k.full left) (coins_paid k.full left) ∷ [] in
+    let coins : y.0 ≡ coins_paid k.full left = k.coins_are ∙ ap whole_coins k.reward_is in
+    let last : pooled ++ fact.Paid who v.operator to k.reward y.0 ∷ [] ≡ paid = λ i. pooled ++ fact.Paid who v.operator to (k.reward_is i) (coins i) ∷ [] in
+    let behind : pooled ≡ pooled_told (fractions (reward_paid k.full left)) (transfer_told (account.Module holder.Distribution) (account.User to) (coins_paid k.full left) k.ground.facts) =
+    λ i. pooled_told (fractions (k.reward_is i)) (transfer_told (account.Module holder.Distribution) (account.User to) (coins i) k.ground.facts) in
     let first : Pays w.log w.view.facts l k.ground.facts = pays_ended w.log v w.hooks.0 w.view (k.period, k.closed, k.ground, k.more) k.ends in
-    let rest : Pays l k.ground.facts l paid =
-    pays_then l l l k.ground.facts sent_facts paid (pays_sent l (account.Module holder.Distribution) (account.User to) y.0 k.ground.facts)
-    (pays_then l l l sent_facts pooled paid (pays_pooled l (fractions k.reward) sent_facts) (pays_paid l pooled who v.operator to k.reward y.0 (fair_payment w v who shares y k))) in
-    subst (λ m. Pays w.log w.view.facts (w.log ++ m) y.2.facts) (sym k.logged)
-    (subst (λ t. Pays w.log w.view.facts l t.facts) (sym k.told) (pays_then w.log l l w.view.facts k.ground.facts paid first rest))
+    let rest : Pays l k.ground.facts (l ++ m) paid =
+    pays_then l l (l ++ m) k.ground.facts sent_facts paid (pays_sent l (account.Module holder.Distribution) (account.User to) y.0 k.ground.facts)
+    (pays_then l l (l ++ m) sent_facts pooled paid (pays_pooled l (fractions k.reward) sent_facts) (pays_paid l pooled who v.operator to k.full left k.ground.facts (fair_reward w v who shares y k) behind)) in
+    let all : Pays w.log w.view.facts (l ++ m) paid = pays_then w.log l (l ++ m) w.view.facts k.ground.facts paid first rest in
+    let logged : l ++ m ≡ w.log ++ y.3 = append_assoc w.log k.more m ∙ ap (λ x. w.log ++ x) (sym k.logged) in
+    let told : paid ≡ y.2.facts = sym last ∙ ap (λ u. u.facts) (sym k.told) in
+    subst (λ n. Pays w.log w.view.facts n y.2.facts) logged (subst (λ fs. Pays w.log w.view.facts (l ++ m) fs) told all)
+
+-- behind it the rewards do not run
+pub withdrawn_rests : (v : Validator) (who : List ℕ) (shares : ℕ) (s : Shared) (u : View) (y : Money × Shared × View × Log) (l : Log) → reward_withdrawn v who shares s u ≡ Ok y
+    → span_of who (history_of v.operator (l ++ y.3) []) None ≡ None
+withdrawn_rests v who shares s u y l e =
+    let k : IsMade v who shares s u y = made_is v who shares s u y e in
+    let entry : LogEntry = log.withdrawn who (payee_of k.z.1 who) k.full (purse_of k.z.1.purses v.operator).outstanding in
+    let before : Log = l ++ k.z.3 in
+    let es : List LogEntry = history_of v.operator before [] in
+    let logged : y.3 ≡ k.z.3 ++ (v.operator, entry) ∷ [] = ap (λ x. x.3) k.answer_is in
+    let history : history_of v.operator (l ++ y.3) [] ≡ es ++ entry ∷ [] =
+    ap (λ x. history_of v.operator (l ++ x) []) logged ∙ ap (λ x. history_of v.operator x []) (sym (append_assoc l k.z.3 ((v.operator, entry) ∷ []))) ∙ history_behind v.operator before entry [] in
+    ap (λ x. span_of who x None) history ∙ now_is who es entry (span_of who es None) refl ∙ ap (λ b. cond b None (span_of who es None)) (own_addr who)
 
 -- the hook before a delegation
 pub pays_before : (w : State) (v : Validator) (who : List ℕ) (z : Shared × View × Log) → IsReady w v.operator → validator_at w.mine.staked v.operator ≡ Some v → AreReached w

@@ -1,5 +1,5 @@
 -- Withdrawing a delegation's reward, as a step of a state, is the deeds of its rule; every other account stays.
-use Rattle.std.proofs.Common.{◌≡◌, ℕ, ◌-◌, ◌≢◌, Bool, true, false, List, [], ◌∷◌, ◌++◌, map, refl, arith, sym, ap, subst, ◌∙◌, Some, Result, Ok, min}
+use Rattle.std.proofs.Common.{◌≡◌, ℕ, ◌-◌, ◌≢◌, Bool, true, false, List, [], ◌∷◌, ◌++◌, map, refl, arith, sym, ap, subst, ◌∙◌, Some, Result, Ok, min, append_assoc}
 use Rattle.std.specs.Prelude.{unwrap_or, is_some}
 use Rattle.std.specs.List.{slice_get, remove}
 use Rattle.std.specs.BTreeMap.{is_at}
@@ -15,7 +15,8 @@ use Rattle.stk_keep.specs.declared.entities.Validator.{Validator}
 use Rattle.stk_keep.specs.declared.facts.Fact.TheVariants as fact
 use Rattle.stk_keep.specs.Entries.{at, with}
 use Rattle.stk_keep.specs.Items.{no_purse}
-use Rattle.stk_keep.specs.Log.{Log}
+use Rattle.stk_keep.specs.Log.{Log, LogEntry}
+use Rattle.stk_keep.specs.Log as log
 use Rattle.stk_keep.specs.Orders.{pair_cmp, same_addr}
 use Rattle.stk_keep.specs.Staked.{validator_at, delegation}
 use Rattle.stk_keep.specs.Steps.{◌>>=◌}
@@ -26,12 +27,12 @@ use Rattle.stk_rules.specs.Distribution.{Shared, ended, reward_due, reward_withd
 use Rattle.stk_rules.specs.Ideal.{history_of}
 use Rattle.stk_rules.specs.Periods.{Rewards, periods_of, start_of, without_start, reward_at}
 use Rattle.stk_rules.specs.Purses.{Purses, purse_of, with_purse, pool_joined, paid_out, pooled_told}
-use Rattle.stk_bracket.specs.Account.{Start, Account, IsReached, reward_now, payment_of, account_after}
+use Rattle.stk_bracket.specs.Account.{Start, Account, IsReached, reward_now, owner_of, full_of, payment_of, account_after}
 use Rattle.stk_bracket.specs.Account as deed
 use Rattle.stk_bracket.specs.States.{starts_in, account_in, AreReached, WithdrawalKeepsReached}
 use Rattle.stk_bracket.proofs.Following.{own_addr, other_addr}
 use Rattle.stk_bracket.proofs.Denominations.{step_parts}
-use Rattle.stk_bracket.proofs.Entries.{addr_is, pair_is, put_there, put_elsewhere, IsGoneFrom, gone_from, kept_by}
+use Rattle.stk_bracket.proofs.Entries.{addr_is, pair_is, put_there, put_elsewhere, history_behind, history_elsewhere, IsGoneFrom, gone_from, kept_by}
 use Rattle.stk_bracket.proofs.Reached.{deeds_lead_on}
 use Rattle.stk_bracket.proofs.Claims.{IsReady, ready_in, IsEnded, closed_account, closed_full, due_parts, some_of, start_with}
 use Rattle.stk_bracket.proofs.Endings.{same_account, state_then, closed_is, same_some, end_is, ended_reached}
@@ -75,6 +76,10 @@ purse_less d operator p full z m outstanding e =
 
 -- ---- what a withdrawal is
 
+-- what it logs behind the end of the period
+abbrev pub withdrawal_entry : Validator → List ℕ → Money → Shared → LogEntry
+withdrawal_entry v who full s = log.withdrawn who (payee_of s who) full (purse_of s.purses v.operator).outstanding
+
 pub record IsWithdrawn (v : Validator) (who : List ℕ) (shares : ℕ) (s : Shared) (u : View) (y : Money × Shared × View × Log) : Type 0 where
   pub first : ℕ × Shared × View × Log
   pub ends : ended v s u ≡ Ok first
@@ -85,21 +90,21 @@ pub record IsWithdrawn (v : Validator) (who : List ℕ) (shares : ℕ) (s : Shar
   pub rewards : y.1.rewards ≡ without_start who v.operator first.1.rewards
   pub purses : y.1.purses ≡ paid.1
   pub height : y.2.ctx.height ≡ first.2.ctx.height
-  pub logged : y.3 ≡ first.3
+  pub logged : y.3 ≡ first.3 ++ (v.operator, withdrawal_entry v who full first.1) ∷ []
 
-abbrev withdrawn_with : Validator → List ℕ → ℕ × Shared × View × Log → Money × Purses → Money × Shared × View × Log
-withdrawn_with v who z r =
+abbrev withdrawn_with : Validator → List ℕ → Money → ℕ × Shared × View × Log → Money × Purses → Money × Shared × View × Log
+withdrawn_with v who full z r =
     let coins = whole_coins r.0 in
     let to = payee_of z.1 who in (
       coins,
       record z.1 { rewards = without_start who v.operator z.1.rewards; purses = r.1 },
       noted (fact.Paid who v.operator to r.0 coins) (over_facts (pooled_told (fractions r.0)) (paid_to to coins z.2)),
-      z.3,
+      z.3 ++ (v.operator, withdrawal_entry v who full z.1) ∷ [],
     )
 
 withdrawn_of : (v : Validator) (who : List ℕ) (shares : ℕ) (s : Shared) (u : View) (z : ℕ × Shared × View × Log) (full : Money) (r : Money × Purses) → ended v s u ≡ Ok z
     → reward_at (start_of z.1.rewards who v.operator) (periods_of z.1.rewards v.operator) z.0 z.2.ctx.height (value_even_of v.tokens v.shares shares) ≡ Ok full
-    → paid_out v.operator full z.1.purses ≡ Ok r → IsWithdrawn v who shares s u (withdrawn_with v who z r)
+    → paid_out v.operator full z.1.purses ≡ Ok r → IsWithdrawn v who shares s u (withdrawn_with v who full z r)
 withdrawn_of v who shares s u z full r e f g = record {
   first = z;
   ends = e;
@@ -116,18 +121,18 @@ withdrawn_of v who shares s u z full r e f g = record {
 pub withdrawn_is : (v : Validator) (who : List ℕ) (shares : ℕ) (s : Shared) (u : View) (y : Money × Shared × View × Log) → reward_withdrawn v who shares s u ≡ Ok y → IsWithdrawn v who shares s u y
 withdrawn_is v who shares s u y e =
     let one : (q : Money × Shared × View × Log) × (reward_due v who shares s u ≡ Ok q)
-    × ((paid_out v.operator q.0 q.1.purses >>= λ r. Ok (withdrawn_with v who (0, q.1, q.2, q.3) r)) ≡ Ok y) =
-    step_parts (reward_due v who shares s u) (λ q. paid_out v.operator q.0 q.1.purses >>= λ r. Ok (withdrawn_with v who (0, q.1, q.2, q.3) r)) y e in
+    × ((paid_out v.operator q.0 q.1.purses >>= λ r. Ok (withdrawn_with v who q.0 (0, q.1, q.2, q.3) r)) ≡ Ok y) =
+    step_parts (reward_due v who shares s u) (λ q. paid_out v.operator q.0 q.1.purses >>= λ r. Ok (withdrawn_with v who q.0 (0, q.1, q.2, q.3) r)) y e in
     let q : Money × Shared × View × Log = one.0 in
     let due : (z : ℕ × Shared × View × Log) × (ended v s u ≡ Ok z)
     × (reward_at (start_of z.1.rewards who v.operator) (periods_of z.1.rewards v.operator) z.0 z.2.ctx.height (value_even_of v.tokens v.shares shares) ≡ Ok q.0)
     × ((q.0, z.1, z.2, z.3) ≡ q) = due_parts v who shares s u q one.1 in
     let z : ℕ × Shared × View × Log = due.0 in
-    let two : (r : Money × Purses) × (paid_out v.operator q.0 q.1.purses ≡ Ok r) × (Path (Result (Money × Shared × View × Log) Over) (Ok (withdrawn_with v who (0, q.1, q.2, q.3) r)) (Ok y)) =
-    step_parts (paid_out v.operator q.0 q.1.purses) (λ r. Ok (withdrawn_with v who (0, q.1, q.2, q.3) r)) y one.2 in
+    let two : (r : Money × Purses) × (paid_out v.operator q.0 q.1.purses ≡ Ok r) × (Path (Result (Money × Shared × View × Log) Over) (Ok (withdrawn_with v who q.0 (0, q.1, q.2, q.3) r)) (Ok y)) =
+    step_parts (paid_out v.operator q.0 q.1.purses) (λ r. Ok (withdrawn_with v who q.0 (0, q.1, q.2, q.3) r)) y one.2 in
     let pays : paid_out v.operator q.0 z.1.purses ≡ Ok two.0 = ap (λ p. paid_out v.operator q.0 p.1.purses) due.3 ∙ two.1 in
-    let is : withdrawn_with v who z two.0 ≡ y =
-    ap (λ p. withdrawn_with v who (0, p.1, p.2, p.3) two.0) due.3 ∙ same_end (withdrawn_with v who (0, q.1, q.2, q.3) two.0) y two.2 in
+    let is : withdrawn_with v who q.0 z two.0 ≡ y =
+    ap (λ p. withdrawn_with v who p.0 (0, p.1, p.2, p.3) two.0) due.3 ∙ same_end (withdrawn_with v who q.0 (0, q.1, q.2, q.3) two.0) y two.2 in
     subst (λ x. IsWithdrawn v who shares s u x) is (withdrawn_of v who shares s u z q.0 two.0 due.1 due.2 pays)
   where
     same_end : (x y : Money × Shared × View × Log) → Path (Result (Money × Shared × View × Log) Over) (Ok x) (Ok y) → x ≡ y
@@ -153,17 +158,35 @@ other_kept w v u who r apart =
     (kept_by (is_at (pair_cmp (v.operator, who))) (λ e. same_addr e.0.0 u.operator) r.starts
     (λ e h. let pair : (v.operator ≡ e.0.0) × (who ≡ e.0.1) = pair_is (v.operator, who) e.0 h in ap (λ o. same_addr o u.operator) (sym pair.0) ∙ apart))
 
+-- the full reward is that of the start
+paid_full : (d : List ℕ) (w : State) (v : Validator) (who : List ℕ) (shares : ℕ) (info : StartingInfo) (y : Money × Shared × View × Log) (k : IsWithdrawn v who shares w.hooks.0 w.view y)
+    → IsReady w v.operator → delegation w.mine.staked who v.operator ≡ Some shares → start_of w.hooks.0.rewards who v.operator ≡ Some info
+    → (i : IsEnded d v w.hooks.0 w.view k.first)
+    → (g : IsGoneFrom (starts_in w.mine.staked k.first.1.rewards v.operator) (starts_in w.mine.staked (without_start who v.operator k.first.1.rewards) v.operator) (start_with w v who info))
+    → amount_of k.full d ≡ full_of d (account_in d (state_then w k.first) v) (slice_get (account_in d (state_then w k.first) v).starts g.place)
+paid_full d w v who shares info y k ready held is i g =
+    let b : Account = account_in d (state_then w k.first) v in
+    let c : Account = closed_account d w v i.increment i.ratio in
+    let before : b ≡ c = closed_is d w v k.first i in
+    let full : IsMoney k.full × (amount_of k.full d ≡ reward_now d c (record { who = who; shares = shares; info = info })) = closed_full d w v who shares info k.full k.first i ready is k.is_full in
+    full.1 ∙ ap (λ x. reward_now d x (record { who = who; shares = shares; info = info })) (sym before)
+    ∙ ap (λ o. reward_now d b (record { who = who; shares = unwrap_or o 0; info = info })) (sym held)
+    ∙ ap (λ o. full_of d b o) (sym g.was)
+
 -- the validator of the delegation: its account loses the start, and what is paid
 pub paid_account : (d : List ℕ) (w : State) (v : Validator) (who : List ℕ) (shares : ℕ) (info : StartingInfo) (y : Money × Shared × View × Log) (k : IsWithdrawn v who shares w.hooks.0 w.view y)
     → IsReady w v.operator → validator_at w.mine.staked v.operator ≡ Some v → delegation w.mine.staked who v.operator ≡ Some shares → start_of w.hooks.0.rewards who v.operator ≡ Some info
     → (i : IsEnded d v w.hooks.0 w.view k.first)
     → (g : IsGoneFrom (starts_in w.mine.staked k.first.1.rewards v.operator) (starts_in w.mine.staked (without_start who v.operator k.first.1.rewards) v.operator) (start_with w v who info))
-    → account_in d (state_behind w y) v ≡ account_after d (account_in d (state_then w k.first) v) (deed.payment g.place)
+    → account_in d (state_behind w y) v
+    ≡ account_after d (account_in d (state_then w k.first) v) (deed.payment g.place (payee_of k.first.1 who) k.full (purse_of k.first.1.purses v.operator).outstanding)
 paid_account d w v who shares info y k ready found held is i g =
     let op : List ℕ = v.operator in
     let z : ℕ × Shared × View × Log = k.first in
     let a : Account = account_in d (state_behind w y) v in
     let b : Account = account_in d (state_then w z) v in
+    let out : Money = (purse_of z.1.purses op).outstanding in
+    let entry : LogEntry = withdrawal_entry v who k.full z.1 in
     let c : Account = closed_account d w v i.increment i.ratio in
     let before : b ≡ c = closed_is d w v z i in
     let full : IsMoney k.full × (amount_of k.full d ≡ reward_now d c (record { who = who; shares = shares; info = info })) = closed_full d w v who shares info k.full z i ready is k.is_full in
@@ -177,14 +200,18 @@ paid_account d w v who shares info y k ready found held is i g =
     full.1 ∙ ap (λ x. reward_now d x (record { who = who; shares = shares; info = info })) (sym before)
     ∙ ap (λ o. reward_now d b (record { who = who; shares = unwrap_or o 0; info = info })) (sym held) in
     let leaves : min (amount_of k.full d) b.outstanding ≡ payment_of d b (slice_get b.starts g.place) = ap (λ n. min n b.outstanding) reward ∙ ap (λ o. payment_of d b o) (sym g.was) in
-    same_account v.tokens v.shares a.height b.height a.current b.current a.commission b.commission a.outstanding (b.outstanding - payment_of d b (slice_get b.starts g.place)) a.periods b.periods a.starts (remove b.starts g.place) a.history b.history
+    same_account v.tokens v.shares a.height b.height a.current b.current a.commission b.commission a.outstanding (b.outstanding - payment_of d b (slice_get b.starts g.place)) a.periods b.periods a.starts (remove b.starts g.place) a.history
+    (b.history ++ log.withdrawn (owner_of (slice_get b.starts g.place)) (payee_of z.1 who) k.full out ∷ [])
     k.height
     (ap (λ q. amount_of q.current d) purse ∙ ap (λ m. amount_of m d) less.current)
     (ap (λ q. amount_of q.commission d) purse ∙ ap (λ m. amount_of m d) less.commission)
     (ap (λ q. amount_of q.outstanding d) purse ∙ less.outstanding ∙ ap (λ n. b.outstanding - n) leaves)
     (ap (λ r. periods_of r op) k.rewards)
     (ap (λ r. starts_in w.mine.staked r op) k.rewards ∙ g.is)
-    (ap (λ m. history_of op (w.log ++ m) []) k.logged)
+    (ap (λ m. history_of op (w.log ++ m) []) k.logged
+    ∙ ap (λ l. history_of op l []) (sym (append_assoc w.log z.3 ((op, entry) ∷ [])))
+    ∙ history_behind op (w.log ++ z.3) entry []
+    ∙ ap (λ x. b.history ++ log.withdrawn x (payee_of z.1 who) k.full out ∷ []) (sym (ap owner_of g.was)))
 
 -- another validator
 other_account : (d : List ℕ) (w : State) (v u : Validator) (who : List ℕ) (shares : ℕ) (y : Money × Shared × View × Log) (k : IsWithdrawn v who shares w.hooks.0 w.view y)
@@ -196,6 +223,7 @@ other_account d w v u who shares y k full money apart apart' =
     let a : Account = account_in d (state_behind w y) u in
     let b : Account = account_in d (state_then w z) u in
     let less : PurseLess d v.operator z.1.purses k.full k.paid.1 = purse_less d v.operator z.1.purses k.full k.paid full money k.pays in
+    let entry : LogEntry = withdrawal_entry v who k.full z.1 in
     let purse : purse_of y.1.purses op ≡ purse_of z.1.purses op =
     ap (λ q. purse_of q op) k.purses ∙ ap (λ es. unwrap_or (at addr_cmp es op) no_purse) less.is ∙ ap (λ o. unwrap_or o no_purse) (put_elsewhere v.operator op less.purse z.1.purses.purses apart) in
     same_account u.tokens u.shares a.height b.height a.current b.current a.commission b.commission a.outstanding b.outstanding a.periods b.periods a.starts b.starts a.history b.history
@@ -205,7 +233,9 @@ other_account d w v u who shares y k full money apart apart' =
     (ap (λ q. amount_of q.outstanding d) purse)
     (ap (λ r. periods_of r op) k.rewards)
     (ap (λ r. starts_in w.mine.staked r op) k.rewards ∙ other_kept w v u who z.1.rewards apart')
-    (ap (λ m. history_of op (w.log ++ m) []) k.logged)
+    (ap (λ m. history_of op (w.log ++ m) []) k.logged
+    ∙ ap (λ l. history_of op l []) (sym (append_assoc w.log z.3 ((v.operator, entry) ∷ [])))
+    ∙ history_elsewhere op v.operator (w.log ++ z.3) entry [] apart')
 
 reached_behind : (d : List ℕ) (w : State) (v u : Validator) (who : List ℕ) (shares : ℕ) (y : Money × Shared × View × Log) → IsReady w v.operator → validator_at w.mine.staked v.operator ≡ Some v
     → delegation w.mine.staked who v.operator ≡ Some shares → IsWithdrawn v who shares w.hooks.0 w.view y → AreReached w
@@ -221,7 +251,8 @@ reached_behind d w v u who shares y ready found held k reached there true is =
     let before : IsReached d (account_in d (state_then w z) v) = ended_reached w v z ready found k.ends reached d v found in
     subst (λ x. IsReached d (account_in d (state_behind w y) x)) (sym one)
     (subst (λ a. IsReached d a) (sym (paid_account d w v who shares some.0 y k ready found held some.1 i g))
-    (deeds_lead_on d (account_in d (state_then w z) v) (deed.payment g.place ∷ []) before (g.within, tt)))
+    (deeds_lead_on d (account_in d (state_then w z) v) (deed.payment g.place (payee_of z.1 who) k.full (purse_of z.1.purses v.operator).outstanding ∷ []) before
+    (record { within = g.within; full_is = paid_full d w v who shares some.0 y k ready held some.1 i g; outstanding_is = refl }, tt)))
 reached_behind d w v u who shares y ready found held k reached there false is =
     let z : ℕ × Shared × View × Log = k.first in
     let i : IsEnded d v w.hooks.0 w.view z = end_is d w v z ready k.ends in

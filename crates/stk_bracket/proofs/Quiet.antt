@@ -1,5 +1,5 @@
 -- Messages that touch no rewards keep accounts reached; the payment of commission is its deed.
-use Rattle.std.proofs.Common.{◌≡◌, ℕ, ◌-◌, ◌*◌, ◌/◌, ◌^◌, ◌≤◌, Bool, true, false, cond, List, [], ◌∷◌, refl, arith, sym, ap, subst, ◌∙◌, Some, Result, Ok, min, append-nil}
+use Rattle.std.proofs.Common.{◌≡◌, ℕ, ◌-◌, ◌*◌, ◌/◌, ◌^◌, ◌≤◌, Bool, true, false, cond, List, [], ◌∷◌, ◌++◌, refl, arith, sym, ap, subst, ◌∙◌, Some, Result, Ok, min, append-nil}
 use Rattle.std.specs.Prelude.{unwrap_or, IfSome, not, ⊤}
 use Rattle.std.specs.BTreeMap.{is_at}
 use Rattle.std.specs.Map.{lookup}
@@ -22,6 +22,8 @@ use Rattle.stk_keep.specs.declared.refusal.Refusal.TheVariants.{FeeUnpaid, NoCom
 use Rattle.stk_keep.specs.Entries.{at, with}
 use Rattle.stk_keep.specs.Holdings.{is_short}
 use Rattle.stk_keep.specs.Items.{no_purse}
+use Rattle.stk_keep.specs.Log.{Log}
+use Rattle.stk_keep.specs.Log as log
 use Rattle.stk_keep.specs.Orders.{same_addr}
 use Rattle.stk_keep.specs.Steps.{◌>>=◌, ◌>>◌, stop_if, or_stop, stopping}
 use Rattle.stk_keep.specs.World.{View, sent, over_view, noted}
@@ -38,8 +40,9 @@ use Rattle.stk_bracket.specs.Account.{Account, IsReached, account_after}
 use Rattle.stk_bracket.specs.Account as deed
 use Rattle.stk_bracket.specs.States.{starts_in, account_in, ReachedStays, QuietMessagesKeepReached}
 use Rattle.stk_bracket.proofs.Rounding.{floor_low}
+use Rattle.stk_bracket.proofs.Following.{own_addr, other_addr}
 use Rattle.stk_bracket.proofs.Denominations.{step_parts}
-use Rattle.stk_bracket.proofs.Entries.{addr_is, put_there, put_elsewhere}
+use Rattle.stk_bracket.proofs.Entries.{addr_is, put_there, put_elsewhere, history_behind, history_elsewhere}
 use Rattle.stk_bracket.proofs.Reached.{deeds_lead_on}
 use Rattle.stk_bracket.proofs.Endings.{same_account}
 use Rattle.stk_bracket.proofs.Beginnings.{found_is, went_on, if_ok}
@@ -168,11 +171,10 @@ amount_in_units d (c ∷ cs) = by (is_at (denom_cmp d) c.0) (amount_in_units d c
 
 -- what leaves is within both
 record IsDue (d : List ℕ) (p : Purse) : Type 0 where
-  amount : ℕ
-  from_commission : amount_of (commission_paid p).commission d ≡ amount_of p.commission d - amount
-  from_outstanding : amount_of (commission_paid p).outstanding d ≡ amount_of p.outstanding d - amount
-  within_commission : amount ≤ amount_of p.commission d
-  within_outstanding : amount ≤ amount_of p.outstanding d
+  from_commission : amount_of (commission_paid p).commission d ≡ amount_of p.commission d - amount_of (in_units (commission_due p)) d
+  from_outstanding : amount_of (commission_paid p).outstanding d ≡ amount_of p.outstanding d - amount_of (in_units (commission_due p)) d
+  within_commission : amount_of (in_units (commission_due p)) d ≤ amount_of p.commission d
+  within_outstanding : amount_of (in_units (commission_due p)) d ≤ amount_of p.outstanding d
 
 smaller_within : (c o n : ℕ) → n ≡ min (c / 10 ^ 18) (o / 10 ^ 18) * 10 ^ 18 → (n ≤ c) × (n ≤ o)
 smaller_within c o n e = (omega (arith, floor_low c (10 ^ 18)), omega (arith, floor_low o (10 ^ 18)))
@@ -187,7 +189,6 @@ due_is d p sound =
     let units : amount_of paid d ≡ min (amount_of p.commission d / 10 ^ 18) (amount_of p.outstanding d / 10 ^ 18) * 10 ^ 18 =
     amount_in_units d (commission_due p) ∙ ap (λ n. n * 10 ^ 18) due ∙ ap (λ n. min n (amount_of (whole_coins p.outstanding) d) * 10 ^ 18) whole_c ∙ ap (λ n. min (amount_of p.commission d / 10 ^ 18) n * 10 ^ 18) whole_o in
     let within : (amount_of paid d ≤ amount_of p.commission d) × (amount_of paid d ≤ amount_of p.outstanding d) = smaller_within (amount_of p.commission d) (amount_of p.outstanding d) (amount_of paid d) units in record {
-      amount = amount_of paid d;
       from_commission = amount-all (λ e n. n - amount_of paid e) (λ e. omega arith) p.commission d (rises_from_money p.commission sound.commission);
       from_outstanding = amount-all (λ e n. n - amount_of paid e) (λ e. omega arith) p.outstanding d (rises_from_money p.outstanding sound.outstanding);
       within_commission = within.0;
@@ -195,7 +196,7 @@ due_is d p sound =
     }
 
 abbrev commission_state : State → List ℕ → Purse → View → State
-commission_state w operator purse u = with_shared (record w.hooks.0 { purses = with_purse operator (commission_paid purse) w.hooks.0.purses }) u [] w
+commission_state w operator purse u = with_shared (record w.hooks.0 { purses = with_purse operator (commission_paid purse) w.hooks.0.purses }) u ((operator, log.commission (in_units (commission_due purse))) ∷ []) w
 
 commission_after : (d : List ℕ) (w : State) (operator : List ℕ) (purse : Purse) (u : View) (v : Validator) → u.ctx.height ≡ w.view.ctx.height → at addr_cmp w.hooks.0.purses.purses operator ≡ Some purse → PurseIsSound purse
     → IsReached d (account_in d w v) → (b : Bool) → same_addr v.operator operator ≡ b → IsReached d (account_in d (commission_state w operator purse u) v)
@@ -204,7 +205,8 @@ commission_after d w operator purse u v height there sound reached true is =
     let i : IsDue d purse = due_is d purse sound in
     let a : Account = account_in d (commission_state w operator purse u) v in
     let b : Account = account_in d w v in
-    let c : Account = account_after d b (deed.commission_payment i.amount) in
+    let paid : Money = in_units (commission_due purse) in
+    let c : Account = account_after d b (deed.commission_payment paid) in
     let old : purse_of w.hooks.0.purses v.operator ≡ purse = ap (λ o. unwrap_or (at addr_cmp w.hooks.0.purses.purses o) no_purse) own ∙ ap (λ o. unwrap_or o no_purse) there in
     let new : purse_of (with_purse operator (commission_paid purse) w.hooks.0.purses) v.operator ≡ commission_paid purse =
     ap (λ o. unwrap_or (at addr_cmp (with addr_cmp w.hooks.0.purses.purses operator (commission_paid purse)) o) no_purse) own ∙ ap (λ o. unwrap_or o no_purse) (put_there operator (commission_paid purse) w.hooks.0.purses.purses) in
@@ -212,13 +214,13 @@ commission_after d w operator purse u v height there sound reached true is =
     same_account v.tokens v.shares a.height c.height a.current c.current a.commission c.commission a.outstanding c.outstanding a.periods c.periods a.starts c.starts a.history c.history
     height
     (ap (λ q. amount_of q.current d) new ∙ ap (λ q. amount_of q.current d) (sym old))
-    (ap (λ q. amount_of q.commission d) new ∙ i.from_commission ∙ ap (λ q. amount_of q.commission d - i.amount) (sym old))
-    (ap (λ q. amount_of q.outstanding d) new ∙ i.from_outstanding ∙ ap (λ q. amount_of q.outstanding d - i.amount) (sym old))
+    (ap (λ q. amount_of q.commission d) new ∙ i.from_commission ∙ ap (λ q. amount_of q.commission d - amount_of paid d) (sym old))
+    (ap (λ q. amount_of q.outstanding d) new ∙ i.from_outstanding ∙ ap (λ q. amount_of q.outstanding d - amount_of paid d) (sym old))
     refl refl
-    (ap (λ l. history_of v.operator l []) (append-nil w.log)) in
-    let within : (i.amount ≤ b.commission) × (i.amount ≤ b.outstanding) =
-    (subst (λ q. i.amount ≤ amount_of q.commission d) (sym old) i.within_commission, subst (λ q. i.amount ≤ amount_of q.outstanding d) (sym old) i.within_outstanding) in
-    subst (λ x. IsReached d x) (sym equal) (deeds_lead_on d b (deed.commission_payment i.amount ∷ []) reached (within, tt))
+    (ap (λ o. history_of v.operator (w.log ++ (o, log.commission paid) ∷ []) []) (sym own) ∙ history_behind v.operator w.log (log.commission paid) []) in
+    let within : (amount_of paid d ≤ b.commission) × (amount_of paid d ≤ b.outstanding) =
+    (subst (λ q. amount_of paid d ≤ amount_of q.commission d) (sym old) i.within_commission, subst (λ q. amount_of paid d ≤ amount_of q.outstanding d) (sym old) i.within_outstanding) in
+    subst (λ x. IsReached d x) (sym equal) (deeds_lead_on d b (deed.commission_payment paid ∷ []) reached (within, tt))
 commission_after d w operator purse u v height there sound reached false is =
     let a : Account = account_in d (commission_state w operator purse u) v in
     let b : Account = account_in d w v in
@@ -230,29 +232,32 @@ commission_after d w operator purse u v height there sound reached false is =
     (ap (λ q. amount_of q.commission d) same)
     (ap (λ q. amount_of q.outstanding d) same)
     refl refl
-    (ap (λ l. history_of v.operator l []) (append-nil w.log)))) reached
+    (history_elsewhere v.operator operator w.log (log.commission (in_units (commission_due purse))) [] (other_addr operator v.operator (λ h. true_not_false (sym (own_addr v.operator) ∙ ap (same_addr v.operator) (sym h) ∙ is)))))) reached
+  where
+    true_not_false : true ≡ false → ⊥
+    true_not_false h = cc
 
 purse_sound : (w : State) (operator : List ℕ) (purse : Purse) → IsSound w → at addr_cmp w.hooks.0.purses.purses operator ≡ Some purse → PurseIsSound purse
 purse_sound w operator purse sound there = subst (λ o. IfSome o PurseIsSound) there (All-lookup PurseIsSound (is_at (addr_cmp operator)) w.hooks.0.purses.purses sound.purses.purses)
 
-abbrev commission_out : State → List ℕ → Purse → Money × Shared × View
+abbrev commission_out : State → List ℕ → Purse → Money × Shared × View × Log
 commission_out w operator purse =
     let coins = commission_due purse in
     let to = payee_of w.hooks.0 operator in
-    (coins, record w.hooks.0 { purses = with_purse operator (commission_paid purse) w.hooks.0.purses }, noted (fact.Commission operator to coins) (paid_to to coins w.view))
+    (coins, record w.hooks.0 { purses = with_purse operator (commission_paid purse) w.hooks.0.purses }, noted (fact.Commission operator to coins) (paid_to to coins w.view), (operator, log.commission (in_units coins)) ∷ [])
 
 commission_reached : (operator : List ℕ) (w new : State) → IsSound w → withdraw_commission operator w ≡ Ok new → ReachedStays w new
 commission_reached operator w new sound e =
-    let one : (x : Money × Shared × View) × (commission_withdrawn operator w.hooks.0 w.view ≡ Ok x) × (Path (Result State Refusal) (Ok (with_shared x.1 x.2 [] w)) (Ok new)) =
-    step_parts (commission_withdrawn operator w.hooks.0 w.view) (λ x. Ok (with_shared x.1 x.2 [] w)) new e in
+    let one : (x : Money × Shared × View × Log) × (commission_withdrawn operator w.hooks.0 w.view ≡ Ok x) × (Path (Result State Refusal) (Ok (with_shared x.1 x.2 x.3 w)) (Ok new)) =
+    step_parts (commission_withdrawn operator w.hooks.0 w.view) (λ x. Ok (with_shared x.1 x.2 x.3 w)) new e in
     let two : (purse : Purse) × (or_stop (at addr_cmp w.hooks.0.purses.purses operator) NoCommission ≡ Ok purse) × ((stop_if (is_empty purse.commission) NoCommission >> Ok (commission_out w operator purse)) ≡ Ok one.0) =
     step_parts (or_stop (at addr_cmp w.hooks.0.purses.purses operator) NoCommission) (λ purse. stop_if (is_empty purse.commission) NoCommission >> Ok (commission_out w operator purse)) one.0 one.1 in
     let purse : Purse = two.0 in
     let there : at addr_cmp w.hooks.0.purses.purses operator ≡ Some purse = found_is (at addr_cmp w.hooks.0.purses.purses operator) NoCommission purse two.1 in
     let is : commission_out w operator purse ≡ one.0 = same_ok (commission_out w operator purse) one.0 (passed (is_empty purse.commission) NoCommission (Ok (commission_out w operator purse)) one.0 two.2) in
-    let own : ReachedStays w (with_shared (commission_out w operator purse).1 (commission_out w operator purse).2 [] w) =
+    let own : ReachedStays w (with_shared (commission_out w operator purse).1 (commission_out w operator purse).2 (commission_out w operator purse).3 w) =
     λ reached d v found. commission_after d w operator purse (commission_out w operator purse).2 v refl there (purse_sound w operator purse sound there) (reached d v found) (same_addr v.operator operator) refl in
-    subst (ReachedStays w) (same_ok (with_shared one.0.1 one.0.2 [] w) new one.2) (subst (λ x. ReachedStays w (with_shared x.1 x.2 [] w)) is own)
+    subst (ReachedStays w) (same_ok (with_shared one.0.1 one.0.2 one.0.3 w) new one.2) (subst (λ x. ReachedStays w (with_shared x.1 x.2 x.3 w)) is own)
 
 pub quiet_messages_keep_reached : QuietMessagesKeepReached
 quiet_messages_keep_reached = record {

@@ -1,13 +1,14 @@
 -- What holds of each account that is reached, and that fitting deeds lead from one to another.
-use Rattle.std.proofs.Common.{◌≡◌, ◌≢◌, ℕ, zero, suc, ◌<◌, ◌≤◌, List, [], ◌∷◌, ◌++◌, refl, arith, ap, ◌∙◌, subst, sym, Some}
-use Rattle.std.specs.List.{AllByRecursion, slice_get, insert, remove}
+use Rattle.std.proofs.Common.{◌≡◌, ℕ, ◌<◌, ◌≤◌, true, List, [], ◌∷◌, ◌++◌, refl, arith, ap, ◌∙◌, subst, sym, None}
+use Rattle.std.specs.Prelude.{is_some}
+use Rattle.std.specs.List.{AllByRecursion}
 use Rattle.std.proofs.lemmas.List.Elements.{All-from_recursion}
-use Rattle.stk_bracket.specs.Account.{Start, Account, Deed, IsFitting, AreFitting, IsReached, account_of, account_after, new_account, counted_shares, start_made}
-use Rattle.stk_bracket.specs.Account as deed
+use Rattle.stk_rules.specs.Ideal.{span_of}
+use Rattle.stk_bracket.specs.Account.{Account, Deed, AreFitting, IsReached, account_of, account_after, new_account, counted_shares}
 use Rattle.stk_bracket.specs.Laws.{IsStartBracketed, IsCutWithin, NewIsReached, DeedsLeadOn, RewardsAreBracketed, ShortfallIsBounded, CutIsBounded}
-use Rattle.stk_bracket.proofs.Lists.{all_map, all_insert, all_remove, all_at}
+use Rattle.stk_bracket.proofs.Lists.{all_map}
 use Rattle.stk_bracket.proofs.Following.{Follows, bracketed}
-use Rattle.stk_bracket.proofs.Deeds.{Good, good_after, good_new}
+use Rattle.stk_bracket.proofs.Deeds.{AreApart, Good, good_after, good_new}
 use Rattle.stk_bracket.proofs.Holders.{Covers}
 use Rattle.stk_bracket.proofs.Covered.{book_in, held_is, covers_after, covers_new, covers_claims, cuts_within}
 
@@ -41,45 +42,12 @@ pub reached_some : (d : List ℕ) (a : Account) → IsReached d a → AllByRecur
 reached_some d a r = all_map (Follows d a) (λ s. 0 < s.shares) (λ s k. k.some) a.starts (sound_reached d a r).good.follows
 
 -- nobody has two starts
-abbrev pub AreApart : List Start → Type 0
-AreApart [] = Unit {0}
-AreApart (s ∷ ss) = AllByRecursion (λ t. s.who ≢ t.who) ss × AreApart ss
-
-apart_insert : (s : Start) (k : ℕ) (ss : List Start) → AllByRecursion (λ t. s.who ≢ t.who) ss → AreApart ss → AreApart (insert ss k s)
-apart_insert s zero [] h a = (tt, tt)
-apart_insert s (suc k) [] h a = (tt, tt)
-apart_insert s zero (x ∷ ss) h a = (h, a)
-apart_insert s (suc k) (x ∷ ss) h a = (all_insert (λ t. x.who ≢ t.who) s (λ e. h.0 (sym e)) k ss a.0, apart_insert s k ss h.1 a.1)
-
-apart_remove : (k : ℕ) (ss : List Start) → AreApart ss → AreApart (remove ss k)
-apart_remove zero [] a = tt
-apart_remove (suc k) [] a = tt
-apart_remove zero (x ∷ ss) a = a.1
-apart_remove (suc k) (x ∷ ss) a = (all_remove (λ t. x.who ≢ t.who) k ss a.0, apart_remove k ss a.1)
-
--- a start that goes leaves none of its delegator
-pub apart_rest : (s : Start) (k : ℕ) (ss : List Start) → slice_get ss k ≡ Some s → AreApart ss → AllByRecursion (λ t. s.who ≢ t.who) (remove ss k)
-apart_rest s k [] is a = absurd cc
-apart_rest s zero (x ∷ ss) is a = let same : x ≡ s = cc in subst (λ y. AllByRecursion (λ t. y.who ≢ t.who) ss) same a.0
-apart_rest s (suc k) (x ∷ ss) is a = (λ e. all_at (λ t. x.who ≢ t.who) k s ss is a.0 (sym e), apart_rest s k ss is a.1)
-
-apart_after : (d : List ℕ) (a : Account) (act : Deed) → IsFitting d a act → AreApart a.starts → AreApart (account_after d a act).starts
-apart_after d a (deed.block height) fit h = h
-apart_after d a (deed.allocation commission rest) fit h = h
-apart_after d a (deed.ending increment ratio) fit h = h
-apart_after d a (deed.slash burn increment ratio) fit h = h
-apart_after d a (deed.issue amount issued) fit h = h
-apart_after d a (deed.removal part) fit h = h
-apart_after d a (deed.beginning place who shares) fit h = apart_insert (start_made a who shares) place a.starts fit.4 h
-apart_after d a (deed.payment place) fit h = apart_remove place a.starts h
-apart_after d a (deed.commission_payment amount) fit h = h
-
-apart_all : (d : List ℕ) (deeds : List Deed) (a : Account) → AreFitting d a deeds → AreApart a.starts → AreApart (account_of d a deeds).starts
-apart_all d [] a fit h = h
-apart_all d (act ∷ deeds) a fit h = apart_all d deeds _ fit.1 (apart_after d a act fit.0 h)
-
 pub reached_apart : (d : List ℕ) (a : Account) → IsReached d a → AreApart a.starts
-reached_apart d a r = subst (λ b. AreApart b.starts) r.is (apart_all d r.deeds (new_account r.height) r.fitting tt)
+reached_apart d a r = (sound_reached d a r).good.apart
+
+-- each start has a span
+pub reached_spans : (d : List ℕ) (a : Account) → IsReached d a → AllByRecursion (λ s. is_some (span_of s.who a.history None) ≡ true) a.starts
+reached_spans d a r = all_map (Follows d a) (λ s. is_some (span_of s.who a.history None) ≡ true) (λ s k. ap is_some k.is) a.starts (sound_reached d a r).good.follows
 
 -- ---- the laws
 

@@ -1,12 +1,13 @@
 -- The last ratio of a reached account is all increments of its history together.
 use Rattle.std.proofs.Common.{◌≡◌, ℕ, ◌+◌, ◌<◌, List, [], ◌∷◌, ◌++◌, map, refl, arith, subst}
+use Rattle.std.specs.List.{slice_get}
 use Rattle.stk_coins.specs.Coins.{Money}
 use Rattle.stk_keep.specs.Log.{LogEntry}
 use Rattle.stk_keep.specs.Log as log
 use Rattle.stk_shares.specs.Shares.{value_cut_of}
 use Rattle.stk_rules.specs.Periods.{last_ended}
 use Rattle.stk_rules.specs.Slashing.{slash_fraction}
-use Rattle.stk_bracket.specs.Account.{Account, Deed, IsReached, IsFitting, AreFitting, IsNextRatio, account_after, account_of, new_account, period_closed, ratio_in, start_made}
+use Rattle.stk_bracket.specs.Account.{Account, Deed, IsReached, IsFitting, AreFitting, IsNextRatio, account_after, account_of, new_account, period_closed, ratio_in, start_made, owner_of}
 use Rattle.stk_bracket.specs.Account as deed
 use Rattle.stk_bracket.specs.Withdrawals.{risen, raised_in}
 use Rattle.stk_bracket.proofs.Lists.{sum_more}
@@ -28,12 +29,12 @@ record IsRaised (d : List ℕ) (a : Account) : Type 0 where
 raised_ended : (d : List ℕ) (a : Account) (increment ratio : Money) → IsNextRatio d a increment ratio → IsRaised d a → IsRaised d (period_closed increment ratio a)
 raised_ended d a increment ratio next r = record {
   some = omega arith;
-  is = omega (arith, last_ratio d a increment ratio r.some next, next.increment_is, raised_behind d a.history (log.ended a.periods.current increment), r.is);
+  is = omega (arith, last_ratio d a increment ratio r.some next, next.increment_is, raised_behind d a.history (log.ended a.periods.current increment a.tokens), r.is);
 }
 
 raised_after : (d : List ℕ) (a : Account) (act : Deed) → IsFitting d a act → IsRaised d a → IsRaised d (account_after d a act)
 raised_after d a (deed.block height) fit r = record { some = r.some; is = r.is }
-raised_after d a (deed.allocation commission rest) fit r = record { some = r.some; is = omega (arith, raised_still d a.history (log.allocated rest a.tokens) refl, r.is) }
+raised_after d a (deed.allocation commission share rest) fit r = record { some = r.some; is = omega (arith, raised_still d a.history (log.allocated share rest a.tokens) refl, r.is) }
 raised_after d a (deed.ending increment ratio) fit r = raised_ended d a increment ratio fit r
 raised_after d a (deed.slash burn increment ratio) fit r =
     let c : Account = period_closed increment ratio a in
@@ -43,8 +44,9 @@ raised_after d a (deed.issue amount issued) fit r = record { some = r.some; is =
 raised_after d a (deed.removal part) fit r = record { some = r.some; is = omega (arith, raised_still d a.history log.left refl, r.is) }
 raised_after d a (deed.beginning place who shares) fit r =
     record { some = r.some; is = omega (arith, raised_still d a.history (log.started who shares a.tokens a.shares (value_cut_of a.tokens a.shares shares)) refl, r.is) }
-raised_after d a (deed.payment place) fit r = record { some = r.some; is = r.is }
-raised_after d a (deed.commission_payment amount) fit r = record { some = r.some; is = r.is }
+raised_after d a (deed.payment place payee full outstanding) fit r =
+    record { some = r.some; is = omega (arith, raised_still d a.history (log.withdrawn (owner_of (slice_get a.starts place)) payee full outstanding) refl, r.is) }
+raised_after d a (deed.commission_payment coins) fit r = record { some = r.some; is = omega (arith, raised_still d a.history (log.commission coins) refl, r.is) }
 
 raised_all : (d : List ℕ) (deeds : List Deed) (a : Account) → AreFitting d a deeds → IsRaised d a → IsRaised d (account_of d a deeds)
 raised_all d [] a fit r = r

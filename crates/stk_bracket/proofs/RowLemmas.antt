@@ -24,12 +24,12 @@ fits_twice =
     ⟶ (refl, omega arith, omega arith, omega arith, (apart 3 2 (omega arith) ⟶ tt))
     ⟶ omega arith
     ⟶ record { increment_is = refl; ratio_is = refl }
-    ⟶ omega arith
+    ⟶ record { within = omega arith; full_is = refl; outstanding_is = refl }
     ⟶ (refl, omega arith, omega arith, omega arith, (apart 3 2 (omega arith) ⟶ tt))
     ⟶ (refl, omega arith, omega arith)
     ⟶ (record { increment_is = refl; ratio_is = refl }, omega arith, omega arith, omega arith)
     ⟶ omega arith
-    ⟶ (omega arith ⟶ omega arith ⟶ tt)
+    ⟶ (refl ⟶ omega arith ⟶ omega arith ⟶ tt)
     ⟶ record { increment_is = refl; ratio_is = refl }
     ⟶ tt
 
@@ -60,44 +60,44 @@ fits_cut =
     ⟶ (record { increment_is = refl; ratio_is = refl }, omega arith, omega arith, omega arith)
     ⟶ omega arith
     ⟶ record { increment_is = refl; ratio_is = refl }
-    ⟶ omega arith
+    ⟶ record { within = omega arith; full_is = refl; outstanding_is = refl }
     ⟶ (refl, omega arith, omega arith, omega arith, (apart 4 3 (omega arith) ⟶ apart 4 2 (omega arith) ⟶ apart 4 1 (omega arith) ⟶ tt))
     ⟶ (refl, omega arith, omega arith)
     ⟶ omega arith
     ⟶ record { increment_is = refl; ratio_is = refl }
-    ⟶ omega arith
+    ⟶ record { within = omega arith; full_is = refl; outstanding_is = refl }
     ⟶ (refl, omega arith, omega arith, omega arith, (apart 4 3 (omega arith) ⟶ apart 4 2 (omega arith) ⟶ apart 4 1 (omega arith) ⟶ tt))
     ⟶ (refl, omega arith, omega arith)
     ⟶ omega arith
     ⟶ record { increment_is = refl; ratio_is = refl }
-    ⟶ omega arith
+    ⟶ record { within = omega arith; full_is = refl; outstanding_is = refl }
     ⟶ (refl, omega arith, omega arith, omega arith, (apart 4 3 (omega arith) ⟶ apart 4 2 (omega arith) ⟶ apart 4 1 (omega arith) ⟶ tt))
     ⟶ (refl, omega arith, omega arith)
     ⟶ omega arith
     ⟶ record { increment_is = refl; ratio_is = refl }
-    ⟶ omega arith
+    ⟶ record { within = omega arith; full_is = refl; outstanding_is = refl }
     ⟶ (refl, omega arith, omega arith, omega arith, (apart 4 3 (omega arith) ⟶ apart 4 2 (omega arith) ⟶ apart 4 1 (omega arith) ⟶ tt))
     ⟶ (refl, omega arith, omega arith)
     ⟶ omega arith
     ⟶ record { increment_is = refl; ratio_is = refl }
-    ⟶ omega arith
+    ⟶ record { within = omega arith; full_is = refl; outstanding_is = refl }
     ⟶ (refl, omega arith, omega arith, omega arith, (apart 4 3 (omega arith) ⟶ apart 4 2 (omega arith) ⟶ apart 4 1 (omega arith) ⟶ tt))
     ⟶ (refl, omega arith, omega arith)
     ⟶ omega arith
     ⟶ record { increment_is = refl; ratio_is = refl }
-    ⟶ omega arith
+    ⟶ record { within = omega arith; full_is = refl; outstanding_is = refl }
     ⟶ (refl, omega arith, omega arith, omega arith, (apart 4 3 (omega arith) ⟶ apart 4 2 (omega arith) ⟶ apart 4 1 (omega arith) ⟶ tt))
     ⟶ (refl, omega arith, omega arith)
     ⟶ omega arith
-    ⟶ (omega arith ⟶ omega arith ⟶ omega arith ⟶ omega arith ⟶ tt)
+    ⟶ (refl ⟶ omega arith ⟶ omega arith ⟶ omega arith ⟶ omega arith ⟶ tt)
     ⟶ (record { increment_is = refl; ratio_is = refl }, omega arith, omega arith, omega arith)
     ⟶ omega arith
     ⟶ record { increment_is = refl; ratio_is = refl }
-    ⟶ omega arith
+    ⟶ record { within = omega arith; full_is = refl; outstanding_is = refl }
     ⟶ record { increment_is = refl; ratio_is = refl }
-    ⟶ omega arith
+    ⟶ record { within = omega arith; full_is = refl; outstanding_is = refl }
     ⟶ record { increment_is = refl; ratio_is = refl }
-    ⟶ omega arith
+    ⟶ record { within = omega arith; full_is = refl; outstanding_is = refl }
     ⟶ record { increment_is = refl; ratio_is = refl }
     ⟶ tt
 

@@ -104,6 +104,7 @@ record IsJoined (d : List ℕ) (share : Money) (old : Purse) (x : Money × Purse
   current : amount_of x.1.current d ≡ amount_of old.current d + amount_of x.0 d
   commission : amount_of x.1.commission d ≡ amount_of old.commission d + part
   outstanding : amount_of x.1.outstanding d ≡ amount_of old.outstanding d + (part + amount_of x.0 d)
+  share_is : part + amount_of x.0 d ≡ amount_of share d
   sound : PurseIsSound x.1
 
 joined_is : (d : List ℕ) (share : Money) (rate : ℕ) (old : Purse) (x : Money × Purse) → IsMoney share → rate ≤ 10 ^ 18 → PurseIsSound old → share_joined share rate old ≡ Ok x → IsJoined d share old x
@@ -133,6 +134,7 @@ joined_is d share rate old x m few sound e =
       current = amount-added old.current rest c.0 d (rises_from_money old.current sound.current) (rises_from_money rest rm) c.1;
       commission = amount-added old.commission part b.0 d (rises_from_money old.commission sound.commission) (rises_from_money part pm) b.1;
       outstanding = omega arith;
+      share_is = omega arith;
       sound = record {
         outstanding = sum_is_money old.outstanding share o.0 sound.outstanding m o.1;
         commission = sum_is_money old.commission part b.0 sound.commission pm b.1;
@@ -170,19 +172,19 @@ none_here w v h (e ∷ es) each = by (same_addr e.0.0 v.operator) (none_here w v
     by true rest = (each.0, rest)
     by false rest = rest
 
-abbrev entry_of : Validator → Money → LogEntry
-entry_of v rest = log.allocated rest v.tokens
+abbrev entry_of : Validator → Money → Money → LogEntry
+entry_of v share rest = log.allocated share rest v.tokens
 
-abbrev state_given : State → Purses → Log → Validator → Money × Purse → State
-state_given w p l v x = state_shared w (with_purse v.operator x.1 p) (l ++ (v.operator, entry_of v x.0) ∷ [])
+abbrev state_given : State → Purses → Log → Validator → Money → Money × Purse → State
+state_given w p l v share x = state_shared w (with_purse v.operator x.1 p) (l ++ (v.operator, entry_of v share x.0) ∷ [])
 
 given_account : (d : List ℕ) (w : State) (p : Purses) (l : Log) (v : Validator) (share : Money) (x : Money × Purse) (j : IsJoined d share (purse_of p v.operator) x)
-    → account_in d (state_given w p l v x) v ≡ account_after d (account_in d (state_shared w p l) v) (deed.allocation j.part x.0)
+    → account_in d (state_given w p l v share x) v ≡ account_after d (account_in d (state_shared w p l) v) (deed.allocation j.part share x.0)
 given_account d w p l v share x j =
     let op : List ℕ = v.operator in
-    let a : Account = account_in d (state_given w p l v x) v in
+    let a : Account = account_in d (state_given w p l v share x) v in
     let b : Account = account_in d (state_shared w p l) v in
-    let c : Account = account_after d b (deed.allocation j.part x.0) in
+    let c : Account = account_after d b (deed.allocation j.part share x.0) in
     let new : purse_of (with_purse op x.1 p) op ≡ x.1 = ap (λ o. unwrap_or o no_purse) (put_there op x.1 p.purses) in
     same_account v.tokens v.shares a.height c.height a.current c.current a.commission c.commission a.outstanding c.outstanding a.periods c.periods a.starts c.starts a.history c.history
     refl
@@ -190,13 +192,13 @@ given_account d w p l v share x j =
     (ap (λ q. amount_of q.commission d) new ∙ j.commission)
     (ap (λ q. amount_of q.outstanding d) new ∙ j.outstanding)
     refl refl
-    (ap (λ m. history_of op m []) (sym (append_assoc w.log l ((op, entry_of v x.0) ∷ []))) ∙ history_behind op (w.log ++ l) (entry_of v x.0) [])
+    (ap (λ m. history_of op m []) (sym (append_assoc w.log l ((op, entry_of v share x.0) ∷ []))) ∙ history_behind op (w.log ++ l) (entry_of v share x.0) [])
 
-given_other : (d : List ℕ) (w : State) (p : Purses) (l : Log) (v u : Validator) (x : Money × Purse) → same_addr u.operator v.operator ≡ false → same_addr v.operator u.operator ≡ false
-    → account_in d (state_given w p l v x) u ≡ account_in d (state_shared w p l) u
-given_other d w p l v u x apart apart' =
+given_other : (d : List ℕ) (w : State) (p : Purses) (l : Log) (v u : Validator) (share : Money) (x : Money × Purse) → same_addr u.operator v.operator ≡ false → same_addr v.operator u.operator ≡ false
+    → account_in d (state_given w p l v share x) u ≡ account_in d (state_shared w p l) u
+given_other d w p l v u share x apart apart' =
     let op : List ℕ = u.operator in
-    let a : Account = account_in d (state_given w p l v x) u in
+    let a : Account = account_in d (state_given w p l v share x) u in
     let b : Account = account_in d (state_shared w p l) u in
     let same : purse_of (with_purse v.operator x.1 p) op ≡ purse_of p op = ap (λ o. unwrap_or o no_purse) (put_elsewhere v.operator op x.1 p.purses apart) in
     same_account u.tokens u.shares a.height b.height a.current b.current a.commission b.commission a.outstanding b.outstanding a.periods b.periods a.starts b.starts a.history b.history
@@ -205,22 +207,22 @@ given_other d w p l v u x apart apart' =
     (ap (λ q. amount_of q.commission d) same)
     (ap (λ q. amount_of q.outstanding d) same)
     refl refl
-    (ap (λ m. history_of op m []) (sym (append_assoc w.log l ((v.operator, entry_of v x.0) ∷ []))) ∙ history_elsewhere op v.operator (w.log ++ l) (entry_of v x.0) [] apart')
+    (ap (λ m. history_of op m []) (sym (append_assoc w.log l ((v.operator, entry_of v share x.0) ∷ []))) ∙ history_elsewhere op v.operator (w.log ++ l) (entry_of v share x.0) [] apart')
 
 given_reached : (w : State) (p : Purses) (l : Log) (v : Validator) (share : Money) (x : Money × Purse) → NoneStartedHere w → IsMoney share → IsVoter w v → Shares w p l
     → share_joined share v.commission.rate (purse_of p v.operator) ≡ Ok x
-    → (d : List ℕ) (u : Validator) → validator_at w.mine.staked u.operator ≡ Some u → (b : Bool) → same_addr u.operator v.operator ≡ b → IsReached d (account_in d (state_given w p l v x) u)
+    → (d : List ℕ) (u : Validator) → validator_at w.mine.staked u.operator ≡ Some u → (b : Bool) → same_addr u.operator v.operator ≡ b → IsReached d (account_in d (state_given w p l v share x) u)
 given_reached w p l v share x none m voter k e d u there true is =
     let j : IsJoined d share (purse_of p v.operator) x = joined_is d share v.commission.rate (purse_of p v.operator) x m voter.rate (k.sound v.operator) e in
     let one : u ≡ v = same_some u v (validator_at w.mine.staked u.operator) (validator_at w.mine.staked v.operator) there voter.found (ap (λ o. validator_at w.mine.staked o) (addr_is u.operator v.operator is)) in
     let b : Account = account_in d (state_shared w p l) v in
     let fit : AllByRecursion (λ s. s.info.height < b.height) b.starts =
     none_here w v w.view.ctx.height w.hooks.0.rewards.starts (recursion_from_All (λ e. e.1.height < w.view.ctx.height) w.hooks.0.rewards.starts none) in
-    subst (λ y. IsReached d (account_in d (state_given w p l v x) y)) (sym one)
-    (subst (λ a. IsReached d a) (sym (given_account d w p l v share x j)) (deeds_lead_on d b (deed.allocation j.part x.0 ∷ []) (k.reached d v voter.found) (fit, tt)))
+    subst (λ y. IsReached d (account_in d (state_given w p l v share x) y)) (sym one)
+    (subst (λ a. IsReached d a) (sym (given_account d w p l v share x j)) (deeds_lead_on d b (deed.allocation j.part share x.0 ∷ []) (k.reached d v voter.found) ((j.share_is, fit), tt)))
 given_reached w p l v share x none m voter k e d u there false is =
     let ne : u.operator ≢ v.operator = λ h. true_not_false (sym (ap (λ o. same_addr o v.operator) h ∙ own_addr v.operator) ∙ is) in
-    subst (λ a. IsReached d a) (sym (given_other d w p l v u x is (other_addr v.operator u.operator (λ h. ne (sym h))))) (k.reached d u there)
+    subst (λ a. IsReached d a) (sym (given_other d w p l v u share x is (other_addr v.operator u.operator (λ h. ne (sym h))))) (k.reached d u there)
   where
     true_not_false : true ≡ false → ⊥
     true_not_false h = cc
@@ -235,21 +237,21 @@ given_sound p operator purse own others o false is = subst PurseIsSound (sym (ap
 -- ---- a vote
 
 one_given : (w : State) (share : Money) (v : Validator) (p : Purses) (facts : List Fact) (l : Log) (x : Purses × List Fact × Log) → NoneStartedHere w → IsMoney share → IsVoter w v → Shares w p l
-    → (b : Bool) → (cond b (Ok (p, facts, [])) (share_joined share v.commission.rate (purse_of p v.operator) >>= λ r. Ok (with_purse v.operator r.1 p, facts ++ fact.Allocated v.operator share ∷ [], (v.operator, entry_of v r.0) ∷ []))) ≡ Ok x
+    → (b : Bool) → (cond b (Ok (p, facts, [])) (share_joined share v.commission.rate (purse_of p v.operator) >>= λ r. Ok (with_purse v.operator r.1 p, facts ++ fact.Allocated v.operator share ∷ [], (v.operator, entry_of v share r.0) ∷ []))) ≡ Ok x
     → Shares w x.0 (l ++ x.2)
 one_given w share v p facts l x none m voter k true e =
     subst (λ y. Shares w y.0 (l ++ y.2)) (same_ok (p, facts, []) x e) (subst (λ n. Shares w p n) (sym (append-nil l)) k)
 one_given w share v p facts l x none m voter k false e =
     let a : (r : Money × Purse) × (share_joined share v.commission.rate (purse_of p v.operator) ≡ Ok r)
-    × (Path (Result (Purses × List Fact × Log) Over) (Ok (with_purse v.operator r.1 p, facts ++ fact.Allocated v.operator share ∷ [], (v.operator, entry_of v r.0) ∷ [])) (Ok x)) =
-    step_parts (share_joined share v.commission.rate (purse_of p v.operator)) (λ r. Ok (with_purse v.operator r.1 p, facts ++ fact.Allocated v.operator share ∷ [], (v.operator, entry_of v r.0) ∷ [])) x e in
+    × (Path (Result (Purses × List Fact × Log) Over) (Ok (with_purse v.operator r.1 p, facts ++ fact.Allocated v.operator share ∷ [], (v.operator, entry_of v share r.0) ∷ [])) (Ok x)) =
+    step_parts (share_joined share v.commission.rate (purse_of p v.operator)) (λ r. Ok (with_purse v.operator r.1 p, facts ++ fact.Allocated v.operator share ∷ [], (v.operator, entry_of v share r.0) ∷ [])) x e in
     let r : Money × Purse = a.0 in
     let j : IsJoined [] share (purse_of p v.operator) r = joined_is [] share v.commission.rate (purse_of p v.operator) r m voter.rate (k.sound v.operator) a.1 in
-    let own : Shares w (with_purse v.operator r.1 p) (l ++ (v.operator, entry_of v r.0) ∷ []) = record {
+    let own : Shares w (with_purse v.operator r.1 p) (l ++ (v.operator, entry_of v share r.0) ∷ []) = record {
       reached = λ d u there. given_reached w p l v share r none m voter k a.1 d u there (same_addr u.operator v.operator) refl;
       sound = λ o. given_sound p v.operator r.1 j.sound k.sound o (same_addr o v.operator) refl;
     } in
-    subst (λ y. Shares w y.0 (l ++ y.2)) (same_ok (with_purse v.operator r.1 p, facts ++ fact.Allocated v.operator share ∷ [], (v.operator, entry_of v r.0) ∷ []) x a.2) own
+    subst (λ y. Shares w y.0 (l ++ y.2)) (same_ok (with_purse v.operator r.1 p, facts ++ fact.Allocated v.operator share ∷ [], (v.operator, entry_of v share r.0) ∷ []) x a.2) own
 
 vote_given : (w : State) (share : Money) (cons : List ℕ) (o : Option Validator) (p : Purses) (facts : List Fact) (l : Log) (x : Purses × List Fact × Log) → IsSound w → NoneStartedHere w → IsMoney share
     → validator_by_cons w.mine.staked cons ≡ o → Shares w p l → share_given o share p facts ≡ Ok x → Shares w x.0 (l ++ x.2)

@@ -1,7 +1,6 @@
--- In a sound state whose accounts are reached, the payments that a message tells are fair.
+-- In a sound state whose accounts are reached, what a message logs is fair, and it tells the payments that it logs.
 use Rattle.std.proofs.Common.{◌≡◌, ℕ, ◌≤◌, ◌==◌, Bool, true, false, List, [], ◌∷◌, ◌++◌, length, refl, sym, ap, subst, ◌∙◌, Option, Some, None, Result, Ok, Err, append_assoc}
 use Rattle.std.specs.Prelude.{IfOk, if◌then◌else◌, not, nat_lt, nat_le, find, is_some, ⊤}
-use Rattle.std.proofs.lemmas.List.Elements.{All-from_recursion}
 use Rattle.stk_dec.specs.Decimals.{trunc_of}
 use Rattle.stk_types.specs.declared.account.Account.{Account as Holder}
 use Rattle.stk_types.specs.declared.account.Account.TheVariants as account
@@ -40,7 +39,7 @@ use Rattle.stk_rules.specs.Validators.{new_validator, are_out_of_range, created,
 use Rattle.stk_rules.specs.Window.{may_leave, signing_of, unjailed}
 use Rattle.stk_rules.specs.Withdrawals.{reward_taken, commission_withdrawn, payee_set, pool_funded, pool_spent, is_module}
 use Rattle.stk_bracket.specs.States.{AreReached}
-use Rattle.stk_bracket.specs.Withdrawals.{IsFairFact, PaysFairly, PaysWhereReached, MessagesPayFairly}
+use Rattle.stk_bracket.specs.Withdrawals.{PaysFairly, PaysWhereReached, MessagesPayFairly}
 use Rattle.stk_bracket.proofs.Claims.{ready_in}
 use Rattle.stk_bracket.proofs.Beginnings.{if_ok, under_own}
 use Rattle.stk_bracket.proofs.Entries.{put_there}
@@ -49,7 +48,7 @@ use Rattle.stk_bracket.proofs.Growing.{apart_back}
 use Rattle.stk_bracket.proofs.Creating.{state_made, made_at, made_ready}
 use Rattle.stk_bracket.proofs.Undelegating.{within_held}
 use Rattle.stk_bracket.proofs.Fits.{LeavesFit, fits_sound, ready_fits, unbonded_fits, unbonded_then}
-use Rattle.stk_bracket.proofs.Paying.{Pays, pays_then, pays_nothing, pays_logged, pays_noted, pays_sent, pays_pooled, pays_started, pays_withdrawn}
+use Rattle.stk_bracket.proofs.Paying.{Pays, pays_then, pays_nothing, pays_logged, pays_noted, pays_sent, pays_pooled, pays_started, pays_withdrawn, withdrawn_rests}
 use Rattle.stk_bracket.proofs.Staking.{PaysIn, pays_delegated, pays_unbonded}
 
 -- ---- steps one after another, where they go on
@@ -85,7 +84,7 @@ on_then (Err e) f R Q p h = tt
 -- ---- what a step tells, of a state
 
 pub fairly : (w new : State) → PaysIn w new → PaysFairly w new
-fairly w new p = record { more = p.more; log_is = p.log_is; told = p.told; facts_are = p.facts_are; fair = All-from_recursion (IsFairFact w.log p.more) p.told p.fair }
+fairly w new p = record { more = p.more; log_is = p.log_is; told = p.told; facts_are = p.facts_are; fair = p.fair; payments = p.payments; sent = p.sent }
 
 -- a validator that is found, and its own place
 record IsKnown (w : State) (o : List ℕ) (v : Validator) : Type 0 where
@@ -98,7 +97,7 @@ known w o v sound e = let own : o ≡ v.operator = under_own w o v sound e in re
 -- ---- messages that pay no reward
 
 unlogged : (w : State) (fs : List Fact) → Pays w.log w.view.facts w.log fs → Pays w.log w.view.facts (w.log ++ []) fs
-unlogged w fs p = pays_then w.log w.log (w.log ++ []) w.view.facts fs fs p (pays_logged w.log [] fs)
+unlogged w fs p = pays_then w.log w.log (w.log ++ []) w.view.facts fs fs p (pays_logged w.log [] fs tt refl)
 
 fee_pays : (payer : List ℕ) (fee : Money) (w : State) → IfOk (fee_paid payer fee w) (PaysIn w)
 fee_pays payer fee w = on_stop (is_short w.view.bank (account.User payer) fee) FeeUnpaid _ _ (λ a. pays_sent w.log (account.User payer) (account.Module holder.FeeCollector) fee w.view.facts)
@@ -123,17 +122,19 @@ unjail_pays operator w =
 
 commission_pays : (operator : List ℕ) (w : State) → IfOk (withdraw_commission operator w) (PaysIn w)
 commission_pays operator w =
-    on_then (commission_withdrawn operator w.hooks.0 w.view) _ (λ x. Pays w.log w.view.facts w.log x.2.facts) _
+    on_then (commission_withdrawn operator w.hooks.0 w.view) _ (λ x. Pays w.log w.view.facts (w.log ++ x.3) x.2.facts) _
     (on_found (at addr_cmp w.hooks.0.purses.purses operator) NoCommission _ _ (λ purse f. on_stop (is_empty purse.commission) NoCommission _ _ (λ b.
     let coins : Money = commission_due purse in
     let to : List ℕ = payee_of w.hooks.0 operator in
     let u : View = paid_to to coins w.view in
-    pays_then w.log w.log w.log w.view.facts u.facts (noted (fact.Commission operator to coins) u).facts (pays_sent w.log (account.Module holder.Distribution) (account.User to) coins w.view.facts)
-    (pays_noted w.log u.facts (fact.Commission operator to coins) (λ who op t reward cs e. cc)))))
-    (λ x k. unlogged w x.2.facts k)
+    let out : List Fact = (noted (fact.Commission operator to coins) u).facts in
+    let m : Log = (operator, log.commission (in_units coins)) ∷ [] in
+    pays_then w.log w.log (w.log ++ m) w.view.facts u.facts out (pays_sent w.log (account.Module holder.Distribution) (account.User to) coins w.view.facts)
+    (pays_then w.log w.log (w.log ++ m) u.facts out out (pays_noted w.log u.facts (fact.Commission operator to coins) (λ who op t reward cs e. cc)) (pays_logged w.log m out (tt, tt) refl)))))
+    (λ x k. k)
 
 payee_pays : (who : List ℕ) (to : Holder) (w : State) → IfOk (set_withdraw_address who to w) (PaysIn w)
-payee_pays who to w = on_step (payee_set who to w.view.ctx.params w.hooks.0) _ _ (λ d e. pays_logged w.log [] w.view.facts)
+payee_pays who to w = on_step (payee_set who to w.view.ctx.params w.hooks.0) _ _ (λ d e. pays_logged w.log [] w.view.facts tt refl)
 
 fund_pays : (who : List ℕ) (coins : Money) (w : State) → IfOk (fund_community_pool who coins w) (PaysIn w)
 fund_pays who coins w =
@@ -161,7 +162,7 @@ reward_pays who operator w sound reached =
     let s : Shared × View × Log = started v who shares y.1 y.2 in
     subst (λ m. Pays w.log w.view.facts m s.1.facts) (append_assoc w.log y.3 s.2)
     (pays_then w.log (w.log ++ y.3) ((w.log ++ y.3) ++ s.2) w.view.facts y.2.facts s.1.facts
-    (pays_withdrawn w v who shares y (ready_in w v.operator sound) k.found (ap (delegation w.mine.staked who) (sym k.own) ∙ g) reached e) (pays_started (w.log ++ y.3) v who shares y.1 y.2)))))))
+    (pays_withdrawn w v who shares y (ready_in w v.operator sound) k.found (ap (delegation w.mine.staked who) (sym k.own) ∙ g) reached e) (pays_started (w.log ++ y.3) v who shares y.1 y.2 (withdrawn_rests v who shares w.hooks.0 w.view y w.log e))))))))
     (λ x k. k)
 
 delegate_pays : (who operator : List ℕ) (coin : Coin) (w : State) → IsSound w → AreReached w → IfOk (delegate who operator coin w) (PaysIn w)
@@ -233,7 +234,7 @@ create_pays m w sound reached =
     let found : validator_at x.mine.staked m.validator ≡ Some v = put_there m.validator v w.mine.staked.validators in
     let last : IfOk (delegated chain_told v m.validator m.amount.amount wallet (staked_in x) >>= end) (λ z. PaysIn w z.1) =
     on_step (delegated chain_told v m.validator m.amount.amount wallet (staked_in x)) end (λ z. PaysIn w z.1) (λ y h.
-    pays_then w.log x.log y.1.log w.view.facts x.view.facts y.1.view.facts (pays_logged w.log ((m.validator, log.made) ∷ []) w.view.facts)
+    pays_then w.log x.log y.1.log w.view.facts x.view.facts y.1.view.facts (pays_logged w.log ((m.validator, log.made) ∷ []) w.view.facts (tt, tt) refl)
     (pays_delegated x v m.validator m.amount.amount wallet y (made_ready w v sound) found made h)) in
     last)))))))))
     (λ z k. k)

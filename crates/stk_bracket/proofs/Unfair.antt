@@ -1,14 +1,21 @@
--- Payments that are not fair: of nothing, and of twice as much.
-use Rattle.std.proofs.Common.{◌≡◌, ℕ, ◌-◌, ◌*◌, ◌^◌, ◌≤◌, false, List, [], refl, arith, sym, ap, subst, ◌∙◌, Option, Some, None, min, mul-le-mul_right}
-use Rattle.std.specs.Prelude.{nat_le}
+-- Withdrawals that are not fair: that pay nothing, or twice as much, or again, or send nothing; and a start without one.
+use Rattle.std.proofs.Common.{◌≡◌, ◌≢◌, ℕ, ◌-◌, ◌*◌, ◌^◌, ◌≤◌, Bool, true, false, List, [], ◌∷◌, ◌++◌, refl, arith, sym, subst, ◌∙◌, Option, Some, None, min, mul-le-mul_right}
+use Rattle.std.specs.Prelude.{if◌then◌else◌, nat_le}
 use Rattle.std.proofs.lemmas.Bool.Decides.{nat_tests}
-use Rattle.stk_coins.specs.Coins.{Money, IsMoney, amount_of, smaller_of}
+use Rattle.stk_types.specs.declared.account.Account.TheVariants as account
+use Rattle.stk_types.specs.declared.account.Module.TheVariants as holder
+use Rattle.stk_coins.specs.Coins.{Money, IsMoney, amount_of, smaller_of, fractions}
 use Rattle.stk_coins.proofs.Order.{rises_from_money}
 use Rattle.stk_coins.proofs.Amounts.{amount-all}
+use Rattle.stk_keep.specs.declared.facts.Fact.{Fact}
+use Rattle.stk_keep.specs.declared.facts.Fact.TheVariants as fact
+use Rattle.stk_keep.specs.Holdings.{transfer_told}
+use Rattle.stk_rules.specs.Amounts.{is_empty}
 use Rattle.stk_rules.specs.Fixtures.{addr, uatom}
 use Rattle.stk_rules.specs.Ideal.{Span, Brackets, span_of, history_of}
-use Rattle.stk_bracket.specs.Withdrawals.{IsFairPayment, overclaim_in}
-use Rattle.stk_bracket.specs.Rows.{shared_fees, NothingIsUnfair, TwiceIsUnfair}
+use Rattle.stk_rules.specs.Purses.{pooled_told}
+use Rattle.stk_bracket.specs.Withdrawals.{IsFairReward, reward_paid, overclaim_in}
+use Rattle.stk_bracket.specs.Rows.{shared_fees, NothingIsUnfair, TwiceIsUnfair, OtherOutstandingIsUnfair, AgainIsUnfair, UnpaidStartIsUnfair, UnsentIsUnfair}
 
 not_at_most : (a b : ℕ) → nat_le a b ≡ false → a ≤ b → ⊥
 not_at_most a b t h = grind (arith, nat_tests)
@@ -31,30 +38,62 @@ its_span = span_in (span_of (addr 2) (history_of (addr 1) shared_fees []) None)
     span_in None = record { first = record { numerator = 0; denominator = 1 }; entries = [] }
     span_in (Some s) = s
 
-bracket_there : (reward coins : Money) (f : IsFairPayment shared_fees (addr 2) (addr 1) reward coins) → Brackets uatom its_span (amount_of f.full uatom)
-bracket_there reward coins f =
-    subst (λ s. Brackets uatom s (amount_of f.full uatom)) (some_span its_span (span_of (addr 2) (history_of (addr 1) shared_fees []) None) f.span refl f.is) (f.bracketed uatom)
+bracket_there : (full outstanding : Money) (f : IsFairReward shared_fees (addr 2) (addr 1) full outstanding) → Brackets uatom its_span (amount_of full uatom)
+bracket_there full outstanding f =
+    subst (λ s. Brackets uatom s (amount_of full uatom)) (some_span its_span (span_of (addr 2) (history_of (addr 1) shared_fees []) None) f.span refl f.is) (f.bracketed uatom)
 
 -- nothing is cut
 whole_there : (n left : ℕ) → 10 ^ 18 * (n - left) ≤ 0 → n ≤ left
 whole_there n left h = omega (arith, h)
 
 pub nothing_is_unfair : NothingIsUnfair
-nothing_is_unfair = λ coins f.
-    let n : ℕ = amount_of f.full uatom in
-    let left : ℕ = amount_of f.outstanding uatom in
-    let none : overclaim_in uatom (history_of (addr 1) shared_fees []) ≡ 0 = refl in
-    let within : n ≤ left = whole_there n left (subst (λ m. 10 ^ 18 * (n - left) ≤ m) none (f.cut uatom)) in
-    let paid : 0 ≡ min n left = ap (λ m. amount_of m uatom) f.reward_is ∙ smaller_amount uatom f.full f.outstanding f.full_is in
+nothing_is_unfair = λ full outstanding none f.
+    let n : ℕ = amount_of full uatom in
+    let left : ℕ = amount_of outstanding uatom in
+    let over : overclaim_in uatom (history_of (addr 1) shared_fees []) ≡ 0 = refl in
+    let within : n ≤ left = whole_there n left (subst (λ m. 10 ^ 18 * (n - left) ≤ m) over (f.cut uatom)) in
+    let paid : 0 ≡ min n left = sym none ∙ smaller_amount uatom full outstanding f.full_is in
     let zero_is : n ≡ 0 = omega (arith, within, paid) in
-    let there : Brackets uatom its_span 0 = subst (Brackets uatom its_span) zero_is (bracket_there [] coins f) in
+    let there : Brackets uatom its_span 0 = subst (Brackets uatom its_span) zero_is (bracket_there full outstanding f) in
     not_at_most _ _ refl there.at_least
 
 pub twice_is_unfair : TwiceIsUnfair
-twice_is_unfair = λ reward coins much f.
-    let n : ℕ = amount_of f.full uatom in
-    let left : ℕ = amount_of f.outstanding uatom in
-    let paid : amount_of reward uatom ≡ min n left = ap (λ m. amount_of m uatom) f.reward_is ∙ smaller_amount uatom f.full f.outstanding f.full_is in
+twice_is_unfair = λ full outstanding much f.
+    let n : ℕ = amount_of full uatom in
+    let left : ℕ = amount_of outstanding uatom in
+    let paid : amount_of (reward_paid full outstanding) uatom ≡ min n left = smaller_amount uatom full outstanding f.full_is in
     let more : 100 * 10 ^ 18 ≤ n = omega (arith, much, paid) in
-    let there : Brackets uatom its_span n = bracket_there reward coins f in
+    let there : Brackets uatom its_span n = bracket_there full outstanding f in
     not_at_most_times n (100 * 10 ^ 18) _ _ more refl there.at_most
+
+pub other_outstanding_is_unfair : OtherOutstandingIsUnfair
+other_outstanding_is_unfair = λ full outstanding other f. other (f.outstanding_is uatom)
+
+pub again_is_unfair : AgainIsUnfair
+again_is_unfair = λ full outstanding f. no_span f.span f.is
+  where
+    no_span : (s : Span) → Path (Option Span) None (Some s) → ⊥
+    no_span s e = cc
+
+pub unpaid_start_is_unfair : UnpaidStartIsUnfair
+unpaid_start_is_unfair = λ shares tokens all stake h. one_runs h
+  where
+    one_runs : Path (Option Span) (Some its_span) None → ⊥
+    one_runs e = cc
+
+pub unsent_is_unfair : UnsentIsUnfair
+unsent_is_unfair = λ who operator to reward coins some h. unsent coins reward to h.0 some h.1
+  where
+    some_facts : (fs : List Fact) (f : Fact) → Path (List Fact) [] (fs ++ f ∷ []) → ⊥
+    some_facts [] f e = cc
+    some_facts (g ∷ fs) f e = cc
+
+    pooled : (b : Bool) (coins : Money) (fs : List Fact) (f : Fact) → Path (List Fact) [] (if b then fs ++ f ∷ [] else (fs ++ f ∷ []) ++ fact.Pooled coins ∷ []) → ⊥
+    pooled true coins fs f e = some_facts fs f e
+    pooled false coins fs f e = some_facts (fs ++ f ∷ []) (fact.Pooled coins) e
+
+    unsent : (coins reward : Money) (to : List ℕ) (first : List Fact) → coins ≢ []
+        → Path (List Fact) [] (pooled_told (fractions reward) (transfer_told (account.Module holder.Distribution) (account.User to) coins first)) → ⊥
+    unsent [] reward to first some e = some refl
+    unsent (c ∷ cs) reward to first some e =
+        pooled (is_empty (fractions reward)) (fractions reward) first (fact.Transfer (account.Module holder.Distribution) (account.User to) (c ∷ cs)) e

@@ -3,13 +3,16 @@ use Rattle.std.proofs.Common.{◌≡◌, ℕ, ◌-◌, ◌*◌, ◌^◌, ◌≤�
 use Rattle.std.specs.Prelude.{unwrap_or, is_some}
 use Rattle.std.proofs.lemmas.List.Elements.{recursion_from_All}
 use Rattle.stk_dec.specs.declared.over.Over.{Over}
+use Rattle.stk_types.specs.Orders.{addr_cmp}
 use Rattle.stk_coins.specs.Coins.{Money, IsMoney, amount_of, smaller_of, whole_coins, coins_taken, fractions}
 use Rattle.stk_shares.specs.Shares.{value_even_of}
 use Rattle.stk_keep.specs.declared.entities.Purse.{Purse}
 use Rattle.stk_keep.specs.declared.entities.StartingInfo.{StartingInfo}
 use Rattle.stk_keep.specs.declared.entities.Validator.{Validator}
 use Rattle.stk_keep.specs.declared.facts.Fact.TheVariants as fact
+use Rattle.stk_keep.specs.Entries.{at}
 use Rattle.stk_keep.specs.Log.{Log}
+use Rattle.stk_keep.specs.Log as log
 use Rattle.stk_keep.specs.Staked.{validator_at, delegation}
 use Rattle.stk_keep.specs.Steps.{◌>>=◌}
 use Rattle.stk_keep.specs.World.{View, noted}
@@ -23,13 +26,14 @@ use Rattle.stk_bracket.specs.Account.{Start, Account, IsReached, reward_now}
 use Rattle.stk_bracket.specs.Account as deed
 use Rattle.stk_bracket.specs.Laws.{IsStartBracketed, IsCutWithin, overclaim}
 use Rattle.stk_bracket.specs.States.{starts_in, account_in, AreReached}
-use Rattle.stk_bracket.specs.Withdrawals.{raised_in, IsFairWithdrawal, IsFairPayment, WithdrawalsAreFair}
+use Rattle.stk_bracket.specs.Withdrawals.{raised_in, outstanding_in, IsFairWithdrawal, IsFairReward, WithdrawalsAreFair}
 use Rattle.stk_bracket.proofs.Denominations.{step_parts}
 use Rattle.stk_bracket.proofs.Reached.{deeds_lead_on, rewards_are_bracketed, cut_is_bounded}
 use Rattle.stk_bracket.proofs.Claims.{IsReady, ready_in, IsEnded, closed_account, closed_history, closed_full, due_parts, some_of, start_with, own_start}
 use Rattle.stk_bracket.proofs.Endings.{state_then, closed_is, end_is}
 use Rattle.stk_bracket.proofs.Quiet.{same_ok}
 use Rattle.stk_bracket.proofs.Rising.{raised_reached}
+use Rattle.stk_bracket.proofs.Holding.{outstanding_reached}
 
 -- ---- what a withdrawal answers and leaves
 
@@ -40,7 +44,7 @@ paid_with v who q r =
       coins,
       record q.1 { rewards = without_start who v.operator q.1.rewards; purses = r.1 },
       noted (fact.Paid who v.operator to r.0 coins) (over_facts (pooled_told (fractions r.0)) (paid_to to coins q.2)),
-      q.3,
+      q.3 ++ (v.operator, log.withdrawn who to q.0 (purse_of q.1.purses v.operator).outstanding) ∷ [],
     )
 
 -- what leaves is the smaller of the reward and of what is outstanding
@@ -94,7 +98,9 @@ record IsFairIn (d : List ℕ) (w : State) (v : Validator) (who : List ℕ) (ful
   bracketed : Brackets d span (amount_of full d)
   cut : 10 ^ 18 * (amount_of full d - amount_of (purse_of z.1.purses v.operator).outstanding d)
       ≤ overclaim_of d (history_of v.operator (w.log ++ z.3) []) (ratio_at (periods_of z.1.rewards v.operator).ratios z.0)
+  told : amount_of (purse_of z.1.purses v.operator).outstanding d ≡ outstanding_in d (history_of v.operator (w.log ++ z.3) [])
   raised : amount_of (ratio_at (periods_of z.1.rewards v.operator).ratios z.0) d ≡ raised_in d (history_of v.operator (w.log ++ z.3) [])
+  payees : z.1.withdraw ≡ w.hooks.0.withdraw
 
 fair_in : (d : List ℕ) (w : State) (v : Validator) (who : List ℕ) (shares : ℕ) (full : Money) (z : ℕ × Shared × View × Log) → IsReady w v.operator → validator_at w.mine.staked v.operator ≡ Some v
     → delegation w.mine.staked who v.operator ≡ Some shares → AreReached w → ended v w.hooks.0 w.view ≡ Ok z
@@ -127,8 +133,10 @@ fair_in d w v who shares full z ready found held reached ends reward =
       bracketed = subst (λ n. Brackets d bracketed.span n) (sym amount) bracketed.brackets;
       cut = cut_then (amount_of full d) (reward_now d a start) (amount_of (purse_of z.1.purses op).outstanding d) a.outstanding
           (overclaim_of d (history_of op (w.log ++ z.3) []) (ratio_at (periods_of z.1.rewards op).ratios z.0)) (overclaim d a) amount left over cut;
+      told = left ∙ outstanding_reached d a closed ∙ ap (outstanding_in d) (sym history);
       raised = ap (λ x. amount_of (ratio_at x.periods.ratios z.0) d) is ∙ ap (λ n. amount_of (ratio_at a.periods.ratios n) d) k.period
           ∙ raised_reached d a closed ∙ ap (raised_in d) (sym history);
+      payees = k.payees;
     }
   where
     cut_then : (full reward left outstanding over most : ℕ) → full ≡ reward → left ≡ outstanding → over ≡ most → 10 ^ 18 * (reward - outstanding) ≤ most → 10 ^ 18 * (full - left) ≤ over
@@ -155,7 +163,9 @@ fair_withdrawal w v who shares y ready found held reached e =
       is = (f []).is;
       bracketed = λ d. subst (λ s. Brackets d s (amount_of m.full d)) (same_span (f d).span (f []).span (span_of who (history_of v.operator (w.log ++ m.z.3) []) None) (f d).is (f []).is) (f d).bracketed;
       cut = λ d. (f d).cut;
+      outstanding_is = λ d. (f d).told;
       ratio_is = λ d. (f d).raised;
+      payee_is = ap (λ es. unwrap_or (at addr_cmp es who) who) (f []).payees;
       reward = m.paid.0;
       reward_is = m.reward_is;
       coins_are = coins;
@@ -167,18 +177,16 @@ fair_withdrawal w v who shares y ready found held reached e =
     same_span : (s t : Span) (o : Option Span) → o ≡ Some s → o ≡ Some t → s ≡ t
     same_span s t o e f = let both : Path (Option Span) (Some s) (Some t) = sym e ∙ f in cc
 
--- so the payment that is told is
-pub fair_payment : (w : State) (v : Validator) (who : List ℕ) (shares : ℕ) (y : Money × Shared × View × Log) → (k : IsFairWithdrawal w v who shares y) → IsFairPayment (w.log ++ k.more) who v.operator k.reward y.0
-fair_payment w v who shares y k = record {
-  full = k.full;
+-- so its entry is
+pub fair_reward : (w : State) (v : Validator) (who : List ℕ) (shares : ℕ) (y : Money × Shared × View × Log) → (k : IsFairWithdrawal w v who shares y)
+    → IsFairReward (w.log ++ k.more) who v.operator k.full (purse_of k.closed.purses v.operator).outstanding
+fair_reward w v who shares y k = record {
   full_is = k.full_is;
-  outstanding = (purse_of k.closed.purses v.operator).outstanding;
   span = k.span;
   is = k.is;
   bracketed = k.bracketed;
+  outstanding_is = k.outstanding_is;
   cut = λ d. subst (λ n. 10 ^ 18 * (amount_of k.full d - amount_of (purse_of k.closed.purses v.operator).outstanding d) ≤ count_where is_left (history_of v.operator (w.log ++ k.more) []) * n) (k.ratio_is d) (k.cut d);
-  reward_is = k.reward_is;
-  coins_are = k.coins_are;
 }
 
 pub withdrawals_are_fair : WithdrawalsAreFair

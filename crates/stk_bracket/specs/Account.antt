@@ -76,20 +76,21 @@ reward_now d a s = reward_in d s.info a.periods (last_ended a.periods) a.height 
 
 -- ---- the deeds
 
--- What the rules do to one validator: the next block; an allocation's commission and its rest; the end of a period, with
--- the increment and the new ratio; a slash, which ends the period too; an amount with the shares issued for it; shares
--- that leave; a start, at its place among the starts, of a delegator's shares; the payment of the start at a place, which
--- is then gone; and the payment of commission.
+-- What the rules do to one validator: the next block; an allocation's commission, its whole and its
+-- rest; the end of a period, with the increment and the new ratio; a slash, which ends the period too;
+-- an amount with the shares issued for it; shares that leave; a start, at its place among the starts,
+-- of a delegator's shares; the payment of the start at a place, which is then gone, with to whom it
+-- goes, its full reward and what was outstanding; and the payment of commission.
 pub data Deed : Type 0 where
   block : (height : ℕ) → Deed
-  allocation : (commission : ℕ) (rest : Money) → Deed
+  allocation : (commission : ℕ) (share rest : Money) → Deed
   ending : (increment ratio : Money) → Deed
   slash : (burn : ℕ) (increment ratio : Money) → Deed
   issue : (amount issued : ℕ) → Deed
   removal : (part : ℕ) → Deed
   beginning : (place : ℕ) (who : List ℕ) (shares : ℕ) → Deed
-  payment : (place : ℕ) → Deed
-  commission_payment : (amount : ℕ) → Deed
+  payment : (place : ℕ) (payee : List ℕ) (full outstanding : Money) → Deed
+  commission_payment : (coins : Money) → Deed
 
 -- the increment of the ratio, the quotient of the current rewards by the tokens, cut; nothing without tokens
 abbrev pub increment_of : ℕ → ℕ → ℕ
@@ -111,7 +112,7 @@ period_closed increment ratio a = record a {
     ratios = (a.periods.current, ratio) ∷ a.periods.ratios;
     events = a.periods.events;
   };
-  history = a.history ++ log.ended a.periods.current increment ∷ [];
+  history = a.history ++ log.ended a.periods.current increment a.tokens ∷ [];
 }
 
 -- a slash is recorded at the period that just ended, and burns (`updateValidatorSlashFraction`, `RemoveValidatorTokens`)
@@ -130,6 +131,16 @@ start_made a who shares = record {
   info = record { period = last_ended a.periods; stake = value_cut_of a.tokens a.shares shares; height = a.height };
 }
 
+-- whose a start is
+abbrev pub owner_of : Option Start → List ℕ
+owner_of None = []
+owner_of (Some s) = s.who
+
+-- the full reward of a start
+abbrev pub full_of : List ℕ → Account → Option Start → ℕ
+full_of d a None = 0
+full_of d a (Some s) = reward_now d a s
+
 -- what leaves with a payment: the reward, as far as what is outstanding goes (`withdrawDelegationRewards`)
 abbrev pub payment_of : List ℕ → Account → Option Start → ℕ
 payment_of d a None = 0
@@ -138,11 +149,11 @@ payment_of d a (Some s) = min (reward_now d a s) a.outstanding
 -- what a deed makes of a validator, in a denomination
 abbrev pub account_after : List ℕ → Account → Deed → Account
 account_after d a (block height) = record a { height = height }
-account_after d a (allocation commission rest) = record a {
+account_after d a (allocation commission share rest) = record a {
   current = a.current + amount_of rest d;
   commission = a.commission + commission;
   outstanding = a.outstanding + (commission + amount_of rest d);
-  history = a.history ++ log.allocated rest a.tokens ∷ [];
+  history = a.history ++ log.allocated share rest a.tokens ∷ [];
 }
 account_after d a (ending increment ratio) = period_closed increment ratio a
 account_after d a (slash burn increment ratio) = account_slashed burn (period_closed increment ratio a)
@@ -156,11 +167,17 @@ account_after d a (beginning place who shares) = record a {
   starts = insert a.starts place (start_made a who shares);
   history = a.history ++ log.started who shares a.tokens a.shares (value_cut_of a.tokens a.shares shares) ∷ [];
 }
-account_after d a (payment place) = record a {
+account_after d a (payment place payee full outstanding) = record a {
   outstanding = a.outstanding - payment_of d a (slice_get a.starts place);
   starts = remove a.starts place;
+  history =
+      a.history ++ log.withdrawn (owner_of (slice_get a.starts place)) payee full outstanding ∷ [];
 }
-account_after d a (commission_payment amount) = record a { commission = a.commission - amount; outstanding = a.outstanding - amount }
+account_after d a (commission_payment coins) = record a {
+  commission = a.commission - amount_of coins d;
+  outstanding = a.outstanding - amount_of coins d;
+  history = a.history ++ log.commission coins ∷ [];
+}
 
 -- what deeds make of it
 abbrev pub account_of : List ℕ → Account → List Deed → Account
@@ -174,12 +191,21 @@ pub record IsNextRatio (d : List ℕ) (a : Account) (increment ratio : Money) : 
   pub increment_is : amount_of increment d ≡ increment_of a.current a.tokens
   pub ratio_is : amount_of ratio d ≡ ratio_in d a.periods (last_ended a.periods) + amount_of increment d
 
--- What the rules see to before each deed: heights ascend; an allocation comes first in its block, so that no start is of
--- its height; a slash is of at most 10^18 tokens and burns at most these; shares are issued and leave, and starts are
--- made, right after a period's end; all shares whose rewards run are the validator's, and nobody has two starts.
+-- a payment is of a start that stands, and tells its full reward and what is outstanding
+pub record IsPaymentOf (d : List ℕ) (a : Account) (place : ℕ) (full outstanding : Money) : Type 0 where
+  pub within : place < length a.starts
+  pub full_is : amount_of full d ≡ full_of d a (slice_get a.starts place)
+  pub outstanding_is : amount_of outstanding d ≡ a.outstanding
+
+-- What the rules see to before each deed: heights ascend; an allocation is its commission and its
+-- rest, and comes first in its block, so that no start is of its height; a slash is of at most 10^18
+-- tokens and burns at most these; shares are issued and leave, and starts are made, right after a
+-- period's end; all shares whose rewards run are the validator's, and nobody has two starts.
 abbrev pub IsFitting : List ℕ → Account → Deed → Type 0
 IsFitting d a (block height) = a.height < height
-IsFitting d a (allocation commission rest) = AllByRecursion (λ s. s.info.height < a.height) a.starts
+IsFitting d a (allocation commission share rest) =
+    (commission + amount_of rest d ≡ amount_of share d)
+    × AllByRecursion (λ s. s.info.height < a.height) a.starts
 IsFitting d a (ending increment ratio) = IsNextRatio d a increment ratio
 IsFitting d a (slash burn increment ratio) = IsNextRatio d a increment ratio × (0 < a.tokens) × (a.tokens ≤ 10 ^ 18) × (burn ≤ a.tokens)
 IsFitting d a (issue amount issued) = (a.current ≡ 0) × (issued_shares a.tokens a.shares amount ≡ Ok issued)
@@ -187,8 +213,9 @@ IsFitting d a (removal part) = (a.current ≡ 0) × (0 < a.shares) × (counted_s
 IsFitting d a (beginning place who shares) =
     (a.current ≡ 0) × (0 < shares) × (counted_shares a + shares ≤ a.shares) × (place ≤ length a.starts)
     × AllByRecursion (λ s. who ≢ s.who) a.starts
-IsFitting d a (payment place) = place < length a.starts
-IsFitting d a (commission_payment amount) = (amount ≤ a.commission) × (amount ≤ a.outstanding)
+IsFitting d a (payment place payee full outstanding) = IsPaymentOf d a place full outstanding
+IsFitting d a (commission_payment coins) =
+    (amount_of coins d ≤ a.commission) × (amount_of coins d ≤ a.outstanding)
 
 -- each deed of a list is, where those before it led
 abbrev pub AreFitting : List ℕ → Account → List Deed → Type 0

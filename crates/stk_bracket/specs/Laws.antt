@@ -1,5 +1,5 @@
 -- What holds of each reached account, and what a reward in lists of coins is in one denomination.
-use Rattle.std.specs.Prelude.{ℕ, ◌+◌, ◌-◌, ◌*◌, ◌^◌, ◌≤◌, ◌<◌, ◌≡◌, Bool, true, false, List, filter, map, All, Some, None, Ok}
+use Rattle.std.specs.Prelude.{ℕ, ◌+◌, ◌-◌, ◌*◌, ◌^◌, ◌≤◌, ◌<◌, ◌≡◌, Bool, true, false, List, [], filter, map, All, Some, None, Ok}
 use Rattle.stk_dec.specs.Fractions.{Fraction, fraction_of, IsAtMost, IsBelow}
 use Rattle.stk_coins.specs.Coins.{Money, IsMoney, amount_of}
 use Rattle.stk_shares.specs.Burns.{ratio_of, unit, plus}
@@ -61,17 +61,28 @@ RemovalsLowerByHalfAUnit =
 -- an entry of which an ideal reward depends: an allocation or a slash
 abbrev pub is_shared : LogEntry → Bool
 is_shared log.made = false
-is_shared (log.allocated f t) = true
-is_shared (log.ended p i) = false
+is_shared (log.allocated f r t) = true
+is_shared (log.ended p i t) = false
 is_shared (log.started d s t x k) = false
 is_shared (log.slashed b t f) = true
 is_shared log.left = false
+is_shared (log.withdrawn d p f o) = false
+is_shared (log.commission c) = false
 
--- When periods end, who starts and whose shares leave does not move an ideal reward: with the same allocations and slashes
--- it is the same.
+-- such an entry, without what of an allocation is commission
+abbrev pub without_commission : LogEntry → LogEntry
+without_commission (log.allocated f r t) = log.allocated [] r t
+without_commission e = e
+
+-- the allocations and slashes among entries
+abbrev pub shared_among : List LogEntry → List LogEntry
+shared_among es = map without_commission (filter is_shared es)
+
+-- When periods end, who starts and whose shares leave does not move an ideal reward, nor does
+-- commission: with the same allocations to delegators and slashes it is the same.
 abbrev pub MomentsDoNotMatter : Type 0
 MomentsDoNotMatter =
-    (d : List ℕ) (first : Fraction) (es es' : List LogEntry) → filter is_shared es ≡ filter is_shared es'
+    (d : List ℕ) (first : Fraction) (es es' : List LogEntry) → shared_among es ≡ shared_among es'
     → ideal_reward d (record { first = first; entries = es }) ≡ ideal_reward d (record { first = first; entries = es' })
 
 -- ---- the statements

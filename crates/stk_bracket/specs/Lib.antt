@@ -4,3 +4,4 @@ pub mod Rows
 pub mod States
 pub mod Changes
 pub mod Withdrawals
+pub mod Payments

@@ -1,7 +1,8 @@
 -- Worked rows: two histories of a validator, each of fitting deeds, and what they come to.
-use Rattle.std.specs.Prelude.{◌≡◌, ℕ, ◌*◌, ◌^◌, ◌≤◌, List, [], ◌∷◌, ◌++◌, map, Option, Some, None}
+use Rattle.std.specs.Prelude.{◌≡◌, ◌≢◌, ℕ, ◌*◌, ◌^◌, ◌≤◌, List, [], ◌∷◌, ◌++◌, map, Option, Some, None}
 use Rattle.stk_dec.specs.Fractions.{Fraction, IsAtMost}
 use Rattle.stk_coins.specs.Coins.{Money, amount_of}
+use Rattle.stk_keep.specs.declared.facts.Fact.TheVariants as fact
 use Rattle.stk_keep.specs.Log.{Log}
 use Rattle.stk_keep.specs.Log as log
 use Rattle.stk_shares.specs.Burns.{ratio_of}
@@ -10,7 +11,7 @@ use Rattle.stk_rules.specs.Ideal.{Span, span_of, ideal_reward}
 use Rattle.stk_bracket.specs.Account.{Account, Deed, AreFitting, new_account, account_of, reward_now}
 use Rattle.stk_bracket.specs.Account as deed
 use Rattle.stk_bracket.specs.Laws.{overclaim}
-use Rattle.stk_bracket.specs.Withdrawals.{IsFairPayment}
+use Rattle.stk_bracket.specs.Withdrawals.{IsFairReward, IsFairEntry, IsSent, reward_paid}
 
 -- the end of a period without rewards
 abbrev pub quiet_end : Deed
@@ -32,7 +33,7 @@ twice_slashed =
     ∷ deed.beginning 1 (addr 3) (1000000 * 10 ^ 18)
     ∷ deed.block 8
     ∷ quiet_end
-    ∷ deed.payment 1
+    ∷ deed.payment 1 (addr 3) [] []
     ∷ deed.beginning 1 (addr 3) (950000 * 10 ^ 18)
     ∷ deed.removal (50000 * 10 ^ 18)
     ∷ deed.slash 100000 [] []
@@ -40,7 +41,11 @@ twice_slashed =
 
 -- a fee of 1,850 is allocated in the next block, and the period ends: a ratio of 0.001
 abbrev pub fees_behind : List Deed
-fees_behind = deed.block 9 ∷ deed.allocation 0 (decimals (1850 * 10 ^ 18)) ∷ deed.ending (decimals (10 ^ 15)) (decimals (10 ^ 15)) ∷ []
+fees_behind =
+    deed.block 9
+    ∷ deed.allocation 0 (decimals (1850 * 10 ^ 18)) (decimals (1850 * 10 ^ 18))
+    ∷ deed.ending (decimals (10 ^ 15)) (decimals (10 ^ 15))
+    ∷ []
 
 -- after the slashes, and after the fees
 abbrev pub slashed_account : Account
@@ -81,7 +86,7 @@ abbrev pub undelegates_one : ℕ → ℕ → List Deed
 undelegates_one height shares =
     deed.block height
     ∷ quiet_end
-    ∷ deed.payment 0
+    ∷ deed.payment 0 (addr 4) [] []
     ∷ deed.beginning 0 (addr 4) shares
     ∷ deed.removal 2127659574468085106
     ∷ []
@@ -109,11 +114,22 @@ fee_ratio = decimals 1939655172413793103448275862068965
 abbrev pub later_end : Deed
 later_end = deed.ending [] fee_ratio
 
+-- the payment of the start at a place to its delegator, with its reward and what is outstanding
+abbrev pub pays : ℕ → ℕ → ℕ → ℕ → Deed
+pays place delegator full outstanding =
+    deed.payment place (addr delegator) (decimals full) (decimals outstanding)
+
 -- a fee of 9 * 10^17, a slash of 46 of the 464 tokens, and three of the four withdraw; the fourth is about to
 abbrev pub behind_the_fee : List Deed
 behind_the_fee =
-    deed.block 8 ∷ deed.allocation 0 (decimals (9 * 10 ^ 35)) ∷ deed.slash 46 fee_ratio fee_ratio
-    ∷ deed.block 9 ∷ later_end ∷ deed.payment 3 ∷ later_end ∷ deed.payment 2 ∷ later_end ∷ deed.payment 1 ∷ later_end
+    deed.block 8
+    ∷ deed.allocation 0 (decimals (9 * 10 ^ 35)) (decimals (9 * 10 ^ 35))
+    ∷ deed.slash 46 fee_ratio fee_ratio
+    ∷ deed.block 9
+    ∷ later_end ∷ pays 3 1 722017241379310344827586206896551531 900000000000000000000000000000000000
+    ∷ later_end ∷ pays 2 2 57433189655172413793103448275862053 177982758620689655172413793103448469
+    ∷ later_end ∷ pays 1 3 47405172413793103448275862068965504 120549568965517241379310344827586416
+    ∷ later_end
     ∷ []
 
 abbrev pub cut_account : Account
@@ -126,22 +142,56 @@ pub record LastPaymentIsCut : Type 0 where
   pub outstanding : cut_account.outstanding ≡ 73144396551724137931034482758620912
   pub over : overclaim uatom cut_account ≡ 11637931034482758620689655172413790
 
--- ---- payments that are not fair
+-- ---- withdrawals that are not fair
 
 -- A validator with 100 tokens, all of one delegation, which the fees of 50 went to; then a withdrawal ends the period.
 abbrev pub shared_fees : Log
 shared_fees =
     (addr 1, log.made)
-    ∷ (addr 1, log.ended 1 [])
+    ∷ (addr 1, log.ended 1 [] 0)
     ∷ (addr 1, log.started (addr 2) (100 * 10 ^ 18) 100 (100 * 10 ^ 18) (100 * 10 ^ 18))
-    ∷ (addr 1, log.allocated ((uatom, 50 * 10 ^ 18) ∷ []) 100)
-    ∷ (addr 1, log.ended 2 ((uatom, 5 * 10 ^ 17) ∷ []))
+    ∷ (addr 1, log.allocated ((uatom, 50 * 10 ^ 18) ∷ []) ((uatom, 50 * 10 ^ 18) ∷ []) 100)
+    ∷ (addr 1, log.ended 2 ((uatom, 5 * 10 ^ 17) ∷ []) 100)
     ∷ []
 
--- There a payment of nothing is not fair,
+-- There a withdrawal that pays nothing is not fair,
 abbrev pub NothingIsUnfair : Type 0
-NothingIsUnfair = (coins : Money) → IsFairPayment shared_fees (addr 2) (addr 1) [] coins → ⊥
+NothingIsUnfair =
+    (full outstanding : Money) → amount_of (reward_paid full outstanding) uatom ≡ 0
+    → IsFairReward shared_fees (addr 2) (addr 1) full outstanding → ⊥
 
--- nor is one of twice as much.
+-- nor is one that pays twice as much,
 abbrev pub TwiceIsUnfair : Type 0
-TwiceIsUnfair = (reward coins : Money) → 100 * 10 ^ 18 ≤ amount_of reward uatom → IsFairPayment shared_fees (addr 2) (addr 1) reward coins → ⊥
+TwiceIsUnfair =
+    (full outstanding : Money) → 100 * 10 ^ 18 ≤ amount_of (reward_paid full outstanding) uatom
+    → IsFairReward shared_fees (addr 2) (addr 1) full outstanding → ⊥
+
+-- nor is one that says that another amount was outstanding,
+abbrev pub OtherOutstandingIsUnfair : Type 0
+OtherOutstandingIsUnfair =
+    (full outstanding : Money) → amount_of outstanding uatom ≢ 50 * 10 ^ 18
+    → IsFairReward shared_fees (addr 2) (addr 1) full outstanding → ⊥
+
+-- the log behind the withdrawal of the 50
+abbrev pub fees_withdrawn : Log
+fees_withdrawn = shared_fees ++ (
+  addr 1,
+  log.withdrawn (addr 2) (addr 2) ((uatom, 50 * 10 ^ 18) ∷ []) ((uatom, 50 * 10 ^ 18) ∷ []),
+) ∷ []
+
+-- nor is a second one, whatever it pays,
+abbrev pub AgainIsUnfair : Type 0
+AgainIsUnfair =
+    (full outstanding : Money) → IsFairReward fees_withdrawn (addr 2) (addr 1) full outstanding → ⊥
+
+-- nor a new start of the delegation whose reward was not withdrawn.
+abbrev pub UnpaidStartIsUnfair : Type 0
+UnpaidStartIsUnfair =
+    (shares tokens all stake : ℕ)
+    → IsFairEntry shared_fees (addr 1) (log.started (addr 2) shares tokens all stake) → ⊥
+
+-- Nor is a payment of coins that is told before they are sent.
+abbrev pub UnsentIsUnfair : Type 0
+UnsentIsUnfair =
+    (who operator to : List ℕ) (reward coins : Money) → coins ≢ []
+    → IsSent [] (fact.Paid who operator to reward coins) → ⊥

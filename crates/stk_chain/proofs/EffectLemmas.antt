@@ -52,10 +52,6 @@ fee_sent payer fee s c h h2 facts facts2 e p k =
       record { stakes = k.stakes; hooks = k.hooks; view = ap pays k.view ∙ sym (λ i. record { bank = e.1 i; ctx = c; facts = e.2 i }); log = k.log },
     )
 
--- and one that was not
-pub fee_short : (payer : List ℕ) (fee : Money) (s : Staked) (v : View) → is_short v.bank (account.User payer) fee ≡ true → (p : State) → StandsFor (keeping s v) p → fee_paid payer fee p ≡ Err FeeUnpaid
-fee_short payer fee s v e p k = ap (λ b. stop_if b FeeUnpaid >> Ok (over_view (sent (account.User payer) (account.Module holder.FeeCollector) fee) p)) (ap (λ (u : View). is_short u.bank (account.User payer) fee) k.view ∙ e)
-
 -- what a bank's message left
 pub sent_ends : (from : List ℕ) (to : Account) (coins : Money) (s : Staked) (c : Ctx) (h h2 : Holdings) (facts facts2 : List Fact) (r : Result ⊤ Stop) → Transfers from to coins h facts h2 facts2 r
     → MessageEnds (send from to coins (stake_over s (record { bank = h; ctx = c; facts = facts }))) (keeping s (record { bank = h2; ctx = c; facts = facts2 })) r

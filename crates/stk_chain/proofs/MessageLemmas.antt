@@ -60,16 +60,6 @@ pub record SoFar (messages : List Msg) (place : ℕ) (old new : Modules) : Type 
   pub rest : (p : State) → StandsFor (kept_of old) p
       → (q : State) × StandsFor (kept_of new) q × (effects_of place (map built_effect (drop place messages)) q ≡ effects_of 0 (map built_effect messages) p)
 
-pub none_so_far : (messages : List Msg) (m : Modules) → AreSteady m → SoFar messages 0 m m
-none_so_far messages m s = record {
-  steady = s;
-  same_ctx = refl;
-  same_marks = refl;
-  same_power = refl;
-  follow = ([], sym (append_nil m.ground.facts));
-  rest = λ p k. (p, k, refl);
-}
-
 module _ (messages : List Msg) (place : ℕ) (message : Msg) (old new : Modules) (lt : place < length messages) (is : message ≡ get_or messages place message) (so : SoFar messages place old new) where
   -- what the messages from here on come to, by what this one comes to
   here : (p : State) (k : StandsFor (kept_of old) p) (r : Result State Refusal) → built_effect message (so.rest p k).0 ≡ r

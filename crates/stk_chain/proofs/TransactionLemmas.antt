@@ -22,11 +22,6 @@ use Rattle.stk_chain.proofs.StandLemmas.{keeping, stands_same, kept_cleared, sta
 
 -- ---- one transaction
 
--- messages of which none was refused
-pub accepted_ends : (p : State) (r : Result State (ℕ × Refusal)) (k : KeptState) → MessagesEnd r None k → EndsAs (stands_or_fee p r) Accepted k
-accepted_ends p (Ok due) k e = (refl, e)
-accepted_ends p (Err due) k e = absurd e
-
 -- messages of which one was refused, where what is kept is as before them
 pub refused_ends : (p : State) (r : Result State (ℕ × Refusal)) (left k old : KeptState) (place : ℕ) (why : Refusal) → MessagesEnd r (Some (place, why)) left → k ≡ old → StandsFor old p → EndsAs (stands_or_fee p r) (Refused place why) k
 refused_ends p (Ok due) left k old place why e same s = absurd e
@@ -42,10 +37,6 @@ pub all_paid_ends : {E : Type 0} (effects : List Effect) (p due : State) (r : Re
 all_paid_ends effects p due r (Ok outcome) k e s = paid_ends effects p due r outcome k e s
 all_paid_ends effects p due r (Err fault) k e s = tt
 
--- one whose fee was not changes nothing
-pub unpaid_ends : (effects : List Effect) (p : State) (r : Result State Refusal) (why : Refusal) (k old : KeptState) → r ≡ Err why → k ≡ old → StandsFor old p → EndsAs (after_fee effects p r) FeeUnpaid k
-unpaid_ends effects p r why k old e same s = subst (λ x. EndsAs (after_fee effects p x) FeeUnpaid k) (sym e) (refl, stands_same old k p same s)
-
 -- a state without facts begins as itself
 begins_so : (k : KeptState) (p : State) → k.view.facts ≡ [] → StandsFor k p → without_facts p ≡ p
 begins_so k p none s = λ i. record { mine = p.mine; hooks = p.hooks; view = record { bank = p.view.bank; ctx = p.view.ctx; facts = (sym none ∙ sym (ap (λ (u : View). u.facts) s.view)) i }; log = p.log }
@@ -56,13 +47,6 @@ pub reported : (tx : Tx) (k k2 : KeptState) (p : State) (outcome : Outcome) → 
 reported tx k k2 p outcome none s e =
     (λ i. record { facts = (sym (e.1.view) i).facts; outcome = e.0 i })
     ∙ ap (λ (w : State). (reported_as (transaction_applied tx.payer tx.fee (map built_effect tx.msgs) w)).report) (sym (begins_so k p none s))
-
--- and what it leaves, without its facts
-pub left_cleared : (tx : Tx) (k k2 : KeptState) (p : State) (outcome : Outcome) → k.view.facts ≡ [] → StandsFor k p → EndsAs (transaction_applied tx.payer tx.fee (map built_effect tx.msgs) p) outcome k2
-    → StandsFor (kept_cleared k2) (without_facts (tx_applied_by built_effect tx p).state)
-left_cleared tx k k2 p outcome none s e =
-    subst (λ (w : State). StandsFor (kept_cleared k2) (without_facts (reported_as (transaction_applied tx.payer tx.fee (map built_effect tx.msgs) w)).state)) (sym (begins_so k p none s))
-    (stands_cleared k2 (transaction_applied tx.payer tx.fee (map built_effect tx.msgs) p).1 e.1)
 
 -- ---- facts that are cut
 
@@ -110,9 +94,6 @@ pub record AppliedSoFar (txs : List Tx) (place : ℕ) (old new : Modules) (repor
   pub same_marks : marks_of new ≡ marks_of old
   pub rest : (p : State) → StandsFor (kept_of old) p
       → (q : State) × StandsFor (kept_of new) q × (before reports (cleared (built_txs (drop place txs) q)) ≡ cleared (built_txs txs p))
-
-pub none_applied : (txs : List Tx) (m : Modules) → AreSteady m → m.ground.facts ≡ [] → AppliedSoFar txs 0 m m []
-none_applied txs m s n = record { steady = s; none = n; same_ctx = refl; same_marks = refl; rest = λ p k. (p, k, refl) }
 
 pub applied_next : (txs : List Tx) (place : ℕ) (tx : Tx) (old new last : Modules) (reports reports2 : List TxReport) (report : TxReport) → place < length txs → tx ≡ get_or txs place tx
     → AppliedSoFar txs place old new reports → ((q : State) → StandsFor (kept_of new) q → report ≡ (tx_applied_by built_effect tx q).report)

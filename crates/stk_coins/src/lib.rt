@@ -19,6 +19,3 @@ pub use coin::{Coin, DecCoin};
 pub use coins::Coins;
 pub use dec_coins::DecCoins;
 pub use fault::CoinFault;
-
-#[cfg(test)]
-mod tests;

@@ -64,7 +64,8 @@ impl<'a, E: Entry> Pairs<'a, E> {
 
         ensures pairs { let before = side_by_side (map E.seen self.old.left.now)
             (map E.seen self.old.right.now) in
-            let after = side_by_side (map E.seen self.new.left.now) (map E.seen self.new.right.now) in
+            let after = side_by_side (map E.seen self.new.left.now)
+            (map E.seen self.new.right.now) in
             MatchOption result (before ≡ []) (λ pair. before ≡ pair ∷ after) }
         ensures limit { IfSome result (λ pair. (pair.left < 10 ^ 38) × (pair.right < 10 ^ 38)) }
         ensures place { IfSome result (λ pair. length self.old.right.now

@@ -18,6 +18,3 @@ pub mod worked;
 pub use dec::Dec;
 pub use kernel::{LIMIT, mul_div};
 pub use over::{Over, OverKind};
-
-#[cfg(test)]
-mod tests;

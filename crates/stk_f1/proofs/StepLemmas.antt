@@ -7,6 +7,7 @@ use Rattle.stk_table.specs.Tabled.{Tabled}
 use Rattle.stk_table.specs.Tabled as table
 use Rattle.stk_keep.specs.declared.entities.Historical.{Historical}
 use Rattle.stk_keep.specs.declared.entities.StartingInfo.{StartingInfo}
+use Rattle.stk_rows.proofs.MarkLemmas.{none_from_length, popped_length}
 use Rattle.stk_f1.specs.Kept.{Recorded, side_by_side, with_mark, IsGoneBack, IsForgotten, AreInStep}
 
 -- ---- marks side by side
@@ -57,14 +58,6 @@ step-push ps bs cs ds a b c d h =
       starts = length_push cs c ∙ ap (λ n. n + 1) h.starts ∙ sym n;
       events = length_push ds d ∙ ap (λ n. n + 1) h.events ∙ sym n;
     }
-
-popped_length : {A B : Type 0} (ps ps2 : List A) (bs bs2 : List B) (a : A) (b : B) → length bs ≡ length ps → ps2 ++ a ∷ [] ≡ ps → bs2 ++ b ∷ [] ≡ bs → length bs2 ≡ length ps2
-popped_length ps ps2 bs bs2 a b h p q =
-    let c = length_push ps2 a in
-    let d = length_push bs2 b in
-    let e = ap length p in
-    let f = ap length q in
-    omega (arith, c, d, e, f, h)
 
 step-pop : {A B C D : Type 0} (ps ps2 : List A) (bs bs2 : List B) (cs cs2 : List C) (ds ds2 : List D) (a : A) (b : B) (c : C) (d : D) → AreInStep ps bs cs ds
     → ps2 ++ a ∷ [] ≡ ps → bs2 ++ b ∷ [] ≡ bs → cs2 ++ c ∷ [] ≡ cs → ds2 ++ d ∷ [] ≡ ds → AreInStep ps2 bs2 cs2 ds2
@@ -136,10 +129,6 @@ module _ (c : Tabled (List ℕ) ℕ) (h : Tabled (List ℕ × ℕ) Historical) (
         spent = spent;
       };
     }
-
-  none_from_length : {A : Type 0} (xs : List A) → length xs ≡ 0 → xs ≡ []
-  none_from_length [] e = refl
-  none_from_length (x ∷ xs) e = absurd (omega (arith, e))
 
   pub closed-all : (spent : Bool) → (recorded c h s e spent).marks ≡ [] → (c.marks ≡ []) × (h.marks ≡ []) × (s.marks ≡ []) × (e.marks ≡ [])
   closed-all spent m =

@@ -317,7 +317,8 @@ impl F1 {
         ensures reward { (r : Rewards) → KeepsRewards self.now.kept r
             → Gives (reward_at (start_of r delegator.now operator.now) (periods_of r operator.now)
             ending height value) result }
-        ensures cost { (s : StartingInfo) → info_of self.now.kept delegator.now operator.now ≡ Some s
+        ensures cost { (s : StartingInfo)
+            → info_of self.now.kept delegator.now operator.now ≡ Some s
             → steps.new ≤ steps.old
             + (2 * length (events_since s.height (events_of self.now.kept operator.now)) + 4) }
     {
@@ -348,9 +349,10 @@ impl F1 {
         requires validator { HasPeriods self.now.kept operator.now }
         requires delegation { IsStarted self.now.kept delegator.now operator.now }
         ensures reward { (r : Rewards) → KeepsRewards self.now.kept r
-            → Gives (reward_after (start_of r delegator.now operator.now) (periods_of r operator.now)
-            increment.now height value) result }
-        ensures cost { (s : StartingInfo) → info_of self.now.kept delegator.now operator.now ≡ Some s
+            → Gives (reward_after (start_of r delegator.now operator.now)
+            (periods_of r operator.now) increment.now height value) result }
+        ensures cost { (s : StartingInfo)
+            → info_of self.now.kept delegator.now operator.now ≡ Some s
             → steps.new ≤ steps.old
             + (2 * length (events_since s.height (events_of self.now.kept operator.now)) + 5) }
     {

@@ -8,17 +8,16 @@ ghost use Rattle.stk_types.specs.Orders.{addr_cmp};
 ghost use Rattle.stk_keep.specs.Orders.{pair_cmp};
 ghost use Rattle.stk_f1.specs.Kept.{new_records, current_of, record_of, info_of, with_current, with_record, with_info, without_info, with_event, with_history, with_mark, IsGoneBack, IsForgotten, keeping, spent_now, period_cmp, event_cmp, record_set};
 ghost use Rattle.stk_f1.specs.Scenes.{Changes};
-ghost use Rattle.stk_table.specs.Tabled.{spent_now as table_spent, with_mark as table_marked, with_value};
+ghost use Rattle.stk_table.specs.Tabled.{spent_now as table_spent, with_value};
 
 use crate::items::{CurrentKind, EventKind, HistoricalKind, StartKind};
 use crate::slash::Slash;
 use std::alloc::Global;
-use std::hash::Hash;
 use std::marker::Model;
 use std::sync::ledger::Ledger;
 use stk_coins::DecCoins;
 use stk_keep::{Historical, SlashEvent, StartingInfo};
-use stk_rows::{Both, One};
+use stk_rows::{Both, One, mark_both};
 use stk_table::{Table, TableFault};
 use stk_types::{Addr, Copied, Steps};
 
@@ -278,7 +277,8 @@ impl Tables {
         operator: &Addr,
         steps: &mut Steps<L>,
     ) -> Result<Option<StartingInfo>, TableFault>
-        ensures info { IfOk result (λ info. info ≡ info_of self.old.kept delegator.now operator.now) }
+        ensures info { IfOk result
+            (λ info. info ≡ info_of self.old.kept delegator.now operator.now) }
         ensures changes { Changes (without_info delegator.now operator.now self.old.kept)
             self.old self.new result }
         ensures cost { steps.new ≤ steps.old + 1 }
@@ -370,26 +370,6 @@ impl Tables {
         self.historical.settle();
         self.starts.settle();
         self.events.settle();
-    }
-}
-
-/// Opens a mark of both tables, or of none.
-fn mark_both<A: Ord + Hash + Copied, B: Copied, C: Ord + Hash + Copied, D: Copied>(
-    first: &mut Table<A, B>,
-    second: &mut Table<C, D>,
-) -> Result<(), TableFault>
-    ensures first { OnOk result (first.new ≡ table_marked first.old) }
-    ensures second { OnOk result (second.new ≡ table_marked second.old) }
-    ensures first_err { OnErr result (first.new ≡ first.old) }
-    ensures second_err { OnErr result (second.new ≡ second.old) }
-{
-    first.mark()?;
-    match second.mark() {
-        Ok(()) => Ok(()),
-        Err(fault) => {
-            first.back();
-            Err(fault)
-        }
     }
 }
 

@@ -101,9 +101,9 @@ small = record {
   view = ground_then;
   log =
       (addr 1, log.made)
-      ∷ (addr 1, log.ended 1 [])
+      ∷ (addr 1, log.ended 1 [] 0)
       ∷ (addr 1, log.started (addr 1) (1000000 * 10 ^ 18) 1000000 (1000000 * 10 ^ 18) (1000000 * 10 ^ 18))
-      ∷ (addr 1, log.ended 2 [])
+      ∷ (addr 1, log.ended 2 [] 1000000)
       ∷ (addr 1, log.started (addr 2) (2000000 * 10 ^ 18) 3000000 (3000000 * 10 ^ 18) (2000000 * 10 ^ 18))
       ∷ [];
 }

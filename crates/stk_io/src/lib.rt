@@ -27,8 +27,6 @@ mod outside;
 mod reading;
 mod standard;
 mod sure;
-#[cfg(test)]
-mod tests;
 mod writing;
 
 pub use memory::{MemSink, MemSource};

@@ -4,6 +4,7 @@ use Rattle.std.specs.Prelude.{◌||◌, ◌==◌, ◌≢◌, nat_lt, length}
 use Rattle.std.proofs.lemmas.List.Elements.{All-nil}
 use Rattle.std.proofs.lemmas.Cmp.{nat_list_cmp_total}
 use Rattle.std.proofs.lemmas.Bool.Decides.{nat_tests}
+use Rattle.std.proofs.lemmas.Map.Lookups.{CmpEqualImpliesEq, exact_bytes, exact_pairs}
 use Rattle.std.proofs.lemmas.Map.Text.{is_eq-slice_cmp}
 use Rattle.std.proofs.lemmas.Slice.Eq.{bytes_eq-Decides}
 use Rattle.std.specs.declared.cmp.Ordering.{Ordering}
@@ -18,6 +19,7 @@ use Rattle.stk_types.specs.declared.account.Account.{Account}
 use Rattle.stk_types.specs.declared.account.Account.TheVariants as account
 use Rattle.stk_types.specs.Modules.{module_number}
 use Rattle.stk_types.specs.Orders.{account_cmp, denom_cmp}
+use Rattle.stk_types.proofs.OrderLemmas.{account_exact, account_order, account_order_at}
 use Rattle.stk_coins.specs.Coins.{Money, IsMoney}
 use Rattle.stk_coins.proofs.Order.{Above, Rises, rises_from_money}
 use Rattle.stk_keep.specs.Holdings.{Holdings, balance_of, supply_of, total_of, with_balance, coin_moved, moved, coin_burned, burned, is_short, IsBacked, no_holdings}
@@ -47,6 +49,16 @@ account_total = subst IsTotalOrder (λ i a b. sym (account_is a b) i) (on_total 
 
 pub place_total : IsTotalOrder place_cmp
 place_total = then_total (on_total (λ p. p.0) account_total) (on_total (λ p. p.1) nat_list_cmp_total)
+
+pub place_exact : CmpEqualImpliesEq place_cmp
+place_exact = exact_pairs account_cmp denom_cmp account_exact exact_bytes
+
+-- the derived order, in which maps keep places
+abbrev pub place_order : Account × List ℕ → Account × List ℕ → Ordering
+place_order x y = ordering_then (account_order x.0 y.0) (denom_cmp x.1 y.1)
+
+pub place_order_is : place_order ≡ place_cmp
+place_order_is = λ i. λ x y. ordering_then (account_order_at x.0 y.0 i) (denom_cmp x.1 y.1)
 
 pub denom_total : IsTotalOrder denom_cmp
 denom_total = nat_list_cmp_total

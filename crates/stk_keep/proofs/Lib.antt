@@ -3,3 +3,4 @@ pub mod HoldingLemmas
 pub mod HookLemmas
 pub mod AmountLemmas
 pub mod BurnLemmas
+pub mod StakeLemmas

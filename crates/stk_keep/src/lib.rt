@@ -44,6 +44,3 @@ pub use records::Records;
 pub use refusal::Refusal;
 pub use slashing::{RedelegationSlash, Signers, Slasher, UnbondingSlash};
 pub use staked::{Unbonder, ValidatorView};
-
-#[cfg(test)]
-mod tests;

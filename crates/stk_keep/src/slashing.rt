@@ -293,9 +293,10 @@ pub trait Signers {
 
     ghost marks: { Self → Marks };
 
-    /// The info of a consensus address, or None exactly where there is none.
+    /// The info of a consensus address, or None exactly where there is none. It takes at most one step.
     fn info<L: Ledger>(&self, cons: &ConsAddr, steps: &mut Steps<L>) -> Option<&SigningInfo>
-        ensures { option_copied result ≡ at cons_cmp (infos (held self.now)) cons.now };
+        ensures value { option_copied result ≡ at cons_cmp (infos (held self.now)) cons.now }
+        ensures cost { steps.new ≤ steps.old + 1 };
 
     /// Jails a consensus address that has an info until a moment, and says in it that this is for ever. The
     /// only error is `NoMemory`.

@@ -22,6 +22,12 @@ sent_between_hooks told v delegator coins shares w = do
   w2 ← stopping Overflow (call told (modified v delegator shares) (over_view (sent (account.User delegator) (account.Module NotBonded) coins) w1))
   Ok (tt, w2)
 
+-- Shares are unbonded, and then more, behind the log of the first. Answers what goes out with the last.
+abbrev pub unbonded_twice : {W E : Type 0} → (ℕ → W → Result (ℕ × W) E) → ℕ → ℕ → W → Result (ℕ × W) E
+unbonded_twice unbond part more w = do
+  (out, w1) ← unbond part w
+  unbond more w1
+
 -- there is a validator that is not unbonded
 abbrev pub can_be_slashed : Option Validator → Bool
 can_be_slashed None = false

@@ -3,13 +3,14 @@
 ghost use Rattle.std.specs.Prelude.{◌≡◌, ℕ, ◌+◌, ◌*◌, ◌^◌, ◌<◌, ◌≤◌, [], List, ◌++◌, OnOk, IsSome};
 ghost use Rattle.std.specs.Option.{option_copied};
 ghost use Rattle.stk_keep.specs.declared.facts.Fact.{Fact};
-ghost use Rattle.stk_keep.specs.Answers.{AnswersAs};
+ghost use Rattle.stk_keep.specs.Answers.{AnswersAs, Follows};
 ghost use Rattle.stk_keep.specs.Ground.{seen};
 ghost use Rattle.stk_keep.specs.Holdings.{IsBacked};
 ghost use Rattle.stk_keep.specs.Hooks.{Stands, MayCall};
-ghost use Rattle.stk_keep.specs.Staked.{validator_by_cons, lists_of, bonded_tokens, other_tokens, HoldsStake};
+ghost use Rattle.stk_keep.specs.Log.{Log};
+ghost use Rattle.stk_keep.specs.Staked.{validator_by_cons, lists_of, bonded_tokens, other_tokens, HoldsStake, HasShares};
 ghost use Rattle.stk_keep.specs.World.{starting};
-ghost use Rattle.stk_keep_trials.specs.Caller.{sent_between_hooks, can_be_jailed, can_be_slashed, can_be_banned, account_of, IsOwnBurnt, IsBurntIfKnown};
+ghost use Rattle.stk_keep_trials.specs.Caller.{sent_between_hooks, unbonded_twice, can_be_jailed, can_be_slashed, can_be_banned, account_of, IsOwnBurnt, IsBurntIfKnown};
 
 use std::alloc::Global;
 use std::sync::ledger::Ledger;
@@ -186,6 +187,44 @@ pub fn slash_through_entries<
     )?;
     burn_known(alloc, g, delegations.validator(operator, steps), steps)?;
     Ok(some + more)
+}
+
+/// What a slash does with two redelegation entries of one delegation: it unbonds a part, and then more of the
+/// rest, behind the log of the part. Answers the tokens that go out with the last.
+pub fn unbond_twice<B: Bank, H: StakingHooks, D: Unbonder, L: Ledger>(
+    alloc: Global,
+    g: &mut Ground<B>,
+    hooks: &mut H,
+    delegations: &mut D,
+    delegator: &Addr,
+    operator: &Addr,
+    part: Dec,
+    more: Dec,
+    steps: &mut Steps<L>,
+) -> Result<u128, HookFault>
+    requires some { 0 < more }
+    requires shares { HasShares (D.stake (D.held delegations.old))
+        delegator.now operator.now (part + more) }
+    requires sound { D.sound (D.held delegations.old) }
+    requires stand { Stands (H.holds hooks.old) H.tells (seen B.holdings g.old)
+        (lists_of (D.stake (D.held delegations.old))) }
+
+    // Behind any log.
+    ensures told { (h : H.Held) → H.holds hooks.old h → (log : Log) → Follows
+        (unbonded_twice (D.unbonds H.Held H.tells.told delegator.now operator.now) part more
+        (record {
+          mine = D.held delegations.old;
+          hooks = h;
+          view = seen B.holdings g.old;
+          log = log;
+        })) (D.held delegations.new) (H.holds hooks.new)
+        (seen B.holdings g.new) result }
+    ensures sound { OnOk result (D.sound (D.held delegations.new)) }
+    ensures stand { OnOk result (Stands (H.holds hooks.new) H.tells (seen B.holdings g.new)
+        (lists_of (D.stake (D.held delegations.new)))) }
+{
+    delegations.unbond(alloc, g, hooks, delegator, operator, part, steps)?;
+    delegations.unbond(alloc, g, hooks, delegator, operator, more, steps)
 }
 
 /// The tokens of a validator burn, where there is one.

@@ -5,10 +5,4 @@
 
 pub mod callers;
 pub mod forgetting;
-#[cfg(test)]
-mod forgetting_tests;
-#[cfg(test)]
-mod tests;
-#[cfg(test)]
-mod trial_tests;
 pub mod trials;

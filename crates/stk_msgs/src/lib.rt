@@ -20,6 +20,3 @@ pub use message::{
 };
 pub use report::{BlockReport, Outcome, Pending, TxReport};
 pub use stk_keep::{CreateValidator, EditValidator, Evidence, Vote};
-
-#[cfg(test)]
-mod tests;

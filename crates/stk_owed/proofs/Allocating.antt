@@ -127,7 +127,7 @@ given_said None share p facts = λ d. refl
 given_said (Some val) share p facts = by (is_empty share)
   where
     by : (b : Bool) → IfOk {T = Purses × List Fact × Log} {E = Over} (if b then Ok (p, facts, []) else (share_joined share val.commission.rate (purse_of p val.operator) >>= λ z.
-        Ok (with_purse val.operator z.1 p, facts ++ fact.Allocated val.operator share ∷ [], (val.operator, log.allocated z.0 val.tokens) ∷ []))) (λ z. SayNoMore facts z.1)
+        Ok (with_purse val.operator z.1 p, facts ++ fact.Allocated val.operator share ∷ [], (val.operator, log.allocated share z.0 val.tokens) ∷ []))) (λ z. SayNoMore facts z.1)
     by true = λ d. refl
     by false = on_bind (share_joined share val.commission.rate (purse_of p val.operator)) _ _ (λ z e. quiet_behind facts (fact.Allocated val.operator share) (λ d. refl))
 
@@ -176,7 +176,7 @@ module _ (P : List ℕ → Type 0) (T : List ℕ → ℕ) where
       found : at addr_cmp p.purses op ≡ Some purse
       found = some_unwrap (at addr_cmp p.purses op) no_purse there
 
-      joined : (x : Money) → IsKnown P x → IfOk {T = Purses × List Fact × Log} {E = Over} (share_joined x val.commission.rate purse >>= λ z. Ok (with_purse op z.1 p, facts ++ fact.Allocated op x ∷ [], (op, log.allocated z.0 val.tokens) ∷ [])) (λ z. HasGiven x p z.0)
+      joined : (x : Money) → IsKnown P x → IfOk {T = Purses × List Fact × Log} {E = Over} (share_joined x val.commission.rate purse >>= λ z. Ok (with_purse op z.1 p, facts ++ fact.Allocated op x ∷ [], (op, log.allocated x z.0 val.tokens) ∷ [])) (λ z. HasGiven x p z.0)
       joined x j =
           on_then (share_joined x val.commission.rate purse) _ (λ z. PurseFits P z.1 × ((d : List ℕ) → amount_of z.1.outstanding d ≡ amount_of purse.outstanding d + amount_of x d)) _
           (share_fits x val.commission.rate purse j (own_purse P p.purses op purse found o.1)) (λ z h. record {
@@ -187,7 +187,7 @@ module _ (P : List ℕ → Type 0) (T : List ℕ → ℕ) where
           more : (t2 t a b q s : ℕ) → t2 + a ≡ t + b → b ≡ a + s → t2 + q ≡ t + q + s
           more t2 t a b q s e f = omega (arith, e, f)
 
-      by : (x : Money) → IsKnown P x → IfOk {T = Purses × List Fact × Log} {E = Over} (if is_empty x then Ok (p, facts, []) else (share_joined x val.commission.rate purse >>= λ z. Ok (with_purse op z.1 p, facts ++ fact.Allocated op x ∷ [], (op, log.allocated z.0 val.tokens) ∷ []))) (λ z. HasGiven x p z.0)
+      by : (x : Money) → IsKnown P x → IfOk {T = Purses × List Fact × Log} {E = Over} (if is_empty x then Ok (p, facts, []) else (share_joined x val.commission.rate purse >>= λ z. Ok (with_purse op z.1 p, facts ++ fact.Allocated op x ∷ [], (op, log.allocated x z.0 val.tokens) ∷ []))) (λ z. HasGiven x p z.0)
       by [] j = record { purses = record { ascend = o.0; purses = o.1; pool = o.2; there = λ q. refl }; owed = λ d. none (owed_of p d) }
         where
           none : (n : ℕ) → n ≡ n + 0

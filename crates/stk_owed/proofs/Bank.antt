@@ -1,55 +1,19 @@
 -- A bank whose denominations have a property, and coins that move in it.
 use Rattle.std.proofs.Common.{◌≡◌, ℕ, ◌+◌, ◌^◌, ◌<◌, ◌≤◌, ◌==◌, Bool, true, false, cond, List, [], ◌∷◌, refl, sym, ap, subst, arith}
 use Rattle.std.specs.Prelude.{◌-◌, unwrap_or, Option, Some, None}
-use Rattle.std.specs.declared.cmp.Ordering.TheVariants.{Equal}
-use Rattle.std.specs.Ordering.{nat_cmp}
-use Rattle.std.proofs.lemmas.Map.Lookups.{exact_bytes, exact_pairs}
-use Rattle.stk_types.specs.declared.account.Account.TheVariants as account
-use Rattle.stk_types.specs.declared.account.Module.{Module}
-use Rattle.stk_types.specs.declared.account.Module.TheVariants.{FeeCollector, Bonded, NotBonded, Distribution}
-use Rattle.stk_types.specs.Modules.{module_number}
 use Rattle.stk_rules.proofs.OrderLemmas.{equal}
 use Rattle.std.specs.List.{AllByRecursion}
 use Rattle.std.specs.BTreeMap.{is_at}
 use Rattle.std.specs.Map.{lookup}
 use Rattle.stk_types.specs.declared.account.Account.{Account}
-use Rattle.stk_types.specs.Orders.{account_cmp, denom_cmp}
 use Rattle.stk_coins.specs.Coins.{Money, IsMoney}
 use Rattle.stk_coins.proofs.Order.{Rises, rises_from_money}
 use Rattle.stk_keep.specs.Entries.{with, without}
 use Rattle.stk_keep.specs.Holdings.{Balances, Holdings, balance_of, with_balance, coin_moved, moved, coin_burned, burned, is_short, IsBacked}
 use Rattle.stk_keep.specs.Orders.{place_cmp}
-use Rattle.stk_keep.proofs.HoldingLemmas.{first_enough, rest_enough, balance-most}
+use Rattle.stk_keep.proofs.HoldingLemmas.{place_exact, first_enough, rest_enough, balance-most}
 use Rattle.stk_owed.proofs.Lists.{all_taken, all_put, looked_up}
 use Rattle.stk_owed.proofs.Names.{AreNamed, IsKnown}
-
--- equal accounts are one, and equal places
-same_module : (m n : Module) → nat_cmp (module_number m) (module_number n) ≡ Equal → m ≡ n
-same_module FeeCollector FeeCollector e = refl
-same_module Bonded Bonded e = refl
-same_module NotBonded NotBonded e = refl
-same_module Distribution Distribution e = refl
-same_module FeeCollector Bonded e = absurd cc
-same_module FeeCollector NotBonded e = absurd cc
-same_module FeeCollector Distribution e = absurd cc
-same_module Bonded FeeCollector e = absurd cc
-same_module Bonded NotBonded e = absurd cc
-same_module Bonded Distribution e = absurd cc
-same_module NotBonded FeeCollector e = absurd cc
-same_module NotBonded Bonded e = absurd cc
-same_module NotBonded Distribution e = absurd cc
-same_module Distribution FeeCollector e = absurd cc
-same_module Distribution Bonded e = absurd cc
-same_module Distribution NotBonded e = absurd cc
-
-exact_account : (a b : Account) → account_cmp a b ≡ Equal → a ≡ b
-exact_account (account.User a) (account.User b) e = ap account.User (exact_bytes a b e)
-exact_account (account.Module m) (account.Module n) e = ap account.Module (same_module m n e)
-exact_account (account.User a) (account.Module n) e = absurd cc
-exact_account (account.Module m) (account.User b) e = absurd cc
-
-pub same_place : (x y : Account × List ℕ) → place_cmp x y ≡ Equal → x ≡ y
-same_place x y e = exact_pairs account_cmp denom_cmp exact_account exact_bytes x y e
 
 module _ (P : List ℕ → Type 0) where
   -- all denominations of the balances have the property
@@ -61,7 +25,7 @@ module _ (P : List ℕ → Type 0) where
     where
       by : (z : Bool) → AreHeld (cond z (without place_cmp h.balances (who, d)) (with place_cmp h.balances (who, d) n))
       by true = all_taken (λ (e : (Account × List ℕ) × ℕ). P e.0.1) (is_at (place_cmp (who, d))) h.balances k
-      by false = all_put (λ (e : (Account × List ℕ) × ℕ). P e.0.1) place_cmp same_place (who, d) n h.balances p k
+      by false = all_put (λ (e : (Account × List ℕ) × ℕ). P e.0.1) place_cmp place_exact (who, d) n h.balances p k
 
   held_coin_moved : (h : Holdings) (from to : Account) (d : List ℕ) (n : ℕ) → P d → AreHeld h.balances → AreHeld (coin_moved from to d n h).balances
   held_coin_moved h from to d n p k =
@@ -86,7 +50,7 @@ module _ (P : List ℕ → Type 0) where
       by : (r : Option ℕ) → lookup (is_at (place_cmp (who, d))) h.balances ≡ r → 0 < unwrap_or r 0 → P d
       by None e q = absurd (omega (arith, q))
       by (Some n) e q = looked_up (λ (e : (Account × List ℕ) × ℕ). P e.0.1) (is_at (place_cmp (who, d))) (λ m. P d)
-          (λ x m t g. subst P (sym (ap (λ (y : Account × List ℕ). y.1) (same_place (who, d) x (equal (place_cmp (who, d) x) t)))) g) h.balances n e k
+          (λ x m t g. subst P (sym (ap (λ (y : Account × List ℕ). y.1) (place_exact (who, d) x (equal (place_cmp (who, d) x) t)))) g) h.balances n e k
 
   -- so has each that an account has enough of
   named_enough : (coins : Money) (h : Holdings) (who : Account) → Rises coins → is_short h who coins ≡ false → AreHeld h.balances → AreNamed P coins

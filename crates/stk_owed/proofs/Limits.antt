@@ -1,6 +1,6 @@
 -- A hook before a delegation changes is over where what it reads says so: the purse and the periods of its validator, and the
 -- start of the delegation; in a sound state coins that join the pool never are.
-use Rattle.std.proofs.Common.{◌≡◌, ◌∙◌, ℕ, ◌+◌, ◌*◌, ◌^◌, ◌<◌, ◌≤◌, ◌==◌, Bool, true, false, List, [], ◌∷◌, Option, Some, None, Result, Ok, Err, refl, sym, ap, subst, arith}
+use Rattle.std.proofs.Common.{◌≡◌, ◌∙◌, ℕ, ◌+◌, ◌*◌, ◌^◌, ◌<◌, ◌≤◌, ◌==◌, Bool, true, false, List, [], ◌∷◌, ◌++◌, Option, Some, None, Result, Ok, Err, refl, sym, ap, subst, arith}
 use Rattle.std.specs.Prelude.{◌%◌, if◌then◌else◌, is_some, min, unwrap_or}
 use Rattle.stk_types.specs.declared.account.Account.TheVariants as account
 use Rattle.stk_types.specs.declared.account.Module.TheVariants as holder
@@ -191,7 +191,7 @@ module _ (P : List ℕ → Type 0) (T : List ℕ → ℕ) where
         last_ended y.1,
         record d { rewards = with_periods op y.1 d.rewards; purses = x.2 },
         noted (fact.Period op (last_ended y.1) y.0) (over_facts (pooled_told x.1) v),
-        (op, log.ended (last_ended y.1) x.0) ∷ [],
+        (op, log.ended (last_ended y.1) x.0 val.tokens) ∷ [],
       )
 
       inner : (x : Money × Money × Purses) (r : Result (Money × Periods) Over) → SameEnd who op d v (r >>= λ y. Ok (ends x y)) r
@@ -253,7 +253,7 @@ module _ (P : List ℕ → Type 0) (T : List ℕ → ℕ) where
         whole_coins y.0,
         record x.1 { rewards = without_start who op x.1.rewards; purses = y.1 },
         noted (fact.Paid who op (payee_of x.1 who) y.0 (whole_coins y.0)) (over_facts (pooled_told (fractions y.0)) (paid_to (payee_of x.1 who) (whole_coins y.0) x.2)),
-        x.3,
+        x.3 ++ (op, log.withdrawn who (payee_of x.1 who) x.0 (purse_of x.1.purses op).outstanding) ∷ [],
       )
 
       paying : Money × Shared × View × Log → Result (Money × Shared × View × Log) Over

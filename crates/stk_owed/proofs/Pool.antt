@@ -169,9 +169,9 @@ module _ (P : List ℕ → Type 0) (T : List ℕ → ℕ) where
 
   pub commission_fits : (operator : List ℕ) (w : State) → StateFits P T w → IfOk (withdraw_commission operator w) (StateLeft P T w)
   commission_fits operator w h =
-      on_then (commission_withdrawn operator w.hooks.0 w.view) _ (λ x. StateLeft P T w (with_shared x.1 x.2 [] w)) _
+      on_then (commission_withdrawn operator w.hooks.0 w.view) _ (λ x. StateLeft P T w (with_shared x.1 x.2 x.3 w)) _
       (on_found (at addr_cmp w.hooks.0.purses.purses operator) NoCommission _ _ (λ p found. on_stop (is_empty p.commission) NoCommission _ _ (λ e.
-      state_left P T w _ _ [] h (commission_leaves operator p (payee_of w.hooks.0 operator) w.view (lists_of w.mine.staked) w.hooks.0 found h.stake.shared h.stake.ground h.stake.owed))))
+      state_left P T w _ _ _ h (commission_leaves operator p (payee_of w.hooks.0 operator) w.view (lists_of w.mine.staked) w.hooks.0 found h.stake.shared h.stake.ground h.stake.owed))))
       (λ x k. k)
 
 pub funding_keeps_soundness : FundingKeepsSoundness

@@ -33,13 +33,13 @@ use Rattle.stk_rules.specs.Delegating.{pool, delegated}
 use Rattle.stk_coins.proofs.Amounts.{is_equal}
 use Rattle.stk_coins.proofs.Order.{same_name}
 use Rattle.stk_coins.specs.Coins.{Money, amount_of}
-use Rattle.stk_keep.proofs.HoldingLemmas.{balance-within, place_total}
+use Rattle.stk_keep.proofs.HoldingLemmas.{balance-within, place_exact, place_total}
 use Rattle.stk_keep.specs.Holdings.{Holdings, IsBacked, balance_of, supply_of, total_of}
 use Rattle.stk_keep.specs.Orders.{place_cmp}
 use Rattle.stk_keep.specs.Staked.{Staked, lists_of, validator_at}
 use Rattle.stk_machine.proofs.StakesLemmas.{nobody_has}
 use Rattle.stk_owed.proofs.Burns.{total_in}
-use Rattle.stk_owed.proofs.Bank.{AreHeld, same_place}
+use Rattle.stk_owed.proofs.Bank.{AreHeld}
 use Rattle.stk_owed.proofs.Bonding.{set_fits}
 use Rattle.stk_owed.proofs.Creating.{stored_fits}
 use Rattle.stk_owed.proofs.Delegating.{delegated_fits}
@@ -77,7 +77,7 @@ pub held_supplied : (h : Holdings) → IsBacked h → AreHeld (Contains (keys_of
 held_supplied h b =
     recursion_from_All (λ e. Contains (keys_of h.supplies) e.0.1) h.balances
     (to_all place_cmp place_total (λ e. Contains (keys_of h.supplies) e.0.1) h.balances b.balances_ascend (λ k n e.
-    let some : 0 < n = from_all place_cmp place_total (λ (e : (Account × List ℕ) × ℕ). 0 < e.1) h.balances same_place b.balances_positive k n e in
+    let some : 0 < n = from_all place_cmp place_total (λ (e : (Account × List ℕ) × ℕ). 0 < e.1) h.balances place_exact b.balances_positive k n e in
     let here : balance_of h k.0 k.1 ≡ n = ap (λ r. unwrap_or r 0) e in
     let within = balance-within h k.0 k.1 in
     let all = b.backed k.1 in

@@ -6,7 +6,9 @@ use Rattle.stk_owed.proofs.Starting.{IsWellStarted, room, runs_are_sound, starte
 use Rattle.stk_owed.proofs.Steps.{from_if}
 use Rattle.stk_bracket.specs.States.{AreReached}
 use Rattle.stk_bracket.proofs.Claims.{reached_is_bracketed, reached_has_shortfall_within}
-use Rattle.stk_reached.specs.Runs.{RunsAreReached}
+use Rattle.stk_bracket.proofs.Holding.{outstanding_is_logged}
+use Rattle.stk_bracket.proofs.Resting.{rewards_run_where_held}
+use Rattle.stk_reached.specs.Runs.{RunsAreReached, RunsRunWhereHeld, RunsLogOutstanding}
 use Rattle.stk_reached.proofs.Running.{runs_keep_reached}
 use Rattle.stk_reached.proofs.Starts.{genesis_is_reached}
 
@@ -18,6 +20,12 @@ runs_are_reached = λ r.
 
 pub claims_are_bracketed : ClaimsAreBracketed
 claims_are_bracketed = λ r. reached_is_bracketed (run_in r).state (runs_are_sound r) (runs_are_reached r)
+
+pub runs_run_where_held : RunsRunWhereHeld
+runs_run_where_held = λ r who v found. rewards_run_where_held (run_in r).state who v (runs_are_sound r) (runs_are_reached r) found
+
+pub runs_log_outstanding : RunsLogOutstanding
+runs_log_outstanding = λ r d v found. outstanding_is_logged (run_in r).state d v (runs_are_reached r) found
 
 pub shortfalls_are_bounded : ShortfallsAreBounded
 shortfalls_are_bounded = λ r d v found. reached_has_shortfall_within (run_in r).state (runs_are_reached r) d v found

@@ -2,3 +2,4 @@ pub mod Running
 pub mod Starts
 pub mod Ends
 pub mod Saying
+pub mod Reading

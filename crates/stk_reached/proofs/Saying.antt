@@ -1,13 +1,19 @@
--- Each payment of a reward that a block says is fair, by the log up to it; and so in runs.
-use Rattle.std.proofs.Common.{◌≡◌, ◌∙◌, ℕ, suc, ◌+◌, ◌^◌, ◌<◌, ◌≤◌, List, [], ◌∷◌, ◌++◌, length, map, Result, Ok, Err, refl, sym, ap, subst, arith, append-nil, append_assoc}
-use Rattle.std.specs.Prelude.{All, IfOk, Contains, ⊤}
+-- Each withdrawal that a block logs is fair by the log up to it, and it tells the payments that it logs; and so in runs.
+use Rattle.std.proofs.Common.{◌≡◌, ◌∙◌, ℕ, suc, ◌+◌, ◌^◌, ◌<◌, ◌≤◌, Bool, true, false, List, [], ◌∷◌, ◌++◌, length, map, Result, Ok, Err, refl, sym, ap, subst, arith, append-nil, append_assoc}
+use Rattle.std.specs.Prelude.{All, IfOk, Contains, if◌then◌else◌, ⊤}
 use Rattle.std.specs.List.{AllByRecursion}
-use Rattle.std.proofs.lemmas.List.Elements.{All-head, All-tail, All-from_recursion, recursion_from_All}
+use Rattle.std.proofs.lemmas.List.Elements.{All-head, All-tail}
+use Rattle.stk_types.specs.declared.account.Account.{Account as Holder}
+use Rattle.stk_types.specs.declared.account.Account.TheVariants as account
+use Rattle.stk_types.specs.declared.account.Module.TheVariants as holder
+use Rattle.stk_coins.specs.Coins.{Money, fractions}
 use Rattle.stk_keep.specs.declared.facts.Fact.{Fact}
+use Rattle.stk_keep.specs.declared.facts.Fact.TheVariants as fact
 use Rattle.stk_keep.specs.declared.messages.Evidence.{Evidence}
 use Rattle.stk_keep.specs.declared.messages.Vote.{Vote}
 use Rattle.stk_keep.specs.declared.params.Ctx.{Ctx}
 use Rattle.stk_keep.specs.declared.refusal.Refusal.{Refusal}
+use Rattle.stk_keep.specs.Holdings.{transfer_told}
 use Rattle.stk_keep.specs.Log.{Log}
 use Rattle.stk_keep.specs.Steps.{◌>>=◌, ◌>>◌, each}
 use Rattle.stk_msgs.specs.declared.block.Block.{Block}
@@ -23,9 +29,11 @@ use Rattle.stk_machine.specs.GenesisState.{chain_started, without_facts}
 use Rattle.stk_machine.specs.Machine.{Step, TxSteps, votes_checked, evidence_checked, block_checked, stop_at, step, tx_applied, txs_applied, reported_as}
 use Rattle.stk_machine.specs.Messages.{effect_of}
 use Rattle.stk_machine.specs.Promises.{MessageHasCoins, TxHasCoins, facts_of}
+use Rattle.stk_rules.specs.Amounts.{is_empty}
 use Rattle.stk_rules.specs.Chain.{State, allocation_step, begin_block, end_block, evidence_step, maturing_step, redelegations_step, set_step, unbondings_step, vote_step}
 use Rattle.stk_rules.specs.Effects.{after_fee, effects_of, fee_paid, stands_or_fee}
 use Rattle.stk_rules.specs.Laws.{next_block}
+use Rattle.stk_rules.specs.Purses.{pooled_told}
 use Rattle.stk_rules.specs.Sound.{IsSound}
 use Rattle.stk_owed.proofs.Burns.{total_in}
 use Rattle.stk_owed.proofs.Entries.{to_pairs}
@@ -38,13 +46,12 @@ use Rattle.stk_owed.proofs.Steps.{from_if, on_lifted_then, on_next, on_then}
 use Rattle.stk_owed.proofs.Transactions.{WholeFits, message_fits, tx_fits, whole_without, without_facts_fits}
 use Rattle.stk_owed.proofs.Voting.{EvidenceLeft, VoteLeft, evidence_fits, own_record, vote_fits}
 use Rattle.stk_bracket.specs.States.{AreReached, NoneStartedHere}
-use Rattle.stk_bracket.specs.Withdrawals.{IsFairFact, PaysFairly, PaysWhereReached}
+use Rattle.stk_bracket.specs.Withdrawals.{AreFair, payments_in, payments_of, IsSent, AreSent, PaysFairly, PaysWhereReached}
 use Rattle.stk_bracket.proofs.Allocating.{none_started_in_next}
 use Rattle.stk_bracket.proofs.Closing.{allocation_pays, maturing_pays, redelegations_pay, set_pays, unbondings_pay}
 use Rattle.stk_bracket.proofs.Endings.{next_block_keeps_reached}
 use Rattle.stk_bracket.proofs.Hitting.{votes_pay_fairly, evidence_pays_fairly}
-use Rattle.stk_bracket.proofs.Lists.{all_map}
-use Rattle.stk_bracket.proofs.Paying.{Pays, pays_then, pays_nothing, fair_before, fair_behind, all_joined}
+use Rattle.stk_bracket.proofs.Paying.{Pays, pays_then, pays_nothing, fair_joined, payments_joined, sent_joined}
 use Rattle.stk_bracket.proofs.Punishing.{votes_keep_reached, evidence_keeps_reached}
 use Rattle.stk_bracket.proofs.Staking.{PaysIn}
 use Rattle.stk_bracket.proofs.Telling.{messages_pay_fairly, undelegate_pays}
@@ -53,22 +60,47 @@ use Rattle.stk_reached.specs.Runs.{SaysFairly, RunSaysFairly, BlocksSayFairly, R
 use Rattle.stk_reached.proofs.Running.{kept_at, both_if, message_kept, sound_at, tx_reached, votes_reached, allocation_reached, begin_reached, same_counts, block_reached}
 use Rattle.stk_reached.proofs.Starts.{genesis_is_reached}
 
--- ---- facts further on
-
-further : (l a b : Log) (fs : List Fact) → AllByRecursion (IsFairFact l a) fs → AllByRecursion (IsFairFact l (a ++ b)) fs
-further l a b fs h = all_map (IsFairFact l a) (IsFairFact l (a ++ b)) (λ f k. fair_before l a b f k) fs h
-
-from_before : (l a b k : Log) (fs : List Fact) → k ≡ l ++ a → AllByRecursion (IsFairFact k b) fs → AllByRecursion (IsFairFact l (a ++ b)) fs
-from_before l a b k fs e h = all_map (IsFairFact k b) (IsFairFact l (a ++ b)) (λ f j. fair_behind l a b f (subst (λ x. IsFairFact x b f) e j)) fs h
-
 -- what is told from no facts on
-told_all : (l k : Log) (gs : List Fact) (p : Pays l [] k gs) → AllByRecursion (IsFairFact l p.more) gs
-told_all l k gs p = subst (λ fs. AllByRecursion (IsFairFact l p.more) fs) (sym p.facts_are) p.fair
+told_all : (l k : Log) (gs : List Fact) (p : Pays l [] k gs) → payments_in gs ≡ payments_of p.more
+told_all l k gs p = ap payments_in p.facts_are ∙ p.payments
+
+sent_all : (l k : Log) (gs : List Fact) (p : Pays l [] k gs) → AreSent [] gs
+sent_all l k gs p = subst (λ fs. AreSent [] fs) (sym p.facts_are) p.sent
+
+-- ---- facts behind others are sent as before
+
+transfer_behind : (first fs : List Fact) (from to : Holder) (coins : Money) → first ++ transfer_told from to coins fs ≡ transfer_told from to coins (first ++ fs)
+transfer_behind first fs from to [] = refl
+transfer_behind first fs from to (c ∷ cs) = sym (append_assoc first fs (fact.Transfer from to (c ∷ cs) ∷ []))
+
+pooled_behind : (first fs : List Fact) (coins : Money) → first ++ pooled_told coins fs ≡ pooled_told coins (first ++ fs)
+pooled_behind first fs coins = by (is_empty coins)
+  where
+    by : (b : Bool) → Path (List Fact) (first ++ (if b then fs else fs ++ fact.Pooled coins ∷ [])) (if b then first ++ fs else (first ++ fs) ++ fact.Pooled coins ∷ [])
+    by true = refl
+    by false = sym (append_assoc first fs (fact.Pooled coins ∷ []))
+
+one_behind : (first before : List Fact) (f : Fact) → IsSent before f → IsSent (first ++ before) f
+one_behind first before (fact.Paid who op to reward coins) h =
+    let from : Holder = account.Module holder.Distribution in (
+      first ++ h.0,
+      ap (λ fs. first ++ fs) h.1 ∙ pooled_behind first (transfer_told from (account.User to) coins h.0) (fractions reward)
+          ∙ ap (λ fs. pooled_told (fractions reward) fs) (transfer_behind first h.0 from (account.User to) coins),
+    )
+one_behind first before f h = tt
+
+sent_behind : (first before fs : List Fact) → AreSent before fs → AreSent (first ++ before) fs
+sent_behind first before [] h = tt
+sent_behind first before (f ∷ fs) h =
+    (one_behind first before f h.0, subst (λ m. AreSent m fs) (sym (append_assoc first before (f ∷ []))) (sent_behind first (before ++ f ∷ []) fs h.1))
+
+both_sent : (fs gs : List Fact) → AreSent [] fs → AreSent [] gs → AreSent [] (fs ++ gs)
+both_sent fs gs h k = sent_joined [] fs gs h (subst (λ m. AreSent m gs) (append-nil fs) (sent_behind fs [] gs k))
 
 -- ---- steps
 
 in_parts : (w x : State) → PaysFairly w x → PaysIn w x
-in_parts w x p = record { more = p.more; log_is = p.log_is; told = p.told; facts_are = p.facts_are; fair = recursion_from_All (IsFairFact w.log p.more) p.told p.fair }
+in_parts w x p = record { more = p.more; log_is = p.log_is; told = p.told; facts_are = p.facts_are; fair = p.fair; payments = p.payments; sent = p.sent }
 
 paid_at : {E : Type 0} (r : Result State E) (w : State) → AreReached w → IfOk r (PaysWhereReached w) → IfOk r (PaysIn w)
 paid_at (Ok x) w reached h = in_parts w x (h reached)
@@ -95,33 +127,40 @@ message_paid (msg.SetWithdrawAddress m) w c s r = paid_at (effect_of (msg.SetWit
 message_paid (msg.FundCommunityPool m) w c s r = paid_at (effect_of (msg.FundCommunityPool m) w) w r (messages_pay_fairly.funds m.depositor m.coins c w s)
 message_paid (msg.CommunityPoolSpend m) w c s r = paid_at (effect_of (msg.CommunityPoolSpend m) w) w r (messages_pay_fairly.spends m.authority m.recipient m.coins c w s)
 
+-- the payments among the facts of transactions, one after the other, are those of a log
+abbrev ToldInTurn : List TxReport → Log → Type 0
+ToldInTurn ts l =
+    (g : List TxReport → List Fact) → g [] ≡ [] → ((t : TxReport) (us : List TxReport) → g (t ∷ us) ≡ t.facts ++ g us) → payments_in (g ts) ≡ payments_of l
+
+-- and each is sent
+abbrev SentInTurn : List TxReport → Type 0
+SentInTurn ts =
+    (g : List TxReport → List Fact) → g [] ≡ [] → ((t : TxReport) (us : List TxReport) → g (t ∷ us) ≡ t.facts ++ g us) → AreSent [] (g ts)
+
 -- what transactions say
 record TxsSay (w : State) (x : TxSteps) : Type 0 where
   more : Log
   log_is : x.state.log ≡ w.log ++ more
-  fair : AllByRecursion (λ t. AllByRecursion (IsFairFact w.log more) t.facts) x.reports
+  fair : AreFair w.log more
+  payments : ToldInTurn x.reports more
+  sent : SentInTurn x.reports
 
-reports_before : (l a b k : Log) (ts : List TxReport) → k ≡ l ++ a → AllByRecursion (λ t. AllByRecursion (IsFairFact k b) t.facts) ts → AllByRecursion (λ t. AllByRecursion (IsFairFact l (a ++ b)) t.facts) ts
-reports_before l a b k ts e h = all_map (λ t. AllByRecursion (IsFairFact k b) t.facts) (λ t. AllByRecursion (IsFairFact l (a ++ b)) t.facts) (λ t j. from_before l a b k t.facts e j) ts h
+-- the facts of a block's beginning, of its transactions and of its end
+payments_by_parts : (begun ended : List Fact) (g : List TxReport → List Fact) → g [] ≡ [] → ((t : TxReport) (us : List TxReport) → g (t ∷ us) ≡ t.facts ++ g us) → (ts : List TxReport) (a b c : Log)
+    → payments_in begun ≡ payments_of a → ToldInTurn ts b → payments_in ended ≡ payments_of c → payments_in (begun ++ g ts ++ ended) ≡ payments_of ((a ++ b) ++ c)
+payments_by_parts begun ended g none more ts a b c h k e = payments_joined (begun ++ g ts) ended (a ++ b) c (payments_joined begun (g ts) a b h (k g none more)) e
 
-reports_further : (l a b : Log) (ts : List TxReport) → AllByRecursion (λ t. AllByRecursion (IsFairFact l a) t.facts) ts → AllByRecursion (λ t. AllByRecursion (IsFairFact l (a ++ b)) t.facts) ts
-reports_further l a b ts h = all_map (λ t. AllByRecursion (IsFairFact l a) t.facts) (λ t. AllByRecursion (IsFairFact l (a ++ b)) t.facts) (λ t j. further l a b t.facts j) ts h
+payments_by_block : (height time : ℕ) (begun ended : List Fact) (ts : List TxReport) (a b c : Log) → payments_in begun ≡ payments_of a → ToldInTurn ts b → payments_in ended ≡ payments_of c
+    → payments_in (facts_of (record { height = height; time = time; begun = begun; txs = ts; ended = ended })) ≡ payments_of ((a ++ b) ++ c)
+payments_by_block height time begun ended = payments_by_parts begun ended _ refl (λ t us. refl)
 
--- facts of transactions, one after the other
-all_in_turn : (Q : Fact → Type 0) (g : List TxReport → List Fact) → g [] ≡ [] → ((t : TxReport) (ts : List TxReport) → g (t ∷ ts) ≡ t.facts ++ g ts) → (ts : List TxReport)
-    → AllByRecursion (λ t. AllByRecursion Q t.facts) ts → AllByRecursion Q (g ts)
-all_in_turn Q g none more [] h = subst (AllByRecursion Q) (sym none) tt
-all_in_turn Q g none more (t ∷ ts) h = subst (AllByRecursion Q) (sym (more t ts)) (all_joined Q t.facts (g ts) h.0 (all_in_turn Q g none more ts h.1))
+sent_by_parts : (begun ended : List Fact) (g : List TxReport → List Fact) → g [] ≡ [] → ((t : TxReport) (us : List TxReport) → g (t ∷ us) ≡ t.facts ++ g us) → (ts : List TxReport)
+    → AreSent [] begun → SentInTurn ts → AreSent [] ended → AreSent [] (begun ++ g ts ++ ended)
+sent_by_parts begun ended g none more ts h k e = both_sent (begun ++ g ts) ended (both_sent begun (g ts) h (k g none more)) e
 
-all_by_parts : (Q : Fact → Type 0) (begun ended : List Fact) (g : List TxReport → List Fact) → g [] ≡ [] → ((t : TxReport) (ts : List TxReport) → g (t ∷ ts) ≡ t.facts ++ g ts) → (ts : List TxReport)
-    → AllByRecursion Q begun → AllByRecursion (λ t. AllByRecursion Q t.facts) ts → AllByRecursion Q ended → AllByRecursion Q (begun ++ g ts ++ ended)
-all_by_parts Q begun ended g none more ts b t e =
-    all_joined Q (begun ++ g ts) ended (all_joined Q begun (g ts) b (all_in_turn Q g none more ts t)) e
-
-all_by_block : (Q : Fact → Type 0) (height time : ℕ) (begun ended : List Fact) (ts : List TxReport)
-    → AllByRecursion Q begun → AllByRecursion (λ t. AllByRecursion Q t.facts) ts → AllByRecursion Q ended
-    → AllByRecursion Q (facts_of (record { height = height; time = time; begun = begun; txs = ts; ended = ended }))
-all_by_block Q height time begun ended = all_by_parts Q begun ended _ refl (λ t us. refl)
+sent_by_block : (height time : ℕ) (begun ended : List Fact) (ts : List TxReport) → AreSent [] begun → SentInTurn ts → AreSent [] ended
+    → AreSent [] (facts_of (record { height = height; time = time; begun = begun; txs = ts; ended = ended }))
+sent_by_block height time begun ended = sent_by_parts begun ended _ refl (λ t us. refl)
 
 module _ (some : List (List ℕ)) (few : length some ≤ 1_000_000) where
   abbrev P : List ℕ → Type 0
@@ -167,7 +206,7 @@ module _ (some : List (List ℕ)) (few : length some ≤ 1_000_000) where
       by (Err why) k p g = pays_nothing w0.log w0.view.facts
 
   txs_paid : (T : List ℕ → ℕ) (c : Ctx) (txs : List Tx) (w : State) → All TxHasCoins txs → WholeFits P T c w → AreReached w → TxsSay w (txs_applied txs w)
-  txs_paid T c [] w a h r = record { more = []; log_is = sym (append-nil w.log); fair = tt }
+  txs_paid T c [] w a h r = record { more = []; log_is = sym (append-nil w.log); fair = tt; payments = λ g none more. ap payments_in none; sent = λ g none more. subst (λ fs. AreSent [] fs) (sym none) tt }
   txs_paid T c (tx ∷ txs) w a h r =
       let first : TxHasCoins tx = All-head TxHasCoins tx txs a in
       let next : State = (tx_applied tx w).state in
@@ -176,7 +215,11 @@ module _ (some : List (List ℕ)) (few : length some ≤ 1_000_000) where
       record {
         more = one.more ++ rest.more;
         log_is = rest.log_is ∙ ap (λ l. l ++ rest.more) one.log_is ∙ append_assoc w.log one.more rest.more;
-        fair = (further w.log one.more rest.more next.view.facts (told_all w.log next.log next.view.facts one), reports_before w.log one.more rest.more next.log (txs_applied txs next).reports one.log_is rest.fair);
+        fair = fair_joined w.log one.more rest.more one.fair (subst (λ l. AreFair l rest.more) one.log_is rest.fair);
+        payments = λ g none more. ap payments_in (more (tx_applied tx w).report (txs_applied txs next).reports)
+            ∙ payments_joined next.view.facts (g (txs_applied txs next).reports) one.more rest.more (told_all w.log next.log next.view.facts one) (rest.payments g none more);
+        sent = λ g none more. subst (λ fs. AreSent [] fs) (sym (more (tx_applied tx w).report (txs_applied txs next).reports))
+            (both_sent next.view.facts (g (txs_applied txs next).reports) (sent_all w.log next.log next.view.facts one) (rest.sent g none more));
       }
 
   -- ---- the beginning and the end of a block
@@ -226,7 +269,9 @@ record Parts (w : State) (k1 k2 k3 : Log) (begun : List Fact) (reports : List Tx
   first : Pays w.log [] k1 begun
   more : Log
   log_is : k2 ≡ k1 ++ more
-  fair : AllByRecursion (λ t. AllByRecursion (IsFairFact k1 more) t.facts) reports
+  fair : AreFair k1 more
+  payments : ToldInTurn reports more
+  sent : SentInTurn reports
   last : Pays k2 [] k3 ended
 
 said : (w : State) (height time : ℕ) (k1 k2 : Log) (begun ended : List Fact) (reports : List TxReport) (x : State) → Parts w k1 k2 x.log begun reports ended
@@ -237,15 +282,12 @@ said w height time k1 k2 begun ended reports x p =
     let c : Log = p.last.more in
     let all : Log = (a ++ b) ++ c in
     let behind : k2 ≡ w.log ++ (a ++ b) = p.log_is ∙ ap (λ l. l ++ b) p.first.log_is ∙ append_assoc w.log a b in
-    let facts : AllByRecursion (IsFairFact w.log all) (facts_of (record { height = height; time = time; begun = begun; txs = reports; ended = ended })) =
-    all_by_block (IsFairFact w.log all) height time begun ended reports
-    (further w.log (a ++ b) c begun (further w.log a b begun (told_all w.log k1 begun p.first)))
-    (reports_further w.log (a ++ b) c reports (reports_before w.log a b k1 reports p.first.log_is p.fair))
-    (from_before w.log (a ++ b) c k2 ended behind (told_all k2 x.log ended p.last)) in
     record {
       more = all;
       log_is = p.last.log_is ∙ ap (λ l. l ++ c) behind ∙ append_assoc w.log (a ++ b) c;
-      fair = All-from_recursion (IsFairFact w.log all) (facts_of (record { height = height; time = time; begun = begun; txs = reports; ended = ended })) facts;
+      fair = fair_joined w.log (a ++ b) c (fair_joined w.log a b p.first.fair (subst (λ l. AreFair l b) p.first.log_is p.fair)) (subst (λ l. AreFair l c) behind p.last.fair);
+      payments = payments_by_block height time begun ended reports a b c (told_all w.log k1 begun p.first) p.payments (told_all k2 x.log ended p.last);
+      sent = sent_by_block height time begun ended reports (sent_all w.log k1 begun p.first) p.sent (sent_all k2 x.log ended p.last);
     }
 
 module _ (some : List (List ℕ)) (few : length some ≤ 1_000_000) where
@@ -277,7 +319,7 @@ module _ (some : List (List ℕ)) (few : length some ≤ 1_000_000) where
       let txs : TxsSay begun done = txs_paid some few there w1.view.ctx b.txs begun coins all k.0.1 in
       let w2 : State = without_facts done.state in
       on_lifted_then RatioLimit (end_block w2) _ (PaysIn w2) _ (end_paid w2) (λ ended j.
-      said w b.height b.time begun.log done.state.log begun.view.facts ended.view.facts done.reports ended (record { first = k.1; more = txs.more; log_is = txs.log_is; fair = txs.fair; last = j }))))
+      said w b.height b.time begun.log done.state.log begun.view.facts ended.view.facts done.reports ended (record { first = k.1; more = txs.more; log_is = txs.log_is; fair = txs.fair; payments = txs.payments; sent = txs.sent; last = j }))))
     where
       same_tt : (t : ⊤) → block_checked b w ≡ Ok t → block_checked b w ≡ Ok tt
       same_tt t e = e

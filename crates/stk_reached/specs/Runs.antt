@@ -1,7 +1,12 @@
 -- What the laws say of runs: wherever blocks lead to, accounts are reached.
-use Rattle.std.specs.Prelude.{◌≡◌, ◌+◌, ◌^◌, ◌<◌, List, [], ◌∷◌, ◌++◌, length, All, IfOk}
+use Rattle.std.specs.Prelude.{◌≡◌, ℕ, ◌+◌, ◌^◌, ◌<◌, List, [], ◌∷◌, ◌++◌, length, is_some, All, IfOk, Some, None}
+use Rattle.stk_coins.specs.Coins.{amount_of}
+use Rattle.stk_keep.specs.declared.entities.Validator.{Validator}
 use Rattle.stk_keep.specs.Log.{Log}
-use Rattle.stk_rules.specs.Chain.{State}
+use Rattle.stk_keep.specs.Staked.{validator_at, delegation}
+use Rattle.stk_rules.specs.Chain.{State, shared_in}
+use Rattle.stk_rules.specs.Ideal.{span_of, history_of}
+use Rattle.stk_rules.specs.Purses.{purse_of}
 use Rattle.stk_rules.specs.Sound.{IsSound}
 use Rattle.stk_msgs.specs.declared.block.Block.{Block}
 use Rattle.stk_msgs.specs.declared.genesis.Genesis.{Genesis}
@@ -9,7 +14,7 @@ use Rattle.stk_machine.specs.GenesisState.{chain_started}
 use Rattle.stk_machine.specs.Machine.{Step, run_of, step}
 use Rattle.stk_machine.specs.Promises.{IsGoodGenesis, AreInput, Replayed, TxHasCoins, facts_of, run_in}
 use Rattle.stk_bracket.specs.States.{AreReached}
-use Rattle.stk_bracket.specs.Withdrawals.{IsFairFact}
+use Rattle.stk_bracket.specs.Withdrawals.{AreFair, payments_in, payments_of, AreSent, outstanding_in}
 
 -- Wherever blocks lead to from a sound state whose accounts are reached, up to the first that may not follow, they are
 -- reached, as long as there are heights.
@@ -27,11 +32,15 @@ RunsAreReached = (r : Replayed) → AreReached (run_in r).state
 
 -- ---- payments
 
--- A block adds to the log, and each payment of a reward among its facts is fair, by the log up to it.
+-- A block adds to the log. Each entry that it adds is fair by the log up to it; the payments among
+-- its facts are those of the withdrawals that it logs, one for one and in their order; and right
+-- before each its coins are sent to the payee.
 pub record SaysFairly (old : State) (s : Step) : Type 0 where
   pub more : Log
   pub log_is : s.state.log ≡ old.log ++ more
-  pub fair : All (IsFairFact old.log more) (facts_of s.report)
+  pub fair : AreFair old.log more
+  pub payments : payments_in (facts_of s.report) ≡ payments_of more
+  pub sent : AreSent [] (facts_of s.report)
 
 -- each block from a sound state whose accounts are reached does so
 abbrev pub BlocksSayFairly : Type 0
@@ -42,8 +51,28 @@ abbrev pub RunSaysFairly : List Block → State → Type 0
 RunSaysFairly [] w = Unit {0}
 RunSaysFairly (b ∷ blocks) w = IfOk (step b w) (λ s. SaysFairly w s × RunSaysFairly blocks s.state)
 
--- So wherever a good genesis and blocks lead to, each payment of a reward that a block tells is fair: its reward in full lies
--- between the fees shared by stake, block by block, in exact fractions and that less the slack; and what is told is the
--- smaller of it and of what was outstanding, which cuts it by at most the overclaim, in whole coins.
+-- So wherever a good genesis and blocks lead to. Each withdrawal that a block logs, whatever it is a
+-- part of, has a span: its delegation had a start that was not withdrawn since. Its reward in full
+-- lies between the fees shared by stake, block by block, in exact fractions and that less the slack,
+-- in each denomination; what was outstanding is what the log up to it comes to, and cuts it by at most
+-- the overclaim of that moment; and just one payment is told of it, of the smaller of the two and its
+-- whole coins, which go to the payee right before. No other payment is told, and where the rewards of
+-- a delegation start anew its reward was withdrawn.
 abbrev pub RunsSayFairly : Type 0
 RunsSayFairly = (r : Replayed) → RunSaysFairly r.blocks r.start.state
+
+-- There a delegator's rewards run, by the log, exactly where it has a delegation.
+abbrev pub RunsRunWhereHeld : Type 0
+RunsRunWhereHeld =
+    (r : Replayed) (who : List ℕ) (v : Validator)
+    → validator_at (run_in r).state.mine.staked v.operator ≡ Some v
+    → is_some (span_of who (history_of v.operator (run_in r).state.log []) None)
+    ≡ is_some (delegation (run_in r).state.mine.staked who v.operator)
+
+-- And what is outstanding for each validator is what its history comes to.
+abbrev pub RunsLogOutstanding : Type 0
+RunsLogOutstanding =
+    (r : Replayed) (d : List ℕ) (v : Validator)
+    → validator_at (run_in r).state.mine.staked v.operator ≡ Some v
+    → amount_of (purse_of (shared_in (run_in r).state).purses v.operator).outstanding d
+    ≡ outstanding_in d (history_of v.operator (run_in r).state.log [])

@@ -1,7 +1,8 @@
 //! Runs of blocks lead to reached accounts, whose rewards are bracketed: laws as functions that do nothing, whose contracts
 //! are the laws.
 
-ghost use Rattle.stk_reached.specs.Runs.{RunsKeepReached, GenesisIsReached, RunsAreReached, BlocksSayFairly, RunsSayFairly};
+ghost use Rattle.stk_reached.specs.Runs.{RunsKeepReached, GenesisIsReached, RunsAreReached, RunsRunWhereHeld, RunsLogOutstanding, BlocksSayFairly, RunsSayFairly};
+ghost use Rattle.stk_reached.specs.Readers.{RunsTellFairly};
 ghost use Rattle.stk_machine.specs.Promises.{ClaimsAreBracketed, ShortfallsAreBounded};
 
 /// Wherever blocks lead to from a sound state whose accounts are reached, the accounts are reached.
@@ -22,6 +23,18 @@ pub fn runs_are_reached()
     ensures { RunsAreReached }
 {}
 
+/// There a delegator's rewards run, by the log, exactly where it has a delegation.
+#[tactic(auto, using(crate::proofs::Ends::runs_run_where_held))]
+pub fn runs_run_where_held()
+    ensures { RunsRunWhereHeld }
+{}
+
+/// And what is outstanding for each validator is what its history comes to.
+#[tactic(auto, using(crate::proofs::Ends::runs_log_outstanding))]
+pub fn runs_log_outstanding()
+    ensures { RunsLogOutstanding }
+{}
+
 /// There the reward that a withdrawal of a delegation would come to lies between the ideal one and that less the slack.
 pub fn claims_are_bracketed()
     ensures { ClaimsAreBracketed }
@@ -33,14 +46,24 @@ pub fn shortfalls_are_bounded()
     ensures { ShortfallsAreBounded }
 {}
 
-/// Each payment of a reward that a block tells is fair by the log up to it, from a sound state whose accounts are reached.
+/// Each withdrawal that a block logs is fair by the log up to it, from a sound state whose accounts are reached; no start is
+/// made of rewards that run; the payments of rewards that it tells are those of the withdrawals, one for one; and right before
+/// each its coins are sent to the payee.
 #[tactic(auto, using(crate::proofs::Saying::blocks_say_fairly))]
 pub fn blocks_say_fairly()
     ensures { BlocksSayFairly }
 {}
 
-/// So is each that the blocks of a run tell, from a good genesis on.
+/// So it is with all blocks of a run, from a good genesis on.
 #[tactic(auto, using(crate::proofs::Saying::runs_say_fairly))]
 pub fn runs_say_fairly()
     ensures { RunsSayFairly }
+{}
+
+/// So a reader finds, for each payment of a reward that a block of a run tells, a fair withdrawal that the block logs: its coins
+/// were sent right before, are at most the ideal reward, and above it less the slack and one whole coin where what was
+/// outstanding was not exhausted.
+#[tactic(auto, using(crate::proofs::Reading::runs_tell_fairly))]
+pub fn runs_tell_fairly()
+    ensures { RunsTellFairly }
 {}

@@ -5,15 +5,9 @@ use Rattle.std.specs.declared.cmp.Ordering.TheVariants.{Less, Equal, Greater}
 use Rattle.std.specs.BTreeMap.{insert_entry}
 use Rattle.std.specs.Ordering.{ordering_then}
 use Rattle.stk_types.specs.declared.account.Account.{Account}
-use Rattle.stk_types.proofs.OrderLemmas.{account_order, account_order_at}
-use Rattle.stk_types.specs.Orders.{addr_cmp, denom_cmp}
+use Rattle.stk_keep.proofs.HoldingLemmas.{place_order, place_order_is}
+use Rattle.stk_types.specs.Orders.{addr_cmp}
 use Rattle.stk_keep.specs.Orders.{place_cmp, triple_cmp}
-
-abbrev place_order : Account × List ℕ → Account × List ℕ → Ordering
-place_order x y = ordering_then (account_order x.0 y.0) (denom_cmp x.1 y.1)
-
-place_order_is : place_order ≡ place_cmp
-place_order_is = λ i. λ x y. ordering_then (account_order_at x.0 y.0 i) (denom_cmp x.1 y.1)
 
 pub balance_put : (es new : List ((Account × List ℕ) × ℕ)) (e : (Account × List ℕ) × ℕ) → new ≡ insert_entry place_order es e.0 e.1 → new ≡ insert_entry place_cmp es e.0 e.1
 balance_put es new e h = subst (λ order. new ≡ insert_entry order es e.0 e.1) place_order_is h

@@ -5,4 +5,3 @@ pub mod RowLemmas
 pub mod WalkLemmas
 pub mod MarkLemmas
 pub mod SameLemmas
-pub mod TrialLemmas

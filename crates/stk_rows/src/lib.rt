@@ -4,13 +4,10 @@
 #![tactic(auto)]
 
 mod kinds;
+mod marks;
 mod row;
 mod walk;
 
 pub use kinds::{Both, Kinds, One};
+pub use marks::mark_both;
 pub use row::Row;
-
-#[cfg(test)]
-mod tests;
-#[cfg(test)]
-mod trials;

@@ -1,4 +1,4 @@
-mod TieLemmas
+pub mod TieLemmas
 pub mod RefusalLemmas
 pub mod OrderLemmas
 pub mod EntryLemmas

@@ -16,11 +16,13 @@ use Rattle.stk_keep.specs.declared.refusal.Refusal.{Refusal}
 use Rattle.stk_keep.specs.declared.refusal.Refusal.TheVariants.{InsufficientFunds, ModuleRecipient, NonPositive, NoValidator, CommissionRange, CommissionBelowMinimum, CommissionTooSoon, CommissionAboveMax, CommissionStep, MinSelfNotPositive, SelfBelowMinimum, MinSelfNotRaised, NotJailed, NoSelfDelegation, StillJailed, Tombstoned, NoCommission, PoolTooSmall, NotAuthority, WithdrawFixed}
 use Rattle.stk_keep.specs.Entries.{at, with}
 use Rattle.stk_keep.specs.Holdings.{is_short}
+use Rattle.stk_keep.specs.Log.{Log}
+use Rattle.stk_keep.specs.Log as log
 use Rattle.stk_keep.specs.Orders.{same_addr}
 use Rattle.stk_keep.specs.Staked.{validator_at, delegation, put_validator}
 use Rattle.stk_keep.specs.Steps.{◌>>=◌, ◌>>◌, stop_if, or_stop}
 use Rattle.stk_keep.specs.World.{View, sent, noted, over_view, over_mine}
-use Rattle.stk_rules.specs.Amounts.{is_empty, seconds}
+use Rattle.stk_rules.specs.Amounts.{is_empty, in_units, seconds}
 use Rattle.stk_rules.specs.Chain.{State, with_shared}
 use Rattle.stk_rules.specs.Conditions.{when, first_of}
 use Rattle.stk_rules.specs.Distribution.{Shared, payee_of, paid_to}
@@ -70,14 +72,15 @@ commission_of (Some p) g = stop_step (is_empty p.commission) NoCommission (Ok (g
 
 pub commissions_refused : (operator : List ℕ) (w : State) → refusal_of (withdraw_commission operator) w ≡ first_of (against_commission operator w)
 commissions_refused operator w =
-    mapped (commission_withdrawn operator w.hooks.0 w.view) (λ p. with_shared p.1 p.2 [] w)
+    mapped (commission_withdrawn operator w.hooks.0 w.view) (λ p. with_shared p.1 p.2 p.3 w)
     ∙ commission_of (at addr_cmp w.hooks.0.purses.purses operator) (commission_answer operator w)
   where
-    commission_answer : List ℕ → State → Purse → Money × Shared × View
+    commission_answer : List ℕ → State → Purse → Money × Shared × View × Log
     commission_answer operator w purse = (
       commission_due purse,
       record w.hooks.0 { purses = with_purse operator (commission_paid purse) w.hooks.0.purses },
       noted (fact.Commission operator (payee_of w.hooks.0 operator) (commission_due purse)) (paid_to (payee_of w.hooks.0 operator) (commission_due purse) w.view),
+      (operator, log.commission (in_units (commission_due purse))) ∷ [],
     )
 
 -- ---- leaving jail

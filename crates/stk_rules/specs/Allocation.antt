@@ -25,7 +25,7 @@ abbrev pub share_given : Option Validator → Money → Purses → List Fact →
 share_given None share p facts = Ok (p, facts, [])
 share_given (Some val) share p facts = if is_empty share then Ok (p, facts, []) else (do
   (rest, purse) ← share_joined share val.commission.rate (purse_of p val.operator)
-  Ok (with_purse val.operator purse p, facts ++ fact.Allocated val.operator share ∷ [], (val.operator, log.allocated rest val.tokens) ∷ []))
+  Ok (with_purse val.operator purse p, facts ++ fact.Allocated val.operator share ∷ [], (val.operator, log.allocated share rest val.tokens) ∷ []))
 
 -- The shares of votes, one after another: the base times the vote's part of all power, both cut. Behind them, what is
 -- left of the fees joins the pool (`AllocateTokens`: `remaining`).

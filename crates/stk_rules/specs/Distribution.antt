@@ -58,7 +58,7 @@ ended val d v = do
   (ratio, p) ← period_ended increment (periods_of d.rewards val.operator)
   let period = last_ended p
   let v1 = noted (fact.Period val.operator period ratio) (over_facts (pooled_told lost) v)
-  Ok (period, record d { rewards = with_periods val.operator p d.rewards; purses = purses }, v1, (val.operator, log.ended period increment) ∷ [])
+  Ok (period, record d { rewards = with_periods val.operator p d.rewards; purses = purses }, v1, (val.operator, log.ended period increment val.tokens) ∷ [])
 
 -- Starting a delegation's rewards behind the last ended period, with the value of its shares, cut
 -- (`initializeDelegation`).
@@ -88,17 +88,18 @@ reward_due val delegator shares d v = do
   Ok (full, d1, v1, l)
 
 -- Withdrawing a delegation's reward (`withdrawDelegationRewards`): the period ends; the reward, as far as what is
--- outstanding goes, leaves; its whole coins are paid, its fractions join the pool; the start is gone. Answers the
--- coins that were paid.
+-- outstanding goes, leaves; its whole coins are paid, its fractions join the pool; the start is gone. The full reward and
+-- what was outstanding are logged behind the period's end. Answers the coins that were paid.
 abbrev pub reward_withdrawn : Validator → List ℕ → ℕ → Shared → View → Result (Money × Shared × View × Log) Over
 reward_withdrawn val delegator shares d v = do
   (full, d1, v1, l) ← reward_due val delegator shares d v
   (reward, p) ← paid_out val.operator full d1.purses
   let coins = whole_coins reward
   let to = payee_of d1 delegator
+  let entry = log.withdrawn delegator to full (purse_of d1.purses val.operator).outstanding
   let v2 = over_facts (pooled_told (fractions reward)) (paid_to to coins v1)
   let d2 = record d1 { rewards = without_start delegator val.operator d1.rewards; purses = p }
-  Ok (coins, d2, noted (fact.Paid delegator val.operator to reward coins) v2, l)
+  Ok (coins, d2, noted (fact.Paid delegator val.operator to reward coins) v2, l ++ (val.operator, entry) ∷ [])
 
 -- the same, and its rewards start anew (`WithdrawDelegationRewards`)
 abbrev pub reward_renewed : Validator → List ℕ → ℕ → Shared → View → Result (Money × Shared × View × Log) Over

@@ -90,8 +90,8 @@ withdraw_reward delegator operator w = do
 -- a commission is withdrawn
 abbrev pub withdraw_commission : List ℕ → Effect
 withdraw_commission operator w = do
-  (coins, d, v) ← commission_withdrawn operator (shared_in w) w.view
-  Ok (with_shared d v [] w)
+  (coins, d, v, l) ← commission_withdrawn operator (shared_in w) w.view
+  Ok (with_shared d v l w)
 
 -- payments go to another address
 abbrev pub set_withdraw_address : List ℕ → Account → Effect

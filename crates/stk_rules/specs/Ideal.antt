@@ -53,14 +53,17 @@ abbrev pub longer : LogEntry → Option Span → Option Span
 longer e None = None
 longer e (Some s) = Some (record s { entries = s.entries ++ e ∷ [] })
 
--- a delegator's start begins a span anew, with the exact value of its shares; all else makes it longer
+-- A delegator's start begins a span anew, with the exact value of its shares, and its withdrawal ends it; those of others
+-- and payments of commission are nothing to it, and all else makes it longer.
 abbrev pub span_with : List ℕ → LogEntry → Option Span → Option Span
 span_with delegator (log.started other shares tokens all stake) s =
     if same_addr other delegator then Some (record { first = ratio_of (shares * tokens) all; entries = [] }) else s
+span_with delegator (log.withdrawn other payee full outstanding) s = if same_addr other delegator then None else s
+span_with delegator (log.commission coins) s = s
 span_with delegator log.made s = None
 span_with delegator e s = longer e s
 
--- the span from a delegator's last start on
+-- the span from a delegator's last start on, where its reward was not withdrawn since
 abbrev pub span_of : List ℕ → List LogEntry → Option Span → Option Span
 span_of delegator [] s = s
 span_of delegator (e ∷ es) s = span_of delegator es (span_with delegator e s)
@@ -108,11 +111,13 @@ stretch_closed first burn tokens i = record i {
 -- what one more entry makes of it
 abbrev pub ideal_after : List ℕ → Fraction → Ideal → LogEntry → Ideal
 ideal_after d first i log.made = i
-ideal_after d first i (log.allocated fees tokens) = shared_out (amount_of fees d) tokens i
-ideal_after d first i (log.ended period increment) = record i { ended = i.ended + 1 }
+ideal_after d first i (log.allocated share rest tokens) = shared_out (amount_of rest d) tokens i
+ideal_after d first i (log.ended period increment tokens) = record i { ended = i.ended + 1 }
 ideal_after d first i (log.started delegator shares tokens all stake) = i
 ideal_after d first i (log.slashed burn tokens fraction) = stretch_closed first burn tokens i
 ideal_after d first i log.left = record i { left = i.left + 1 }
+ideal_after d first i (log.withdrawn delegator payee full outstanding) = i
+ideal_after d first i (log.commission coins) = i
 
 -- what more entries make of it
 abbrev pub ideal_over : List ℕ → Fraction → Ideal → List LogEntry → Ideal

@@ -1,5 +1,5 @@
 -- The messages of distribution (`x/distribution/keeper`: `msgServer`).
-use Rattle.std.specs.Prelude.{ℕ, not, Bool, true, false, List, Result, Ok, Err, ⊤}
+use Rattle.std.specs.Prelude.{ℕ, not, Bool, true, false, List, [], ◌∷◌, Result, Ok, Err, ⊤}
 use Rattle.stk_types.specs.declared.account.Account.{Account}
 use Rattle.stk_types.specs.declared.account.Account.TheVariants as account
 use Rattle.stk_types.specs.declared.account.Module.TheVariants as holder
@@ -12,6 +12,7 @@ use Rattle.stk_keep.specs.declared.refusal.Refusal.TheVariants.{InsufficientFund
 use Rattle.stk_keep.specs.Entries.{at, with}
 use Rattle.stk_keep.specs.Holdings.{is_short}
 use Rattle.stk_keep.specs.Log.{Log}
+use Rattle.stk_keep.specs.Log as log
 use Rattle.stk_keep.specs.Orders.{same_addr}
 use Rattle.stk_keep.specs.Staked.{Staked, validator_at, delegation}
 use Rattle.stk_keep.specs.Steps.{◌>>=◌, ◌>>◌, stop_if, or_stop, stopping}
@@ -29,14 +30,14 @@ reward_taken s delegator operator d v = do
   stopping Overflow (reward_renewed val delegator shares d v)
 
 -- A validator's commission is paid, in whole coins (`WithdrawValidatorCommission`). Answers the coins that were paid.
-abbrev pub commission_withdrawn : List ℕ → Shared → View → Result (Money × Shared × View) Refusal
+abbrev pub commission_withdrawn : List ℕ → Shared → View → Result (Money × Shared × View × Log) Refusal
 commission_withdrawn operator d v = do
   purse ← or_stop (at addr_cmp d.purses.purses operator) NoCommission
   stop_if (is_empty purse.commission) NoCommission
   let coins = commission_due purse
   let to = payee_of d operator
   let d1 = record d { purses = with_purse operator (commission_paid purse) d.purses }
-  Ok (coins, d1, noted (fact.Commission operator to coins) (paid_to to coins v))
+  Ok (coins, d1, noted (fact.Commission operator to coins) (paid_to to coins v), (operator, log.commission (in_units coins)) ∷ [])
 
 -- an account of a module (`BlockedAddr`)
 abbrev pub is_module : Account → Bool

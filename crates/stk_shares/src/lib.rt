@@ -11,6 +11,3 @@ pub mod worked;
 
 pub use fault::ShareFault;
 pub use shares::{issue, remove, shares_for, value_cut, value_even};
-
-#[cfg(test)]
-mod tests;

@@ -9,7 +9,19 @@ ghost use Rattle.stk_table.specs.Tabled.{with_mark, with_value, without_key, IsG
 pub fn going_back_by_example()
     ensures { (a b : ℕ) →
         let settled = (1, a) ∷ [] in
-        let marked = with_mark (record { entries = settled; marks = []; touched = []; settled = settled; spent = false }) in
+        let marked = with_mark (record {
+          entries = settled;
+          marks = [];
+          touched = [];
+          settled = settled;
+          spent = false;
+        }) in
         IsGoneBack (without_key nat_cmp (with_value nat_cmp marked 2 b) 1)
-        (record { entries = settled; marks = []; touched = (2, None) ∷ (1, Some a) ∷ []; settled = settled; spent = false }) }
+        (record {
+          entries = settled;
+          marks = [];
+          touched = (2, None) ∷ (1, Some a) ∷ [];
+          settled = settled;
+          spent = false;
+        }) }
 {}

@@ -14,6 +14,3 @@ mod walk;
 pub use laws::going_back_by_example;
 pub use stk_types::{Copied, TableFault};
 pub use table::Table;
-
-#[cfg(test)]
-mod tests;

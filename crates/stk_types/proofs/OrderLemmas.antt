@@ -1,5 +1,6 @@
--- The derived comparisons of accounts are those by address, with the modules last.
-use Rattle.std.proofs.Common.{◌≡◌, refl, sym, Bool}
+-- The derived comparisons of accounts are those by address, with the modules last, and tell all accounts apart.
+use Rattle.std.proofs.Common.{◌≡◌, refl, sym, ap, Bool}
+use Rattle.std.proofs.lemmas.Map.Lookups.{CmpEqualImpliesEq, exact_bytes}
 use Rattle.std.proofs.lemmas.Map.Text.{is_eq-slice_cmp}
 use Rattle.std.specs.BTreeMap.{is_at}
 use Rattle.std.specs.declared.cmp.Ordering.{Ordering}
@@ -62,3 +63,15 @@ account_equal_at (account.Module Distribution) (account.Module FeeCollector) = r
 account_equal_at (account.Module Distribution) (account.Module Bonded) = refl
 account_equal_at (account.Module Distribution) (account.Module NotBonded) = refl
 account_equal_at (account.Module Distribution) (account.Module Distribution) = refl
+
+-- ---- accounts that compare equal are one
+
+pub account_exact : CmpEqualImpliesEq account_cmp
+account_exact (account.User a) (account.User b) e = ap account.User (exact_bytes a b e)
+account_exact (account.User a) (account.Module n) e = absurd cc
+account_exact (account.Module m) (account.User b) e = absurd cc
+account_exact (account.Module FeeCollector) (account.Module FeeCollector) e = refl
+account_exact (account.Module Bonded) (account.Module Bonded) e = refl
+account_exact (account.Module NotBonded) (account.Module NotBonded) e = refl
+account_exact (account.Module Distribution) (account.Module Distribution) e = refl
+account_exact (account.Module m) (account.Module n) e = absurd cc

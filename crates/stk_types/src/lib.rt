@@ -29,6 +29,3 @@ pub use laws::{
 pub use moment::{Moment, print_moment, read_moment};
 pub use status::BondStatus;
 pub use steps::Steps;
-
-#[cfg(test)]
-mod tests;

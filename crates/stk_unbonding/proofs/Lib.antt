@@ -5,9 +5,7 @@ pub mod SameLemmas
 pub mod EntriesLemmas
 pub mod ChangeLemmas
 pub mod AskedLemmas
-pub mod MoneyLemmas
 pub mod MadeLemmas
-pub mod BackLemmas
 pub mod CancelLemmas
 pub mod WalkedLemmas
 pub mod DueLemmas

@@ -14,7 +14,7 @@ use Rattle.stk_rules.specs.Owed.{balances_of}
 use Rattle.stk_rules.specs.Unbondings.{is_mature, paid_back}
 use Rattle.stk_unbonding.specs.Calls.{mature_balances}
 use Rattle.stk_unbonding.proofs.ChangeLemmas.{balances-cons}
-use Rattle.stk_unbonding.proofs.MoneyLemmas.{backed_sent, sent_one}
+use Rattle.stk_book.proofs.GroundLemmas.{moved_one, moved_backed}
 
 -- ---- one payment
 
@@ -40,9 +40,9 @@ is_paid_out delegator (suc n) v b h =
     let to = account.User delegator in
     let some : 0 < suc n = omega arith in
     record {
-      backed = backed_sent v from to (suc n) some b h;
-      bonded = no_more _ _ (sent_one v from to (suc n) some b h (account.Module holder.Bonded));
-      other = no_gain _ _ _ (sent_one v from to (suc n) some b h (account.Module holder.NotBonded));
+      backed = moved_backed v from to (suc n) some b h;
+      bonded = no_more _ _ (moved_one v from to (account.Module holder.Bonded) (suc n) some b h);
+      other = no_gain _ _ _ (moved_one v from to (account.Module holder.NotBonded) (suc n) some b h);
     }
 
 -- ---- the mature balances

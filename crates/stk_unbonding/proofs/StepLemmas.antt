@@ -1,39 +1,19 @@
 -- Two tables that are marked together.
-use Rattle.std.proofs.Common.{◌≡◌, ◌≢◌, ◌∙◌, ℕ, ◌+◌, ◌<◌, Bool, List, [], ◌∷◌, ◌++◌, length, refl, sym, ap, subst, arith}
+use Rattle.std.proofs.Common.{◌≡◌, ◌≢◌, ◌∙◌, ℕ, ◌+◌, ◌<◌, Bool, List, [], ◌∷◌, ◌++◌, length, sym, ap, subst}
 use Rattle.std.proofs.lemmas.List.{length_push}
 use Rattle.stk_table.specs.Tabled.{Tabled}
 use Rattle.stk_table.specs.Tabled as table
-use Rattle.stk_rows.proofs.MarkLemmas.{some_marks}
+use Rattle.stk_rows.proofs.MarkLemmas.{some_marks, none_from_length, popped_length, each_mark-push, each_mark-pop}
 use Rattle.stk_keep.specs.declared.entities.UnbondingEntry.{UnbondingEntry}
 use Rattle.stk_rules.specs.Unbondings.{UnbondingLists}
 use Rattle.stk_unbonding.specs.Queue.{Completions, IsQueue, AreQueued, AreInStep}
-
-popped_length : {A B : Type 0} (ps ps2 : List A) (bs bs2 : List B) (a : A) (b : B) → length bs ≡ length ps → ps2 ++ a ∷ [] ≡ ps → bs2 ++ b ∷ [] ≡ bs → length bs2 ≡ length ps2
-popped_length ps ps2 bs bs2 a b h p q =
-    let c = length_push ps2 a in
-    let d = length_push bs2 b in
-    let e = ap length p in
-    let f = ap length q in
-    omega (arith, c, d, e, f, h)
-
-queued-push : (ms : List UnbondingLists) (qs : List Completions) (m : UnbondingLists) (q : Completions) → length qs ≡ length ms → AreQueued ms qs → IsQueue m q → AreQueued (ms ++ m ∷ []) (qs ++ q ∷ [])
-queued-push [] [] m q e h p = (p, tt)
-queued-push [] (y ∷ qs) m q e h p = absurd (omega (arith, e))
-queued-push (x ∷ ms) [] m q e h p = absurd (omega (arith, e))
-queued-push (x ∷ ms) (y ∷ qs) m q e h p = let f : length qs ≡ length ms = omega (arith, e) in (h.0, queued-push ms qs m q f h.1 p)
-
-queued-pop : (ms : List UnbondingLists) (qs : List Completions) (m : UnbondingLists) (q : Completions) → length qs ≡ length ms → AreQueued (ms ++ m ∷ []) (qs ++ q ∷ []) → AreQueued ms qs × IsQueue m q
-queued-pop [] [] m q e h = (tt, h.0)
-queued-pop [] (y ∷ qs) m q e h = absurd (omega (arith, e))
-queued-pop (x ∷ ms) [] m q e h = absurd (omega (arith, e))
-queued-pop (x ∷ ms) (y ∷ qs) m q e h = let f : length qs ≡ length ms = omega (arith, e) in let r = queued-pop ms qs m q f h.1 in ((h.0, r.0), r.1)
 
 module _ (l : Tabled (List ℕ × List ℕ) (List UnbondingEntry)) (q : Tabled (ℕ × (List ℕ × List ℕ)) Bool) (h : AreInStep l q) where
   pub in_step-marked : AreInStep (table.with_mark l) (table.with_mark q)
   in_step-marked = record {
     depth = length_push q.marks q.entries ∙ ap (λ n. n + 1) h.depth ∙ sym (length_push l.marks l.entries);
     queued = h.queued;
-    queued_at_marks = queued-push l.marks q.marks l.entries q.entries h.depth h.queued_at_marks h.queued;
+    queued_at_marks = each_mark-push IsQueue l.marks q.marks l.entries q.entries h.depth h.queued_at_marks h.queued;
   }
 
   -- other entries, and their queue
@@ -47,7 +27,7 @@ module _ (l : Tabled (List ℕ × List ℕ) (List UnbondingEntry)) (q : Tabled (
   module _ (l2 : Tabled (List ℕ × List ℕ) (List UnbondingEntry)) (q2 : Tabled (ℕ × (List ℕ × List ℕ)) Bool) where
     queued-popped : (x : UnbondingLists) (y : Completions) → l2.marks ++ x ∷ [] ≡ l.marks → q2.marks ++ y ∷ [] ≡ q.marks → AreQueued l2.marks q2.marks × IsQueue x y
     queued-popped x y p r =
-        queued-pop l2.marks q2.marks x y (popped_length l.marks l2.marks q.marks q2.marks x y h.depth p r)
+        each_mark-pop IsQueue l2.marks q2.marks x y (popped_length l.marks l2.marks q.marks q2.marks x y h.depth p r)
         (subst (λ ms. AreQueued ms (q2.marks ++ y ∷ [])) (sym p) (subst (λ qs. AreQueued l.marks qs) (sym r) h.queued_at_marks))
 
     pub in_step-back : table.IsGoneBack l l2 → table.IsGoneBack q q2 → AreInStep l2 q2
@@ -73,10 +53,6 @@ module _ (l : Tabled (List ℕ × List ℕ) (List UnbondingEntry)) (q : Tabled (
   -- where a mark is open, one is in each table
   pub some_at : l.marks ≢ [] → (0 < length l.marks) × (0 < length q.marks)
   some_at m = let n = some_marks l.marks m in (n, subst (λ k. 0 < k) (sym h.depth) n)
-
-  none_from_length : {A : Type 0} (xs : List A) → length xs ≡ 0 → xs ≡ []
-  none_from_length [] e = refl
-  none_from_length (x ∷ xs) e = absurd (omega (arith, e))
 
   pub closed-queue : l.marks ≡ [] → q.marks ≡ []
   closed-queue m = none_from_length q.marks (h.depth ∙ ap length m)

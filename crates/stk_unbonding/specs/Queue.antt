@@ -7,6 +7,7 @@ use Rattle.stk_table.specs.Tabled.{Tabled}
 use Rattle.stk_keep.specs.declared.entities.UnbondingEntry.{UnbondingEntry}
 use Rattle.stk_keep.specs.Entries.{at, with, without}
 use Rattle.stk_keep.specs.Orders.{both_cmp, pair_cmp}
+use Rattle.stk_rows.specs.Marks.{AtEachMark}
 use Rattle.stk_rules.specs.Unbondings.{UnbondingLists}
 
 -- delegators and operators by the earliest completion of their entries
@@ -50,9 +51,7 @@ IsQueue u queue = (t : ℕ) (key : List ℕ × List ℕ) → at completion_cmp q
 
 -- the same at each mark
 abbrev pub AreQueued : List UnbondingLists → List Completions → Type 0
-AreQueued [] qs = Unit {0}
-AreQueued (m ∷ ms) [] = Unit {0}
-AreQueued (m ∷ ms) (q ∷ qs) = IsQueue m q × AreQueued ms qs
+AreQueued ms qs = AtEachMark IsQueue ms qs
 
 -- the queue without a key that stood under its completion, where it had one
 abbrev pub unqueued : List ℕ × List ℕ → Option ℕ → Completions → Completions

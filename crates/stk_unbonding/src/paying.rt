@@ -1,6 +1,6 @@
 //! Coins of the bond denomination that leave a module's account.
 
-ghost use Rattle.std.specs.Prelude.{◌≡◌, ◌+◌, ◌<◌, ◌≤◌, ◌^◌, [], ◌∷◌, OnOk, IfOk, IfErr};
+ghost use Rattle.std.specs.Prelude.{◌≡◌, ◌+◌, ◌<◌, ◌≤◌, ◌^◌, OnOk, IfErr};
 ghost use Rattle.stk_types.specs.declared.account.Account.TheVariants as account;
 ghost use Rattle.stk_keep.specs.declared.faults.BankFault.TheVariants.{NoMemory};
 ghost use Rattle.stk_keep.specs.declared.faults.HookFault.TheVariants as hook;
@@ -11,9 +11,9 @@ ghost use Rattle.stk_rules.specs.Amounts.{bond_coins};
 
 use std::alloc::Global;
 use std::sync::ledger::Ledger;
-use stk_coins::{Coin, Coins};
+use stk_book::coins_of;
 use stk_keep::{Bank, BankFault, Ground, HookFault};
-use stk_types::{Account, Denom, Module, Steps};
+use stk_types::{Account, Module, Steps};
 
 /// Sends so much of the bond denomination, also nothing, from a module's account that has it. The only error
 /// is `NoMemory`.
@@ -71,23 +71,4 @@ fn send_some<B: Bank, L: Ledger>(
     let coins = coins_of(alloc, &g.ctx.params.bond_denom, amount)?;
     let from = Account::Module(from);
     g.bank.send(alloc, &mut g.facts, &from, to, &coins, steps)
-}
-
-/// So much of a denomination, as coins.
-fn coins_of(alloc: Global, denom: &Denom, amount: u128) -> Result<Coins, BankFault>
-    requires some { 0 < amount }
-    requires most { amount < 10 ^ 38 }
-    ensures coins { IfOk result (λ coins. coins ≡ (denom.now, amount) ∷ []) }
-    ensures fault { IfErr result (λ fault. fault ≡ NoMemory) }
-{
-    let mut list = Vec::new(alloc);
-    list.push(Coin {
-        denom: *denom,
-        amount,
-    })?;
-    match Coins::of(list) {
-        Ok(coins) => Ok(coins),
-        // It never comes: one denomination stands once.
-        Err(_) => Err(BankFault::NoMemory),
-    }
 }

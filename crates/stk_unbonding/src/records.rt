@@ -1,21 +1,17 @@
 //! Unbonding entries as items of the state.
 
-ghost use Rattle.std.specs.Prelude.{◌≡◌, OnOk, OnErr};
 ghost use Rattle.std.specs.List.Sorted.{IsStrictlySortedBy};
 ghost use Rattle.std.specs.Map.{keys_of};
-ghost use Rattle.stk_table.specs.Tabled.{with_mark};
 ghost use Rattle.stk_keep.specs.Orders.{pair_cmp};
 ghost use Rattle.stk_rules.specs.Unbondings.{UnbondingLists};
 ghost use Rattle.stk_unbonding.specs.Rows.{items_of, is_unbonding};
 
 use crate::items::UnbondingKind;
-use crate::queue::{Lists, Queue};
 use crate::unbondings::Unbondings;
 use std::alloc::Global;
 use std::sync::ledger::Ledger;
 use stk_keep::{Item, RecordFault, Records};
-use stk_rows::{Kinds, One};
-use stk_table::TableFault;
+use stk_rows::{Kinds, One, mark_both};
 use stk_types::Steps;
 
 impl Records for Unbondings {
@@ -103,22 +99,5 @@ impl Records for Unbondings {
     fn settle<L: Ledger>(&mut self, _steps: &mut Steps<L>) {
         self.lists.settle();
         self.queue.settle();
-    }
-}
-
-/// Opens a mark of both tables, or of none.
-fn mark_both(lists: &mut Lists, queue: &mut Queue) -> Result<(), TableFault>
-    ensures lists { OnOk result (lists.new ≡ with_mark lists.old) }
-    ensures queue { OnOk result (queue.new ≡ with_mark queue.old) }
-    ensures lists_err { OnErr result (lists.new ≡ lists.old) }
-    ensures queue_err { OnErr result (queue.new ≡ queue.old) }
-{
-    lists.mark()?;
-    match queue.mark() {
-        Ok(()) => Ok(()),
-        Err(fault) => {
-            lists.back();
-            Err(fault)
-        }
     }
 }

@@ -1,5 +1,5 @@
 -- What the calls of tests need where nothing stands yet.
-use Rattle.std.proofs.Common.{◌≡◌, ℕ, ◌+◌, ◌^◌, ◌<◌, ◌≤◌, Bool, true, false, cond, List, [], refl, subst, sym, ap, arith}
+use Rattle.std.proofs.Common.{◌≡◌, ℕ, ◌+◌, ◌^◌, ◌<◌, ◌≤◌, Bool, true, false, cond, List, [], Some, refl, subst, sym, ap, arith}
 use Rattle.std.specs.Prelude.{All, length, Result, Ok, Err, OnOk}
 use Rattle.std.proofs.lemmas.List.Elements.{All-nil}
 use Rattle.std.specs.List.Sorted.{IsStrictlySortedBy}
@@ -16,14 +16,16 @@ use Rattle.stk_keep.specs.declared.params.Params.{Params}
 use Rattle.stk_keep.specs.Ground.{AreInRange, IsInOrder, end_of_blocks}
 use Rattle.stk_keep.specs.Holdings.{Holdings, IsBacked, balance_of}
 use Rattle.stk_keep.specs.NoHooks.{nothing_told}
-use Rattle.stk_keep.specs.Staked.{Staked, bonded_tokens, other_tokens, HoldsStake}
+use Rattle.stk_keep.specs.Staked.{Staked, validator_at, bonded_tokens, other_tokens, HoldsStake}
 use Rattle.stk_keep.specs.World.{View}
 use Rattle.stk_rules.specs.Owed.{entry_balances, owed_from_not_bonded}
 use Rattle.stk_rules.specs.Sound.{UnbondingIsSound}
 use Rattle.stk_rules.specs.Unbondings.{UnbondingLists}
 use Rattle.stk_rules.proofs.SoundLemmas.{none_sound, from_points}
 use Rattle.stk_book.specs.Registered.{no_stake}
-use Rattle.stk_book.specs.Calls.{IsSoundStake}
+use Rattle.stk_keep.specs.declared.entities.Validator.{Validator}
+use Rattle.stk_book.specs.Calls.{IsSoundStake, changed_at}
+use Rattle.stk_book.proofs.BurntLemmas.{burnt, owes-burnt}
 use Rattle.stk_unbonding.specs.Calls.{AreSoundLists, IsWhole, AreWhole}
 use Rattle.stk_unbonding.specs.Scenes.{IsEntryScene}
 use Rattle.stk_unbonding_trials.specs.Trials.{IsFit, IsKept}
@@ -149,3 +151,21 @@ fit-empty u s v e f params time height bank =
 -- where no entry stands the accounts hold what is owed to validators
 pub stake-of_fit : (u : UnbondingLists) (s : Staked) (v : View) → IsFit u s v → HoldsStake v (bonded_tokens s) (other_tokens s)
 stake-of_fit u s v f = record { in_bonded = f.kept.accounts.in_bonded; in_not_bonded = let a = f.kept.accounts.in_not_bonded in omega (arith, a) }
+
+-- tokens were burnt
+pub fit-burnt : (u : UnbondingLists) (s s2 : Staked) (operator : List ℕ) (v : Validator) (n : ℕ) (g : View) → IsFit u s g → validator_at s operator ≡ Some v → s2 ≡ changed_at (burnt n) operator s → IsSoundStake s2 → IsFit u s2 g
+fit-burnt u s s2 operator v n g fit found e sound =
+    let owes = owes-burnt s s2 operator v n fit.kept.sound found e in
+    let bonded = owes.bonded in
+    let other = owes.other in
+    let has_bonded = fit.kept.accounts.in_bonded in
+    let has_other = fit.kept.accounts.in_not_bonded in
+    record {
+      kept = record {
+        sound = sound;
+        in_order = fit.kept.in_order;
+        entries = fit.kept.entries;
+        accounts = record { in_bonded = omega (arith, bonded, has_bonded); in_not_bonded = omega (arith, other, has_other) };
+      };
+      whole = fit.whole;
+    }

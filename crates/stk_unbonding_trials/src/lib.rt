@@ -6,6 +6,8 @@ mod completing_tests;
 #[cfg(test)]
 mod record_tests;
 #[cfg(test)]
+mod rounding_tests;
+#[cfg(test)]
 mod tests;
 #[cfg(test)]
 mod trials;

@@ -7,6 +7,7 @@ use crate::completing_tests::{
     spares,
 };
 use crate::record_tests::{goes_back, keeps_made, loads, tells_changes};
+use crate::rounding_tests::rounds;
 use crate::tests::{Scene, cancels, fills, keeps, merges, opened};
 use std::marker::Brand;
 use std::process::Abort;
@@ -34,6 +35,7 @@ enum Trial {
     KeepsMade,
     Loads,
     TellsChanges,
+    Rounds(u128, u128),
 }
 
 fn passes<L: Ledger>(
@@ -63,6 +65,7 @@ fn passes<L: Ledger>(
         Trial::KeepsMade => keeps_made(rt, scene, steps),
         Trial::Loads => loads(rt, scene, steps),
         Trial::TellsChanges => tells_changes(rt, scene, steps),
+        Trial::Rounds(amount, out) => rounds(rt, scene, amount, out, steps),
     }
 }
 
@@ -100,6 +103,8 @@ fn unbonding_answers_and_leaves_what_its_rules_say(rt: HostRuntime) -> Result<()
         Trial::KeepsMade,
         Trial::Loads,
         Trial::TellsChanges,
+        Trial::Rounds(10, 10),
+        Trial::Rounds(98, 97),
     ] {
         assert!(rt; tried::<Brand>(&rt, trial, Blank::new(1))?, "{trial:?}");
     }

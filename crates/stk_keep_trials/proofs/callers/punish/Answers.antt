@@ -7,7 +7,8 @@ use Rattle.stk_keep.specs.Staked.{validator_by_cons, lists_of, bonded_tokens, ot
 use Rattle.stk_types.specs.Orders.{cons_cmp}
 use Rattle.stk_keep.specs.Entries.{at}
 use Rattle.stk_keep.proofs.HookLemmas.{stands-noted}
-use Rattle.stk_keep_trials.proofs.StakeLemmas.{holds-jailed, slashable, still_known, bannable}
+use Rattle.stk_keep.proofs.StakeLemmas.{holds-jailed, still_known}
+use Rattle.stk_keep_trials.proofs.StakeLemmas.{slashable, bannable}
 use Rattle.stk_keep_trials.proofs.callers.punish.Goals as goal
 
 pub jail_if_not-requires-clause-known : goal.jail_if_not-requires-clause-known
@@ -23,7 +24,7 @@ pub ban-requires-clause-known : goal.ban-requires-clause-known
 ban-requires-clause-known g c =
     let infos = g.N.Signers.infos (g.N.Signers.held c.args.signers.now) in
     let yes : c.can_be_banned.result ≡ true = grind (arith, common_steps, c.if-not-can_be_banned.false) in
-    bannable (at cons_cmp infos c.args.cons.now) (sym (c.can_be_banned.ensures ∙ ap can_be_banned c.info.ensures) ∙ yes)
+    bannable (at cons_cmp infos c.args.cons.now) (sym (c.can_be_banned.ensures ∙ ap can_be_banned c.info.ensures.value) ∙ yes)
 
 pub returns-clause-stand : goal.returns-clause-stand
 returns-clause-stand g c =

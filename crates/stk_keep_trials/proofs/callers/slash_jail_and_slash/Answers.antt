@@ -5,7 +5,8 @@ use Rattle.stk_keep.specs.Ground.{seen}
 use Rattle.stk_keep.specs.Hooks.{Stands}
 use Rattle.stk_keep.specs.Staked.{validator_by_cons, lists_of, bonded_tokens, other_tokens}
 use Rattle.stk_keep.proofs.HookLemmas.{stands-noted}
-use Rattle.stk_keep_trials.proofs.StakeLemmas.{holds-fallen, holds-jailed, on_ok, jailable, still_known}
+use Rattle.stk_keep.proofs.StakeLemmas.{holds-fallen, holds-jailed, on_ok, still_known}
+use Rattle.stk_keep_trials.proofs.StakeLemmas.{jailable}
 use Rattle.stk_keep_trials.proofs.callers.slash_jail_and_slash.Goals as goal
 
 pub jail-requires-clause-known : goal.jail-requires-clause-known

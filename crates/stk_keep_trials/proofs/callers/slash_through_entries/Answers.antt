@@ -1,6 +1,7 @@
 use Rattle.stk_keep.specs.Ground.{seen}
 use Rattle.stk_keep.specs.Staked.{lists_of, bonded_tokens, other_tokens}
-use Rattle.stk_keep_trials.proofs.StakeLemmas.{holds-part, holds-rest, holds-burned, stands-burned, stands-burnt}
+use Rattle.stk_keep.proofs.StakeLemmas.{holds-part, holds-rest, holds-burned, stands-burned}
+use Rattle.stk_keep_trials.proofs.StakeLemmas.{stands-burnt}
 use Rattle.stk_keep_trials.proofs.callers.slash_through_entries.Goals as goal
 
 pub slash_unbondings-requires-clause-account : goal.slash_unbondings-requires-clause-account

@@ -1,0 +1,116 @@
+ghost use Rattle.std.specs.Prelude.{◌≡◌, [], ◌<◌, IfOk};
+
+use crate::row_kinds::{PeriodKind, SupplyKind};
+use std::alloc::Global;
+use std::marker::Brand;
+use std::sync::ledger::{Blank, Ledger};
+use std::test::Fail;
+use stk_keep::{Item, RecordFault};
+use stk_rows::{Both, Kinds, One};
+use stk_table::{Table, TableFault};
+use stk_types::{Addr, Denom, Steps};
+
+/// The items and the changes of two tables.
+type Listed = (Vec<Item>, Vec<(Item, bool)>);
+
+/// A settled table of one period, which is taken out behind the settling.
+fn periods<L: Ledger>(
+    alloc: Global,
+    operator: &Addr,
+    steps: &mut Steps<L>,
+) -> Result<Table<Addr, u64>, TableFault> {
+    let mut table: Table<Addr, u64> = Table::new(alloc);
+    table.put(operator, 3, steps)?;
+    table.settle();
+    table.remove(operator, steps)?;
+    Ok(table)
+}
+
+/// A settled table of two supplies, of which the first rises behind the settling.
+fn supplies<L: Ledger>(
+    alloc: Global,
+    first: &Denom,
+    second: &Denom,
+    steps: &mut Steps<L>,
+) -> Result<Table<Denom, u128>, TableFault> {
+    let mut table: Table<Denom, u128> = Table::new(alloc);
+    table.put(first, 8, steps)?;
+    table.put(second, 5, steps)?;
+    table.settle();
+    table.put(first, 9, steps)?;
+    Ok(table)
+}
+
+/// What two tables list, kind by kind.
+fn listed<L: Ledger>(
+    alloc: Global,
+    periods: &Table<Addr, u64>,
+    supplies: &Table<Denom, u128>,
+    steps: &mut Steps<L>,
+) -> Result<Listed, RecordFault> {
+    let kinds = Both {
+        first: One::<PeriodKind> { table: periods },
+        second: One::<SupplyKind> { table: supplies },
+    };
+    kinds.known();
+    let mut items = Vec::new(alloc);
+    kinds.items_into(&mut items, steps)?;
+    let mut changes = Vec::new(alloc);
+    kinds.changes_into(alloc, &mut changes, steps)?;
+    Ok((items, changes))
+}
+
+/// What is listed of a period that is gone, a supply that rose and one that stayed.
+fn listed_after<L: Ledger>(
+    alloc: Global,
+    operator: &Addr,
+    first: &Denom,
+    second: &Denom,
+    blank: Blank,
+) -> Result<Listed, RecordFault>
+    requires name { blank.name ≡ L.name }
+    requires parts { blank.parts ≡ L.parts }
+    requires some { 0 < L.parts }
+{
+    let mut steps: Steps<L> = Steps::new(blank);
+    let gone = periods(alloc, operator, &mut steps)?;
+    let risen = supplies(alloc, first, second, &mut steps)?;
+    listed(alloc, &gone, &risen, &mut steps)
+}
+
+/// Whether an item is the supply of so much.
+fn is_supply(item: Option<&Item>, expected: u128) -> bool {
+    matches!(item, Some(Item::Supply { amount, .. }) if *amount == expected)
+}
+
+/// Whether a change is this one of a supply.
+fn is_risen(change: Option<&(Item, bool)>, expected: u128) -> bool {
+    match change {
+        Some((item, stands)) => *stands && is_supply(Some(item), expected),
+        None => false,
+    }
+}
+
+/// Whether a change is of a period that is gone.
+fn is_gone(change: Option<&(Item, bool)>) -> bool {
+    matches!(change, Some((Item::CurrentPeriod { .. }, false)))
+}
+
+#[test]
+fn records_of_two_kinds_are_listed(rt: HostRuntime) -> Result<(), Fail> {
+    let operator = Addr::of([7; 20]).expect(&rt, "no module's address");
+    let first = Denom::of(b"uatom").expect(&rt, "a denomination");
+    let second = Denom::of(b"uosmo").expect(&rt, "a denomination");
+    let (items, changes) = listed_after::<Brand>(
+        rt.alloc(),
+        &operator,
+        &first,
+        &second,
+        Blank::new(1),
+    )?;
+    assert!(rt; items.len() == 2);
+    assert!(rt; is_supply(items.get(0), 9) && is_supply(items.get(1), 5));
+    assert!(rt; changes.len() == 2);
+    assert!(rt; is_gone(changes.get(0)) && is_risen(changes.get(1), 9));
+    Ok(())
+}

@@ -1,0 +1,71 @@
+//! Coins are sent between hooks that do nothing.
+
+ghost use Rattle.std.specs.Prelude.{◌≡◌, ◌<◌};
+ghost use Rattle.stk_keep.specs.Ground.{seen, IsInOrder};
+ghost use Rattle.stk_keep.specs.Holdings.{no_holdings};
+
+use crate::values::{coins, dec, moment, params, validator};
+use std::marker::Brand;
+use std::process::Abort;
+use std::sync::ledger::{Blank, Ledger};
+use std::test::Fail;
+use stk_coins::Coins;
+use stk_keep::{Ctx, Facts, Ground, HookPair, NoHooks, Refusal, Stop};
+use stk_keep_trials::callers::send_between_hooks;
+use stk_keep_trials::trials::EmptyBank;
+use stk_types::Steps;
+
+/// Height 1, over a bank that holds nothing.
+pub fn empty_ground(rt: &(impl Abort + AllocGlobal)) -> Ground<EmptyBank>
+    ensures height { result.ctx.height ≡ 1 }
+    ensures in_order { IsInOrder (seen (λ _. no_holdings) result) }
+{
+    Ground {
+        bank: EmptyBank,
+        ctx: Ctx {
+            height: 1,
+            time: moment(rt, 0),
+            params: params(rt),
+        },
+        facts: Facts::new(rt.alloc()),
+    }
+}
+
+/// What sending coins between hooks that do nothing answers, from a bank that holds nothing.
+fn outcome_of_sending<L: Ledger>(
+    rt: &(impl Abort + AllocGlobal),
+    blank: Blank,
+    coins: &Coins,
+) -> Result<(), Stop>
+    requires name { blank.name ≡ L.name }
+    requires parts { blank.parts ≡ L.parts }
+    requires some { 0 < L.parts }
+{
+    let mut steps: Steps<L> = Steps::new(blank);
+    let mut g = empty_ground(rt);
+    let mut hooks = HookPair {
+        first: NoHooks,
+        second: NoHooks,
+    };
+    let v = validator(rt, 5);
+    let shares = dec(rt, 1);
+    send_between_hooks(
+        rt.alloc(),
+        &mut g,
+        &mut hooks,
+        &v,
+        &v.operator,
+        coins,
+        shares,
+        &mut steps,
+    )
+}
+
+#[test]
+fn a_short_sender_between_hooks_is_refused(rt: HostRuntime) -> Result<(), Fail> {
+    let short = outcome_of_sending::<Brand>(&rt, Blank::new(1), &coins(&rt, 3)?);
+    assert!(rt; short == Err(Stop::Refused(Refusal::InsufficientFunds)));
+    let nothing = outcome_of_sending::<Brand>(&rt, Blank::new(1), &coins(&rt, 0)?);
+    assert!(rt; nothing == Ok(()));
+    Ok(())
+}
