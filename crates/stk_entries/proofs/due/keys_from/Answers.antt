@@ -1,0 +1,19 @@
+use Rattle.std.proofs.Common.{◌≡◌, ◌∙◌, ◌++◌, ◌∷◌, [], cond, Some, sym, ap}
+use Rattle.stk_table.specs.Tabled.{entry_above}
+use Rattle.stk_keep.specs.Orders.{same_addr}
+use Rattle.stk_entries.specs.Slashed.{is_from}
+use Rattle.stk_entries.proofs.CountLemmas.{where-next, where-shorter}
+use Rattle.stk_entries.proofs.due.keys_from.Goals as goal
+
+pub loop-key-preserved : goal.loop-key-preserved
+loop-key-preserved g c =
+    let u = c.args.lists.now.entries in
+    let here : entry_above g.K.Ord.cmp u c.loop-key.after ≡ Some (c.in-Some.key.now, c.in-Some._list.now) = ap (entry_above g.K.Ord.cmp u) (sym c.as_ref.ensures.value) ∙ sym c.in-Some.ensures.above in
+    where-next g.K.Ord.cmp g.met.K.Ord.total u c.known.ensures.ordered c.loop-key.after (c.in-Some.key.now, c.in-Some._list.now) here (is_from g.K.EntryKey.source c.args.operator.now) c.loop-key.keys.items c.push_if.new.keys.items c.loop-key.invariant
+    (c.in_ok-push_if.ensures ∙ ap (λ b. c.loop-key.keys.items ++ cond b (c.in-Some.key.now ∷ []) []) (c.is_same.ensures ∙ ap (λ a. same_addr a c.args.operator.now) c.source.ensures))
+
+pub loop-key-smaller : goal.loop-key-smaller
+loop-key-smaller g c =
+    let u = c.args.lists.now.entries in
+    let here : entry_above g.K.Ord.cmp u c.loop-key.after ≡ Some (c.in-Some.key.now, c.in-Some._list.now) = ap (entry_above g.K.Ord.cmp u) (sym c.as_ref.ensures.value) ∙ sym c.in-Some.ensures.above in
+    where-shorter g.K.Ord.cmp g.met.K.Ord.total u c.known.ensures.ordered c.loop-key.after (c.in-Some.key.now, c.in-Some._list.now) here

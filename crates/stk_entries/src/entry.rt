@@ -1,0 +1,92 @@
+ghost use Rattle.std.specs.Prelude.{◌≡◌, ℕ, List};
+ghost use Rattle.stk_rules.specs.EntrySlashes.{Made, unbonding_made, redelegation_made};
+ghost use Rattle.stk_entries.specs.Exact.{exact_pair, exact_triple};
+ghost use Rattle.stk_entries.specs.Lists.{IsExact};
+
+use std::hash::Hash;
+use stk_keep::{RedelegationEntry, UnbondingEntry};
+use stk_types::{Addr, Copied, Moment};
+
+/// An entry that was made at a height and completes at a moment.
+pub trait Entry: Copied + Copy {
+    /// What is told of it when it was made.
+    ghost made: { Self → Made };
+
+    /// The height at which it was made.
+    fn created(&self) -> u64
+        ensures { result ≡ (made self.now).created };
+
+    /// When it completes.
+    fn completes(&self) -> Moment
+        ensures { result ≡ (made self.now).completes };
+
+    /// What came out of the delegation, in units of the bond denomination.
+    fn initial(&self) -> u128
+        ensures { result ≡ (made self.now).initial };
+}
+
+/// What entries are kept by.
+pub trait EntryKey: Ord + Hash + Copied + Copy {
+    /// The operator that the entries are from.
+    ghost source: { Self → List ℕ };
+
+    fn source(&self) -> &Addr
+        ensures { result.now ≡ source self.now };
+
+    /// Keys that compare equal are one key.
+    ghost exact: { IsExact Self.cmp };
+}
+
+impl Entry for UnbondingEntry {
+    ghost made = { unbonding_made };
+
+    fn created(&self) -> u64 {
+        self.created
+    }
+
+    fn completes(&self) -> Moment {
+        self.completes
+    }
+
+    fn initial(&self) -> u128 {
+        self.initial
+    }
+}
+
+impl Entry for RedelegationEntry {
+    ghost made = { redelegation_made };
+
+    fn created(&self) -> u64 {
+        self.created
+    }
+
+    fn completes(&self) -> Moment {
+        self.completes
+    }
+
+    fn initial(&self) -> u128 {
+        self.initial
+    }
+}
+
+/// A delegator and an operator.
+impl EntryKey for (Addr, Addr) {
+    ghost source = { λ key. key.1 };
+
+    fn source(&self) -> &Addr {
+        &self.1
+    }
+
+    ghost exact = { exact_pair };
+}
+
+/// A delegator, a source and a target.
+impl EntryKey for (Addr, Addr, Addr) {
+    ghost source = { λ key. key.1 };
+
+    fn source(&self) -> &Addr {
+        &self.1
+    }
+
+    ghost exact = { exact_triple };
+}
