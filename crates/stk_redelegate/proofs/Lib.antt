@@ -1,0 +1,15 @@
+pub mod OrderLemmas
+pub mod SameLemmas
+pub mod EntryLemmas
+pub mod ItemLemmas
+pub mod CompletedLemmas
+pub mod AskedLemmas
+pub mod LoggedLemmas
+pub mod LeftLemmas
+pub mod TransitLemmas
+pub mod ReachedLemmas
+pub mod BurntLemmas
+pub mod PartLemmas
+pub mod TargetLemmas
+pub mod GoesOnLemmas
+pub mod StagesLemmas

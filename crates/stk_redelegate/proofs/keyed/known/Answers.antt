@@ -1,0 +1,8 @@
+use Rattle.std.proofs.Common.{subst}
+use Rattle.std.specs.List.Sorted.{IsStrictlySortedBy}
+use Rattle.std.specs.Map.{keys_of}
+use Rattle.stk_redelegate.proofs.OrderLemmas.{triple_order_is}
+use Rattle.stk_redelegate.proofs.keyed.known.Goals as goal
+
+pub returns : goal.returns
+returns c = subst (λ order. IsStrictlySortedBy order (keys_of c.args.entries.now.lists)) triple_order_is c.known.ensures

@@ -1,0 +1,116 @@
+//! Entries told in the order of their delegators, sources and targets. A table compares the first two parts of
+//! a key before the third, which is the same order.
+
+ghost use Rattle.std.specs.Prelude.{◌≡◌, ◌+◌, ◌≤◌, true, option_map, IfOk, OnOk, OnErr, IsErr};
+ghost use Rattle.std.specs.List.Sorted.{IsStrictlySortedBy};
+ghost use Rattle.std.specs.Map.{keys_of};
+ghost use Rattle.std.specs.Option.{option_copied};
+ghost use Rattle.stk_table.specs.Tabled.{entry_above};
+ghost use Rattle.stk_keep.specs.Entries.{at, with};
+ghost use Rattle.stk_keep.specs.Orders.{triple_cmp};
+ghost use Rattle.stk_rules.specs.EntrySlashes.{redelegation_made};
+ghost use Rattle.stk_entries.specs.Kept.{holding, spent_now};
+ghost use Rattle.stk_entries.specs.Lists.{list_at, with_list, unmatured};
+
+use std::alloc::Global;
+use std::sync::ledger::Ledger;
+use stk_entries::Entries;
+use stk_keep::{Listed, RedelegationEntry};
+use stk_table::TableFault;
+use stk_types::{Addr, Moment, Steps};
+
+/// What entries are kept by: their delegator, their source and their target.
+pub(crate) type Key = (Addr, Addr, Addr);
+
+/// Entries by key.
+pub(crate) type Lists = Entries<Key, RedelegationEntry>;
+
+/// It tells that the keys ascend.
+pub(crate) fn known(entries: &Lists)
+    ensures { IsStrictlySortedBy triple_cmp (keys_of entries.now.lists) }
+{
+    entries.known();
+}
+
+/// The entries of a key, or None where there are none.
+pub(crate) fn at<'a, L: Ledger>(
+    entries: &'a Lists,
+    key: &Key,
+    steps: &mut Steps<L>,
+) -> Option<&'a Listed<RedelegationEntry>>
+    ensures { option_copied result ≡ at triple_cmp entries.now.lists key.now }
+{
+    entries.at(key, steps)
+}
+
+/// The entries of the least key above `after`, or of the least key of all for None.
+pub(crate) fn next<'a, L: Ledger>(
+    entries: &'a Lists,
+    after: Option<&Key>,
+    steps: &mut Steps<L>,
+) -> Option<(&'a Key, &'a Listed<RedelegationEntry>)>
+    ensures { option_map (λ entry. (entry.0.now, entry.1.now)) result
+        ≡ entry_above triple_cmp entries.now.lists (option_copied after.entry) }
+{
+    entries.next(after, steps)
+}
+
+/// Puts entries under a key, also none.
+pub(crate) fn put<L: Ledger>(
+    entries: &mut Lists,
+    key: &Key,
+    list: Listed<RedelegationEntry>,
+    steps: &mut Steps<L>,
+) -> Result<(), TableFault>
+    ensures ok { OnOk result
+        (entries.new ≡ holding (with triple_cmp entries.old.lists key.now list) entries.old) }
+    ensures err { OnErr result (entries.new ≡ spent_now entries.old) }
+    ensures spent { entries.old.spent ≡ true → IsErr result }
+{
+    entries.put(key, list, steps)
+}
+
+/// Puts a copy of entries.
+pub(crate) fn put_copy<L: Ledger>(
+    entries: &mut Lists,
+    key: &Key,
+    list: &Listed<RedelegationEntry>,
+    steps: &mut Steps<L>,
+) -> Result<(), TableFault>
+    ensures ok { OnOk result
+        (entries.new ≡ holding (with triple_cmp entries.old.lists key.now list.now) entries.old) }
+    ensures err { OnErr result (entries.new ≡ spent_now entries.old) }
+    ensures spent { entries.old.spent ≡ true → IsErr result }
+{
+    entries.put_copy(key, list, steps)
+}
+
+/// Keeps entries under a key, which goes where they are none.
+pub(crate) fn set<L: Ledger>(
+    entries: &mut Lists,
+    key: &Key,
+    list: Listed<RedelegationEntry>,
+    steps: &mut Steps<L>,
+) -> Result<(), TableFault>
+    ensures ok { OnOk result
+        (entries.new ≡ holding (with_list triple_cmp key.now list entries.old.lists) entries.old) }
+    ensures err { OnErr result (entries.new ≡ spent_now entries.old) }
+    ensures cost { steps.new ≤ steps.old + 4 }
+{
+    entries.set(key, list, steps)
+}
+
+/// The entries of a key that are not mature, also none.
+pub(crate) fn unmatured_at<L: Ledger>(
+    alloc: Global,
+    entries: &Lists,
+    key: &Key,
+    now: Moment,
+    steps: &mut Steps<L>,
+) -> Result<Listed<RedelegationEntry>, TableFault>
+    ensures left { IfOk result (λ list. list
+        ≡ unmatured redelegation_made now (list_at triple_cmp entries.now.lists key.now)) }
+    ensures cost { steps.new ≡ steps.old + 1 }
+{
+    entries.unmatured_at(alloc, key, now, steps)
+}
