@@ -1,0 +1,14 @@
+pub mod LoopLemmas
+pub mod SetLemmas
+pub mod OrderedLemmas
+pub mod PassedLemmas
+pub mod StakeLemmas
+pub mod JoinLemmas
+pub mod JoinedLemmas
+pub mod TokenLemmas
+pub mod LeftLemmas
+pub mod StandLemmas
+pub mod UpdateLemmas
+pub mod SceneLemmas
+pub mod DueLemmas
+pub mod MatureLemmas
