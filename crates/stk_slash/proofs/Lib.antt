@@ -1,0 +1,5 @@
+mod AmountLemmas
+mod StillLemmas
+pub mod FallLemmas
+mod BurntLemmas
+mod ToldLemmas

@@ -1,0 +1,166 @@
+//! What a slash burns of the validator itself.
+
+ghost use Rattle.std.specs.Prelude.{◌≡◌, ◌+◌, ◌^◌, ◌<◌, ◌≤◌, Some, OnOk, IfErr};
+ghost use Rattle.stk_types.specs.declared.account.Account.TheVariants as account;
+ghost use Rattle.stk_keep.specs.Answers.{Follows};
+ghost use Rattle.stk_keep.specs.declared.faults.HookFault.TheVariants.{NoMemory};
+ghost use Rattle.stk_keep.specs.Ground.{seen, CanBeUndone};
+ghost use Rattle.stk_keep.specs.Holdings.{balance_of, IsBacked};
+ghost use Rattle.stk_keep.specs.Hooks.{MayCall};
+ghost use Rattle.stk_keep.specs.Log.{Log};
+ghost use Rattle.stk_keep.specs.Staked.{Staked, validator_at, bonded_tokens, other_tokens, HoldsStake, StakeFalls, StillStand};
+ghost use Rattle.stk_keep.specs.World.{slashing, burnt};
+ghost use Rattle.stk_rules.specs.Answers.{Leaves};
+ghost use Rattle.stk_rules.specs.Slashing.{slash_fraction, slash_told, validator_slashed, rest_slashed};
+ghost use Rattle.stk_book.specs.Calls.{behind_log};
+ghost use Rattle.stk_book.specs.Scenes.{IsHooked};
+ghost use Rattle.stk_slash.specs.Scenes.{HasTokens, LeavesBehind};
+
+use crate::amounts::{pool_of, slash_fraction, smaller};
+use std::alloc::Global;
+use std::sync::ledger::Ledger;
+use stk_book::Staking;
+use stk_coins::Coin;
+use stk_keep::{Bank, Fact, Ground, HookFault, StakingHooks, Validator, ValidatorView};
+use stk_types::{Addr, Module, Steps};
+
+/// The validator of an operator, where it still stands, burns an amount, and at most its tokens. Answers what it
+/// burned.
+pub(crate) fn slash_rest<B: Bank, H: StakingHooks, L: Ledger>(
+    alloc: Global,
+    g: &mut Ground<B>,
+    hooks: &mut H,
+    staking: &mut Staking,
+    operator: &Addr,
+    amount: u128,
+    steps: &mut Steps<L>,
+) -> Result<u128, HookFault>
+    requires hooked { IsHooked H.tells (H.holds hooks.old)
+        (seen B.holdings g.old) staking.old.staked }
+    requires accounts { HoldsStake (seen B.holdings g.old) (bonded_tokens staking.old.staked)
+        (other_tokens staking.old.staked) }
+
+    ensures told { (h : H.Held) → H.holds hooks.old h → (log : Log)
+        → Follows (rest_slashed H.tells.told (validator_at staking.old.staked operator.now) amount
+        (behind_log log staking.old.staked h (seen B.holdings g.old)))
+        staking.new.staked (H.holds hooks.new) (seen B.holdings g.new) result }
+    ensures falls { OnOk result (StakeFalls (seen B.holdings g.old) (seen B.holdings g.new)
+        (bonded_tokens staking.old.staked) (other_tokens staking.old.staked)
+        (bonded_tokens staking.new.staked) (other_tokens staking.new.staked)) }
+    ensures still { OnOk result (StillStand staking.old.staked staking.new.staked) }
+    ensures hooked { OnOk result (IsHooked H.tells (H.holds hooks.new)
+        (seen B.holdings g.new) staking.new.staked) }
+
+    // Whatever the answer.
+    ensures behind { LeavesBehind B.marks B.touches H.marks
+        g.old g.new hooks.old hooks.new staking.old staking.new }
+{
+    let v = match staking.validator(operator, steps) {
+        Some(v) => *v,
+        None => return Ok(0),
+    };
+    slash_validator(alloc, g, hooks, staking, &v, amount, steps)
+}
+
+/// A validator burns an amount, and at most its tokens, from the account of its status (`RemoveValidatorTokens`,
+/// `burnBondedTokens`, `burnNotBondedTokens`). Answers what it burned.
+fn slash_validator<B: Bank, H: StakingHooks, L: Ledger>(
+    alloc: Global,
+    g: &mut Ground<B>,
+    hooks: &mut H,
+    staking: &mut Staking,
+    v: &Validator,
+    amount: u128,
+    steps: &mut Steps<L>,
+) -> Result<u128, HookFault>
+    requires stands { validator_at staking.old.staked v.now.operator ≡ Some v.now }
+    requires hooked { IsHooked H.tells (H.holds hooks.old)
+        (seen B.holdings g.old) staking.old.staked }
+    requires tokens { HasTokens v.now (seen B.holdings g.old) }
+
+    ensures told { (h : H.Held) → H.holds hooks.old h → (log : Log)
+        → Follows (validator_slashed H.tells.told v.now amount
+        (behind_log log staking.old.staked h (seen B.holdings g.old)))
+        staking.new.staked (H.holds hooks.new) (seen B.holdings g.new) result }
+    ensures falls { OnOk result (StakeFalls (seen B.holdings g.old) (seen B.holdings g.new)
+        (bonded_tokens staking.old.staked) (other_tokens staking.old.staked)
+        (bonded_tokens staking.new.staked) (other_tokens staking.new.staked)) }
+    ensures still { OnOk result (StillStand staking.old.staked staking.new.staked) }
+    ensures hooked { OnOk result (IsHooked H.tells (H.holds hooks.new)
+        (seen B.holdings g.new) staking.new.staked) }
+
+    // Whatever the answer.
+    ensures behind { LeavesBehind B.marks B.touches H.marks
+        g.old g.new hooks.old hooks.new staking.old staking.new }
+{
+    let burned = smaller(amount, v.tokens);
+    tell_slash(alloc, g, hooks, v, burned, steps)?;
+    staking.burn_tokens(&v.operator, burned, steps)?;
+    burn(alloc, g, pool_of(v.status), burned, steps)?;
+    Ok(burned)
+}
+
+/// The hook of a slash, and its fact; a validator without tokens has neither (`BeforeValidatorSlashed`).
+fn tell_slash<B: Bank, H: StakingHooks, L: Ledger>(
+    alloc: Global,
+    g: &mut Ground<B>,
+    hooks: &mut H,
+    v: &Validator,
+    burned: u128,
+    steps: &mut Steps<L>,
+) -> Result<(), HookFault>
+    requires most { v.now.tokens ≤ 10 ^ 18 }
+    requires within { burned ≤ v.now.tokens }
+    requires ready { MayCall (H.holds hooks.old) H.tells
+        (slashing v.now (slash_fraction burned v.now.tokens)) (seen B.holdings g.old) }
+
+    ensures told { (h : H.Held) → H.holds hooks.old h → (log : Log) (s : Staked)
+        → Leaves (slash_told H.tells.told v.now burned
+        (behind_log log s h (seen B.holdings g.old)))
+        s (H.holds hooks.new) (seen B.holdings g.new) result }
+
+    // Whatever the answer.
+    ensures undone { CanBeUndone B.marks g.old g.new }
+    ensures bank { B.touches g.new.bank ≡ B.touches g.old.bank }
+    ensures hook_marks { H.marks hooks.new ≡ H.marks hooks.old }
+{
+    if v.tokens == 0 {
+        return Ok(());
+    }
+    let fraction = slash_fraction(burned, v.tokens);
+    hooks.before_validator_slashed(alloc, g, v, fraction, steps)?;
+    g.facts.push(Fact::Slashed {
+        validator: v.operator,
+        fraction,
+        burned,
+    })?;
+    Ok(())
+}
+
+/// Burns so much of the bond denomination from a module's account, which has it. The only error is `NoMemory`.
+fn burn<B: Bank, L: Ledger>(
+    alloc: Global,
+    g: &mut Ground<B>,
+    from: Module,
+    amount: u128,
+    steps: &mut Steps<L>,
+) -> Result<(), HookFault>
+    requires backed { IsBacked (B.holdings g.old.bank) }
+    requires enough { amount ≤ balance_of (B.holdings g.old.bank)
+        (account.Module from) g.old.ctx.params.bond_denom }
+    ensures burnt { OnOk result (seen B.holdings g.new
+        ≡ burnt from g.old.ctx.params.bond_denom amount (seen B.holdings g.old)) }
+    ensures fault { IfErr result (λ fault. fault ≡ NoMemory) }
+    ensures backed { IsBacked (B.holdings g.new.bank) }
+    ensures undone { CanBeUndone B.marks g.old g.new }
+    ensures bank { B.touches g.new.bank ≡ B.touches g.old.bank }
+{
+    let coin = Coin {
+        denom: g.ctx.params.bond_denom,
+        amount,
+    };
+    match g.bank.burn(alloc, &mut g.facts, from, &coin, steps) {
+        Ok(()) => Ok(()),
+        Err(_) => Err(HookFault::NoMemory),
+    }
+}
