@@ -45,7 +45,7 @@ use Rattle.stk_bracket.proofs.Growing.{not_stopped, apart_back, delegated_reache
 -- ---- where no validator stands
 
 -- nobody has shares of it
-nobody_has : (w : State) (who operator : List ℕ) → IsSound w → validator_at w.mine.staked operator ≡ None → delegation w.mine.staked who operator ≡ None
+pub nobody_has : (w : State) (who operator : List ℕ) → IsSound w → validator_at w.mine.staked operator ≡ None → delegation w.mine.staked who operator ≡ None
 nobody_has w who operator sound none = by (delegation w.mine.staked who operator) refl
   where
     nothing : (o : Option Validator) → o ≡ None → IsSome o → ⊥

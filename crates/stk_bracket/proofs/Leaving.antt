@@ -68,7 +68,7 @@ not_both false b c e f g h = refl
 not_both true false c e f g h = refl
 not_both true true c e f g h = sym (λ i. f refl i && g refl i) ∙ h
 
-pair_elsewhere : (who op x o : List ℕ) (k : List ℕ × List ℕ) → (same_addr op o && same_addr who x) ≡ false → is_at (pair_cmp (op, who)) k ≡ true → is_at (pair_cmp (o, x)) k ≡ false
+pub pair_elsewhere : (who op x o : List ℕ) (k : List ℕ × List ℕ) → (same_addr op o && same_addr who x) ≡ false → is_at (pair_cmp (op, who)) k ≡ true → is_at (pair_cmp (o, x)) k ≡ false
 pair_elsewhere who op x o k apart h =
     let same : (op ≡ k.0) × (who ≡ k.1) = pair_is (op, who) k h in
     pair_found o k.0 x k.1 ∙ not_both (same_addr o k.0) (same_addr x k.1) (same_addr op o) (same_addr who x) (λ t. ap (λ a. same_addr a o) same.0 ∙ turned o k.0 t) (λ t. ap (λ a. same_addr a x) same.1 ∙ turned x k.1 t) apart

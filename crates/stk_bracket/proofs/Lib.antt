@@ -50,3 +50,6 @@ pub mod Unfair
 pub mod Close
 pub mod Told
 pub mod Finding
+pub mod Unstarted
+pub mod UnstartedSlashes
+pub mod UnstartedSteps

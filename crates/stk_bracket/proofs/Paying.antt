@@ -47,7 +47,7 @@ pub record Pays (l : Log) (fs : List Fact) (k : Log) (gs : List Fact) : Type 0 w
   pub payments : payments_in told ≡ payments_of more
   pub sent : AreSent fs told
 
-in_turn_joined : {A : Type 0} (P : List A → A → Type 0) (before a b : List A) → AreInTurn P before a → AreInTurn P (before ++ a) b → AreInTurn P before (a ++ b)
+pub in_turn_joined : {A : Type 0} (P : List A → A → Type 0) (before a b : List A) → AreInTurn P before a → AreInTurn P (before ++ a) b → AreInTurn P before (a ++ b)
 in_turn_joined P before [] b h k = subst (λ m. AreInTurn P m b) (append-nil before) k
 in_turn_joined P before (x ∷ a) b h k =
     (h.0, in_turn_joined P (before ++ x ∷ []) a b h.1 (subst (λ m. AreInTurn P m b) (sym (append_assoc before (x ∷ []) a)) k))
@@ -124,7 +124,7 @@ pays_pooled l coins fs = by (is_empty coins)
 
 -- ---- rules of distribution
 
-abbrev ended_with : Validator → Shared → View → Money × Money × Purses → Money × Periods → ℕ × Shared × View × Log
+abbrev pub ended_with : Validator → Shared → View → Money × Money × Purses → Money × Periods → ℕ × Shared × View × Log
 ended_with v d u t r = (
   last_ended r.1,
   record d { rewards = with_periods v.operator r.1 d.rewards; purses = t.2 },

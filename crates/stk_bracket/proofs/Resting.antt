@@ -85,7 +85,7 @@ pub rests_in : (w : State) (v : Validator) (who : List ℕ) → AreReached w →
     → span_of who (history_of v.operator w.log []) None ≡ None
 rests_in w v who reached found apart = reached_rests [] (account_in [] w v) (reached [] v found) who apart
 
-runs_where_held : (w : State) (who : List ℕ) (v : Validator) → IsReady w v.operator → AreReached w → validator_at w.mine.staked v.operator ≡ Some v
+pub runs_where_held : (w : State) (who : List ℕ) (v : Validator) → IsReady w v.operator → AreReached w → validator_at w.mine.staked v.operator ≡ Some v
     → is_some (span_of who (history_of v.operator w.log []) None) ≡ is_some (delegation w.mine.staked who v.operator)
 runs_where_held w who v ready reached found = by (delegation w.mine.staked who v.operator) refl
   where

@@ -105,7 +105,7 @@ pays_delegated w v who amount origin x ready found reached e =
 
 -- ---- a validator that goes
 
-abbrev removed_with : Validator → Shared → View → Money × Money × Purses → Shared × View
+abbrev pub removed_with : Validator → Shared → View → Money × Money × Purses → Shared × View
 removed_with v s u y =
     let to = payee_of s v.operator in
     let v1 = paid_to to y.0 u in

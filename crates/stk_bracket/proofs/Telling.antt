@@ -57,11 +57,11 @@ pub on_step : {A B E : Type 0} (r : Result A E) (f : A → Result B E) (Q : B �
 on_step (Ok a) f Q h = h a refl
 on_step (Err e) f Q h = tt
 
-on_next : {A B E : Type 0} (r : Result A E) (next : Result B E) (Q : B → Type 0) → IfOk next Q → IfOk (r >> next) Q
+pub on_next : {A B E : Type 0} (r : Result A E) (next : Result B E) (Q : B → Type 0) → IfOk next Q → IfOk (r >> next) Q
 on_next (Ok a) next Q h = h
 on_next (Err e) next Q h = tt
 
-on_stop : {B E : Type 0} (b : Bool) (why : E) (next : Result B E) (Q : B → Type 0) → (b ≡ false → IfOk next Q) → IfOk (stop_if b why >> next) Q
+pub on_stop : {B E : Type 0} (b : Bool) (why : E) (next : Result B E) (Q : B → Type 0) → (b ≡ false → IfOk next Q) → IfOk (stop_if b why >> next) Q
 on_stop true why next Q h = tt
 on_stop false why next Q h = h refl
 
@@ -69,7 +69,7 @@ pub on_found : {A B E : Type 0} (o : Option A) (why : E) (f : A → Result B E) 
 on_found (Some a) why f Q h = h a refl
 on_found None why f Q h = tt
 
-on_lifted : {A B D E : Type 0} (g : D → E) (r : Result A D) (f : A → Result B E) (Q : B → Type 0) → ((a : A) → r ≡ Ok a → IfOk (f a) Q) → IfOk (stopping g r >>= f) Q
+pub on_lifted : {A B D E : Type 0} (g : D → E) (r : Result A D) (f : A → Result B E) (Q : B → Type 0) → ((a : A) → r ≡ Ok a → IfOk (f a) Q) → IfOk (stopping g r >>= f) Q
 on_lifted g (Ok a) f Q h = h a refl
 on_lifted g (Err d) f Q h = tt
 

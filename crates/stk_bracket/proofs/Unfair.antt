@@ -1,6 +1,6 @@
 -- Withdrawals that are not fair: that pay nothing, or twice as much, or again, or send nothing; and a start without one.
-use Rattle.std.proofs.Common.{◌≡◌, ◌≢◌, ℕ, ◌-◌, ◌*◌, ◌^◌, ◌≤◌, Bool, true, false, List, [], ◌∷◌, ◌++◌, refl, arith, sym, subst, ◌∙◌, Option, Some, None, min, mul-le-mul_right}
-use Rattle.std.specs.Prelude.{if◌then◌else◌, nat_le}
+use Rattle.std.proofs.Common.{◌≡◌, ◌≢◌, ℕ, ◌-◌, ◌*◌, ◌^◌, ◌≤◌, Bool, true, false, List, [], ◌∷◌, ◌++◌, refl, arith, sym, ap, subst, ◌∙◌, Option, Some, None, min, mul-le-mul_right}
+use Rattle.std.specs.Prelude.{if◌then◌else◌, is_some, nat_le}
 use Rattle.std.proofs.lemmas.Bool.Decides.{nat_tests}
 use Rattle.stk_types.specs.declared.account.Account.TheVariants as account
 use Rattle.stk_types.specs.declared.account.Module.TheVariants as holder
@@ -15,7 +15,7 @@ use Rattle.stk_rules.specs.Fixtures.{addr, uatom}
 use Rattle.stk_rules.specs.Ideal.{Span, Brackets, span_of, history_of}
 use Rattle.stk_rules.specs.Purses.{pooled_told}
 use Rattle.stk_bracket.specs.Withdrawals.{IsFairReward, reward_paid, overclaim_in}
-use Rattle.stk_bracket.specs.Rows.{shared_fees, NothingIsUnfair, TwiceIsUnfair, OtherOutstandingIsUnfair, AgainIsUnfair, UnpaidStartIsUnfair, UnsentIsUnfair}
+use Rattle.stk_bracket.specs.Rows.{shared_fees, unpaid_leave, NothingIsUnfair, TwiceIsUnfair, OtherOutstandingIsUnfair, AgainIsUnfair, UnpaidStartIsUnfair, UnsentIsUnfair, GoneUnpaidIsUnfair}
 
 not_at_most : (a b : ℕ) → nat_le a b ≡ false → a ≤ b → ⊥
 not_at_most a b t h = grind (arith, nat_tests)
@@ -97,3 +97,16 @@ unsent_is_unfair = λ who operator to reward coins some h. unsent coins reward t
     unsent [] reward to first some e = some refl
     unsent (c ∷ cs) reward to first some e =
         pooled (is_empty (fractions reward)) (fractions reward) first (fact.Transfer (account.Module holder.Distribution) (account.User to) (c ∷ cs)) e
+
+pub gone_unpaid_is_unfair : GoneUnpaidIsUnfair
+gone_unpaid_is_unfair = record {
+  entries = (tt, tt);
+  payments = refl;
+  refused = λ s none h. still (h (addr 2) (addr 1) ∙ ap is_some none);
+}
+  where
+    true_not_false : true ≡ false → ⊥
+    true_not_false e = cc
+
+    still : is_some (span_of (addr 2) (history_of (addr 1) (shared_fees ++ unpaid_leave) []) None) ≡ false → ⊥
+    still e = true_not_false e

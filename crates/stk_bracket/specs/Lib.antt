@@ -5,3 +5,4 @@ pub mod States
 pub mod Changes
 pub mod Withdrawals
 pub mod Payments
+pub mod Running

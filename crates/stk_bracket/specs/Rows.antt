@@ -5,13 +5,15 @@ use Rattle.stk_coins.specs.Coins.{Money, amount_of}
 use Rattle.stk_keep.specs.declared.facts.Fact.TheVariants as fact
 use Rattle.stk_keep.specs.Log.{Log}
 use Rattle.stk_keep.specs.Log as log
+use Rattle.stk_keep.specs.Staked.{Staked, delegation}
 use Rattle.stk_shares.specs.Burns.{ratio_of}
 use Rattle.stk_rules.specs.Fixtures.{addr, uatom, decimals}
 use Rattle.stk_rules.specs.Ideal.{Span, span_of, ideal_reward}
 use Rattle.stk_bracket.specs.Account.{Account, Deed, AreFitting, new_account, account_of, reward_now}
 use Rattle.stk_bracket.specs.Account as deed
 use Rattle.stk_bracket.specs.Laws.{overclaim}
-use Rattle.stk_bracket.specs.Withdrawals.{IsFairReward, IsFairEntry, IsSent, reward_paid}
+use Rattle.stk_bracket.specs.Running.{RunExactlyWhereHeld}
+use Rattle.stk_bracket.specs.Withdrawals.{IsFairReward, IsFairEntry, AreFair, IsSent, reward_paid, payments_of}
 
 -- the end of a period without rewards
 abbrev pub quiet_end : Deed
@@ -195,3 +197,16 @@ abbrev pub UnsentIsUnfair : Type 0
 UnsentIsUnfair =
     (who operator to : List ℕ) (reward coins : Money) → coins ≢ []
     → IsSent [] (fact.Paid who operator to reward coins) → ⊥
+
+-- A rule that pays nothing for the last delegation of a validator that goes with it: the period ends,
+-- the shares leave, and the start is dropped.
+abbrev pub unpaid_leave : Log
+unpaid_leave = (addr 1, log.left) ∷ []
+
+-- Each entry that it logs is fair, and no payment is due by them; but by the log the delegator's
+-- rewards still run, where it has no delegation.
+pub record GoneUnpaidIsUnfair : Type 0 where
+  pub entries : AreFair shared_fees unpaid_leave
+  pub payments : payments_of unpaid_leave ≡ []
+  pub refused : (s : Staked) → delegation s (addr 2) (addr 1) ≡ None
+      → RunExactlyWhereHeld s (shared_fees ++ unpaid_leave) → ⊥

@@ -10,5 +10,6 @@
 pub mod changes;
 pub mod laws;
 pub mod rows;
+pub mod running;
 pub mod states;
 pub mod withdrawals;

@@ -1,7 +1,7 @@
 //! Worked rows of accounts, each a theorem that its function's contract names: histories of fitting deeds, and what they
 //! come to. So the premises of the laws can be met.
 
-ghost use Rattle.stk_bracket.specs.Rows.{SlashedTwice, LastPaymentIsCut, NothingIsUnfair, TwiceIsUnfair, OtherOutstandingIsUnfair, AgainIsUnfair, UnpaidStartIsUnfair, UnsentIsUnfair};
+ghost use Rattle.stk_bracket.specs.Rows.{SlashedTwice, LastPaymentIsCut, NothingIsUnfair, TwiceIsUnfair, OtherOutstandingIsUnfair, AgainIsUnfair, UnpaidStartIsUnfair, UnsentIsUnfair, GoneUnpaidIsUnfair};
 
 /// A delegation that was redelegated is slashed for both validators; its reward and its ideal reward.
 #[tactic(auto, using(crate::proofs::RowLemmas::slashed_twice))]
@@ -17,7 +17,8 @@ pub fn last_payment_is_cut()
 
 /// Where fees were shared, a withdrawal that pays nothing is not fair, nor is one that pays twice as much, nor one that says
 /// that another amount was outstanding, nor a second one, nor a new start of a delegation whose reward was not withdrawn; nor
-/// a payment of coins that is told before they are sent.
+/// a payment of coins that is told before they are sent. A rule that pays nothing for the last delegation of a validator that
+/// goes with it logs entries that are fair, one by one; but rewards run then where no delegation is.
 pub fn unfair_payments()
     ensures nothing { NothingIsUnfair }
     ensures twice { TwiceIsUnfair }
@@ -25,4 +26,5 @@ pub fn unfair_payments()
     ensures again { AgainIsUnfair }
     ensures unpaid { UnpaidStartIsUnfair }
     ensures unsent { UnsentIsUnfair }
+    ensures gone { GoneUnpaidIsUnfair }
 {}

@@ -1,4 +1,4 @@
-use Rattle.stk_bracket.proofs.Unfair.{nothing_is_unfair, twice_is_unfair, other_outstanding_is_unfair, again_is_unfair, unpaid_start_is_unfair, unsent_is_unfair}
+use Rattle.stk_bracket.proofs.Unfair.{nothing_is_unfair, twice_is_unfair, other_outstanding_is_unfair, again_is_unfair, unpaid_start_is_unfair, unsent_is_unfair, gone_unpaid_is_unfair}
 use Rattle.stk_bracket.proofs.rows.unfair_payments.Goals as goal
 
 pub returns-clause-nothing : goal.returns-clause-nothing
@@ -18,3 +18,6 @@ returns-clause-unpaid c = unpaid_start_is_unfair
 
 pub returns-clause-unsent : goal.returns-clause-unsent
 returns-clause-unsent c = unsent_is_unfair
+
+pub returns-clause-gone : goal.returns-clause-gone
+returns-clause-gone c = gone_unpaid_is_unfair
