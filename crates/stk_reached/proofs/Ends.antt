@@ -7,10 +7,11 @@ use Rattle.stk_owed.proofs.Steps.{from_if}
 use Rattle.stk_bracket.specs.States.{AreReached}
 use Rattle.stk_bracket.proofs.Claims.{reached_is_bracketed, reached_has_shortfall_within}
 use Rattle.stk_bracket.proofs.Holding.{outstanding_is_logged}
-use Rattle.stk_bracket.proofs.Resting.{rewards_run_where_held}
+use Rattle.stk_bracket.proofs.Unstarted.{rewards_run_exactly_where_held}
 use Rattle.stk_reached.specs.Runs.{RunsAreReached, RunsRunWhereHeld, RunsLogOutstanding}
 use Rattle.stk_reached.proofs.Running.{runs_keep_reached}
 use Rattle.stk_reached.proofs.Starts.{genesis_is_reached}
+use Rattle.stk_reached.proofs.Unstarted.{runs_are_started}
 
 pub runs_are_reached : RunsAreReached
 runs_are_reached = λ r.
@@ -22,7 +23,7 @@ pub claims_are_bracketed : ClaimsAreBracketed
 claims_are_bracketed = λ r. reached_is_bracketed (run_in r).state (runs_are_sound r) (runs_are_reached r)
 
 pub runs_run_where_held : RunsRunWhereHeld
-runs_run_where_held = λ r who v found. rewards_run_where_held (run_in r).state who v (runs_are_sound r) (runs_are_reached r) found
+runs_run_where_held = λ r. rewards_run_exactly_where_held (run_in r).state (runs_are_sound r) (runs_are_reached r) (runs_are_started r)
 
 pub runs_log_outstanding : RunsLogOutstanding
 runs_log_outstanding = λ r d v found. outstanding_is_logged (run_in r).state d v (runs_are_reached r) found

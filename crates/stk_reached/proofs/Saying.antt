@@ -291,7 +291,7 @@ said w height time k1 k2 begun ended reports x p =
     }
 
 module _ (some : List (List ℕ)) (few : length some ≤ 1_000_000) where
-  block_paid : (b : Block) (T : List ℕ → ℕ) (w : State) → All TxHasCoins b.txs → StateFits (Contains some) T w → AreReached w → w.view.ctx.height + 1 < 2 ^ 63 → IfOk (step b w) (SaysFairly w)
+  pub block_paid : (b : Block) (T : List ℕ → ℕ) (w : State) → All TxHasCoins b.txs → StateFits (Contains some) T w → AreReached w → w.view.ctx.height + 1 < 2 ^ 63 → IfOk (step b w) (SaysFairly w)
   block_paid b T w coins h r space =
       on_next (block_checked b w) _ _ (λ t e.
       let due : IsDue b w = is_due b w (same_tt t e) in

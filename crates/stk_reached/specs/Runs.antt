@@ -1,11 +1,11 @@
 -- What the laws say of runs: wherever blocks lead to, accounts are reached.
-use Rattle.std.specs.Prelude.{◌≡◌, ℕ, ◌+◌, ◌^◌, ◌<◌, List, [], ◌∷◌, ◌++◌, length, is_some, All, IfOk, Some, None}
+use Rattle.std.specs.Prelude.{◌≡◌, ℕ, ◌+◌, ◌^◌, ◌<◌, List, [], ◌∷◌, ◌++◌, length, All, IfOk, Some}
 use Rattle.stk_coins.specs.Coins.{amount_of}
 use Rattle.stk_keep.specs.declared.entities.Validator.{Validator}
 use Rattle.stk_keep.specs.Log.{Log}
-use Rattle.stk_keep.specs.Staked.{validator_at, delegation}
+use Rattle.stk_keep.specs.Staked.{validator_at}
 use Rattle.stk_rules.specs.Chain.{State, shared_in}
-use Rattle.stk_rules.specs.Ideal.{span_of, history_of}
+use Rattle.stk_rules.specs.Ideal.{history_of}
 use Rattle.stk_rules.specs.Purses.{purse_of}
 use Rattle.stk_rules.specs.Sound.{IsSound}
 use Rattle.stk_msgs.specs.declared.block.Block.{Block}
@@ -14,6 +14,7 @@ use Rattle.stk_machine.specs.GenesisState.{chain_started}
 use Rattle.stk_machine.specs.Machine.{Step, run_of, step}
 use Rattle.stk_machine.specs.Promises.{IsGoodGenesis, AreInput, Replayed, TxHasCoins, facts_of, run_in}
 use Rattle.stk_bracket.specs.States.{AreReached}
+use Rattle.stk_bracket.specs.Running.{RunExactlyWhereHeld}
 use Rattle.stk_bracket.specs.Withdrawals.{AreFair, payments_in, payments_of, AreSent, outstanding_in}
 
 -- Wherever blocks lead to from a sound state whose accounts are reached, up to the first that may not follow, they are
@@ -61,13 +62,11 @@ RunSaysFairly (b ∷ blocks) w = IfOk (step b w) (λ s. SaysFairly w s × RunSay
 abbrev pub RunsSayFairly : Type 0
 RunsSayFairly = (r : Replayed) → RunSaysFairly r.blocks r.start.state
 
--- There a delegator's rewards run, by the log, exactly where it has a delegation.
+-- There a delegator's rewards run, by the log, exactly where it has a delegation, under each operator;
+-- so where no validator stands, none run: who had a delegation to a validator that went has withdrawn.
 abbrev pub RunsRunWhereHeld : Type 0
 RunsRunWhereHeld =
-    (r : Replayed) (who : List ℕ) (v : Validator)
-    → validator_at (run_in r).state.mine.staked v.operator ≡ Some v
-    → is_some (span_of who (history_of v.operator (run_in r).state.log []) None)
-    ≡ is_some (delegation (run_in r).state.mine.staked who v.operator)
+    (r : Replayed) → RunExactlyWhereHeld (run_in r).state.mine.staked (run_in r).state.log
 
 -- And what is outstanding for each validator is what its history comes to.
 abbrev pub RunsLogOutstanding : Type 0

@@ -2,6 +2,7 @@
 //! are the laws.
 
 ghost use Rattle.stk_reached.specs.Runs.{RunsKeepReached, GenesisIsReached, RunsAreReached, RunsRunWhereHeld, RunsLogOutstanding, BlocksSayFairly, RunsSayFairly};
+ghost use Rattle.stk_reached.specs.Going.{GenesisIsStarted, BlocksGoFairly, RunsGoFairly};
 ghost use Rattle.stk_reached.specs.Readers.{RunsTellFairly};
 ghost use Rattle.stk_machine.specs.Promises.{ClaimsAreBracketed, ShortfallsAreBounded};
 
@@ -23,7 +24,14 @@ pub fn runs_are_reached()
     ensures { RunsAreReached }
 {}
 
-/// There a delegator's rewards run, by the log, exactly where it has a delegation.
+/// What a genesis starts has, by its log, rewards that run only from starts.
+#[tactic(auto, using(crate::proofs::Unstarted::genesis_is_started))]
+pub fn genesis_is_started()
+    ensures { GenesisIsStarted }
+{}
+
+/// Wherever a good genesis and blocks lead to, a delegator's rewards run, by the log, exactly where it has a delegation, also
+/// under operators without a validator: so the last delegation of a validator that went was withdrawn.
 #[tactic(auto, using(crate::proofs::Ends::runs_run_where_held))]
 pub fn runs_run_where_held()
     ensures { RunsRunWhereHeld }
@@ -66,4 +74,18 @@ pub fn runs_say_fairly()
 #[tactic(auto, using(crate::proofs::Reading::runs_tell_fairly))]
 pub fn runs_tell_fairly()
     ensures { RunsTellFairly }
+{}
+
+/// Each block, from a sound state whose accounts are reached and whose rewards run only from starts, says fairly what it pays,
+/// as before; and it leaves accounts that are reached, by which its log has the delegations' shares and the validators' tokens,
+/// and rewards that run, by the log, exactly where delegations stand; and it makes validators only where none run.
+#[tactic(auto, using(crate::proofs::Going::blocks_go_fairly))]
+pub fn blocks_go_fairly()
+    ensures { BlocksGoFairly }
+{}
+
+/// So it is with all blocks of a run, from a good genesis on.
+#[tactic(auto, using(crate::proofs::Going::runs_go_fairly))]
+pub fn runs_go_fairly()
+    ensures { RunsGoFairly }
 {}
