@@ -2,6 +2,8 @@
 #![tactic(auto)]
 
 #[cfg(test)]
+mod keeper_tests;
+#[cfg(test)]
 mod memory_tests;
 #[cfg(test)]
 mod standard_tests;
