@@ -20,5 +20,5 @@ mod unbonding;
 
 pub use delegating::shares_given;
 pub use origin::Origin;
-pub use paying::coins_of;
+pub use paying::{burn_bond, pool_of, send_from};
 pub use staking::Staking;

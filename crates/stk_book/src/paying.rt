@@ -1,11 +1,13 @@
-//! The coins of a delegation, on their way to the account that holds a validator's tokens.
+//! Coins of the bond denomination: those of a delegation, on their way to the account that holds a validator's
+//! tokens, and those that a slash burns.
 
-ghost use Rattle.std.specs.Prelude.{◌≡◌, ◌<◌, ◌≤◌, ◌^◌, [], ◌∷◌, OnOk, IfOk, IfErr};
+ghost use Rattle.std.specs.Prelude.{◌≡◌, ◌+◌, ◌<◌, ◌≤◌, ◌^◌, [], ◌∷◌, OnOk, IfOk, IfErr};
 ghost use Rattle.stk_types.specs.declared.account.Account.TheVariants as account;
 ghost use Rattle.stk_keep.specs.declared.faults.BankFault.TheVariants.{NoMemory};
+ghost use Rattle.stk_keep.specs.declared.faults.HookFault.TheVariants as hook;
 ghost use Rattle.stk_keep.specs.Ground.{seen, CanBeUndone};
 ghost use Rattle.stk_keep.specs.Holdings.{IsBacked, balance_of};
-ghost use Rattle.stk_keep.specs.World.{sent};
+ghost use Rattle.stk_keep.specs.World.{sent, burnt};
 ghost use Rattle.stk_rules.specs.Amounts.{bond_coins};
 ghost use Rattle.stk_rules.specs.Delegating.{paid_in};
 ghost use Rattle.stk_rules.specs.Stakes.{pool_of};
@@ -15,11 +17,11 @@ use crate::origin::Origin;
 use std::alloc::Global;
 use std::sync::ledger::Ledger;
 use stk_coins::{Coin, Coins};
-use stk_keep::{Bank, BankFault, Ground, Refusal, Stop};
+use stk_keep::{Bank, BankFault, Ground, HookFault, Refusal, Stop};
 use stk_types::{Account, Addr, BondStatus, Denom, Module, Steps};
 
 /// The account that holds the tokens of a validator of this status.
-pub(crate) fn pool_of(status: BondStatus) -> Module
+pub fn pool_of(status: BondStatus) -> Module
     ensures { result ≡ pool_of status }
 {
     match status {
@@ -55,25 +57,58 @@ pub(crate) fn pay_in<B: Bank, L: Ledger>(
             if g.bank.balance(&from, &g.ctx.params.bond_denom, steps) < amount {
                 return Err(Stop::Refused(Refusal::InsufficientFunds));
             }
-            send_bond(alloc, g, &from, pool_of(status), amount, steps)?;
+            let to = Account::Module(pool_of(status));
+            send_bond(alloc, g, &from, &to, amount, steps)?;
         }
         Origin::Pool(status_of) => {
             let from = pool_of(status_of);
             if from != pool_of(status) {
                 let from = Account::Module(from);
-                send_bond(alloc, g, &from, pool_of(status), amount, steps)?;
+                let to = Account::Module(pool_of(status));
+                send_bond(alloc, g, &from, &to, amount, steps)?;
             }
         }
     }
     Ok(())
 }
 
-/// Sends so much of the bond denomination to a module's account. The only error is `NoMemory`.
+/// Sends so much of the bond denomination, also nothing, from a module's account that has it. The only error
+/// is `NoMemory`.
+pub fn send_from<B: Bank, L: Ledger>(
+    alloc: Global,
+    g: &mut Ground<B>,
+    from: Module,
+    to: &Account,
+    amount: u128,
+    steps: &mut Steps<L>,
+) -> Result<(), HookFault>
+    requires backed { IsBacked (B.holdings g.old.bank) }
+    requires enough { amount ≤ balance_of (B.holdings g.old.bank)
+        (account.Module from) g.old.ctx.params.bond_denom }
+    ensures sent { OnOk result (seen B.holdings g.new ≡ sent (account.Module from) to.now
+        (bond_coins (seen B.holdings g.old) amount) (seen B.holdings g.old)) }
+    ensures fault { IfErr result (λ fault. fault ≡ hook.NoMemory) }
+    ensures backed { IsBacked (B.holdings g.new.bank) }
+    ensures undone { CanBeUndone B.marks g.old g.new }
+    ensures bank { B.touches g.new.bank ≡ B.touches g.old.bank }
+    ensures cost { steps.new ≤ steps.old + B.touches g.old.bank }
+{
+    if amount == 0 {
+        return Ok(());
+    }
+    let from = Account::Module(from);
+    match send_bond(alloc, g, &from, to, amount, steps) {
+        Ok(()) => Ok(()),
+        Err(_) => Err(HookFault::NoMemory),
+    }
+}
+
+/// Sends so much of the bond denomination from an account, which has it, to another. The only error is `NoMemory`.
 fn send_bond<B: Bank, L: Ledger>(
     alloc: Global,
     g: &mut Ground<B>,
     from: &Account,
-    to: Module,
+    to: &Account,
     amount: u128,
     steps: &mut Steps<L>,
 ) -> Result<(), BankFault>
@@ -81,20 +116,20 @@ fn send_bond<B: Bank, L: Ledger>(
     requires backed { IsBacked (B.holdings g.old.bank) }
     requires enough { amount
         ≤ balance_of (B.holdings g.old.bank) from.now g.old.ctx.params.bond_denom }
-    ensures sent { OnOk result (seen B.holdings g.new ≡ sent from.now (account.Module to)
+    ensures sent { OnOk result (seen B.holdings g.new ≡ sent from.now to.now
         (bond_coins (seen B.holdings g.old) amount) (seen B.holdings g.old)) }
     ensures fault { IfErr result (λ fault. fault ≡ NoMemory) }
     ensures backed { IsBacked (B.holdings g.new.bank) }
     ensures undone { CanBeUndone B.marks g.old g.new }
     ensures bank { B.touches g.new.bank ≡ B.touches g.old.bank }
+    ensures cost { steps.new ≤ steps.old + B.touches g.old.bank }
 {
     let coins = coins_of(alloc, &g.ctx.params.bond_denom, amount)?;
-    let to = Account::Module(to);
-    g.bank.send(alloc, &mut g.facts, from, &to, &coins, steps)
+    g.bank.send(alloc, &mut g.facts, from, to, &coins, steps)
 }
 
 /// So much of a denomination, as coins. The only error is `NoMemory`.
-pub fn coins_of(alloc: Global, denom: &Denom, amount: u128) -> Result<Coins, BankFault>
+fn coins_of(alloc: Global, denom: &Denom, amount: u128) -> Result<Coins, BankFault>
     requires some { 0 < amount }
     requires most { amount < 10 ^ 38 }
     ensures coins { IfOk result (λ coins. coins ≡ (denom.now, amount) ∷ []) }
@@ -109,5 +144,33 @@ pub fn coins_of(alloc: Global, denom: &Denom, amount: u128) -> Result<Coins, Ban
         Ok(coins) => Ok(coins),
         // It never comes: one denomination stands once.
         Err(_) => Err(BankFault::NoMemory),
+    }
+}
+
+/// Burns so much of the bond denomination from a module's account, which has it. The only error is `NoMemory`.
+pub fn burn_bond<B: Bank, L: Ledger>(
+    alloc: Global,
+    g: &mut Ground<B>,
+    from: Module,
+    amount: u128,
+    steps: &mut Steps<L>,
+) -> Result<(), HookFault>
+    requires backed { IsBacked (B.holdings g.old.bank) }
+    requires enough { amount ≤ balance_of (B.holdings g.old.bank)
+        (account.Module from) g.old.ctx.params.bond_denom }
+    ensures burnt { OnOk result (seen B.holdings g.new
+        ≡ burnt from g.old.ctx.params.bond_denom amount (seen B.holdings g.old)) }
+    ensures fault { IfErr result (λ fault. fault ≡ hook.NoMemory) }
+    ensures backed { IsBacked (B.holdings g.new.bank) }
+    ensures undone { CanBeUndone B.marks g.old g.new }
+    ensures bank { B.touches g.new.bank ≡ B.touches g.old.bank }
+{
+    let coin = Coin {
+        denom: g.ctx.params.bond_denom,
+        amount,
+    };
+    match g.bank.burn(alloc, &mut g.facts, from, &coin, steps) {
+        Ok(()) => Ok(()),
+        Err(_) => Err(HookFault::NoMemory),
     }
 }

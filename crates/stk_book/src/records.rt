@@ -122,7 +122,14 @@ impl Records for Staking {
         Ok(true)
     }
 
-    fn settle<L: Ledger>(&mut self, _steps: &mut Steps<L>) {
+    fn settle<L: Ledger>(&mut self, _steps: &mut Steps<L>)
+        requires { self.old.marks ≡ [] }
+        ensures settled { self.new.settled ≡ self.old.staked }
+        ensures kept { self.new.staked ≡ self.old.staked }
+        ensures marks { self.new.marks ≡ [] }
+        ensures spent { self.new.spent ≡ self.old.spent }
+        ensures power { self.new.power_reduction ≡ self.old.power_reduction }
+    {
         self.validators.settle();
         self.operators.settle();
         self.delegations.settle();

@@ -13,6 +13,7 @@ use Rattle.stk_keep.specs.Staked.{Staked, validator_at, put_validator, is_bonded
 use Rattle.stk_keep.specs.Steps.{◌>>=◌, each}
 use Rattle.stk_keep.specs.World.{View, World, bonded, call, over_view}
 use Rattle.stk_rules.proofs.EntryLemmas.{to_all}
+use Rattle.stk_rules.proofs.OperatorLemmas.{ordered_all}
 use Rattle.stk_rules.proofs.OrderLemmas.{addr_total}
 use Rattle.stk_rules.specs.BondedSet.{stands_before, placed, by_power, joining_of, leaving_of, tokens_of, difference_moved, is_in_bonded_set, joined_set, left_set, set_updated}
 use Rattle.stk_rules.specs.Chain.{Hooks, State, chain_told, staked_in, with_staked, set_step}
@@ -116,18 +117,6 @@ filter_all Q test (v ∷ vs) h = filter_step (test v) (filter_all Q test vs h.1)
     filter_step : (b : Bool) → AllByRecursion Q (filter test vs) → AllByRecursion Q (cond b (v ∷ filter test vs) (filter test vs))
     filter_step true r = (h.0, r)
     filter_step false r = r
-
-placed_all : (reduction : ℕ) (Q : Validator → Type 0) (v : Validator) (us : List Validator) → Q v → AllByRecursion Q us → AllByRecursion Q (placed reduction v us)
-placed_all reduction Q v [] q h = (q, tt)
-placed_all reduction Q v (u ∷ us) q h = placed_step (stands_before reduction u v) (placed_all reduction Q v us q h.1)
-  where
-    placed_step : (b : Bool) → AllByRecursion Q (placed reduction v us) → AllByRecursion Q (if b then u ∷ placed reduction v us else v ∷ u ∷ us)
-    placed_step true r = (h.0, r)
-    placed_step false r = (q, h)
-
-ordered_all : (reduction : ℕ) (Q : Validator → Type 0) (vs : List Validator) → AllByRecursion Q vs → AllByRecursion Q (by_power reduction vs)
-ordered_all reduction Q [] h = tt
-ordered_all reduction Q (v ∷ vs) h = placed_all reduction Q v (by_power reduction vs) h.0 (ordered_all reduction Q vs h.1)
 
 pub all_known : (w : State) → IsSound w → AllByRecursion (IsKnown w) (values_of w.mine.staked.validators)
 all_known w sound =

@@ -36,7 +36,8 @@ use Rattle.stk_bracket.specs.Withdrawals.{BlocksPayFairly}
 use Rattle.stk_bracket.proofs.Beginnings.{if_ok}
 use Rattle.stk_bracket.proofs.Paying.{Pays, pays_then, pays_nothing, pays_logged, pays_noted, pays_sent, pays_pooled}
 use Rattle.stk_bracket.proofs.Staking.{PaysIn, pays_emptied}
-use Rattle.stk_bracket.proofs.Telling.{on_step, on_then, fairly, where_reached}
+use Rattle.stk_bracket.proofs.Telling.{on_then, fairly, where_reached}
+use Rattle.stk_rules.proofs.GoingLemmas.{on_bind}
 use Rattle.stk_bracket.proofs.Hitting.{votes_pay_fairly, evidence_pays_fairly}
 
 -- ---- allocation
@@ -48,16 +49,16 @@ given_pays l (Some v) share p fs = by (is_empty share)
     by : (b : Bool) → IfOk {T = Purses × List Fact × Log} {E = Over} (if b then Ok (p, fs, []) else (share_joined share v.commission.rate (purse_of p v.operator) >>= λ x.
         Ok (record p { purses = with addr_cmp p.purses v.operator x.1 }, fs ++ fact.Allocated v.operator share ∷ [], (v.operator, log.allocated share x.0 v.tokens) ∷ []))) (λ y. Pays l fs (l ++ y.2) y.1)
     by true = pays_logged l [] fs tt refl
-    by false = on_step (share_joined share v.commission.rate (purse_of p v.operator)) _ _ (λ x e.
+    by false = on_bind (share_joined share v.commission.rate (purse_of p v.operator)) _ _ (λ x e.
         let told : List Fact = fs ++ fact.Allocated v.operator share ∷ [] in
         pays_then l l (l ++ (v.operator, log.allocated share x.0 v.tokens) ∷ []) fs told told (pays_noted l fs (fact.Allocated v.operator share) (λ who op to reward coins h. cc)) (pays_logged l ((v.operator, log.allocated share x.0 v.tokens) ∷ []) told (tt, tt) refl))
 
 shares_pay : (ts : List Vote) (s : Staked) (base : Money) (total : ℕ) (left : Money) (p : Purses) (fs : List Fact) (l start : Log) (first : List Fact) → Pays start first (start ++ l) fs
     → IfOk (shares_allocated s base total ts left p fs l) (λ x. Pays start first (start ++ x.2) x.1)
 shares_pay [] s base total left p fs l start first h =
-    on_step (pool_joined left p) _ _ (λ q e. pays_then start (start ++ l) (start ++ l) first fs (pooled_told left fs) h (pays_pooled (start ++ l) left fs))
+    on_bind (pool_joined left p) _ _ (λ q e. pays_then start (start ++ l) (start ++ l) first fs (pooled_told left fs) h (pays_pooled (start ++ l) left fs))
 shares_pay (t ∷ ts) s base total left p fs l start first h =
-    on_step (quo_cut_of (t.power * 10 ^ 18) (total * 10 ^ 18)) _ _ (λ part a. on_step (coins_mul_cut base part) _ _ (λ share b.
+    on_bind (quo_cut_of (t.power * 10 ^ 18) (total * 10 ^ 18)) _ _ (λ part a. on_bind (coins_mul_cut base part) _ _ (λ share b.
     on_then (share_given (validator_by_cons s t.cons) share p fs) _ (λ y. Pays (start ++ l) fs ((start ++ l) ++ y.2) y.1) _ (given_pays (start ++ l) (validator_by_cons s t.cons) share p fs) (λ y k.
     shares_pay ts s base total (coins_taken left share) y.0 y.1 (l ++ y.2) start first (subst (λ m. Pays start first m y.1) (append_assoc start l y.2) (pays_then start (start ++ l) ((start ++ l) ++ y.2) first fs y.1 h k)))))
 
@@ -77,7 +78,7 @@ allocation_pays votes w =
     by false =
         let total : ℕ = sum (map (λ t. t.power) votes) in
         on_then (allocated w.mine.staked w.view.ctx.params fees votes w.hooks.0.purses v1.facts) _ (λ x. Pays w.log w.view.facts (w.log ++ x.2) x.1) _
-        (on_step (coins_mul_cut (in_units fees) (10 ^ 18 - w.view.ctx.params.community_tax)) _ _ (λ base e.
+        (on_bind (coins_mul_cut (in_units fees) (10 ^ 18 - w.view.ctx.params.community_tax)) _ _ (λ base e.
         shares_pay (sharing total votes) w.mine.staked base total (in_units fees) w.hooks.0.purses v1.facts [] w.log w.view.facts
         (pays_then w.log w.log (w.log ++ []) w.view.facts v1.facts v1.facts (pays_sent w.log (account.Module holder.FeeCollector) (account.Module holder.Distribution) fees w.view.facts) (pays_logged w.log [] v1.facts tt refl))))
         (λ x k. k)

@@ -20,8 +20,9 @@ use Rattle.stk_keep.specs.Steps.{each}
 use Rattle.stk_keep.specs.World.{View, World, Told, gives, call, noted, over_view, over_mine}
 use Rattle.stk_keep.specs.World as hook
 use Rattle.stk_rules.proofs.EntryLemmas.{ascend-put}
+use Rattle.stk_rules.proofs.OperatorLemmas.{values_own}
 use Rattle.stk_rules.proofs.OrderLemmas.{addr_total}
-use Rattle.stk_rules.specs.BondedSet.{matured, validators_matured}
+use Rattle.stk_rules.specs.BondedSet.{HaveOwnOperators, matured, validators_matured}
 use Rattle.stk_rules.specs.Chain.{Hooks, State, chain_told, staked_in, with_staked, maturing_step}
 use Rattle.stk_rules.specs.Distribution.{Shared, distribution_told}
 use Rattle.stk_rules.specs.Sound.{IsSound}
@@ -57,22 +58,6 @@ ascend_taken k (e ∷ es) s = taken_step (is_at (addr_cmp k) e.0) (ascend_taken 
     taken_step : (b : Bool) → IsStrictlySortedBy addr_cmp (keys_of (remove_entry (is_at (addr_cmp k)) es)) → IsStrictlySortedBy addr_cmp (keys_of (cond b es (e ∷ remove_entry (is_at (addr_cmp k)) es)))
     taken_step true r = s.1
     taken_step false r = (below_taken e.0 (is_at (addr_cmp k)) es s.0, r)
-
--- ---- validators apart
-
-abbrev AreApart : List Validator → Type 0
-AreApart [] = Unit {0}
-AreApart (v ∷ vs) = AllByRecursion (λ u. same_addr v.operator u.operator ≡ false) vs × AreApart vs
-
-apart_from : (k : List ℕ) (es : List (List ℕ × Validator)) (v : Validator) → v.operator ≡ k → AllByRecursion (λ y. addr_cmp k y ≡ Less) (keys_of es) → AllByRecursion (λ e. e.1.operator ≡ e.0) es
-    → AllByRecursion (λ u. same_addr v.operator u.operator ≡ false) (values_of es)
-apart_from k [] v e b o = tt
-apart_from k (x ∷ es) v e b o = ((λ i. same_addr (e i) (o.0 i)) ∙ ap is_eq b.0, apart_from k es v e b.1 o.1)
-
-values_apart : (es : List (List ℕ × Validator)) → IsStrictlySortedBy addr_cmp (keys_of es) → AllByRecursion (λ e. e.1.operator ≡ e.0) es → AreApart (values_of es)
-unfolding IsStrictlySortedBy
-values_apart [] s o = tt
-values_apart (e ∷ es) s o = (apart_from e.0 es e.1 o.0 s.0 o.1, values_apart es s.1 o.1)
 
 -- ---- one validator after another
 
@@ -134,7 +119,7 @@ matured_left w v vs y z apart k e = by_time (is_unbonding v.status && nat_le v.u
     by_time true h = unbonded_left w v vs y z apart k h
     by_time false h = subst (λ t. AreLeft (with_staked w.mine t) vs) (same_ok y z h) (record { reached = k.reached; ascend = k.ascend; known = k.known.1 })
 
-all_matured : (w : State) (vs : List Validator) (y z : World Staked Hooks) → AreApart vs → AreLeft (with_staked w.mine y) vs → each (matured chain_told) vs y ≡ Ok z → AreReached (with_staked w.mine z)
+all_matured : (w : State) (vs : List Validator) (y z : World Staked Hooks) → HaveOwnOperators vs → AreLeft (with_staked w.mine y) vs → each (matured chain_told) vs y ≡ Ok z → AreReached (with_staked w.mine z)
 all_matured w [] y z apart k e = subst (λ t. AreReached (with_staked w.mine t)) (same_ok y z e) k.reached
 all_matured w (v ∷ vs) y z apart k e =
     let a : (t : World Staked Hooks) × (matured chain_told v y ≡ Ok t) × (each (matured chain_told) vs t ≡ Ok z) = step_parts (matured chain_told v y) (λ t. each (matured chain_told) vs t) z e in
@@ -145,7 +130,7 @@ maturing_reached w new sound e reached =
     let vs : List Validator = values_of w.mine.staked.validators in
     let one : (y : World Staked Hooks) × (validators_matured chain_told (staked_in w) ≡ Ok y) × (Path (Result State Over) (Ok (with_staked w.mine y)) (Ok new)) = step_parts (validators_matured chain_told (staked_in w)) (λ y. Ok (with_staked w.mine y)) new e in
     subst AreReached (same_ok (with_staked w.mine one.0) new one.2)
-    (all_matured w vs (staked_in w) one.0 (values_apart w.mine.staked.validators sound.staked.validators_ascend (recursion_from_All (λ e. e.1.operator ≡ e.0) w.mine.staked.validators sound.staked.operators))
+    (all_matured w vs (staked_in w) one.0 (values_own w.mine.staked.validators sound.staked.validators_ascend (recursion_from_All (λ e. e.1.operator ≡ e.0) w.mine.staked.validators sound.staked.operators))
     (record { reached = reached; ascend = sound.staked.validators_ascend; known = all_known w sound }) one.1)
 
 pub maturing_keeps_reached : MaturingKeepsReached

@@ -47,31 +47,15 @@ use Rattle.stk_bracket.proofs.Hooked.{none_of}
 use Rattle.stk_bracket.proofs.Growing.{apart_back}
 use Rattle.stk_bracket.proofs.Creating.{state_made, made_at, made_ready}
 use Rattle.stk_bracket.proofs.Undelegating.{within_held}
+use Rattle.stk_rules.proofs.GoingLemmas.{on_bind, on_next, on_stop, on_found, on_lifted}
 use Rattle.stk_bracket.proofs.Fits.{LeavesFit, fits_sound, ready_fits, unbonded_fits, unbonded_then}
 use Rattle.stk_bracket.proofs.Paying.{Pays, pays_then, pays_nothing, pays_logged, pays_noted, pays_sent, pays_pooled, pays_started, pays_withdrawn, withdrawn_rests}
 use Rattle.stk_bracket.proofs.Staking.{PaysIn, pays_delegated, pays_unbonded}
 
 -- ---- steps one after another, where they go on
 
-pub on_step : {A B E : Type 0} (r : Result A E) (f : A → Result B E) (Q : B → Type 0) → ((a : A) → r ≡ Ok a → IfOk (f a) Q) → IfOk (r >>= f) Q
-on_step (Ok a) f Q h = h a refl
-on_step (Err e) f Q h = tt
-
-pub on_next : {A B E : Type 0} (r : Result A E) (next : Result B E) (Q : B → Type 0) → IfOk next Q → IfOk (r >> next) Q
-on_next (Ok a) next Q h = h
-on_next (Err e) next Q h = tt
-
-pub on_stop : {B E : Type 0} (b : Bool) (why : E) (next : Result B E) (Q : B → Type 0) → (b ≡ false → IfOk next Q) → IfOk (stop_if b why >> next) Q
-on_stop true why next Q h = tt
-on_stop false why next Q h = h refl
-
-pub on_found : {A B E : Type 0} (o : Option A) (why : E) (f : A → Result B E) (Q : B → Type 0) → ((a : A) → o ≡ Some a → IfOk (f a) Q) → IfOk (or_stop o why >>= f) Q
-on_found (Some a) why f Q h = h a refl
-on_found None why f Q h = tt
-
-pub on_lifted : {A B D E : Type 0} (g : D → E) (r : Result A D) (f : A → Result B E) (Q : B → Type 0) → ((a : A) → r ≡ Ok a → IfOk (f a) Q) → IfOk (stopping g r >>= f) Q
-on_lifted g (Ok a) f Q h = h a refl
-on_lifted g (Err d) f Q h = tt
+pub next_if : {A B E : Type 0} (r : Result A E) (next : Result B E) (Q : B → Type 0) → IfOk next Q → IfOk (r >> next) Q
+next_if r next Q h = on_next r next Q (λ a e. h)
 
 pub lifted_if : {A D E : Type 0} (g : D → E) (r : Result A D) (Q : A → Type 0) → IfOk r Q → IfOk (stopping g r) Q
 lifted_if g (Ok a) Q h = h
@@ -110,14 +94,14 @@ send_pays from to coins w =
     (λ v k. k)
 
 edit_pays : (m : EditValidator) (w : State) → IfOk (edit_validator m w) (PaysIn w)
-edit_pays m w = on_step (edited m w.view.ctx.time w.view.ctx.params.min_commission_rate w.mine.staked) _ _ (λ s e. pays_nothing w.log w.view.facts)
+edit_pays m w = on_bind (edited m w.view.ctx.time w.view.ctx.params.min_commission_rate w.mine.staked) _ _ (λ s e. pays_nothing w.log w.view.facts)
 
 unjail_pays : (operator : List ℕ) (w : State) → IfOk (unjail operator w) (PaysIn w)
 unjail_pays operator w =
     on_then (unjailed operator w.hooks.1 w.mine.staked w.view) _ (λ x. Pays w.log w.view.facts w.log x.2.facts) _
     (on_found (validator_at w.mine.staked operator) NoValidator _ _ (λ v f. on_found (delegation w.mine.staked operator operator) NoSelfDelegation _ _ (λ held g.
     on_stop (nat_lt (trunc_of (value_even_of v.tokens v.shares held)) v.min_self) SelfBelowMinimum _ _ (λ a. on_stop (not v.jailed) NotJailed _ _ (λ b.
-    on_next (may_leave w.view.ctx.time (signing_of w.hooks.1 v.cons)) _ _ (pays_noted w.log w.view.facts (fact.Unjailed operator) (λ who op to reward coins e. cc)))))))
+    next_if (may_leave w.view.ctx.time (signing_of w.hooks.1 v.cons)) _ _ (pays_noted w.log w.view.facts (fact.Unjailed operator) (λ who op to reward coins e. cc)))))))
     (λ x k. k)
 
 commission_pays : (operator : List ℕ) (w : State) → IfOk (withdraw_commission operator w) (PaysIn w)
@@ -134,7 +118,7 @@ commission_pays operator w =
     (λ x k. k)
 
 payee_pays : (who : List ℕ) (to : Holder) (w : State) → IfOk (set_withdraw_address who to w) (PaysIn w)
-payee_pays who to w = on_step (payee_set who to w.view.ctx.params w.hooks.0) _ _ (λ d e. pays_logged w.log [] w.view.facts tt refl)
+payee_pays who to w = on_bind (payee_set who to w.view.ctx.params w.hooks.0) _ _ (λ d e. pays_logged w.log [] w.view.facts tt refl)
 
 fund_pays : (who : List ℕ) (coins : Money) (w : State) → IfOk (fund_community_pool who coins w) (PaysIn w)
 fund_pays who coins w =
@@ -158,7 +142,7 @@ reward_pays who operator w sound reached =
     on_then (reward_taken w.mine.staked who operator w.hooks.0 w.view) _ (λ x. Pays w.log w.view.facts (w.log ++ x.3) x.2.facts) _
     (on_found (validator_at w.mine.staked operator) NoValidator _ _ (λ v f. on_found (delegation w.mine.staked who operator) NoDelegation _ _ (λ shares g.
     let k : IsKnown w operator v = known w operator v sound f in
-    lifted_if Overflow (reward_renewed v who shares w.hooks.0 w.view) _ (on_step (reward_withdrawn v who shares w.hooks.0 w.view) _ _ (λ y e.
+    lifted_if Overflow (reward_renewed v who shares w.hooks.0 w.view) _ (on_bind (reward_withdrawn v who shares w.hooks.0 w.view) _ _ (λ y e.
     let s : Shared × View × Log = started v who shares y.1 y.2 in
     subst (λ m. Pays w.log w.view.facts m s.1.facts) (append_assoc w.log y.3 s.2)
     (pays_then w.log (w.log ++ y.3) ((w.log ++ y.3) ++ s.2) w.view.facts y.2.facts s.1.facts
@@ -177,7 +161,7 @@ cancel_pays who operator coin height w sound reached =
     on_then (cancelled chain_told who operator coin height w.mine.unbondings (staked_in w)) _ (λ x. PaysIn w x.2) _
     (on_stop (coin.amount == 0) NonPositive _ _ (λ a. on_stop (is_wrong coin w.view) WrongDenom _ _ (λ b. on_found (validator_at w.mine.staked operator) NoValidator _ _ (λ v f.
     on_stop (has_invalid_rate v.tokens v.shares) RateInvalid _ _ (λ c. on_stop v.jailed Jailed _ _ (λ d. on_found (find (can_be_cancelled height w.view.ctx.time) (entries_of w.mine.unbondings who operator)) NoEntry _ _ (λ en g.
-    on_stop (nat_lt en.balance coin.amount) CancelTooMuch _ _ (λ h. on_step (delegated chain_told v who coin.amount (pool Unbonded) (staked_in w)) _ _ (λ x e.
+    on_stop (nat_lt en.balance coin.amount) CancelTooMuch _ _ (λ h. on_bind (delegated chain_told v who coin.amount (pool Unbonded) (staked_in w)) _ _ (λ x e.
     pays_delegated w v who coin.amount (pool Unbonded) x (ready_in w v.operator sound) (known w operator v sound f).found reached e)))))))))
     (λ x k. k)
 
@@ -185,7 +169,7 @@ pub undelegate_pays : (who operator : List ℕ) (coin : Coin) (w : State) → Is
 undelegate_pays who operator coin w sound reached =
     on_then (undelegated chain_told who operator coin w.mine.unbondings (staked_in w)) _ (λ x. PaysIn w x.2) _
     (on_stop (coin.amount == 0) NonPositive _ _ (λ a. on_found (validator_at w.mine.staked operator) NoValidator _ _ (λ v f.
-    on_step (shares_to_unbond (delegation w.mine.staked who operator) v coin.amount) _ _ (λ p g. on_stop (is_wrong coin w.view) WrongDenom _ _ (λ b.
+    on_bind (shares_to_unbond (delegation w.mine.staked who operator) v coin.amount) _ _ (λ p g. on_stop (is_wrong coin w.view) WrongDenom _ _ (λ b.
     on_stop (nat_le w.view.ctx.params.max_entries (length (entries_of w.mine.unbondings who operator))) UnbondingsFull _ _ (λ c. on_lifted Overflow (unbonded_shares chain_told v who p.0 p.1 (staked_in w)) _ _ (λ y e.
     let k : IsKnown w operator v = known w operator v sound f in
     let held : (delegation w.mine.staked who operator ≡ Some p.0) × (p.1 ≤ p.0) = within_held (delegation w.mine.staked who operator) v coin.amount p g in
@@ -201,10 +185,10 @@ undelegate_pays who operator coin w sound reached =
 redelegate_pays : (who source target : List ℕ) (coin : Coin) (w : State) → IsSound w → AreReached w → IfOk (begin_redelegate who source target coin w) (PaysIn w)
 redelegate_pays who source target coin w sound reached =
     on_then (redelegated chain_told who source target coin w.mine.redelegations (staked_in w)) _ (λ x. PaysIn w x.2) _
-    (on_stop (coin.amount == 0) NonPositive _ _ (λ a. on_found (validator_at w.mine.staked source) NoValidator _ _ (λ v f. on_step (shares_to_unbond (delegation w.mine.staked who source) v coin.amount) _ _ (λ p g.
+    (on_stop (coin.amount == 0) NonPositive _ _ (λ a. on_found (validator_at w.mine.staked source) NoValidator _ _ (λ v f. on_bind (shares_to_unbond (delegation w.mine.staked who source) v coin.amount) _ _ (λ p g.
     on_stop (is_wrong coin w.view) WrongDenom _ _ (λ b. on_stop (same_addr source target) SelfRedelegation _ _ (λ other. on_found (validator_at w.mine.staked target) NoValidator _ _ (λ t there.
     on_stop (is_transitive w.mine.redelegations who source) Transitive _ _ (λ c. on_stop (nat_le w.view.ctx.params.max_entries (length (redelegations_of w.mine.redelegations who source target))) RedelegationsFull _ _ (λ d.
-    on_stop (amount_out v.tokens v.shares p.1 == 0) TinyRedelegation _ _ (λ h. on_next (shares_given t (amount_out v.tokens v.shares p.1)) _ _
+    on_stop (amount_out v.tokens v.shares p.1 == 0) TinyRedelegation _ _ (λ h. next_if (shares_given t (amount_out v.tokens v.shares p.1)) _ _
     (on_lifted Overflow (unbonded_shares chain_told v who p.0 p.1 (staked_in w)) _ _ (λ y e.
     let k : IsKnown w source v = known w source v sound f in
     let j : IsKnown w target t = known w target t sound there in
@@ -216,7 +200,7 @@ redelegate_pays who source target coin w sound reached =
     let l : LeavesFit w.mine.staked v.operator y.1 = unbonded_fits (staked_in w) v who p.0 p.1 y (fits_sound w sound) k.found e in
     let still : validator_at m.mine.staked t.operator ≡ Some t = l.others t.operator apart ∙ j.found in
     let first : PaysIn w y.1 = pays_unbonded w v who p.0 p.1 y (ready_in w v.operator sound) k.found own reached e in
-    on_step (delegated chain_told t who y.0 (pool v.status) y.1) _ _ (λ z q.
+    on_bind (delegated chain_told t who y.0 (pool v.status) y.1) _ _ (λ z q.
     pays_then w.log y.1.log z.1.log w.view.facts y.1.view.facts z.1.view.facts first (pays_delegated m t who y.0 (pool v.status) z (ready_fits m t.operator t l.fits still) still after q))))))))))))))
     (λ x k. k)
 
@@ -233,7 +217,7 @@ create_pays m w sound reached =
     let made : AreReached x = λ d u there. made_at d w m u sound none reached there (same_addr u.operator m.validator) refl in
     let found : validator_at x.mine.staked m.validator ≡ Some v = put_there m.validator v w.mine.staked.validators in
     let last : IfOk (delegated chain_told v m.validator m.amount.amount wallet (staked_in x) >>= end) (λ z. PaysIn w z.1) =
-    on_step (delegated chain_told v m.validator m.amount.amount wallet (staked_in x)) end (λ z. PaysIn w z.1) (λ y h.
+    on_bind (delegated chain_told v m.validator m.amount.amount wallet (staked_in x)) end (λ z. PaysIn w z.1) (λ y h.
     pays_then w.log x.log y.1.log w.view.facts x.view.facts y.1.view.facts (pays_logged w.log ((m.validator, log.made) ∷ []) w.view.facts (tt, tt) refl)
     (pays_delegated x v m.validator m.amount.amount wallet y (made_ready w v sound) found made h)) in
     last)))))))))

@@ -12,7 +12,8 @@ use Rattle.stk_rules.specs.Purses.{pooled_told}
 use Rattle.stk_rules.specs.Withdrawals.{reward_taken}
 use Rattle.stk_bracket.specs.Withdrawals.{TellsPayment, RewardsAreTold}
 use Rattle.stk_bracket.proofs.Beginnings.{under_own}
-use Rattle.stk_bracket.proofs.Telling.{on_step, on_found, on_then, lifted_if}
+use Rattle.stk_bracket.proofs.Telling.{on_then, lifted_if}
+use Rattle.stk_rules.proofs.GoingLemmas.{on_bind, on_found}
 use Rattle.stk_bracket.proofs.Withdrawing.{IsMade, made_is}
 
 -- what is told, of the facts alone
@@ -29,7 +30,7 @@ pub rewards_are_told : RewardsAreTold
 rewards_are_told = λ who operator w sound.
     on_then (reward_taken w.mine.staked who operator w.hooks.0 w.view) _ (λ x. Tells who operator x.2.facts) (TellsPayment who operator)
     (on_found (validator_at w.mine.staked operator) NoValidator _ _ (λ v f. on_found (delegation w.mine.staked who operator) NoDelegation _ _ (λ shares g.
-    lifted_if Overflow (reward_renewed v who shares w.hooks.0 w.view) _ (on_step (reward_withdrawn v who shares w.hooks.0 w.view) _ _ (λ y e.
+    lifted_if Overflow (reward_renewed v who shares w.hooks.0 w.view) _ (on_bind (reward_withdrawn v who shares w.hooks.0 w.view) _ _ (λ y e.
     let m : IsMade v who shares w.hooks.0 w.view y = made_is v who shares w.hooks.0 w.view y e in
     let to : List ℕ = payee_of m.z.1 who in
     let coins : Money = whole_coins m.paid.0 in

@@ -49,7 +49,8 @@ use Rattle.stk_bracket.specs.Running.{RunFromStarts, AreStarted, StartedStays, M
 use Rattle.stk_bracket.proofs.Beginnings.{if_ok}
 use Rattle.stk_bracket.proofs.Hooked.{none_of}
 use Rattle.stk_bracket.proofs.Creating.{nobody_has, state_made}
-use Rattle.stk_bracket.proofs.Telling.{on_step, on_next, on_stop, on_found, on_lifted, lifted_if, on_then}
+use Rattle.stk_bracket.proofs.Telling.{next_if, lifted_if, on_then}
+use Rattle.stk_rules.proofs.GoingLemmas.{on_bind, on_stop, on_found, on_lifted}
 use Rattle.stk_bracket.proofs.Unstarted.{StartedIn, plain_kept, starts_kept, nothing_logged, made_kept, started_kept, withdrawn_kept, delegated_kept, unbonded_kept, emptied_kept}
 use Rattle.stk_bracket.proofs.UnstartedSlashes.{vote_started, evidence_started}
 
@@ -59,13 +60,13 @@ pub fee_started : (payer : List ℕ) (fee : Money) (w : State) → AreStarted w 
 fee_started payer fee w r = on_stop (is_short w.view.bank (account.User payer) fee) FeeUnpaid _ _ (λ a. r)
 
 pub send_started : (from : List ℕ) (to : Holder) (coins : Money) (w : State) → AreStarted w → IfOk (send from to coins w) AreStarted
-send_started from to coins w r = on_step (coins_sent from to coins w.view) _ _ (λ v e. r)
+send_started from to coins w r = on_bind (coins_sent from to coins w.view) _ _ (λ v e. r)
 
 pub edit_started : (m : EditValidator) (w : State) → AreStarted w → IfOk (edit_validator m w) AreStarted
-edit_started m w r = on_step (edited m w.view.ctx.time w.view.ctx.params.min_commission_rate w.mine.staked) _ _ (λ s e. r)
+edit_started m w r = on_bind (edited m w.view.ctx.time w.view.ctx.params.min_commission_rate w.mine.staked) _ _ (λ s e. r)
 
 pub unjail_started : (operator : List ℕ) (w : State) → AreStarted w → IfOk (unjail operator w) AreStarted
-unjail_started operator w r = on_step (unjailed operator w.hooks.1 w.mine.staked w.view) _ _ (λ x e. r)
+unjail_started operator w r = on_bind (unjailed operator w.hooks.1 w.mine.staked w.view) _ _ (λ x e. r)
 
 pub commission_started : (operator : List ℕ) (w : State) → AreStarted w → IfOk (withdraw_commission operator w) AreStarted
 commission_started operator w r =
@@ -105,7 +106,7 @@ pub reward_started : (who operator : List ℕ) (w : State) → AreStarted w → 
 reward_started who operator w r =
     on_then (reward_taken w.mine.staked who operator w.hooks.0 w.view) _ (λ x. RunFromStarts x.1 (w.log ++ x.3)) _
     (on_found (validator_at w.mine.staked operator) NoValidator _ _ (λ v f. on_found (delegation w.mine.staked who operator) NoDelegation _ _ (λ shares g.
-    lifted_if Overflow (reward_renewed v who shares w.hooks.0 w.view) _ (on_step (reward_withdrawn v who shares w.hooks.0 w.view) _ _ (λ y e.
+    lifted_if Overflow (reward_renewed v who shares w.hooks.0 w.view) _ (on_bind (reward_withdrawn v who shares w.hooks.0 w.view) _ _ (λ y e.
     let s : Shared × View × Log = started v who shares y.1 y.2 in
     subst (λ m. RunFromStarts s.0 m) (append_assoc w.log y.3 s.2)
     (started_kept v who shares y.1 y.2 (w.log ++ y.3) (withdrawn_kept v who shares w.hooks.0 w.view y w.log e r)))))))
@@ -123,7 +124,7 @@ cancel_started who operator coin height w r =
     on_then (cancelled chain_told who operator coin height w.mine.unbondings (staked_in w)) _ (λ x. StartedIn x.2) _
     (on_stop (coin.amount == 0) NonPositive _ _ (λ a. on_stop (is_wrong coin w.view) WrongDenom _ _ (λ b. on_found (validator_at w.mine.staked operator) NoValidator _ _ (λ v f.
     on_stop (has_invalid_rate v.tokens v.shares) RateInvalid _ _ (λ c. on_stop v.jailed Jailed _ _ (λ d. on_found (find (can_be_cancelled height w.view.ctx.time) (entries_of w.mine.unbondings who operator)) NoEntry _ _ (λ en g.
-    on_stop (nat_lt en.balance coin.amount) CancelTooMuch _ _ (λ h. on_step (delegated chain_told v who coin.amount (pool Unbonded) (staked_in w)) _ _ (λ x e.
+    on_stop (nat_lt en.balance coin.amount) CancelTooMuch _ _ (λ h. on_bind (delegated chain_told v who coin.amount (pool Unbonded) (staked_in w)) _ _ (λ x e.
     delegated_kept v who coin.amount (pool Unbonded) (staked_in w) x e r)))))))))
     (λ x k. k)
 
@@ -131,7 +132,7 @@ pub undelegate_started : (who operator : List ℕ) (coin : Coin) (w : State) →
 undelegate_started who operator coin w r =
     on_then (undelegated chain_told who operator coin w.mine.unbondings (staked_in w)) _ (λ x. StartedIn x.2) _
     (on_stop (coin.amount == 0) NonPositive _ _ (λ a. on_found (validator_at w.mine.staked operator) NoValidator _ _ (λ v f.
-    on_step (shares_to_unbond (delegation w.mine.staked who operator) v coin.amount) _ _ (λ p g. on_stop (is_wrong coin w.view) WrongDenom _ _ (λ b.
+    on_bind (shares_to_unbond (delegation w.mine.staked who operator) v coin.amount) _ _ (λ p g. on_stop (is_wrong coin w.view) WrongDenom _ _ (λ b.
     on_stop (nat_le w.view.ctx.params.max_entries (length (entries_of w.mine.unbondings who operator))) UnbondingsFull _ _ (λ c. on_lifted Overflow (unbonded_shares chain_told v who p.0 p.1 (staked_in w)) _ _ (λ y e.
     moved v y (is_bonded v.status) (unbonded_kept v who p.0 p.1 (staked_in w) y e r))))))))
     (λ x k. k)
@@ -143,12 +144,12 @@ undelegate_started who operator coin w r =
 pub redelegate_started : (who source target : List ℕ) (coin : Coin) (w : State) → AreStarted w → IfOk (begin_redelegate who source target coin w) AreStarted
 redelegate_started who source target coin w r =
     on_then (redelegated chain_told who source target coin w.mine.redelegations (staked_in w)) _ (λ x. StartedIn x.2) _
-    (on_stop (coin.amount == 0) NonPositive _ _ (λ a. on_found (validator_at w.mine.staked source) NoValidator _ _ (λ v f. on_step (shares_to_unbond (delegation w.mine.staked who source) v coin.amount) _ _ (λ p g.
+    (on_stop (coin.amount == 0) NonPositive _ _ (λ a. on_found (validator_at w.mine.staked source) NoValidator _ _ (λ v f. on_bind (shares_to_unbond (delegation w.mine.staked who source) v coin.amount) _ _ (λ p g.
     on_stop (is_wrong coin w.view) WrongDenom _ _ (λ b. on_stop (same_addr source target) SelfRedelegation _ _ (λ other. on_found (validator_at w.mine.staked target) NoValidator _ _ (λ t there.
     on_stop (is_transitive w.mine.redelegations who source) Transitive _ _ (λ c. on_stop (nat_le w.view.ctx.params.max_entries (length (redelegations_of w.mine.redelegations who source target))) RedelegationsFull _ _ (λ d.
-    on_stop (amount_out v.tokens v.shares p.1 == 0) TinyRedelegation _ _ (λ h. on_next (shares_given t (amount_out v.tokens v.shares p.1)) _ _
+    on_stop (amount_out v.tokens v.shares p.1 == 0) TinyRedelegation _ _ (λ h. next_if (shares_given t (amount_out v.tokens v.shares p.1)) _ _
     (on_lifted Overflow (unbonded_shares chain_told v who p.0 p.1 (staked_in w)) _ _ (λ y e.
-    on_step (delegated chain_told t who y.0 (pool v.status) y.1) _ _ (λ z q.
+    on_bind (delegated chain_told t who y.0 (pool v.status) y.1) _ _ (λ z q.
     delegated_kept t who y.0 (pool v.status) y.1 z q (unbonded_kept v who p.0 p.1 (staked_in w) y e r))))))))))))))
     (λ x k. k)
 
@@ -166,7 +167,7 @@ create_started m w sound r =
     λ who. none_of (start_of w.hooks.0.rewards who m.validator) (sound.stands.starts who m.validator ∙ ap is_some (nobody_has w who m.validator sound none)) in
     let made : StartedIn (staked_in x) = made_kept v w.hooks.0 w.log unstarted r in
     let last : IfOk (delegated chain_told v m.validator m.amount.amount wallet (staked_in x) >>= end) (λ z. StartedIn z.1) =
-    on_step (delegated chain_told v m.validator m.amount.amount wallet (staked_in x)) end (λ z. StartedIn z.1) (λ y h. delegated_kept v m.validator m.amount.amount wallet (staked_in x) y h made) in
+    on_bind (delegated chain_told v m.validator m.amount.amount wallet (staked_in x)) end (λ z. StartedIn z.1) (λ y h. delegated_kept v m.validator m.amount.amount wallet (staked_in x) y h made) in
     last)))))))))
     (λ z k. k)
 
@@ -179,13 +180,13 @@ given_started d l (Some v) share p fs r = by (is_empty share)
     by : (b : Bool) → IfOk {T = Purses × List Fact × Log} {E = Over} (if b then Ok (p, fs, []) else (share_joined share v.commission.rate (purse_of p v.operator) >>= λ x.
         Ok (record p { purses = with addr_cmp p.purses v.operator x.1 }, fs ++ fact.Allocated v.operator share ∷ [], (v.operator, log.allocated share x.0 v.tokens) ∷ []))) (λ y. RunFromStarts d (l ++ y.2))
     by true = nothing_logged d l r
-    by false = on_step (share_joined share v.commission.rate (purse_of p v.operator)) _ _ (λ x e. plain_kept d l v.operator (log.allocated share x.0 v.tokens) (λ who. refl) tt r)
+    by false = on_bind (share_joined share v.commission.rate (purse_of p v.operator)) _ _ (λ x e. plain_kept d l v.operator (log.allocated share x.0 v.tokens) (λ who. refl) tt r)
 
 shares_started : (ts : List Vote) (s : Staked) (base : Money) (total : ℕ) (left : Money) (p : Purses) (fs : List Fact) (l start : Log) (d : Shared) → RunFromStarts d (start ++ l)
     → IfOk (shares_allocated s base total ts left p fs l) (λ x. RunFromStarts d (start ++ x.2))
-shares_started [] s base total left p fs l start d r = on_step (pool_joined left p) _ _ (λ q e. r)
+shares_started [] s base total left p fs l start d r = on_bind (pool_joined left p) _ _ (λ q e. r)
 shares_started (t ∷ ts) s base total left p fs l start d r =
-    on_step (quo_cut_of (t.power * 10 ^ 18) (total * 10 ^ 18)) _ _ (λ part a. on_step (coins_mul_cut base part) _ _ (λ share b.
+    on_bind (quo_cut_of (t.power * 10 ^ 18) (total * 10 ^ 18)) _ _ (λ part a. on_bind (coins_mul_cut base part) _ _ (λ share b.
     on_then (share_given (validator_by_cons s t.cons) share p fs) _ (λ y. RunFromStarts d ((start ++ l) ++ y.2)) _ (given_started d (start ++ l) (validator_by_cons s t.cons) share p fs r) (λ y k.
     shares_started ts s base total (coins_taken left share) y.0 y.1 (l ++ y.2) start d (subst (λ m. RunFromStarts d m) (append_assoc start l y.2) k))))
 
@@ -205,7 +206,7 @@ allocation_started votes w r =
     by false =
         let total : ℕ = sum (map (λ t. t.power) votes) in
         on_then (allocated w.mine.staked w.view.ctx.params fees votes w.hooks.0.purses v1.facts) _ (λ x. RunFromStarts w.hooks.0 (w.log ++ x.2)) _
-        (on_step (coins_mul_cut (in_units fees) (10 ^ 18 - w.view.ctx.params.community_tax)) _ _ (λ base e.
+        (on_bind (coins_mul_cut (in_units fees) (10 ^ 18 - w.view.ctx.params.community_tax)) _ _ (λ base e.
         shares_started (sharing total votes) w.mine.staked base total (in_units fees) w.hooks.0.purses v1.facts [] w.log w.hooks.0 (nothing_logged w.hooks.0 w.log r)))
         (λ x k. let d : Shared = record w.hooks.0 { purses = x.0 } in starts_kept w.hooks.0 d (w.log ++ x.2) refl k)
 

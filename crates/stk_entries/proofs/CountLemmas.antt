@@ -73,6 +73,10 @@ counted-step made infraction factor now es i e less is sum next n told =
 
 -- ---- walking a table
 
+pub one_step : (b : Bool) → cond b 1 0 ≤ 1
+one_step true = omega arith
+one_step false = omega arith
+
 filter_member : {A : Type 0} (p : A → Bool) (xs : List A) (x : A) → Member (filter p xs) x → Member xs x
 filter_member p [] x m = absurd m
 filter_member p (y ∷ xs) x m = by (p y) (filter_member p xs x) m
@@ -116,6 +120,10 @@ module _ {K E : Type 0} (cmp : K → K → Ordering) (total : IsTotalOrder cmp) 
         where_cons : (b : Bool) → cond b (e.0 ∷ []) [] ++ keys_where test (left_at (Some e.0)) ≡ map (λ (x : K × List E). x.0) (cond b (e ∷ rest) rest)
         where_cons true = refl
         where_cons false = refl
+
+    -- a step of the walk goes from what is left
+    pub walk-cost : (steps next bound : ℕ) → next ≤ steps + 1 → steps + length (left_at after) ≤ bound → next + length (left_at (Some e.0)) ≤ bound
+    walk-cost steps next bound one h = let n = ap length left_is in omega (arith, n, one, h)
 
     pub count-next : (source : K → List ℕ) (made : E → Made) (operator : List ℕ) (infraction factor now sum next : ℕ)
         → counted (sum + all_counted source made operator infraction factor now (left_at after)) ≡ counted (all_counted source made operator infraction factor now u)

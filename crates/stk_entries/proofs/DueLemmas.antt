@@ -18,6 +18,7 @@ use Rattle.std.proofs.lemmas.Map.Views.{Contains-from_lookup, lookup-from_Contai
 use Rattle.stk_types.specs.Orders.{moment_cmp}
 use Rattle.stk_types.proofs.MapLemmas.{equal}
 use Rattle.stk_keep.specs.Entries.{at}
+use Rattle.stk_rows.proofs.AscendLemmas.{not_below, once-ascends, same_members}
 use Rattle.stk_rows.proofs.MemberLemmas.{Member, member, contained, all_member}
 use Rattle.stk_rows.proofs.WalkLemmas.{left_of, walk-end, walk-more}
 use Rattle.stk_table.specs.Tabled.{entry_above}
@@ -27,69 +28,7 @@ use Rattle.stk_entries.specs.Lists.{list_at, is_mature, some_mature, IsExact}
 use Rattle.stk_entries.specs.Queue.{Completions, completion_cmp, sooner, earliest, earliest_from, standing, IsQueue, due_in}
 use Rattle.stk_entries.specs.Walked.{keys_where, is_due, mature_entries}
 use Rattle.stk_entries.proofs.QueueLemmas.{completion_total}
-use Rattle.stk_entries.proofs.WalkedLemmas.{Above, above-where, greater}
-
--- ---- distinct keys in order ascend
-
-module _ {K : Type 0} {cmp : K → K → Ordering} (o : IsTotalOrder cmp) where
-  not_below : (x : K) → cmp x x ≡ Less → ⊥
-  not_below x p = let back : Less ≡ Greater = sym p ∙ o.antisymm x x ∙ ap ordering_reverse p in absurd cc
-
-  less : (a b : K) → is_lt (cmp b a) ≡ false → eq_by_cmp cmp a b ≡ false → cmp a b ≡ Less
-  less a b p q = by (cmp a b) refl
-    where
-      by : (r : Ordering) → cmp a b ≡ r → r ≡ Less
-      by Less e = refl
-      by Equal e = let clash : false ≡ true = sym q ∙ ap is_eq e in absurd cc
-      by Greater e = let clash : false ≡ true = sym p ∙ ap is_lt (o.antisymm b a ∙ ap ordering_reverse e) in absurd cc
-
-  -- the element d is that of places where there is none
-  once-ascends-from : (ks : List K) (d : K) → IsSorted cmp ks → IsDistinct (eq_by_cmp cmp) ks → IsStrictlySortedBy cmp ks
-  once-ascends-from ks d s once =
-      sorted_from_all_adjacent o ks d (λ k n. less (get_or ks k d) (get_or ks (k + 1) d) (s k d (omega arith) n) (apart_from_distinct (eq_by_cmp cmp) ks k (k + 1) d once (omega arith) n))
-
-  once-none : IsStrictlySortedBy cmp []
-  unfolding IsStrictlySortedBy
-  once-none = tt
-
-  pub once-ascends : (ks : List K) → IsSorted cmp ks → IsDistinct (eq_by_cmp cmp) ks → IsStrictlySortedBy cmp ks
-  once-ascends [] s once = once-none
-  once-ascends (k ∷ ks) s once = once-ascends-from (k ∷ ks) k s once
-
-  -- ---- ascending lists with the same elements are one
-
-  below : (k x : K) (ks : List K) → Above cmp k ks → Member ks x → cmp k x ≡ Less
-  below k x [] h m = absurd m
-  below k x (y ∷ ks) h (inl e) = ap (cmp k) (sym e) ∙ h.0
-  below k x (y ∷ ks) h (inr m) = below k x ks h.1 m
-
-  pub same_members : (ks ls : List K) → IsStrictlySortedBy cmp ks → IsStrictlySortedBy cmp ls → ((x : K) → Member ks x → Member ls x) → ((x : K) → Member ls x → Member ks x) → ks ≡ ls
-  unfolding IsStrictlySortedBy
-  same_members [] [] s t f g = refl
-  same_members [] (l ∷ ls) s t f g = absurd (g l (inl refl))
-  same_members (k ∷ ks) [] s t f g = absurd (f k (inl refl))
-  same_members (k ∷ ks) (l ∷ ls) s t f g =
-      let heads = first (f k (inl refl)) (g l (inl refl)) in
-      let rest = same_members ks ls s.1 t.1 (λ x m. later x m heads (f x (inr m))) (λ x m. earlier x m heads (g x (inr m))) in
-      λ i. heads i ∷ rest i
-    where
-      first : Member (l ∷ ls) k → Member (k ∷ ks) l → k ≡ l
-      first (inl e) m = sym e
-      first (inr n) (inl e) = e
-      first (inr n) (inr m) =
-          let less = below l k ls t.0 n in
-          let more = greater cmp o k l less in
-          let back = below k l ks s.0 m in
-          let clash : Less ≡ Greater = sym back ∙ more in
-          absurd cc
-
-      later : (x : K) → Member ks x → k ≡ l → Member (l ∷ ls) x → Member ls x
-      later x m e (inl q) = absurd (not_below k (ap (cmp k) (e ∙ q) ∙ below k x ks s.0 m))
-      later x m e (inr n) = n
-
-      earlier : (x : K) → Member ls x → k ≡ l → Member (k ∷ ks) x → Member ks x
-      earlier x m e (inl q) = absurd (not_below l (ap (cmp l) (sym e ∙ q) ∙ below l x ls t.0 m))
-      earlier x m e (inr n) = n
+use Rattle.stk_entries.proofs.WalkedLemmas.{above-where}
 
 -- ---- the keys whose entries pass a test
 

@@ -4,3 +4,4 @@ pub mod WalkedLemmas
 pub mod DueLemmas
 pub mod CountLemmas
 pub mod UndoneLemmas
+pub mod AnswerLemmas

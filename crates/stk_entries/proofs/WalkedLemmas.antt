@@ -10,13 +10,10 @@ use Rattle.std.specs.List.{AllByRecursion}
 use Rattle.std.specs.List.Sorted.{IsStrictlySortedBy}
 use Rattle.std.specs.Map.{keys_of}
 use Rattle.stk_keep.specs.Entries.{at, without}
+use Rattle.stk_rows.proofs.AscendLemmas.{Above, greater}
 use Rattle.stk_rules.specs.Unbondings.{key_then}
 use Rattle.stk_entries.specs.Lists.{list_at, with_list}
 use Rattle.stk_entries.specs.Walked.{Change, walked, stepped, keys_where}
-
--- a key is below all of these
-abbrev pub Above : {K : Type 0} → (K → K → Ordering) → K → List K → Type 0
-Above cmp k ks = AllByRecursion (λ x. cmp k x ≡ Less) ks
 
 abbrev pub front : {K E V : Type 0} → K × List E → List (K × List E) × V → List (K × List E) × V
 front p r = (p ∷ r.0, r.1)
@@ -33,19 +30,16 @@ above-where {K} {E} cmp test k (p ∷ u) h = by (test p.0 p.1) (above-where cmp 
 module _ {K : Type 0} (cmp : K → K → Ordering) (total : IsTotalOrder cmp) where
   -- ---- a key that is passed
 
-  pub greater : (k x : K) → cmp x k ≡ Less → cmp k x ≡ Greater
-  greater k x p = total.antisymm k x ∙ ap ordering_reverse p
-
   pub itself : (k : K) → cmp k k ≡ Equal
   itself k = tied_itself total k
 
   module _ {E : Type 0} (p : K × List E) (u : List (K × List E)) where
     found-past : (k : K) → cmp p.0 k ≡ Less → list_at cmp (p ∷ u) k ≡ list_at cmp u k
-    found-past k above = ap (λ r. unwrap_or (cond (is_eq r) (Some p.1) (at cmp u k)) []) (greater k p.0 above)
+    found-past k above = ap (λ r. unwrap_or (cond (is_eq r) (Some p.1) (at cmp u k)) []) (greater cmp total k p.0 above)
 
     with-past : (k : K) → cmp p.0 k ≡ Less → (l : List E) → with_list cmp k l (p ∷ u) ≡ p ∷ with_list cmp k l u
-    with-past k above [] = ap (λ r. cond (is_eq r) u (p ∷ without cmp u k)) (greater k p.0 above)
-    with-past k above (e ∷ es) = ap (λ r. match_ordering r ((k, e ∷ es) ∷ p ∷ u) ((p.0, e ∷ es) ∷ u) (p ∷ insert_entry cmp u k (e ∷ es))) (greater k p.0 above)
+    with-past k above [] = ap (λ r. cond (is_eq r) u (p ∷ without cmp u k)) (greater cmp total k p.0 above)
+    with-past k above (e ∷ es) = ap (λ r. match_ordering r ((k, e ∷ es) ∷ p ∷ u) ((p.0, e ∷ es) ∷ u) (p ∷ insert_entry cmp u k (e ∷ es))) (greater cmp total k p.0 above)
 
     found-here : list_at cmp (p ∷ u) p.0 ≡ p.1
     found-here = ap (λ r. unwrap_or (cond (is_eq r) (Some p.1) (at cmp u p.0)) []) (itself p.0)

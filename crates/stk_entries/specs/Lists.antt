@@ -8,6 +8,14 @@ use Rattle.std.specs.Map.{keys_of}
 use Rattle.stk_keep.specs.Entries.{at, with, without}
 use Rattle.stk_rules.specs.EntrySlashes.{Made}
 
+-- an address is twenty bytes
+abbrev pub IsAddr : List ℕ → Type 0
+IsAddr bytes = length bytes ≡ 20
+
+-- what holds of each key
+abbrev pub AllKeys : {K E : Type 0} → (K → Type 0) → List (K × List E) → Type 0
+AllKeys P u = All P (keys_of u)
+
 -- keys that compare equal are one key
 abbrev pub IsExact : {K : Type 0} → (K → K → Ordering) → Type 0
 IsExact {K} cmp = (a b : K) → cmp a b ≡ Equal → a ≡ b

@@ -1,6 +1,7 @@
 -- The table of entries by key, and that of their earliest completions, which change together.
 use Rattle.std.specs.Prelude.{◌≡◌, ℕ, nat_lt, nat_le, Bool, true, false, List, [], ◌∷◌, length, Option, Some, None, if◌then◌else◌}
 use Rattle.std.specs.BTreeMap.{is_at}
+use Rattle.std.specs.List.{AllByRecursion}
 use Rattle.std.specs.declared.cmp.Ordering.{Ordering}
 use Rattle.stk_types.specs.Orders.{moment_cmp}
 use Rattle.stk_table.specs.Tabled.{Tabled}
@@ -8,7 +9,7 @@ use Rattle.stk_keep.specs.Entries.{at, with, without}
 use Rattle.stk_keep.specs.Orders.{both_cmp}
 use Rattle.stk_rows.specs.Marks.{AtEachMark}
 use Rattle.stk_rules.specs.EntrySlashes.{Made}
-use Rattle.stk_entries.specs.Lists.{list_at}
+use Rattle.stk_entries.specs.Lists.{list_at, AllKeys}
 
 -- keys by the earliest completion of their entries
 abbrev pub Completions : Type 0 → Type 0
@@ -74,7 +75,11 @@ pub record Stays {K V : Type 0} (old new : Tabled K V) : Type 0 where
   pub settled : new.settled ≡ old.settled
 
 -- Two tables that are marked together, of which the second tells the earliest completions of the first.
-pub record AreInStep {K E : Type 0} (cmp : K → K → Ordering) (made : E → Made) (lists : Tabled K (List E)) (queue : Tabled (ℕ × K) Bool) : Type 0 where
+pub record AreInStep {K E : Type 0} (cmp : K → K → Ordering) (fits : K → Type 0) (made : E → Made)
+    (lists : Tabled K (List E)) (queue : Tabled (ℕ × K) Bool) : Type 0 where
   pub depth : length queue.marks ≡ length lists.marks
   pub queued : IsQueue cmp made lists.entries queue.entries
   pub queued_at_marks : AreQueued cmp made lists.marks queue.marks
+  -- each key is one of the type, also at each mark
+  pub fit : AllKeys fits lists.entries
+  pub fit_at_marks : AllByRecursion (AllKeys fits) lists.marks

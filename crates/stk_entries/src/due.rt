@@ -66,8 +66,9 @@ pub(crate) fn keys_from<K: EntryKey, E: Entry, L: Ledger>(
     operator: &Addr,
     steps: &mut Steps<L>,
 ) -> Result<Vec<K>, TableFault>
-    ensures { IfOk result (λ keys.
+    ensures keys { IfOk result (λ keys.
         keys.items ≡ keys_where (is_from K.source operator.now) lists.now.entries) }
+    ensures cost { steps.new ≤ steps.old + length lists.now.entries }
 {
     lists.known();
     let mut keys = Vec::new(alloc);

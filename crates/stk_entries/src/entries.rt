@@ -1,11 +1,11 @@
-ghost use Rattle.std.specs.Prelude.{◌≡◌, ◌≢◌, ◌+◌, ◌≤◌, [], true, option_map, IfOk, OnOk, OnErr, IsErr, length};
+ghost use Rattle.std.specs.Prelude.{◌≡◌, ◌≢◌, ◌+◌, ◌≤◌, [], true, if◌then◌else◌, is_some, option_map, IfOk, OnOk, OnErr, IsErr, length};
 ghost use Rattle.std.specs.List.Sorted.{IsStrictlySortedBy};
 ghost use Rattle.std.specs.Map.{keys_of};
 ghost use Rattle.std.specs.Option.{option_copied};
 ghost use Rattle.stk_table.specs.Tabled.{entry_above, entry_from};
 ghost use Rattle.stk_keep.specs.Entries.{at, with, without};
 ghost use Rattle.stk_entries.specs.Kept.{nothing_kept, holding, spent_now, with_mark, settled_now, IsGoneBack, IsForgotten};
-ghost use Rattle.stk_entries.specs.Lists.{list_at, with_list, unmatured};
+ghost use Rattle.stk_entries.specs.Lists.{list_at, with_list, unmatured, AllKeys};
 ghost use Rattle.stk_entries.specs.Walked.{keys_where, is_due};
 ghost use Rattle.stk_entries.specs.Slashed.{is_from};
 
@@ -29,7 +29,6 @@ use stk_types::{Addr, Copied, Moment, Steps};
 pub struct Entries<K: EntryKey, E: Entry> {
     lists: Table<K, Listed<E>>,
     queue: Table<(Moment, K), bool>,
-    alloc: Global,
     spent: bool,
 }
 
@@ -41,7 +40,7 @@ impl<K: EntryKey, E: Entry> Model for Entries<K, E> {
 
     ghost view = { λ s. kept s.lists s.spent };
 
-    ghost invariant = { λ s. AreInStep K.cmp E.made s.lists s.queue };
+    ghost invariant = { λ s. AreInStep K.cmp K.fits E.made s.lists s.queue };
 }
 
 impl<K: EntryKey, E: Entry> Entries<K, E> {
@@ -52,14 +51,14 @@ impl<K: EntryKey, E: Entry> Entries<K, E> {
         Entries {
             lists: Table::new(alloc),
             queue: Table::new(alloc),
-            alloc,
             spent: false,
         }
     }
 
-    /// It tells that the keys ascend.
+    /// It tells that the keys ascend, and that each is one of the type. It does nothing.
     pub fn known(&self)
-        ensures { IsStrictlySortedBy K.cmp (keys_of self.now.lists) }
+        ensures ordered { IsStrictlySortedBy K.cmp (keys_of self.now.lists) }
+        ensures fit { AllKeys K.fits self.now.lists }
     {
         self.lists.known();
     }
@@ -79,11 +78,6 @@ impl<K: EntryKey, E: Entry> Entries<K, E> {
         &self.lists
     }
 
-    /// Where it takes its memory.
-    pub fn allocator(&self) -> Global {
-        self.alloc
-    }
-
     /// Puts entries under a key, also none.
     pub fn put<L: Ledger>(
         &mut self,
@@ -100,6 +94,7 @@ impl<K: EntryKey, E: Entry> Entries<K, E> {
         if self.spent {
             return Err(TableFault::Spent);
         }
+        key.known();
         match put_both(&mut self.lists, &mut self.queue, key, list, steps) {
             Ok(()) => Ok(()),
             Err(fault) => {
@@ -120,6 +115,7 @@ impl<K: EntryKey, E: Entry> Entries<K, E> {
             (self.new ≡ holding (with K.cmp self.old.lists key.now list.now) self.old) }
         ensures err { OnErr result (self.new ≡ spent_now self.old) }
         ensures spent { self.old.spent ≡ true → IsErr result }
+        ensures cost { steps.new ≤ steps.old + 4 }
     {
         match list.copied() {
             Ok(copy) => self.put(key, copy, steps),
@@ -179,7 +175,8 @@ impl<K: EntryKey, E: Entry> Entries<K, E> {
 
     /// How many entries a key has.
     pub fn count<L: Ledger>(&self, key: &K, steps: &mut Steps<L>) -> usize
-        ensures { result ≡ length (list_at K.cmp self.now.lists key.now) }
+        ensures value { result ≡ length (list_at K.cmp self.now.lists key.now) }
+        ensures cost { steps.new ≡ steps.old + 1 }
     {
         match self.at(key, steps) {
             Some(list) => list.len(),
@@ -187,22 +184,25 @@ impl<K: EntryKey, E: Entry> Entries<K, E> {
         }
     }
 
-    /// The entries of the least key above `after`, or of the least key of all for None.
+    /// The entries of the least key above `after`, or of the least key of all for None. It takes a step where
+    /// there is one, and none else.
     pub fn next<L: Ledger>(
         &self,
         after: Option<&K>,
         steps: &mut Steps<L>,
     ) -> Option<(&K, &Listed<E>)>
-        ensures { option_map (λ entry. (entry.0.now, entry.1.now)) result
+        ensures above { option_map (λ entry. (entry.0.now, entry.1.now)) result
             ≡ entry_above K.cmp self.now.lists (option_copied after.entry) }
+        ensures cost { steps.new ≡ steps.old + (if is_some result then 1 else 0) }
     {
         self.lists.next(after, steps)
     }
 
-    /// The entries of the least key at or above `from`.
+    /// The entries of the least key at or above `from`. It takes a step where there is one, and none else.
     pub fn seek<L: Ledger>(&self, from: &K, steps: &mut Steps<L>) -> Option<(&K, &Listed<E>)>
-        ensures { option_map (λ entry. (entry.0.now, entry.1.now)) result
+        ensures from { option_map (λ entry. (entry.0.now, entry.1.now)) result
             ≡ entry_from K.cmp self.now.lists from.now }
+        ensures cost { steps.new ≡ steps.old + (if is_some result then 1 else 0) }
     {
         self.lists.seek(from, steps)
     }
@@ -240,15 +240,16 @@ impl<K: EntryKey, E: Entry> Entries<K, E> {
         }
     }
 
-    /// The keys of entries from an operator, in their order.
+    /// The keys of entries from an operator, in their order. It takes a step for each key.
     pub fn keys_from<L: Ledger>(
         &self,
         alloc: Global,
         operator: &Addr,
         steps: &mut Steps<L>,
     ) -> Result<Vec<K>, TableFault>
-        ensures { IfOk result (λ keys.
+        ensures keys { IfOk result (λ keys.
             keys.items ≡ keys_where (is_from K.source operator.now) self.now.lists) }
+        ensures cost { steps.new ≤ steps.old + length self.now.lists }
     {
         keys_from(alloc, &self.lists, operator, steps)
     }

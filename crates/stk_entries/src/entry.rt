@@ -1,7 +1,7 @@
 ghost use Rattle.std.specs.Prelude.{◌≡◌, ℕ, List};
 ghost use Rattle.stk_rules.specs.EntrySlashes.{Made, unbonding_made, redelegation_made};
 ghost use Rattle.stk_entries.specs.Exact.{exact_pair, exact_triple};
-ghost use Rattle.stk_entries.specs.Lists.{IsExact};
+ghost use Rattle.stk_entries.specs.Lists.{IsExact, IsAddr};
 
 use std::hash::Hash;
 use stk_keep::{RedelegationEntry, UnbondingEntry};
@@ -32,6 +32,13 @@ pub trait EntryKey: Ord + Hash + Copied + Copy {
 
     fn source(&self) -> &Addr
         ensures { result.now ≡ source self.now };
+
+    /// What every key is.
+    ghost fits: { Self → Type 0 };
+
+    /// It tells so. It does nothing.
+    fn known(&self)
+        ensures { fits self.now };
 
     /// Keys that compare equal are one key.
     ghost exact: { IsExact Self.cmp };
@@ -77,6 +84,13 @@ impl EntryKey for (Addr, Addr) {
         &self.1
     }
 
+    ghost fits = { λ key. IsAddr key.0 × IsAddr key.1 };
+
+    fn known(&self) {
+        let _delegator = self.0.bytes();
+        let _operator = self.1.bytes();
+    }
+
     ghost exact = { exact_pair };
 }
 
@@ -86,6 +100,14 @@ impl EntryKey for (Addr, Addr, Addr) {
 
     fn source(&self) -> &Addr {
         &self.1
+    }
+
+    ghost fits = { λ key. IsAddr key.0 × IsAddr key.1 × IsAddr key.2 };
+
+    fn known(&self) {
+        let _delegator = self.0.bytes();
+        let _source = self.1.bytes();
+        let _target = self.2.bytes();
     }
 
     ghost exact = { exact_triple };

@@ -1,6 +1,6 @@
 //! What a slash finds of entries.
 
-ghost use Rattle.std.specs.Prelude.{◌≡◌, ◌^◌, ◌≤◌, length, map, All, if◌then◌else◌};
+ghost use Rattle.std.specs.Prelude.{◌≡◌, ◌+◌, ◌^◌, ◌≤◌, length, map, All, if◌then◌else◌};
 ghost use Rattle.stk_keep.specs.Orders.{same_addr};
 ghost use Rattle.stk_rules.specs.EntrySlashes.{is_hit, part_of, counted, counted_of};
 ghost use Rattle.stk_entries.specs.Lists.{is_mature, AreFew};
@@ -109,7 +109,8 @@ pub fn is_same(a: &Addr, b: &Addr) -> bool
 }
 
 impl<K: EntryKey, E: Entry> Entries<K, E> {
-    /// What a slash counts of all entries from an operator, and 10^18 where that is more.
+    /// What a slash counts of all entries from an operator, and 10^18 where that is more. It takes a step for
+    /// each key.
     pub fn counted<L: Ledger>(
         &self,
         operator: &Addr,
@@ -123,6 +124,7 @@ impl<K: EntryKey, E: Entry> Entries<K, E> {
         ensures value { result ≡ counted (all_counted K.source E.made
             operator.now infraction factor now self.now.lists) }
         ensures most { result ≤ 10 ^ 18 }
+        ensures cost { steps.new ≤ steps.old + length self.now.lists }
     {
         self.known();
         let mut sum: u128 = 0;

@@ -1,4 +1,4 @@
-ghost use Rattle.std.specs.Prelude.{◌≡◌, ℕ, ◌+◌, ◌*◌, ◌^◌, ◌≤◌, ◌++◌, List, Some, None, IsSome, if◌then◌else◌, OnOk, IfOk, IfErr};
+ghost use Rattle.std.specs.Prelude.{◌≡◌, ℕ, ◌+◌, ◌*◌, ◌^◌, ◌≤◌, ◌++◌, false, List, Some, None, IsSome, if◌then◌else◌, OnOk, IfOk, IfErr};
 ghost use Rattle.std.specs.Option.{option_copied};
 ghost use Rattle.stk_types.specs.Orders.{cons_cmp};
 ghost use Rattle.stk_keep.specs.declared.facts.Fact.{Fact};
@@ -24,7 +24,7 @@ use stk_types::{Addr, BondStatus, ConsAddr, Moment, Steps};
 /// ignored where its validator is unknown or unbonded, has no signing info or is tombstoned, and where it is
 /// older than both limits. Else, in this order: the validator is slashed by the evidence's power for an
 /// infraction one height back; it is jailed, where it is not jailed then; it is banned for ever, which is told
-/// by a fact.
+/// by a fact. Evidence that is ignored takes at most three steps.
 ///
 /// `Over` comes exactly where the slash exceeds.
 pub fn equivocation<B: Bank, H: StakingHooks, S: Slasher, N: Signers, L: Ledger>(
@@ -70,6 +70,10 @@ pub fn equivocation<B: Bank, H: StakingHooks, S: Slasher, N: Signers, L: Ledger>
         (lists_of (S.stake (S.held slasher.new)))) }
     ensures cost { accused g.old.ctx e.now (validator_by_cons (S.stake (S.held slasher.old))
         e.now.cons) ≡ None → steps.new ≤ steps.old + 2 }
+    ensures cost_ignored { is_punished g.old.ctx e.now
+        (validator_by_cons (S.stake (S.held slasher.old)) e.now.cons)
+        (at cons_cmp (N.infos (N.held signers.old)) e.now.cons) ≡ false
+        → steps.new ≤ steps.old + 3 }
 
     // Whatever the answer.
     ensures undone { CanBeUndone B.marks g.old g.new }

@@ -16,7 +16,7 @@ use Rattle.stk_keep.specs.declared.entities.SlashEvent.{SlashEvent}
 use Rattle.stk_keep.specs.Steps.{◌>>=◌}
 use Rattle.stk_keep.specs.declared.faults.HookFault.{HookFault}
 use Rattle.stk_keep.specs.declared.faults.HookFault.TheVariants as hook
-use Rattle.stk_f1.specs.Answers.{IsExcessOf}
+use Rattle.stk_sums.specs.Faults.{IsExcessOf}
 use Rattle.stk_f1.specs.Earning.{events_since, ratios_with, kept_reward, stretch_added, CanEarn}
 use Rattle.stk_f1.specs.Kept.{Kept, record_of, events_of}
 use Rattle.stk_rules.specs.Periods.{Stretch, slashed_stake, stretches, falls_after, earned}

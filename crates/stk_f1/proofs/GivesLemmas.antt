@@ -12,7 +12,8 @@ use Rattle.stk_keep.specs.declared.faults.HookFault.TheVariants as hook
 use Rattle.stk_keep.specs.Entries.{at}
 use Rattle.stk_keep.specs.Orders.{pair_cmp}
 use Rattle.stk_keep.specs.Steps.{◌>>=◌}
-use Rattle.stk_f1.specs.Answers.{Gives, IsExcessOf}
+use Rattle.stk_sums.specs.Faults.{IsExcessOf}
+use Rattle.stk_f1.specs.Answers.{Gives}
 use Rattle.stk_f1.specs.Earning.{kept_reward, CanEarn}
 use Rattle.stk_f1.specs.Kept.{Kept, current_of, record_of, info_of}
 use Rattle.stk_rules.specs.Periods.{Periods, Rewards, periods_of, start_of, ratio_at, last_ended, earned, stretches_of, reward_of, reward_at, reward_after}

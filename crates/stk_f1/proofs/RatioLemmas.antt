@@ -17,7 +17,8 @@ use Rattle.stk_keep.specs.declared.faults.HookFault.{HookFault}
 use Rattle.stk_keep.specs.declared.faults.HookFault.TheVariants as hook
 use Rattle.stk_keep.specs.Entries.{at}
 use Rattle.stk_keep.specs.Steps.{◌>>=◌, ◌>>◌, stop_if}
-use Rattle.stk_f1.specs.Answers.{Ends, IsExcessOf}
+use Rattle.stk_sums.specs.Faults.{IsExcessOf}
+use Rattle.stk_f1.specs.Answers.{Ends}
 use Rattle.stk_rules.specs.Periods.{Periods, Rewards, periods_of, starts_of, ratio_at, period_ended, references_of}
 use Rattle.stk_f1.specs.Kept.{Kept, period_cmp, current_of, record_of}
 use Rattle.stk_f1.specs.Stands.{AreSound, KeepsRewards, IsKept}

@@ -1,13 +1,10 @@
 -- What the calls answer and leave.
-use Rattle.std.specs.Prelude.{◌≡◌, ℕ, List, [], ◌∷◌, ◌++◌, Result, Err, ⊤}
+use Rattle.std.specs.Prelude.{◌≡◌, ℕ, List, [], ◌∷◌, ◌++◌, Result}
 use Rattle.stk_dec.specs.declared.over.Over.{Over}
-use Rattle.stk_coins.specs.declared.fault.CoinFault.{CoinFault}
-use Rattle.stk_coins.specs.declared.fault.CoinFault.TheVariants as coin
 use Rattle.stk_coins.specs.Coins.{Money}
 use Rattle.stk_keep.specs.declared.facts.Fact.{Fact}
 use Rattle.stk_keep.specs.declared.facts.Fact.TheVariants.{Period}
 use Rattle.stk_keep.specs.declared.faults.HookFault.{HookFault}
-use Rattle.stk_keep.specs.declared.faults.HookFault.TheVariants as hook
 use Rattle.stk_keep.specs.Answers.{AsRuled, WantsMemory, ExceedsAs}
 use Rattle.stk_rules.specs.Periods.{Periods, Rewards, with_periods, last_ended}
 use Rattle.stk_f1.specs.Kept.{Kept}
@@ -23,15 +20,3 @@ abbrev pub Ends : List ℕ → Rewards → List Fact → Result (Money × Period
 Ends operator r facts rule k facts2 answer = AsRuled rule answer
     (λ due period. (period ≡ last_ended due.1) × KeepsRewards k (with_periods operator due.1 r)
     × (facts2 ≡ facts ++ Period operator period due.0 ∷ [])) WantsMemory ExceedsAs
-
--- the fault of a call on coins that can be over or want memory
-abbrev pub fault_of : CoinFault → HookFault
-fault_of (coin.Over over) = hook.Over over
-fault_of coin.NoMemory = hook.NoMemory
-fault_of (coin.Short place) = hook.NoMemory
-fault_of coin.Repeated = hook.NoMemory
-
--- what is due is over, with these operands; or memory is wanting
-abbrev pub IsExcessOf : {A : Type 0} → Result A Over → HookFault → Type 0
-IsExcessOf due (hook.Over over) = due ≡ Err over
-IsExcessOf due hook.NoMemory = ⊤

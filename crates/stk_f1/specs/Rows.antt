@@ -1,12 +1,11 @@
 -- Records as items of the state.
 use Rattle.std.specs.Prelude.{ℕ, ◌==◌, ◌&&◌, Bool, true, false, List, [], ◌∷◌, ◌++◌, Option, Some, None}
-use Rattle.std.specs.Str.{bytes_eq}
-use Rattle.stk_coins.specs.Coins.{Money}
 use Rattle.stk_keep.specs.declared.entities.Historical.{Historical}
 use Rattle.stk_keep.specs.declared.entities.StartingInfo.{StartingInfo}
 use Rattle.stk_keep.specs.declared.items.Item.{Item}
 use Rattle.stk_keep.specs.declared.items.Item.TheVariants as item
 use Rattle.stk_rows.specs.Rows.{rows_of}
+use Rattle.stk_sums.specs.Same.{same_money}
 use Rattle.stk_f1.specs.Kept.{Kept}
 
 -- the item of a period that runs
@@ -41,15 +40,6 @@ event_gone key = event_item key 0
 -- whether two values are one
 abbrev pub same_period : ℕ → ℕ → Bool
 same_period a b = a == b
-
-abbrev pub same_coin : List ℕ × ℕ → List ℕ × ℕ → Bool
-same_coin c d = bytes_eq c.0 d.0 && (c.1 == d.1)
-
-abbrev pub same_money : Money → Money → Bool
-same_money [] [] = true
-same_money [] (d ∷ ds) = false
-same_money (c ∷ cs) [] = false
-same_money (c ∷ cs) (d ∷ ds) = same_coin c d && same_money cs ds
 
 abbrev pub same_history : Historical → Historical → Bool
 same_history a b = (a.count == b.count) && same_money a.ratio b.ratio

@@ -3,7 +3,7 @@
 ghost use Rattle.std.specs.Prelude.{◌≡◌, ◌+◌, ◌-◌, ◌≤◌, ◌<◌, ◌≢◌, ◌^◌, true, OnOk, OnErr, IfOk, IfErr, IsErr, Ok, Some, is_some};
 ghost use Rattle.stk_coins.specs.Coins.{coins_added};
 ghost use Rattle.stk_keep.specs.declared.entities.Historical.{Historical};
-ghost use Rattle.stk_f1.specs.Answers.{fault_of, IsExcessOf};
+ghost use Rattle.stk_sums.specs.Faults.{IsExcessOf};
 ghost use Rattle.stk_f1.specs.Kept.{keeping, record_of, current_of, referred, released};
 ghost use Rattle.stk_f1.specs.Scenes.{LeavesBehind};
 ghost use Rattle.stk_f1.specs.Steps.{next_ratio, ended_kept, made_kept, running};
@@ -11,9 +11,10 @@ ghost use Rattle.stk_f1.specs.Steps.{next_ratio, ended_kept, made_kept, running}
 use crate::tables::Tables;
 use std::alloc::Global;
 use std::sync::ledger::Ledger;
-use stk_coins::{CoinFault, DecCoins};
+use stk_coins::DecCoins;
 use stk_dec::{Over, OverKind};
 use stk_keep::{Historical, HookFault};
+use stk_sums::sum_of;
 use stk_table::TableFault;
 use stk_types::{Addr, Copied, Steps};
 
@@ -161,29 +162,4 @@ fn with_one_fewer(alloc: Global, history: &Historical) -> Result<Historical, Tab
         ratio: history.ratio.copied()?,
         count,
     })
-}
-
-/// The sum of two ratios.
-pub(crate) fn sum_of(
-    alloc: Global,
-    ratio: &DecCoins,
-    more: &DecCoins,
-) -> Result<DecCoins, HookFault>
-    ensures sum { IfOk result (λ sum. coins_added ratio.now more.now ≡ Ok sum) }
-    ensures fault { IfErr result (IsExcessOf (coins_added ratio.now more.now)) }
-{
-    match ratio.add(alloc, more) {
-        Ok(sum) => Ok(sum),
-        Err(fault) => Err(hook_fault(fault)),
-    }
-}
-
-/// The fault of a call on coins that can be over or want memory.
-pub(crate) fn hook_fault(fault: CoinFault) -> HookFault
-    ensures { result ≡ fault_of fault }
-{
-    match fault {
-        CoinFault::Over(over) => HookFault::Over(over),
-        CoinFault::NoMemory | CoinFault::Short(_) | CoinFault::Repeated => HookFault::NoMemory,
-    }
 }

@@ -2,14 +2,15 @@
 
 ghost use Rattle.std.specs.Prelude.{◌≡◌};
 ghost use Rattle.stk_rows.specs.Rows.{AnyValue};
-ghost use Rattle.stk_f1.specs.Rows.{current_item, historical_item, start_item, event_item, current_gone, historical_gone, start_gone, event_gone, current_entry, historical_entry, start_entry, event_entry, same_period, same_history, same_start, same_coin, same_money};
+ghost use Rattle.stk_f1.specs.Rows.{current_item, historical_item, start_item, event_item, current_gone, historical_gone, start_gone, event_gone, current_entry, historical_entry, start_entry, event_entry, same_period, same_history, same_start};
 
 use crate::slash::Slash;
 use std::alloc::Global;
-use stk_coins::{DecCoin, DecCoins};
+use stk_coins::DecCoins;
 use stk_dec::Dec;
 use stk_keep::{Historical, Item, SlashEvent, StartingInfo};
 use stk_rows::Row;
+use stk_sums::same_coins;
 use stk_table::TableFault;
 use stk_types::{Addr, Copied};
 
@@ -195,29 +196,4 @@ fn nothing() -> Dec
     ensures { result ≡ 0 }
 {
     Dec::from_raw(0).unwrap()
-}
-
-/// Whether two lists have the same coins.
-fn same_coins(coins: &DecCoins, others: &DecCoins) -> bool
-    ensures { result ≡ same_money coins.now others.now }
-{
-    if coins.len() != others.len() {
-        return false;
-    }
-    for place in 0..coins.len() {
-        let (Some(coin), Some(other)) = (coins.at(place), others.at(place)) else {
-            return false;
-        };
-        if !same_coin(coin, other) {
-            return false;
-        }
-    }
-    true
-}
-
-fn same_coin(coin: &DecCoin, other: &DecCoin) -> bool
-    ensures { result
-        ≡ same_coin (coin.now.denom, coin.now.amount) (other.now.denom, other.now.amount) }
-{
-    coin.denom == other.denom && coin.amount.raw() == other.amount.raw()
 }

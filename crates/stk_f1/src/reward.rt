@@ -4,18 +4,18 @@ ghost use Rattle.std.specs.Prelude.{◌≡◌, ℕ, ◌+◌, ◌*◌, ◌≤◌,
 ghost use Rattle.stk_coins.specs.Coins.{coins_mul_cut};
 ghost use Rattle.stk_coins.specs.Coins.{first_short};
 ghost use Rattle.stk_keep.specs.declared.faults.HookFault.TheVariants.{NoMemory};
-ghost use Rattle.stk_f1.specs.Answers.{IsExcessOf};
+ghost use Rattle.stk_sums.specs.Faults.{IsExcessOf};
 ghost use Rattle.stk_f1.specs.Earning.{CanEarn, events_since, kept_reward, stretch_added};
 ghost use Rattle.stk_f1.specs.Kept.{events_of};
 ghost use Rattle.stk_rules.specs.Periods.{slashed_stake};
 
-use crate::counts::{hook_fault, sum_of};
 use crate::tables::Tables;
 use std::alloc::Global;
 use std::sync::ledger::Ledger;
 use stk_coins::DecCoins;
 use stk_dec::Dec;
 use stk_keep::{HookFault, StartingInfo};
+use stk_sums::{hook_fault, sum_of};
 use stk_types::{Addr, Steps};
 
 /// The units of one whole, 10^18.

@@ -48,8 +48,9 @@ use Rattle.stk_owed.proofs.Names.{IsKnown, amount_in_units, known_added, known_m
 use Rattle.stk_owed.proofs.Periods.{Ordered, pool_after, some_unwrap}
 use Rattle.stk_owed.proofs.Points.{PurseFits, StateFits, StateLeft, from_fits, to_fits}
 use Rattle.stk_owed.proofs.Purses.{HasJoined, PursesFit, enough_held, has_joined, owed_of, own_purse, purse_put, shared_purses}
-use Rattle.stk_owed.proofs.Steps.{and_also, on_bind, on_then, weaker_if, both_if}
-use Rattle.stk_owed.proofs.Totals.{total_put, total}
+use Rattle.stk_owed.proofs.Steps.{and_also, on_then, weaker_if, both_if}
+use Rattle.stk_rules.proofs.GoingLemmas.{on_bind}
+use Rattle.stk_rules.proofs.TotalLemmas.{total_put, total}
 use Rattle.stk_owed.specs.Kept.{AllocationKeepsSoundness, IsSoundAfter}
 use Rattle.stk_rules.proofs.OrderLemmas.{addr_total}
 use Rattle.stk_rules.proofs.SoundLemmas.{IsSoundAt}

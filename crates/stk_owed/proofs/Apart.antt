@@ -19,7 +19,8 @@ use Rattle.stk_keep.specs.Steps.{◌>>=◌}
 use Rattle.stk_keep.specs.World.{View, World, call, modified, modifying, noted, over_mine, over_view}
 use Rattle.stk_keep.specs.World as hook
 use Rattle.stk_owed.proofs.Hooking.{called_if, hook_gave, left_if, on_call, unlogged_if}
-use Rattle.stk_owed.proofs.Steps.{on_bind, on_then}
+use Rattle.stk_owed.proofs.Steps.{on_then}
+use Rattle.stk_rules.proofs.GoingLemmas.{on_bind}
 use Rattle.stk_owed.proofs.Unbonding.{less_of, lessened, may_jail, now_of}
 use Rattle.stk_rules.proofs.EntryLemmas.{at-put}
 use Rattle.stk_rules.proofs.OrderLemmas.{addr_total, pair_found, pair_total, same_back, same_is}

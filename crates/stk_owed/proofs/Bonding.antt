@@ -18,7 +18,7 @@ use Rattle.stk_keep.specs.Steps.{each}
 use Rattle.stk_keep.specs.World.{View, World, sent, over_view}
 use Rattle.stk_owed.proofs.Burns.{SayNoMore, quiet_behind}
 use Rattle.stk_owed.proofs.Delegating.{others}
-use Rattle.stk_rules.specs.BondedSet.{placed, by_power, joined_set, left_set, set_updated, joining_of, leaving_of, difference_moved, is_in_bonded_set, stands_before, tokens_of}
+use Rattle.stk_rules.specs.BondedSet.{HaveOwnOperators, placed, by_power, joined_set, left_set, set_updated, joining_of, leaving_of, difference_moved, is_in_bonded_set, stands_before, tokens_of}
 use Rattle.std.specs.List.{AllByRecursion}
 use Rattle.std.specs.Map.{values_of}
 use Rattle.stk_keep.proofs.HoldingLemmas.{balance-most}
@@ -27,8 +27,9 @@ use Rattle.stk_keep.specs.Holdings.{IsBacked, balance_of, is_short}
 use Rattle.stk_keep.specs.Orders.{pair_cmp, same_addr}
 use Rattle.stk_keep.specs.Staked.{Staked, bonded_tokens, is_bonded, is_unbonded, lists_of, of_bond, other_tokens, validator_at}
 use Rattle.stk_owed.proofs.Delegating.{bond_money, bond_moved, falls, has_enough, rises_to, same_sum, state_with, others}
-use Rattle.stk_owed.proofs.Lists.{all_put, filtered_all, looked_up, weaker}
-use Rattle.stk_owed.proofs.Maturing.{AllStand, AreApart, operators_are, stand_still, values_apart, values_stand}
+use Rattle.stk_owed.proofs.Lists.{all_put, looked_up, weaker}
+use Rattle.stk_owed.proofs.Maturing.{AllStand, operators_are, stand_still, values_stand}
+use Rattle.stk_rules.proofs.OperatorLemmas.{filtered_all, filtered_own, ordered_all, ordered_own, values_own}
 use Rattle.stk_owed.proofs.Moves.{ground_sent, keeps, same_bond, ground_told}
 use Rattle.stk_owed.proofs.Periods.{same_some}
 use Rattle.stk_owed.proofs.Points.{GroundFits, IsRecorded, SharedFits, StakeFits, StateFits, StateLeft}
@@ -46,40 +47,6 @@ use Rattle.stk_rules.specs.Owed.{entry_balances, owed_from_distribution}
 use Rattle.stk_rules.specs.Sound.{SigningIsSound, WindowIsSound}
 use Rattle.stk_rules.specs.Unbondings.{completion}
 use Rattle.stk_rules.specs.Window.{Signing, Window, begun_at, signing_of, signing_started}
-
--- ---- validators in the order of the set
-
-placed_all : (reduction : ℕ) (Q : Validator → Type 0) (v : Validator) (us : List Validator) → Q v → AllByRecursion Q us → AllByRecursion Q (placed reduction v us)
-placed_all reduction Q v [] q h = (q, tt)
-placed_all reduction Q v (u ∷ us) q h = by (stands_before reduction u v) (placed_all reduction Q v us q h.1)
-  where
-    by : (b : Bool) → AllByRecursion Q (placed reduction v us) → AllByRecursion Q (if b then u ∷ placed reduction v us else v ∷ u ∷ us)
-    by true rest = (h.0, rest)
-    by false rest = (q, h)
-
-placed_apart : (reduction : ℕ) (v : Validator) (us : List Validator) → AllByRecursion (λ u. same_addr v.operator u.operator ≡ false) us → AreApart us → AreApart (placed reduction v us)
-placed_apart reduction v [] a h = (tt, tt)
-placed_apart reduction v (u ∷ us) a h = by (stands_before reduction u v) (placed_apart reduction v us a.1 h.1)
-  where
-    by : (b : Bool) → AreApart (placed reduction v us) → AreApart (if b then u ∷ placed reduction v us else v ∷ u ∷ us)
-    by true rest = (placed_all reduction (λ x. same_addr u.operator x.operator ≡ false) v us (same_back u.operator v.operator ∙ a.0) h.0, rest)
-    by false rest = (a, h)
-
-ordered_all : (reduction : ℕ) (Q : Validator → Type 0) (vs : List Validator) → AllByRecursion Q vs → AllByRecursion Q (by_power reduction vs)
-ordered_all reduction Q [] h = tt
-ordered_all reduction Q (v ∷ vs) h = placed_all reduction Q v (by_power reduction vs) h.0 (ordered_all reduction Q vs h.1)
-
-ordered_apart : (reduction : ℕ) (vs : List Validator) → AreApart vs → AreApart (by_power reduction vs)
-ordered_apart reduction [] h = tt
-ordered_apart reduction (v ∷ vs) h = placed_apart reduction v (by_power reduction vs) (ordered_all reduction (λ u. same_addr v.operator u.operator ≡ false) vs h.0) (ordered_apart reduction vs h.1)
-
-filtered_apart : (test : Validator → Bool) (vs : List Validator) → AreApart vs → AreApart (filter test vs)
-filtered_apart test [] h = tt
-filtered_apart test (v ∷ vs) h = by (test v) (filtered_apart test vs h.1)
-  where
-    by : (b : Bool) → AreApart (filter test vs) → AreApart (cond b (v ∷ filter test vs) (filter test vs))
-    by true rest = (filtered_all test (λ u. same_addr v.operator u.operator ≡ false) vs (weaker (λ u. same_addr v.operator u.operator ≡ false) (λ u. test u ≡ true → same_addr v.operator u.operator ≡ false) (λ u k t. k) vs h.0), rest)
-    by false rest = rest
 
 -- ---- signing records
 
@@ -183,7 +150,7 @@ module _ (w0 : World Staked Hooks) (height_fits : w0.view.ctx.height < 2 ^ 63) w
       regrouped : (a b c : ℕ) → a + b + c ≡ a + (b + c)
       regrouped a b c = omega arith
 
-  all_join : (vs : List Validator) (up down : ℕ) (w : World Staked Hooks) → HasShifted w0 up down w → AllStand w.mine vs → AreApart vs → AllByRecursion (λ v. is_bonded v.status ≡ false) vs
+  all_join : (vs : List Validator) (up down : ℕ) (w : World Staked Hooks) → HasShifted w0 up down w → AllStand w.mine vs → HaveOwnOperators vs → AllByRecursion (λ v. is_bonded v.status ≡ false) vs
       → IfOk (each (joined_set chain_told) vs w) (λ x. HasShifted w0 (up + tokens_of vs) down x × ((o : List ℕ) → AllByRecursion (λ v. same_addr v.operator o ≡ false) vs → validator_at x.mine o ≡ validator_at w.mine o))
   all_join [] up down w h s a b = (subst (λ n. HasShifted w0 n down w) (none up) h, λ o k. refl)
     where
@@ -237,7 +204,7 @@ module _ (w0 : World Staked Hooks) (height_fits : w0.view.ctx.height < 2 ^ 63) w
       bonded_is Unbonding e = refl
       bonded_is Unbonded e = absurd cc
 
-  all_leave : (vs : List Validator) (up down : ℕ) (w : World Staked Hooks) → HasShifted w0 up down w → AllStand w.mine vs → AreApart vs → AllByRecursion (λ v. is_bonded v.status ≡ true) vs → IfOk (each (left_set chain_told) vs w) (HasShifted w0 up (down + tokens_of vs))
+  all_leave : (vs : List Validator) (up down : ℕ) (w : World Staked Hooks) → HasShifted w0 up down w → AllStand w.mine vs → HaveOwnOperators vs → AllByRecursion (λ v. is_bonded v.status ≡ true) vs → IfOk (each (left_set chain_told) vs w) (HasShifted w0 up (down + tokens_of vs))
   all_leave [] up down w h s a b = subst (λ n. HasShifted w0 up n w) (none down) h
     where
       none : (n : ℕ) → n ≡ n + 0
@@ -376,7 +343,7 @@ module _ (P : List ℕ → Type 0) (T : List ℕ → ℕ) where
       let height = w.view.ctx.height in
       let few = h.ground.order.height in
       let stand : AllStand w.mine vs = values_stand height w.mine h.staked in
-      let apart : AreApart vs = values_apart w.mine.validators h.staked.validators_ascend (operators_are height w.mine h.staked) in
+      let apart : HaveOwnOperators vs = values_own w.mine.validators h.staked.validators_ascend (operators_are height w.mine h.staked) in
       let joins_if : Validator → Bool = λ v. is_in_bonded_set p.power_reduction p.max_validators vs v && not (is_bonded v.status) in
       let leaves_if : Validator → Bool = λ v. is_bonded v.status && not (is_in_bonded_set p.power_reduction p.max_validators vs v) in
       let joining = joining_of p.power_reduction p.max_validators vs in
@@ -392,10 +359,10 @@ module _ (P : List ℕ → Type 0) (T : List ℕ → ℕ) where
       let joining_stand : AllStand w.mine joining = of_joining (λ v. validator_at w.mine v.operator ≡ Some v) (each_one (λ v. joins_if v ≡ true → validator_at w.mine v.operator ≡ Some v) (λ v f t. f)) in
       let leaving_stand : AllStand w.mine leaving = of_leaving (λ v. validator_at w.mine v.operator ≡ Some v) (each_one (λ v. leaves_if v ≡ true → validator_at w.mine v.operator ≡ Some v) (λ v f t. f)) in
       on_then (each (joined_set chain_told) joining w) _ (λ x. HasShifted w (0 + tokens_of joining) 0 x × ((o : List ℕ) → AllByRecursion (λ v. same_addr v.operator o ≡ false) joining → validator_at x.mine o ≡ validator_at w.mine o)) _
-      (all_join w few joining 0 0 w start joining_stand (ordered_apart p.power_reduction (filter joins_if vs) (filtered_apart joins_if vs apart)) not_yet) (λ x k.
+      (all_join w few joining 0 0 w start joining_stand (ordered_own p.power_reduction (filter joins_if vs) (filtered_own joins_if vs apart)) not_yet) (λ x k.
       on_then (each (left_set chain_told) leaving x) _ (HasShifted w (0 + tokens_of joining) (0 + tokens_of leaving)) _
       (all_leave w few leaving (0 + tokens_of joining) 0 x k.0
-      (others_stand x joining leaving k.1 joining_stand leaving_stand not_yet yet) (filtered_apart leaves_if vs apart) yet) (λ y j.
+      (others_stand x joining leaving k.1 joining_stand leaving_stand not_yet yet) (filtered_own leaves_if vs apart) yet) (λ y j.
       and_also (moved_fits b n (tokens_of joining) (tokens_of leaving) w y h (subst (λ m. HasShifted w m (tokens_of leaving) y) (none (tokens_of joining)) (subst (λ m. HasShifted w (0 + tokens_of joining) m y) (none (tokens_of leaving)) j)))
       (difference_ctx (tokens_of joining) (tokens_of leaving) y.view ∙ j.ctx)))
     where

@@ -32,8 +32,9 @@ use Rattle.stk_owed.proofs.Names.{known_none}
 use Rattle.stk_owed.proofs.Periods.{stands_first}
 use Rattle.stk_owed.proofs.Points.{IsRecorded, PeriodsFit, PurseFits, StakeFits, StartFits, StateFits, StateLeft}
 use Rattle.stk_owed.proofs.Standing.{stake_relisted}
-use Rattle.stk_owed.proofs.Steps.{and_also, on_stop, on_then}
-use Rattle.stk_owed.proofs.Totals.{total_joined}
+use Rattle.stk_owed.proofs.Steps.{and_also, on_then}
+use Rattle.stk_rules.proofs.GoingLemmas.{on_stop}
+use Rattle.stk_rules.proofs.TotalLemmas.{total_joined}
 use Rattle.stk_owed.specs.Kept.{CreatingKeepsSoundness}
 use Rattle.stk_rules.proofs.EntryLemmas.{ascend-put, at-put, to_all}
 use Rattle.stk_rules.proofs.OrderLemmas.{addr_total, pair_total, same_back, same_is}

@@ -34,7 +34,8 @@ use Rattle.stk_owed.proofs.Points.{IsRecorded, StakeFits, StateFits, StateLeft, 
 use Rattle.stk_owed.proofs.Purses.{enough_held, there_still}
 use Rattle.stk_owed.proofs.Rewards.{pair_at, start_leaves}
 use Rattle.stk_owed.proofs.Standing.{own_place, stake_relisted}
-use Rattle.stk_owed.proofs.Steps.{on_found, on_lifted, on_next, on_stop, on_then, weaker_if, and_also}
+use Rattle.stk_owed.proofs.Steps.{on_then, weaker_if, and_also}
+use Rattle.stk_rules.proofs.GoingLemmas.{on_found, on_lifted, on_next, on_stop}
 use Rattle.stk_owed.specs.Kept.{DelegatingKeepsSoundness}
 use Rattle.stk_rules.proofs.EntryLemmas.{at-put}
 use Rattle.stk_rules.proofs.OrderLemmas.{pair_total, same_back, same_itself}

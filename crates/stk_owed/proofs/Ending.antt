@@ -19,11 +19,12 @@ use Rattle.stk_keep.specs.Orders.{pair_cmp, triple_cmp}
 use Rattle.stk_keep.specs.Staked.{Staked, lists_of, other_tokens}
 use Rattle.stk_owed.proofs.Delegating.{all_other, bond_money, bond_moved, falls, has_enough, same_sum}
 use Rattle.stk_owed.proofs.Entries.{Entries, PairFits, PairsFit, from_pairs, sum_more, to_pairs}
-use Rattle.stk_owed.proofs.Lists.{filtered_all, weaker}
+use Rattle.stk_owed.proofs.Lists.{weaker}
+use Rattle.stk_rules.proofs.OperatorLemmas.{filtered_all}
 use Rattle.stk_owed.proofs.Moves.{ground_sent, keeps_fits}
 use Rattle.stk_owed.proofs.Points.{StakeFits, StateFits}
 use Rattle.stk_owed.proofs.Redelegating.{TripleFits, from_triples, to_triples}
-use Rattle.stk_owed.proofs.Totals.{total_more}
+use Rattle.stk_rules.proofs.TotalLemmas.{total_more}
 use Rattle.stk_owed.specs.Kept.{RedelegationsStepKeepsSoundness, UnbondingsStepKeepsSoundness}
 use Rattle.stk_rules.proofs.OrderLemmas.{pair_total}
 use Rattle.stk_rules.specs.Amounts.{bond_coins}

@@ -13,7 +13,7 @@ use Rattle.std.specs.Map.{keys_of}
 use Rattle.stk_keep.specs.Entries.{at, without}
 use Rattle.stk_keep.specs.Orders.{pair_cmp}
 use Rattle.stk_owed.proofs.Lists.{all_put, all_taken, ascend_taken, looked_up, weaker}
-use Rattle.stk_owed.proofs.Totals.{total_joined, total_left, total_put, total_within}
+use Rattle.stk_rules.proofs.TotalLemmas.{total_joined, total_left, total_put, total_within}
 use Rattle.stk_rules.proofs.EntryLemmas.{ascend-put}
 use Rattle.stk_rules.proofs.OrderLemmas.{pair_total}
 use Rattle.stk_rules.proofs.SoundLemmas.{exact_pair}

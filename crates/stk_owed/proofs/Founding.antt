@@ -158,18 +158,19 @@ delegated_sure v who n issued k w given none unbonded c l =
 
 -- ---- pairs that are not there yet
 
-record ArePairsNew (ds : List GenesisDelegation) (s : Staked) : Type 0 where
-  none : AllByRecursion (λ d. delegation s d.delegator d.validator ≡ None) ds
-  once : has_pair_twice ds ≡ false
+-- these delegations are not there yet, and each is there once
+pub record ArePairsNew (ds : List GenesisDelegation) (s : Staked) : Type 0 where
+  pub none : AllByRecursion (λ d. delegation s d.delegator d.validator ≡ None) ds
+  pub once : has_pair_twice ds ≡ false
 
-either_not : (a b : Bool) → (a || b) ≡ false → (a ≡ false) × (b ≡ false)
+pub either_not : (a b : Bool) → (a || b) ≡ false → (a ≡ false) × (b ≡ false)
 either_not true b e = absurd cc
 either_not false b e = (refl, e)
 
 pair_apart : (k q : List ℕ × List ℕ) → is_at (pair_cmp k) q ≡ false → is_at (pair_cmp q) k ≡ false
 pair_apart k q e = pair_found q.0 k.0 q.1 k.1 ∙ (λ i. same_back q.0 k.0 i && same_back q.1 k.1 i) ∙ sym (pair_found k.0 q.0 k.1 q.1) ∙ e
 
-pairs_after : (op who : List ℕ) (sh : ℕ) (ds : List GenesisDelegation) (s t : Staked) → ((y o : List ℕ) → delegation t y o ≡ cond (is_at (pair_cmp (o, y)) (op, who)) (Some sh) (delegation s y o))
+pub pairs_after : (op who : List ℕ) (sh : ℕ) (ds : List GenesisDelegation) (s t : Staked) → ((y o : List ℕ) → delegation t y o ≡ cond (is_at (pair_cmp (o, y)) (op, who)) (Some sh) (delegation s y o))
     → list_any (is_at (pair_cmp (op, who))) (map (λ (d : GenesisDelegation). (d.validator, d.delegator)) ds) ≡ false → AllByRecursion (λ d. delegation s d.delegator d.validator ≡ None) ds → AllByRecursion (λ d. delegation t d.delegator d.validator ≡ None) ds
 pairs_after op who sh [] s t f e h = tt
 pairs_after op who sh (d ∷ ds) s t f e h =
@@ -214,11 +215,11 @@ delegations_sure (d ∷ ds) k w v is new c l =
 -- ---- all validators
 
 -- the validators, all entered
-abbrev entered : List GenesisValidator → View → Staked → Staked
+abbrev pub entered : List GenesisValidator → View → Staked → Staked
 entered [] v s = s
 entered (x ∷ xs) v s = entered xs v (put_validator (entrant v x) s)
 
-entered_is : (vs : List GenesisValidator) (s : Staked) (v : View) → each (validator_added no_hook) vs (over {H = Unit {0}} tt s v) ≡ Ok (over {H = Unit {0}} tt (entered vs v s) v)
+pub entered_is : (vs : List GenesisValidator) (s : Staked) (v : View) → each (validator_added no_hook) vs (over {H = Unit {0}} tt s v) ≡ Ok (over {H = Unit {0}} tt (entered vs v s) v)
 entered_is [] s v = refl
 entered_is (x ∷ xs) s v = entered_is xs (put_validator (entrant v x) s) v
 
@@ -229,7 +230,7 @@ validators_sure (x ∷ xs) w c =
 
 -- ---- the chain
 
-none_yet : (ds : List GenesisDelegation) (s : Staked) → s.delegations ≡ [] → AllByRecursion (λ d. delegation s d.delegator d.validator ≡ None) ds
+pub none_yet : (ds : List GenesisDelegation) (s : Staked) → s.delegations ≡ [] → AllByRecursion (λ d. delegation s d.delegator d.validator ≡ None) ds
 none_yet [] s e = tt
 none_yet (d ∷ ds) s e = (ap (λ (es : List ((List ℕ × List ℕ) × ℕ)). at pair_cmp es (d.validator, d.delegator)) e, none_yet ds s e)
 

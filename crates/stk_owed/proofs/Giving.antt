@@ -18,7 +18,8 @@ use Rattle.stk_keep.specs.declared.entities.Purse.{Purse}
 use Rattle.stk_keep.specs.declared.entities.Validator.{Validator}
 use Rattle.stk_owed.proofs.Burns.{total_in}
 use Rattle.stk_owed.proofs.Hooking.{stake_hooks}
-use Rattle.stk_owed.proofs.Maturing.{AllStand, AreApart, matured_fits, operators_are, stand_still, unbonded_fits, values_apart, values_stand}
+use Rattle.stk_owed.proofs.Maturing.{AllStand, matured_fits, operators_are, stand_still, unbonded_fits, values_stand}
+use Rattle.stk_rules.proofs.OperatorLemmas.{values_own}
 use Rattle.stk_owed.proofs.Moves.{HooksFit}
 use Rattle.stk_owed.proofs.Names.{IsKnown, known_added, known_fractions, known_smaller, known_taken}
 use Rattle.stk_owed.proofs.Periods.{Ordered, some_unwrap}
@@ -26,10 +27,10 @@ use Rattle.stk_owed.proofs.Points.{PurseFits, StakeFits, StateFits, to_fits}
 use Rattle.stk_owed.proofs.Purses.{owed_of, own_purse}
 use Rattle.stk_owed.proofs.Removing.{StakeLeft, stake_removed}
 use Rattle.stk_owed.proofs.Steps.{from_if}
-use Rattle.stk_owed.proofs.Totals.{total, total_left}
+use Rattle.stk_rules.proofs.TotalLemmas.{total, total_left}
 use Rattle.stk_rules.proofs.OrderLemmas.{addr_total}
 use Rattle.stk_rules.proofs.SoundLemmas.{found_itself}
-use Rattle.stk_rules.specs.BondedSet.{difference_moved, joined_set, joining_of, leaving_of, left_set, matured, set_updated, tokens_of, validators_matured}
+use Rattle.stk_rules.specs.BondedSet.{HaveOwnOperators, difference_moved, joined_set, joining_of, leaving_of, left_set, matured, set_updated, tokens_of, validators_matured}
 use Rattle.stk_rules.specs.Chain.{Hooks, State, chain_told, maturing_step, set_step, staked_in, with_staked}
 use Rattle.stk_rules.specs.Distribution.{Shared, records_removed, told_of, unlogged}
 use Rattle.stk_rules.specs.Laws.{BlocksEnd}
@@ -131,7 +132,7 @@ module _ (P : List ℕ → Type 0) (T : List ℕ → ℕ) where
           part_of : (t x all : ℕ) → t + x ≡ all → x ≤ all
           part_of t x all e = omega (arith, e)
 
-  removal_gives : (val : Validator) (v : View) (l : Lists) (d : Shared) → HooksFit P T v l d → l.operators val.operator ≡ true → Gives (records_removed val d v)
+  pub removal_gives : (val : Validator) (v : View) (l : Lists) (d : Shared) → HooksFit P T v l d → l.operators val.operator ≡ true → Gives (records_removed val d v)
   removal_gives val v l d h there =
       let s = h.shared in
       let (z, e) = closed_gives val.operator d.purses (s.purses_ascend, s.purses, s.pool) (s.stands.purses val.operator ∙ there) (λ q. few _ _ (balance-most v.bank (account.Module holder.Distribution) q h.ground.order.bank) (h.owed q)) in
@@ -172,7 +173,7 @@ module _ (P : List ℕ → Type 0) (T : List ℕ → ℕ) where
       by true false e = (w, refl)
       by false t e = (w, refl)
 
-  all_mature : (vs : List Validator) (b n : ℕ) (w : World Staked Hooks) → StakeFits P T b n (lists_of w.mine) w → AllStand w.mine vs → AreApart vs → Gives (each (matured chain_told) vs w)
+  all_mature : (vs : List Validator) (b n : ℕ) (w : World Staked Hooks) → StakeFits P T b n (lists_of w.mine) w → AllStand w.mine vs → HaveOwnOperators vs → Gives (each (matured chain_told) vs w)
   all_mature [] b n w h s a = (w, refl)
   all_mature (v ∷ vs) b n w h s a =
       let (x, e) = matured_gives b n w v h s.0 in
@@ -183,7 +184,7 @@ module _ (P : List ℕ → Type 0) (T : List ℕ → ℕ) where
   maturing_gives w h =
       let s = w.mine.staked in
       let (x, e) = all_mature (values_of s.validators) 0 (entry_balances w.mine.unbondings) (staked_in w) h.stake (values_stand w.view.ctx.height s h.stake.staked)
-      (values_apart s.validators h.stake.staked.validators_ascend (operators_are w.view.ctx.height s h.stake.staked)) in
+      (values_own s.validators h.stake.staked.validators_ascend (operators_are w.view.ctx.height s h.stake.staked)) in
       gives_on (validators_matured chain_told (staked_in w)) (λ y. Ok (with_staked w.mine y)) x e (with_staked w.mine x, refl)
 
 pub blocks_end : BlocksEnd

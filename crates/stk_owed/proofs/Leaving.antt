@@ -26,7 +26,8 @@ use Rattle.stk_owed.proofs.Lists.{looked_up, weaker}
 use Rattle.stk_owed.proofs.Moves.{keeps}
 use Rattle.stk_owed.proofs.Points.{StakeFits, StateFits, from_fits, to_fits, AreAllWhole, StateLeft, WholeEntries}
 use Rattle.stk_owed.proofs.Standing.{own_place}
-use Rattle.stk_owed.proofs.Steps.{and_also, on_found, on_lifted, on_lifted_then, on_stop, on_then, weaker_if}
+use Rattle.stk_owed.proofs.Steps.{and_also, on_lifted_then, on_then, weaker_if}
+use Rattle.stk_rules.proofs.GoingLemmas.{on_found, on_lifted, on_stop}
 use Rattle.stk_owed.proofs.Unbonding.{HasUnbonded, unbonded_fits}
 use Rattle.stk_owed.specs.Kept.{CancellingKeepsSoundness, IsSoundAfter, UndelegatingKeepsSoundness}
 use Rattle.stk_rules.specs.Amounts.{bond_coins}

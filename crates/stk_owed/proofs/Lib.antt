@@ -5,7 +5,7 @@ pub mod Bank
 pub mod Burns
 pub mod Points
 pub mod Moves
-pub mod Totals
+pub mod Fitting
 pub mod Purses
 pub mod Pool
 pub mod Standing
@@ -34,6 +34,8 @@ pub mod Starting
 pub mod Together
 pub mod Giving
 pub mod Founding
+pub mod Halfway
+pub mod Within
 pub mod Refusing
 pub mod Supplies
 pub mod Refused

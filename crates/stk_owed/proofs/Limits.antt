@@ -35,7 +35,7 @@ use Rattle.stk_owed.proofs.Points.{PurseFits}
 use Rattle.stk_owed.proofs.Purses.{owed_of, own_purse}
 use Rattle.stk_owed.proofs.Rewards.{due_leaves, put_found}
 use Rattle.stk_owed.proofs.Steps.{from_if}
-use Rattle.stk_owed.proofs.Totals.{total_left}
+use Rattle.stk_rules.proofs.TotalLemmas.{total_left}
 use Rattle.stk_rules.proofs.OrderLemmas.{addr_total}
 use Rattle.stk_rules.specs.Amounts.{over_facts}
 use Rattle.stk_rules.specs.Chain.{Hooks, chain_told}

@@ -38,14 +38,6 @@ pub from_mapped : {X Y : Type 0} (P : Y → Type 0) (f : X → Y) (xs : List X) 
 from_mapped P f [] h = tt
 from_mapped P f (x ∷ xs) h = (h.0, from_mapped P f xs h.1)
 
-pub filtered_all : {X : Type 0} (test : X → Bool) (P : X → Type 0) (xs : List X) → AllByRecursion (λ x. test x ≡ true → P x) xs → AllByRecursion P (filter test xs)
-filtered_all test P [] h = tt
-filtered_all test P (x ∷ xs) h = by (test x) refl (filtered_all test P xs h.1)
-  where
-    by : (b : Bool) → test x ≡ b → AllByRecursion P (filter test xs) → AllByRecursion P (cond b (x ∷ filter test xs) (filter test xs))
-    by true e rest = (h.0 e, rest)
-    by false e rest = rest
-
 pub from_filtered : {X : Type 0} (test : X → Bool) (P : X → Type 0) (xs : List X) → AllByRecursion P (filter test xs) → AllByRecursion (λ x. test x ≡ true → P x) xs
 from_filtered test P [] h = tt
 from_filtered test P (x ∷ xs) h = by (test x) refl h (λ k. from_filtered test P xs k)

@@ -32,7 +32,8 @@ use Rattle.stk_rules.proofs.EntryLemmas.{to_all}
 use Rattle.stk_rules.proofs.OrderLemmas.{addr_total, same_back}
 use Rattle.stk_rules.proofs.SoundLemmas.{IsSoundAt, exact_addr, found-put, found_itself, sound-put}
 use Rattle.stk_rules.proofs.TokenLemmas.{counted, tokens-put}
-use Rattle.stk_rules.specs.BondedSet.{matured, validators_matured}
+use Rattle.stk_rules.proofs.OperatorLemmas.{values_own}
+use Rattle.stk_rules.specs.BondedSet.{HaveOwnOperators, matured, validators_matured}
 use Rattle.stk_rules.specs.Chain.{Hooks, State, chain_told, maturing_step, staked_in}
 use Rattle.stk_rules.specs.Owed.{entry_balances}
 use Rattle.stk_rules.specs.Sound.{ValidatorIsSound}
@@ -40,11 +41,6 @@ use Rattle.stk_rules.specs.Stakes.{is_unbonding, changed}
 use Rattle.stk_rules.specs.Unbonding.{removed_if_empty}
 
 -- ---- lists of validators of different operators
-
--- each stands under an operator of its own
-abbrev pub AreApart : List Validator → Type 0
-AreApart [] = Unit {0}
-AreApart (v ∷ vs) = AllByRecursion (λ u. same_addr v.operator u.operator ≡ false) vs × AreApart vs
 
 -- each stands, as it is, under its own operator
 abbrev pub AllStand : Staked → List Validator → Type 0
@@ -54,16 +50,6 @@ AllStand s vs = AllByRecursion (λ v. validator_at s v.operator ≡ Some v) vs
 pub stand_still : (s t : Staked) (op : List ℕ) (vs : List Validator) → ((o : List ℕ) → same_addr op o ≡ false → validator_at t o ≡ validator_at s o) → AllByRecursion (λ u. same_addr op u.operator ≡ false) vs → AllStand s vs → AllStand t vs
 stand_still s t op [] f a h = tt
 stand_still s t op (v ∷ vs) f a h = (f v.operator a.0 ∙ h.0, stand_still s t op vs f a.1 h.1)
-
--- those of the records do
-apart_from : (k : List ℕ) (es : List (List ℕ × Validator)) (v : Validator) → v.operator ≡ k → AllByRecursion (λ y. addr_cmp k y ≡ Less) (keys_of es) → AllByRecursion (λ e. e.1.operator ≡ e.0) es → AllByRecursion (λ u. same_addr v.operator u.operator ≡ false) (values_of es)
-apart_from k [] v e b o = tt
-apart_from k (x ∷ es) v e b o = ((λ i. same_addr (e i) (o.0 i)) ∙ ap is_eq b.0, apart_from k es v e b.1 o.1)
-
-pub values_apart : (es : List (List ℕ × Validator)) → IsStrictlySortedBy addr_cmp (keys_of es) → AllByRecursion (λ e. e.1.operator ≡ e.0) es → AreApart (values_of es)
-unfolding IsStrictlySortedBy
-values_apart [] s o = tt
-values_apart (e ∷ es) s o = (apart_from e.0 es e.1 o.0 s.0 o.1, values_apart es s.1 o.1)
 
 pub values_stand : (height : ℕ) (s : Staked) → IsSoundAt height s → AllStand s (values_of s.validators)
 values_stand height s h = mapped_all (λ v. validator_at s v.operator ≡ Some v) (λ (e : List ℕ × Validator). e.1) s.validators
@@ -141,7 +127,7 @@ module _ (P : List ℕ → Type 0) (T : List ℕ → ℕ) where
       by true false e = record { fits = h; ctx = refl; others = λ o f. refl }
       by false t e = record { fits = h; ctx = refl; others = λ o f. refl }
 
-  all_matured : (vs : List Validator) (b n : ℕ) (w : World Staked Hooks) → StakeFits P T b n (lists_of w.mine) w → AllStand w.mine vs → AreApart vs → IfOk (each (matured chain_told) vs w) (λ x. StakeFits P T b n (lists_of x.mine) x × (x.view.ctx ≡ w.view.ctx))
+  all_matured : (vs : List Validator) (b n : ℕ) (w : World Staked Hooks) → StakeFits P T b n (lists_of w.mine) w → AllStand w.mine vs → HaveOwnOperators vs → IfOk (each (matured chain_told) vs w) (λ x. StakeFits P T b n (lists_of x.mine) x × (x.view.ctx ≡ w.view.ctx))
   all_matured [] b n w h s a = (h, refl)
   all_matured (v ∷ vs) b n w h s a =
       on_then (matured chain_told v w) _ (StakeLeft P T b n w v.operator) _ (matured_fits b n w v h s.0) (λ x k.
@@ -153,7 +139,7 @@ module _ (P : List ℕ → Type 0) (T : List ℕ → ℕ) where
       let s = w.mine.staked in
       on_then (validators_matured chain_told (staked_in w)) _ (λ x. StakeFits P T 0 (entry_balances w.mine.unbondings) (lists_of x.mine) x × (x.view.ctx ≡ w.view.ctx)) _
       (all_matured (values_of s.validators) 0 (entry_balances w.mine.unbondings) (staked_in w) h.stake (values_stand w.view.ctx.height s h.stake.staked)
-      (values_apart s.validators h.stake.staked.validators_ascend (operators_are w.view.ctx.height s h.stake.staked)))
+      (values_own s.validators h.stake.staked.validators_ascend (operators_are w.view.ctx.height s h.stake.staked)))
       (λ x k. state_with P T w x h k.0 k.1)
 
 pub maturing_keeps_soundness : MaturingKeepsSoundness

@@ -31,7 +31,8 @@ use Rattle.stk_owed.specs.Kept.{IsSoundAfter, FeesKeepSoundness, SendsKeepSoundn
 use Rattle.stk_owed.proofs.Bank.{held_moved, known_enough}
 use Rattle.stk_owed.proofs.Burns.{SayNoMore, total_in, total_sent}
 use Rattle.stk_owed.proofs.Points.{SharedFits, GroundFits, StakeFits, StateFits, to_fits, from_fits, StateLeft, WholeEntries}
-use Rattle.stk_owed.proofs.Steps.{on_stop, on_then, if_ok, from_if}
+use Rattle.stk_owed.proofs.Steps.{on_then, if_ok, from_if}
+use Rattle.stk_rules.proofs.GoingLemmas.{on_stop}
 use Rattle.stk_keep.specs.Entries.{with}
 use Rattle.std.specs.List.{AllByRecursion}
 

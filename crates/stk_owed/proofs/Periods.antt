@@ -24,8 +24,9 @@ use Rattle.stk_owed.proofs.Lists.{all_put, weaker}
 use Rattle.stk_owed.proofs.Names.{IsKnown, known_added, known_none, known_quo_cut, known_smaller, known_taken}
 use Rattle.stk_owed.proofs.Points.{EventFits, PeriodsFit, PurseFits, SharedFits, Stands, StartFits}
 use Rattle.stk_owed.proofs.Purses.{HasJoined, PursesFit, has_joined, owed_of, own_purse, purse_put, there_still}
-use Rattle.stk_owed.proofs.Steps.{on_bind, on_stop, on_then}
-use Rattle.stk_owed.proofs.Totals.{total, total_put}
+use Rattle.stk_owed.proofs.Steps.{on_then}
+use Rattle.stk_rules.proofs.GoingLemmas.{on_bind, on_stop}
+use Rattle.stk_rules.proofs.TotalLemmas.{total, total_put}
 use Rattle.stk_rules.proofs.EntryLemmas.{ascend-put, at-put}
 use Rattle.stk_rules.proofs.OrderLemmas.{addr_total, same_is}
 use Rattle.stk_rules.proofs.SoundLemmas.{exact_addr}

@@ -35,7 +35,8 @@ use Rattle.stk_rules.proofs.SoundLemmas.{IsSoundAt, to_points, from_points, exac
 use Rattle.stk_machine.proofs.PurseLemmas.{coins-amount, coins-one, one-amount}
 use Rattle.stk_owed.proofs.Bank.{AreHeld}
 use Rattle.stk_owed.proofs.Burns.{total_in}
-use Rattle.stk_owed.proofs.Lists.{all_left, all_right, weaker, mapped_all, from_mapped, filtered_all, from_filtered, found_by, counts_itself}
+use Rattle.stk_owed.proofs.Lists.{all_left, all_right, weaker, mapped_all, from_mapped, from_filtered, found_by, counts_itself}
+use Rattle.stk_rules.proofs.OperatorLemmas.{filtered_all}
 use Rattle.stk_owed.proofs.Names.{AreNamed, IsKnown}
 use Rattle.stk_rules.specs.Window.{Window, signing_of}
 use Rattle.stk_keep.specs.declared.entities.Validator.{Validator}
@@ -99,7 +100,7 @@ module _ (P : List ℕ → Type 0) where
   in_names : (c : Money) → AreNamed P c → All P (names_in c)
   in_names c h = All-from_recursion P (names_in c) (mapped_all P (λ (e : List ℕ × ℕ). e.0) c h)
 
-  purses_named : (es : List (List ℕ × Purse)) → AllByRecursion (λ e. PurseIsSound e.1) es → All P (names_of_purses (values_of es)) → AllByRecursion (λ e. PurseFits e.1) es
+  pub purses_named : (es : List (List ℕ × Purse)) → AllByRecursion (λ e. PurseIsSound e.1) es → All P (names_of_purses (values_of es)) → AllByRecursion (λ e. PurseFits e.1) es
   purses_named [] h n = tt
   purses_named (e ∷ es) h n =
       let p : Purse = e.1 in
@@ -170,7 +171,7 @@ module _ (P : List ℕ → Type 0) where
           let counted : 0 < count_where (λ y. y.period == e.period) p.events = c.0 in
           (record { period = one.period; height = one.height; fraction = one.fraction; stands = h.standing e.period (omega (arith, counted)) }, each_event es s.1 c.1)
 
-  all_periods : (height : ℕ) (r : Rewards) (es : List (List ℕ × Periods)) → AllByRecursion (λ e. PeriodsAreSound height (starts_of r e.0) e.1) es → All P (names_of_periods (values_of es)) → AllByRecursion (λ e. PeriodsFit height e.1) es
+  pub all_periods : (height : ℕ) (r : Rewards) (es : List (List ℕ × Periods)) → AllByRecursion (λ e. PeriodsAreSound height (starts_of r e.0) e.1) es → All P (names_of_periods (values_of es)) → AllByRecursion (λ e. PeriodsFit height e.1) es
   all_periods height r [] h n = tt
   all_periods height r (e ∷ es) h n = (
     period_fits height (starts_of r e.0) e.1 h.0 (all_left P (names_of_ratios e.1.ratios) (names_of_periods (values_of es)) n),
@@ -185,7 +186,7 @@ module _ (P : List ℕ → Type 0) where
       All-contains (λ (x : (List ℕ × List ℕ) × StartingInfo). same_addr x.0.0 e.0.0 ≡ true → Q x.1) r.starts e
       (All-from_recursion (λ (x : (List ℕ × List ℕ) × StartingInfo). same_addr x.0.0 e.0.0 ≡ true → Q x.1) r.starts own) c (same_itself e.0.0)
 
-  start_fits : (height : ℕ) (r : Rewards) → RewardsAreSound height r → (e : (List ℕ × List ℕ) × StartingInfo) → Contains r.starts e → (p : Periods) → at addr_cmp r.periods e.0.0 ≡ Some p → StartFits height p e.1
+  pub start_fits : (height : ℕ) (r : Rewards) → RewardsAreSound height r → (e : (List ℕ × List ℕ) × StartingInfo) → Contains r.starts e → (p : Periods) → at addr_cmp r.periods e.0.0 ≡ Some p → StartFits height p e.1
   start_fits height r h e c p f =
       let own : PeriodsAreSound height (starts_of r e.0.0) p = from_all addr_cmp addr_total (λ x. PeriodsAreSound height (starts_of r x.0) x.1) r.periods exact_addr h.periods e.0.0 p f in
       let begun : StartIsSound p.current height e.1 = own_starts r (StartIsSound p.current height) e (recursion_from_All (StartIsSound p.current height) (starts_of r e.0.0) own.begun) c in
@@ -197,7 +198,7 @@ module _ (P : List ℕ → Type 0) where
   either_some zero b h = inr (omega (arith, h))
   either_some (suc a) b h = inl (omega arith)
 
-  period_sound : (height : ℕ) (r : Rewards) (o : List ℕ) (p : Periods) → at addr_cmp r.periods o ≡ Some p → PeriodsFit height p
+  pub period_sound : (height : ℕ) (r : Rewards) (o : List ℕ) (p : Periods) → at addr_cmp r.periods o ≡ Some p → PeriodsFit height p
       → AllByRecursion (λ e. (p : Periods) → at addr_cmp r.periods e.0.0 ≡ Some p → StartFits height p e.1) r.starts → PeriodsAreSound height (starts_of r o) p
   period_sound height r o p f h starts = record {
     first = h.first;

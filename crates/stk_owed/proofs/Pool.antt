@@ -27,8 +27,9 @@ use Rattle.stk_owed.proofs.Moves.{IsOther, Leaves, ground_sent, keeps, state_lef
 use Rattle.stk_owed.proofs.Names.{IsKnown, amount_in_units, known_smaller, known_taken, known_whole, units_known}
 use Rattle.stk_owed.proofs.Points.{StateFits, GroundFits, PurseFits, SharedFits, StateLeft}
 use Rattle.stk_owed.proofs.Purses.{HasJoined, amounts_within, are_paid, has_joined, owed_of, own_purse, pool_fits, purse_put, shared_purses}
-use Rattle.stk_owed.proofs.Steps.{on_found, on_lifted_then, on_stop, on_then}
-use Rattle.stk_owed.proofs.Totals.{total, total_put}
+use Rattle.stk_owed.proofs.Steps.{on_lifted_then, on_then}
+use Rattle.stk_rules.proofs.GoingLemmas.{on_found, on_stop}
+use Rattle.stk_rules.proofs.TotalLemmas.{total, total_put}
 use Rattle.stk_owed.specs.Kept.{CommissionsKeepSoundness, FundingKeepsSoundness, SpendingKeepsSoundness}
 use Rattle.stk_rules.proofs.OrderLemmas.{addr_total}
 use Rattle.stk_rules.specs.Amounts.{in_units, is_empty, over_facts}
@@ -56,7 +57,7 @@ none_short x (c ∷ cs) k e = by (nat_lt (amount_of x c.0) c.1) refl e (λ f. no
 module _ (P : List ℕ → Type 0) (T : List ℕ → ℕ) where
   -- ---- funding
 
-  funded_leaves : (who : List ℕ) (coins : Money) (v : View) (l : Lists) (d : Shared) (q : Purses) → SharedFits P v.ctx.height l d → GroundFits P T v → HoldsOwed (Some (owed_from_distribution d)) v → IsMoney coins
+  pub funded_leaves : (who : List ℕ) (coins : Money) (v : View) (l : Lists) (d : Shared) (q : Purses) → SharedFits P v.ctx.height l d → GroundFits P T v → HoldsOwed (Some (owed_from_distribution d)) v → IsMoney coins
       → is_short v.bank (account.User who) coins ≡ false → HasJoined P (in_units coins) d.purses q
       → Leaves P T v l (record d { purses = q }) (over_facts (pooled_told (in_units coins)) (sent (account.User who) (account.Module holder.Distribution) coins v))
   funded_leaves who coins v l d q s g owed m e k =
@@ -88,7 +89,7 @@ module _ (P : List ℕ → Type 0) (T : List ℕ → ℕ) where
 
   -- ---- spending
 
-  spent_leaves : (to : Account) (coins : Money) (v : View) (l : Lists) (d : Shared) → IsOther to → SharedFits P v.ctx.height l d → GroundFits P T v → HoldsOwed (Some (owed_from_distribution d)) v → IsMoney coins
+  pub spent_leaves : (to : Account) (coins : Money) (v : View) (l : Lists) (d : Shared) → IsOther to → SharedFits P v.ctx.height l d → GroundFits P T v → HoldsOwed (Some (owed_from_distribution d)) v → IsMoney coins
       → is_above_pool coins d.purses ≡ false → Leaves P T v l (record d { purses = pool_lowered coins d.purses }) (sent (account.Module holder.Distribution) to coins v)
   spent_leaves to coins v l d t s g owed m e =
       let pool = d.purses.pool in
@@ -141,7 +142,7 @@ module _ (P : List ℕ → Type 0) (T : List ℕ → ℕ) where
       most : (n a b o : ℕ) → n ≡ min a b → b ≡ o / 10 ^ 18 → o / 10 ^ 18 * 10 ^ 18 ≤ o → n * 10 ^ 18 ≤ o
       most n a b o e f l = omega (arith, e, f, l)
 
-  commission_leaves : (operator : List ℕ) (p : Purse) (to : List ℕ) (v : View) (l : Lists) (d : Shared) → at addr_cmp d.purses.purses operator ≡ Some p → SharedFits P v.ctx.height l d → GroundFits P T v
+  pub commission_leaves : (operator : List ℕ) (p : Purse) (to : List ℕ) (v : View) (l : Lists) (d : Shared) → at addr_cmp d.purses.purses operator ≡ Some p → SharedFits P v.ctx.height l d → GroundFits P T v
       → HoldsOwed (Some (owed_from_distribution d)) v
       → Leaves P T v l (record d { purses = with_purse operator (commission_paid p) d.purses }) (noted (fact.Commission operator to (commission_due p)) (paid_to to (commission_due p) v))
   commission_leaves operator p to v l d found s g owed =

@@ -29,8 +29,8 @@ use Rattle.stk_owed.proofs.Lists.{all_put, looked_up}
 use Rattle.stk_owed.proofs.Moves.{IsOther, ground_sent}
 use Rattle.stk_owed.proofs.Names.{IsKnown, known_added}
 use Rattle.stk_owed.proofs.Points.{PurseFits, SharedFits, GroundFits}
-use Rattle.stk_owed.proofs.Steps.{on_bind}
-use Rattle.stk_owed.proofs.Totals.{total}
+use Rattle.stk_rules.proofs.GoingLemmas.{on_bind}
+use Rattle.stk_rules.proofs.TotalLemmas.{total}
 
 -- ---- look-ups
 

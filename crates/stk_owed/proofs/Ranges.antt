@@ -15,7 +15,7 @@ use Rattle.stk_owed.proofs.Delegating.{all_bonded, all_other}
 use Rattle.stk_owed.proofs.Points.{StateFits, to_fits}
 use Rattle.stk_owed.proofs.Purses.{owed_of}
 use Rattle.stk_owed.proofs.Starting.{runs_are_sound}
-use Rattle.stk_owed.proofs.Totals.{total, total_left}
+use Rattle.stk_rules.proofs.TotalLemmas.{total, total_left}
 use Rattle.stk_owed.specs.Ranges.{RunsAreInRange, SoundIsInRange}
 use Rattle.stk_rules.proofs.OrderLemmas.{addr_total}
 use Rattle.stk_rules.specs.Chain.{shared_in, staked_in}

@@ -26,7 +26,8 @@ use Rattle.stk_owed.proofs.Lists.{all_put, joined_all, looked_up, weaker}
 use Rattle.stk_owed.proofs.Moves.{keeps}
 use Rattle.stk_owed.proofs.Points.{StakeFits, StateFits, StateLeft, WholeEntries}
 use Rattle.stk_owed.proofs.Standing.{own_place}
-use Rattle.stk_owed.proofs.Steps.{on_found, on_lifted_then, on_next, on_stop, on_then}
+use Rattle.stk_owed.proofs.Steps.{on_lifted_then, on_then}
+use Rattle.stk_rules.proofs.GoingLemmas.{on_found, on_next, on_stop}
 use Rattle.stk_owed.proofs.Unbonding.{HasUnbonded, out_within, unbonded_fits}
 use Rattle.stk_owed.specs.Kept.{RedelegatingKeepsSoundness}
 use Rattle.stk_rules.proofs.EntryLemmas.{ascend-put}

@@ -35,8 +35,9 @@ use Rattle.stk_owed.proofs.Periods.{Ordered, some_unwrap}
 use Rattle.stk_owed.proofs.Points.{GroundFits, IsRecorded, PeriodsFit, PurseFits, StakeFits, StartFits}
 use Rattle.stk_owed.proofs.Purses.{HasJoined, are_paid, has_joined, owed_of, own_purse}
 use Rattle.stk_owed.proofs.Standing.{stake_relisted, stake_told}
-use Rattle.stk_owed.proofs.Steps.{on_bind, on_then}
-use Rattle.stk_owed.proofs.Totals.{total, total_left}
+use Rattle.stk_owed.proofs.Steps.{on_then}
+use Rattle.stk_rules.proofs.GoingLemmas.{on_bind}
+use Rattle.stk_rules.proofs.TotalLemmas.{total, total_left}
 use Rattle.stk_rules.proofs.EntryLemmas.{at-taken}
 use Rattle.stk_rules.proofs.OrderLemmas.{addr_total, same_back, same_is}
 use Rattle.stk_rules.proofs.SoundLemmas.{IsSoundAt, held_within, shares_at}

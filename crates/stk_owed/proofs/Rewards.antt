@@ -32,8 +32,9 @@ use Rattle.stk_owed.proofs.Periods.{HasEnded, HasTaken, ended_with, has_ended, h
 use Rattle.stk_owed.proofs.Points.{PeriodsFit, PurseFits, SharedFits, StartFits, StateFits, StateLeft}
 use Rattle.stk_owed.proofs.Purses.{HasJoined, PursesFit, are_paid, has_joined, owed_of, own_purse, purse_put, shared_purses}
 use Rattle.stk_owed.proofs.Standing.{own_place, relisted}
-use Rattle.stk_owed.proofs.Steps.{lifted_if, on_bind, on_found, on_then, weaker_if}
-use Rattle.stk_owed.proofs.Totals.{total, total_put}
+use Rattle.stk_owed.proofs.Steps.{lifted_if, on_then, weaker_if}
+use Rattle.stk_rules.proofs.GoingLemmas.{on_bind, on_found}
+use Rattle.stk_rules.proofs.TotalLemmas.{total, total_put}
 use Rattle.stk_owed.specs.Kept.{RewardsKeepSoundness}
 use Rattle.stk_rules.proofs.EntryLemmas.{ascend-put, at-put, at-taken}
 use Rattle.stk_rules.proofs.OrderLemmas.{addr_total, pair_found, pair_total, same_back, same_is, same_itself}

@@ -35,7 +35,8 @@ use Rattle.stk_owed.proofs.Lists.{weaker}
 use Rattle.stk_owed.proofs.Maturing.{maturing_fits}
 use Rattle.stk_owed.proofs.Moves.{Leaves, state_left}
 use Rattle.stk_owed.proofs.Points.{StateFits, StateLeft, WholeEntries, from_fits, to_fits}
-use Rattle.stk_owed.proofs.Steps.{on_lifted_then, on_next, on_then, weaker_if}
+use Rattle.stk_owed.proofs.Steps.{on_lifted_then, on_then, weaker_if}
+use Rattle.stk_rules.proofs.GoingLemmas.{on_next}
 use Rattle.stk_owed.proofs.Transactions.{TxsFit, WholeFits, burned_by, renewed, txs_fit, without_facts_fits}
 use Rattle.stk_owed.proofs.Voting.{EvidenceLeft, VoteLeft, evidence_fits, own_record, vote_fits}
 use Rattle.stk_owed.specs.Kept.{RunsKeepSoundness, RunsLowerSupplies}

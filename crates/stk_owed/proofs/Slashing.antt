@@ -33,7 +33,7 @@ use Rattle.stk_owed.proofs.Periods.{ended_with, periods_put}
 use Rattle.stk_owed.proofs.Points.{EventFits, PeriodsFit, SharedFits, StakeFits}
 use Rattle.stk_owed.proofs.Rewards.{EndFits, end_fits, own_periods}
 use Rattle.stk_owed.proofs.Steps.{on_then}
-use Rattle.stk_owed.proofs.Totals.{total_more}
+use Rattle.stk_rules.proofs.TotalLemmas.{total_more}
 use Rattle.stk_rules.proofs.OrderLemmas.{pair_total, same_back, same_itself}
 use Rattle.stk_rules.specs.Chain.{Hooks}
 use Rattle.stk_rules.specs.Distribution.{Shared, slash_recorded, ended}

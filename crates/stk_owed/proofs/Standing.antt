@@ -23,7 +23,8 @@ use Rattle.stk_owed.proofs.Lists.{all_put, looked_up}
 use Rattle.stk_owed.proofs.Moves.{keeps, ground_told}
 use Rattle.stk_owed.proofs.Points.{IsRecorded, SharedFits, StakeFits, StateFits, StateLeft}
 use Rattle.stk_owed.proofs.Purses.{there_still}
-use Rattle.stk_owed.proofs.Steps.{on_found, on_next, on_stop, on_then}
+use Rattle.stk_owed.proofs.Steps.{on_then}
+use Rattle.stk_rules.proofs.GoingLemmas.{on_found, on_next, on_stop}
 use Rattle.stk_owed.specs.Kept.{EditsKeepSoundness, UnjailingKeepsSoundness}
 use Rattle.stk_rules.proofs.SoundLemmas.{IsSoundAt, exact_addr, sound-put}
 use Rattle.stk_rules.proofs.TokenLemmas.{tokens-put, counted}

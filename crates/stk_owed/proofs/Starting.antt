@@ -48,7 +48,8 @@ use Rattle.stk_owed.proofs.Names.{known_none}
 use Rattle.stk_owed.proofs.Points.{SharedFits, StakeFits, StateFits, from_fits}
 use Rattle.stk_owed.proofs.Running.{runs_burn, runs_keep_soundness}
 use Rattle.stk_owed.proofs.Standing.{own_place}
-use Rattle.stk_owed.proofs.Steps.{and_also, from_if, on_found, on_lifted_then, on_then, weaker_if}
+use Rattle.stk_owed.proofs.Steps.{and_also, from_if, on_lifted_then, on_then, weaker_if}
+use Rattle.stk_rules.proofs.GoingLemmas.{on_found}
 use Rattle.stk_owed.proofs.Transactions.{without_facts_fits}
 use Rattle.stk_rules.proofs.EntryLemmas.{from_all, to_all}
 use Rattle.stk_rules.proofs.OrderLemmas.{same_back}

@@ -45,7 +45,8 @@ use Rattle.stk_owed.proofs.Names.{AreNamed, units_known}
 use Rattle.stk_owed.proofs.Points.{AreAllWhole, StateFits, StateLeft, WholeEntries, from_fits, to_fits}
 use Rattle.stk_owed.proofs.Purses.{enough_held}
 use Rattle.stk_owed.proofs.Running.{AreKnown, AreDistinct, CountBelow, HaveCoins, BegunLeft, AllocatedLeft, StepFits, next_ok, first_ok, votes_are, counts_on, allocated_left, begin_fits, older_whole, block_fits}
-use Rattle.stk_owed.proofs.Steps.{on_lifted_then, on_next, on_then}
+use Rattle.stk_owed.proofs.Steps.{on_lifted_then, on_then}
+use Rattle.stk_rules.proofs.GoingLemmas.{on_next}
 use Rattle.stk_owed.proofs.Transactions.{TxsFit, WholeFits, message_fits, tx_fits, txs_fit, whole_without, without_facts_fits}
 use Rattle.stk_owed.proofs.Voting.{EvidenceLeft, VoteLeft, evidence_fits, own_record, vote_fits}
 use Rattle.stk_bracket.specs.States.{AreReached, ReachedStays, NoneStartedHere}

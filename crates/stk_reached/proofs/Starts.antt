@@ -53,7 +53,8 @@ use Rattle.stk_owed.proofs.Purses.{own_purse}
 use Rattle.stk_owed.proofs.Rewards.{own_periods}
 use Rattle.stk_owed.proofs.Standing.{own_place}
 use Rattle.stk_owed.proofs.Starting.{few_names, held_supplied, no_redelegations, no_unbondings, start_fits, validators_fit}
-use Rattle.stk_owed.proofs.Steps.{if_ok, on_found, on_then, weaker_if}
+use Rattle.stk_owed.proofs.Steps.{if_ok, on_then, weaker_if}
+use Rattle.stk_rules.proofs.GoingLemmas.{on_found}
 use Rattle.stk_reached.specs.Runs.{GenesisIsReached}
 use Rattle.stk_reached.proofs.Running.{both_if}
 

@@ -46,7 +46,8 @@ use Rattle.stk_owed.proofs.Moves.{fee_fits}
 use Rattle.stk_owed.proofs.Points.{AreAllWhole, StateFits, StateLeft, WholeEntries, to_fits}
 use Rattle.stk_owed.proofs.Running.{CountBelow, HaveCoins, BegunLeft, StepFits, next_ok, first_ok, votes_are, begin_fits, older_whole, block_fits}
 use Rattle.stk_owed.proofs.Starting.{IsWellStarted, room, started_well}
-use Rattle.stk_owed.proofs.Steps.{from_if, on_bind, on_found, on_lifted_then, on_next, on_then}
+use Rattle.stk_owed.proofs.Steps.{from_if, on_lifted_then, on_then}
+use Rattle.stk_rules.proofs.GoingLemmas.{on_bind, on_found, on_next}
 use Rattle.stk_owed.proofs.Transactions.{WholeFits, message_fits, tx_fits, whole_without, without_facts_fits}
 use Rattle.stk_owed.proofs.Voting.{own_record}
 use Rattle.stk_bracket.specs.Running.{AreStarted}

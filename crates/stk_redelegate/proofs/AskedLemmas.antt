@@ -1,28 +1,25 @@
 -- Redelegating as its rule has it: what is refused first, and what follows.
-use Rattle.std.proofs.Common.{◌≡◌, ◌∙◌, ℕ, ◌≤◌, Bool, true, false, List, Option, Some, None, refl, sym, ap, subst, arith}
+use Rattle.std.proofs.Common.{◌≡◌, ◌∙◌, ℕ, ◌≤◌, Bool, true, false, List, Option, Some, None, refl, ap, subst, arith}
 use Rattle.std.specs.Prelude.{Ok, Err, Result, ◌==◌, nat_lt, nat_le, length, is_none, ⊤}
 use Rattle.std.proofs.lemmas.Bool.Decides.{nat_tests}
-use Rattle.stk_dec.specs.declared.over.Over.{Over}
 use Rattle.stk_coins.specs.declared.coin.Coin.{Coin}
 use Rattle.stk_shares.specs.declared.fault.ShareFault.{ShareFault}
 use Rattle.stk_shares.specs.Shares.{amount_out, shares_for_amount}
 use Rattle.stk_keep.specs.declared.entities.Validator.{Validator}
-use Rattle.stk_keep.specs.declared.faults.HookFault.{HookFault}
-use Rattle.stk_keep.specs.declared.faults.HookFault.TheVariants as hook
 use Rattle.stk_keep.specs.declared.faults.Stop.{Stop}
 use Rattle.stk_keep.specs.declared.faults.Stop.TheVariants as stop
 use Rattle.stk_keep.specs.declared.refusal.Refusal.{Refusal}
 use Rattle.stk_keep.specs.declared.refusal.Refusal.TheVariants.{WrongDenom, NonPositive, NoValidator, NoTokens, TooManyShares, SelfRedelegation, Transitive, RedelegationsFull, TinyRedelegation, Overflow}
-use Rattle.stk_keep.specs.Answers.{Follows, AnswersAs}
+use Rattle.stk_keep.specs.Answers.{AnswersAs}
 use Rattle.stk_keep.specs.Orders.{same_addr}
 use Rattle.stk_keep.specs.Staked.{Staked, validator_at, delegation, HasShares}
 use Rattle.stk_keep.specs.Steps.{◌>>=◌, ◌>>◌, stop_if, or_stop, stopping}
-use Rattle.stk_keep.specs.Stops.{stop_of_hook}
 use Rattle.stk_keep.specs.World.{View, Hook, Told, World}
 use Rattle.stk_rules.specs.Delegating.{is_wrong, shares_given, pool, delegated}
 use Rattle.stk_rules.specs.Redelegations.{RedelegationLists, redelegations_of, is_transitive, begin_info, appended, redelegated}
 use Rattle.stk_rules.specs.Unbonding.{shares_to_unbond, unbonded_shares, unbonded_of, shares_unbonded}
 use Rattle.stk_entries.specs.Answers.{AnswersBoth}
+use Rattle.stk_entries.proofs.AnswerLemmas.{answers_no_memory}
 use Rattle.stk_redelegate.specs.Calls.{leaving, joining, redelegation}
 
 -- ---- what a step that gave something tells
@@ -220,22 +217,7 @@ module _ {H : Type 0} (told : H → Hook → View → Told H) (delegator source 
 
 -- ---- answers of one step within another
 
-pub answers_no_memory : {A U S H : Type 0} (r : Result (A × U × World S H) Refusal) (u : U) (s : S) (holds : H → Type 0) (v : View) → AnswersBoth r u s holds v (Err stop.NoMemory)
-answers_no_memory (Ok p) u s holds v = tt
-answers_no_memory (Err due) u s holds v = tt
-
-pub answers_refused : {A U S H : Type 0} (r : Result (A × U × World S H) Refusal) (u : U) (s : S) (holds : H → Type 0) (v : View) (why : Refusal) → r ≡ Err why → AnswersBoth r u s holds v (Err (stop.Refused why))
-answers_refused r u s holds v why e = subst (λ x. AnswersBoth x u s holds v (Err (stop.Refused why))) (sym e) refl
-
--- a call that is lent the delegations exceeds, or wants memory
-pub answers_fault : {A U S H : Type 0} (r : Result (ℕ × World S H) Over) (f : ℕ × World S H → Result (A × U × World S H) Refusal) (s1 s : S) (holds1 holds : H → Type 0) (v1 v : View) (u : U) (fault : HookFault)
-    → Follows r s1 holds1 v1 (Err fault) → AnswersBoth (stopping Overflow r >>= f) u s holds v (Err (stop_of_hook fault))
-answers_fault (Ok p) f s1 s holds1 holds v1 v u (hook.Over over) l = absurd l
-answers_fault (Ok p) f s1 s holds1 holds v1 v u hook.NoMemory l = answers_no_memory (f p) u s holds v
-answers_fault (Err due) f s1 s holds1 holds v1 v u (hook.Over over) l = ap Overflow l
-answers_fault (Err due) f s1 s holds1 holds v1 v u hook.NoMemory l = tt
-
--- so does a message within another
+-- a message within another stops as that does
 pub answers_stop : {A U S H : Type 0} (r : Result (ℕ × World S H) Refusal) (f : ℕ × World S H → Result (A × U × World S H) Refusal) (s1 s : S) (holds1 holds : H → Type 0) (v1 v : View) (u : U) (why : Stop)
     → AnswersAs r s1 holds1 v1 (Err why) → AnswersBoth (r >>= f) u s holds v (Err why)
 answers_stop (Ok p) f s1 s holds1 holds v1 v u (stop.Refused why) l = absurd l

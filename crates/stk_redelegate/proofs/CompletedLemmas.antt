@@ -63,7 +63,7 @@ cost-first steps start n m p e = omega (arith, p, e)
 pub cost-next : (steps steps2 start n left later : ℕ) → steps + 5 * left ≤ start + 6 * n + 1 → left ≡ later + 1 → steps2 ≤ steps + 5 → steps2 + 5 * later ≤ start + 6 * n + 1
 cost-next steps steps2 start n left later p e s = omega (arith, p, e, s)
 
-pub cost-all : (now : ℕ) (r : RedelegationLists) (steps start left : ℕ) (ks : List Key) → ks ≡ keys_where (is_due redelegation_made now) r → steps + 5 * left ≤ start + 6 * length ks + 1 → steps ≤ start + 24 * (mature_entries redelegation_made now r + 1)
+pub cost-all : (now : ℕ) (r : RedelegationLists) (steps start left : ℕ) (ks : List Key) → ks ≡ keys_where (is_due redelegation_made now) r → steps + 5 * left ≤ start + 6 * length ks + 1 → steps ≤ start + (6 * mature_entries redelegation_made now r + 1)
 cost-all now r steps start left ks e p =
     let few = due_few redelegation_made now r in
     let n = ap length e in

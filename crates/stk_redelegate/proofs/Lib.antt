@@ -6,6 +6,7 @@ pub mod CompletedLemmas
 pub mod AskedLemmas
 pub mod LoggedLemmas
 pub mod LeftLemmas
+pub mod OwnLemmas
 pub mod TransitLemmas
 pub mod ReachedLemmas
 pub mod BurntLemmas

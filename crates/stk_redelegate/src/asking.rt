@@ -1,14 +1,14 @@
 //! What is judged of a redelegation before anything changes.
 
-ghost use Rattle.std.specs.Prelude.{◌≡◌, ◌*◌, ◌^◌, ◌<◌, ◌≤◌, ◌&&◌, is_none};
+ghost use Rattle.std.specs.Prelude.{◌≡◌, ◌+◌, ◌*◌, ◌^◌, ◌<◌, ◌≤◌, length, is_none};
 ghost use Rattle.stk_keep.specs.Ground.{seen};
-ghost use Rattle.stk_keep.specs.Orders.{same_addr};
 ghost use Rattle.stk_keep.specs.Staked.{validator_at};
 ghost use Rattle.stk_rules.specs.Redelegations.{is_transitive, begin_info};
 ghost use Rattle.stk_book.specs.Calls.{IsSoundStake};
 ghost use Rattle.stk_redelegate.specs.Calls.{leaving, joining, redelegation};
+ghost use Rattle.stk_redelegate.specs.Own.{own_entries};
 
-use crate::keyed::{Key, known, next};
+use crate::keyed::{Key, known, next_own};
 use crate::redelegations::Redelegations;
 use std::sync::ledger::Ledger;
 use stk_book::{Staking, shares_given};
@@ -77,19 +77,22 @@ impl Redelegations {
         shares_given(&t, amount)
     }
 
-    /// Whether some entry of the delegator has the source as its target (`HasReceivingRedelegation`).
+    /// Whether some entry of the delegator has the source as its target (`HasReceivingRedelegation`). It takes a
+    /// step for each key of the delegator, and one more.
     fn is_transitive<L: Ledger>(
         &self,
         delegator: &Addr,
         source: &Addr,
         steps: &mut Steps<L>,
     ) -> bool
-        ensures { result ≡ is_transitive self.now.lists delegator.now source.now }
+        ensures value { result ≡ is_transitive self.now.lists delegator.now source.now }
+        ensures cost { steps.new ≤ steps.old
+            + length (own_entries delegator.now self.now.lists) + 1 }
     {
         known(&self.entries);
         let mut after: Option<Key> = None;
-        while let Some((key, _list)) = next(&self.entries, after.as_ref(), steps) {
-            if leads_to(key, delegator, source) {
+        while let Some((key, _list)) = next_own(&self.entries, delegator, after.as_ref(), steps) {
+            if is_same(&key.2, source) {
                 return true;
             }
             after = Some(*key);
@@ -124,13 +127,6 @@ fn can_leave<B: Bank, L: Ledger>(
         return Err(Refusal::WrongDenom);
     }
     Ok((v, part))
-}
-
-/// Whether entries of this key are the delegator's, and lead to an operator.
-fn leads_to(key: &Key, delegator: &Addr, operator: &Addr) -> bool
-    ensures { result ≡ (same_addr key.now.0 delegator.now && same_addr key.now.2 operator.now) }
-{
-    is_same(&key.0, delegator) && is_same(&key.2, operator)
 }
 
 /// Whether an operator has no validator.

@@ -2,8 +2,9 @@
 
 ghost use Rattle.std.specs.Prelude.{◌≡◌, ◌++◌, ◌∷◌, [], true, IfOk, OnOk, IsErr};
 ghost use Rattle.stk_keep.specs.Ground.{seen};
+ghost use Rattle.stk_keep.specs.Log.{Log};
 ghost use Rattle.stk_rules.specs.Redelegations.{redelegated, redelegations_of, appended};
-ghost use Rattle.stk_book.specs.Calls.{over};
+ghost use Rattle.stk_book.specs.Calls.{behind_log};
 ghost use Rattle.stk_book.specs.Scenes.{GoesOn};
 ghost use Rattle.stk_entries.specs.Answers.{AnswersBoth, EntriesGoOn};
 ghost use Rattle.stk_entries.specs.Kept.{behind, holding};
@@ -49,9 +50,9 @@ impl Redelegations {
         requires scene { IsEntryScene H.tells (H.holds hooks.old)
             (seen B.holdings g.old) staking.old.staked self.old.lists }
 
-        ensures told { (h : H.Held) → H.holds hooks.old h
+        ensures told { (h : H.Held) → H.holds hooks.old h → (log : Log)
             → AnswersBoth (redelegated H.tells.told delegator.now source.now target.now coin.now
-            self.old.lists (over staking.old.staked h (seen B.holdings g.old)))
+            self.old.lists (behind_log log staking.old.staked h (seen B.holdings g.old)))
             self.new.lists staking.new.staked (H.holds hooks.new) (seen B.holdings g.new) result }
         ensures scene { OnOk result (IsEntryScene H.tells (H.holds hooks.new)
             (seen B.holdings g.new) staking.new.staked self.new.lists) }

@@ -21,7 +21,7 @@ use stk_types::{Moment, Steps};
 impl Redelegations {
     /// Takes all mature entries out (`CompleteRedelegation`). The only error is `NoMemory`.
     ///
-    /// It looks at mature entries alone: where none is mature, it takes one step at most.
+    /// It takes at most 6 steps for each mature entry, and one more: where none is mature, one at most.
     pub fn complete<L: Ledger>(
         &mut self,
         alloc: Global,
@@ -35,7 +35,7 @@ impl Redelegations {
         ensures entries { OnOk result (AreSoundLists self.new.lists) }
         ensures fault { IfErr result (λ fault. fault ≡ NoMemory) }
         ensures cost { steps.new ≤ steps.old
-            + 24 * (mature_entries redelegation_made now self.old.lists + 1) }
+            + (6 * mature_entries redelegation_made now self.old.lists + 1) }
 
         // Whatever the answer.
         ensures behind { behind self.new ≡ behind self.old }

@@ -72,7 +72,7 @@ impl Records for Redelegations {
         let kind = One::<RedelegationKind> {
             table: self.entries.table(),
         };
-        kind.changes_into(self.entries.allocator(), out, steps)
+        kind.changes_into(*out.allocator(), out, steps)
     }
 
     fn load<L: Ledger>(

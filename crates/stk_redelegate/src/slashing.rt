@@ -2,20 +2,16 @@
 
 ghost use Rattle.std.specs.Prelude.{◌≡◌, ◌<◌, ◌≤◌, ◌*◌, ◌^◌, ◌==◌, ℕ, List, Some, None, if◌then◌else◌, OnOk, IfOk, IfErr};
 ghost use Rattle.stk_dec.specs.Rounding.{even};
-ghost use Rattle.stk_types.specs.declared.account.Account.TheVariants as account;
 ghost use Rattle.stk_keep.specs.declared.entities.RedelegationEntry.{RedelegationEntry};
 ghost use Rattle.stk_keep.specs.declared.entities.Validator.{Validator};
 ghost use Rattle.stk_keep.specs.declared.faults.HookFault.TheVariants.{NoMemory};
-ghost use Rattle.stk_keep.specs.Ground.{seen, CanBeUndone};
-ghost use Rattle.stk_keep.specs.Holdings.{balance_of, IsBacked};
+ghost use Rattle.stk_keep.specs.Ground.{seen};
 ghost use Rattle.stk_keep.specs.Log.{Log};
 ghost use Rattle.stk_keep.specs.Orders.{triple_cmp};
 ghost use Rattle.stk_keep.specs.Staked.{validator_at, delegation, HasShares};
-ghost use Rattle.stk_keep.specs.World.{burnt};
 ghost use Rattle.stk_rules.specs.Answers.{Leaves};
 ghost use Rattle.stk_rules.specs.EntrySlashes.{burned_at_target, targets_slashed, redelegations_slashed};
 ghost use Rattle.stk_rules.specs.Redelegations.{RedelegationLists};
-ghost use Rattle.stk_rules.specs.Stakes.{pool_of};
 ghost use Rattle.stk_book.specs.Calls.{behind_log};
 ghost use Rattle.stk_entries.specs.Kept.{Behind, behind};
 ghost use Rattle.stk_entries.specs.Lists.{list_at};
@@ -27,14 +23,14 @@ use crate::keyed::{Key, known};
 use crate::redelegations::Redelegations;
 use std::alloc::Global;
 use std::sync::ledger::Ledger;
-use stk_coins::Coin;
+use stk_book::{burn_bond, pool_of};
 use stk_dec::Dec;
 use stk_entries::{is_hit, is_same};
 use stk_keep::{
     Bank, Ground, HookFault, RedelegationEntry, RedelegationSlash, StakingHooks, Unbonder,
     Validator,
 };
-use stk_types::{Addr, BondStatus, Module, Steps};
+use stk_types::{Addr, Steps};
 
 impl RedelegationSlash for Redelegations {
     ghost Held = { RedelegationLists };
@@ -329,45 +325,6 @@ fn unbond_and_burn<B: Bank, H: StakingHooks, D: Unbonder, L: Ledger>(
         g.old g.new hooks.old hooks.new delegations.old delegations.new }
 {
     let out = delegations.unbond(alloc, g, hooks, delegator, &t.operator, part, steps)?;
-    burn(alloc, g, pool_of(t.status), out, steps)?;
+    burn_bond(alloc, g, pool_of(t.status), out, steps)?;
     Ok(())
-}
-
-/// The account that holds the tokens of a validator of this status.
-fn pool_of(status: BondStatus) -> Module
-    ensures { result ≡ pool_of status }
-{
-    match status {
-        BondStatus::Bonded => Module::Bonded,
-        BondStatus::Unbonding | BondStatus::Unbonded => Module::NotBonded,
-    }
-}
-
-/// Burns so much of the bond denomination from a module's account, which has it. The only error is
-/// `NoMemory`.
-fn burn<B: Bank, L: Ledger>(
-    alloc: Global,
-    g: &mut Ground<B>,
-    from: Module,
-    amount: u128,
-    steps: &mut Steps<L>,
-) -> Result<(), HookFault>
-    requires backed { IsBacked (B.holdings g.old.bank) }
-    requires enough { amount ≤ balance_of (B.holdings g.old.bank)
-        (account.Module from) g.old.ctx.params.bond_denom }
-    ensures burnt { OnOk result (seen B.holdings g.new
-        ≡ burnt from g.old.ctx.params.bond_denom amount (seen B.holdings g.old)) }
-    ensures fault { IfErr result (λ fault. fault ≡ NoMemory) }
-    ensures backed { IsBacked (B.holdings g.new.bank) }
-    ensures undone { CanBeUndone B.marks g.old g.new }
-    ensures bank { B.touches g.new.bank ≡ B.touches g.old.bank }
-{
-    let coin = Coin {
-        denom: g.ctx.params.bond_denom,
-        amount,
-    };
-    match g.bank.burn(alloc, &mut g.facts, from, &coin, steps) {
-        Ok(()) => Ok(()),
-        Err(_) => Err(HookFault::NoMemory),
-    }
 }

@@ -4,3 +4,6 @@ pub mod OrderLemmas
 pub mod EntryLemmas
 pub mod SoundLemmas
 pub mod TokenLemmas
+pub mod TotalLemmas
+pub mod OperatorLemmas
+pub mod GoingLemmas

@@ -1,7 +1,8 @@
 -- The bonded set, its changes, and validators whose unbonding is mature (`x/staking/keeper`:
 -- `ApplyAndReturnValidatorSetUpdates`, `UnbondAllMatureValidators`).
-use Rattle.std.specs.Prelude.{◌<◌, ℕ, ◌-◌, ◌/◌, ◌==◌, ◌&&◌, ◌||◌, not, Bool, IsTrue, nat_lt, nat_le, if◌then◌else◌, List, [], ◌∷◌, filter, map, sum, Result, Ok}
+use Rattle.std.specs.Prelude.{◌≡◌, ◌<◌, ℕ, ◌-◌, ◌/◌, ◌==◌, ◌&&◌, ◌||◌, not, Bool, false, IsTrue, nat_lt, nat_le, if◌then◌else◌, List, [], ◌∷◌, filter, map, sum, Result, Ok}
 use Rattle.std.specs.Ordering.{is_lt}
+use Rattle.std.specs.List.{AllByRecursion}
 use Rattle.std.specs.Map.{values_of}
 use Rattle.stk_dec.specs.declared.over.Over.{Over}
 use Rattle.stk_types.specs.declared.account.Account.TheVariants as account
@@ -9,6 +10,7 @@ use Rattle.stk_types.specs.declared.account.Module.TheVariants as holder
 use Rattle.stk_types.specs.declared.status.BondStatus.TheVariants.{Bonded, Unbonding, Unbonded}
 use Rattle.stk_types.specs.Orders.{addr_cmp}
 use Rattle.stk_keep.specs.declared.entities.Validator.{Validator}
+use Rattle.stk_keep.specs.Orders.{same_addr}
 use Rattle.stk_keep.specs.Staked.{Staked, is_bonded}
 use Rattle.stk_keep.specs.Steps.{◌>>=◌, each}
 use Rattle.stk_keep.specs.World.{View, Hook, bonded, Told, World, call, sent, over_view}
@@ -53,6 +55,11 @@ placed reduction v (u ∷ us) = if stands_before reduction u v then u ∷ placed
 abbrev pub by_power : ℕ → List Validator → List Validator
 by_power reduction [] = []
 by_power reduction (v ∷ vs) = placed reduction v (by_power reduction vs)
+
+-- validators of which each stands under an operator of its own
+abbrev pub HaveOwnOperators : List Validator → Type 0
+HaveOwnOperators [] = Unit {0}
+HaveOwnOperators (v ∷ vs) = AllByRecursion (λ u. same_addr v.operator u.operator ≡ false) vs × HaveOwnOperators vs
 
 -- those of the set that are not bonded yet, in the set's order
 abbrev pub joining_of : ℕ → ℕ → List Validator → List Validator

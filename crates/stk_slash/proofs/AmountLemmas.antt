@@ -15,16 +15,16 @@ ok_is : (a b : ℕ) → as_result a ≡ as_result b → a ≡ b
 ok_is a b e = cc
 
 -- the decimal of a whole number has so many units
-whole-is : (n m : ℕ) → whole_of n ≡ Ok m → m ≡ n * 10 ^ 18
+pub whole-is : (n m : ℕ) → whole_of n ≡ Ok m → m ≡ n * 10 ^ 18
 whole-is n m e = by (nat_lt (n * 10 ^ 18) (10 ^ 38)) e
   where
     by : (b : Bool) → cond b (Ok (n * 10 ^ 18)) (Err (quotient_over n (10 ^ 18) 1)) ≡ Ok m → m ≡ n * 10 ^ 18
     by true f = sym (ok_is (n * 10 ^ 18) m f)
     by false f = absurd cc
 
-module _ (burned tokens b t : ℕ) (r : Result ℕ Over) (within : burned ≤ tokens) (some : 0 < tokens) (eb : whole_of burned ≡ Ok b) (et : whole_of tokens ≡ Ok t) (told : r ≡ quo_up_of b t) where
+module _ (burned tokens : ℕ) (r : Result ℕ Over) (within : burned ≤ tokens) (some : 0 < tokens) (told : r ≡ quo_up_of (burned * 10 ^ 18) (tokens * 10 ^ 18)) where
   pub quotient-is : r ≡ Ok (recorded_fraction burned tokens)
-  quotient-is = told ∙ (λ i. quo_up_of (whole-is burned b eb i) (whole-is tokens t et i)) ∙ fraction_fits burned tokens within some
+  quotient-is = told ∙ fraction_fits burned tokens within some
 
   least : (x : ℕ) → x ≤ 10 ^ 18 → min (10 ^ 18) x ≡ x
   least x p = omega (arith, p)

@@ -1,11 +1,10 @@
 //! What a slash amounts to, and the fraction that is recorded of it.
 
 ghost use Rattle.std.specs.Prelude.{◌≡◌, ◌*◌, ◌^◌, ◌<◌, ◌≤◌, min};
+ghost use Rattle.stk_dec.specs.Decimals.{quo_up_of};
 ghost use Rattle.stk_rules.specs.Slashing.{slash_amount, slash_fraction};
-ghost use Rattle.stk_rules.specs.Stakes.{pool_of};
 
-use stk_dec::Dec;
-use stk_types::{BondStatus, Module};
+use stk_dec::{Dec, Over};
 
 /// One, in units of 10^-18.
 const ONE: u128 = 1_000_000_000_000_000_000;
@@ -20,7 +19,8 @@ pub(crate) fn slash_amount(power: u64, reduction: u64, factor: Dec) -> u128
     power as u128 * reduction as u128 * factor.raw() / ONE
 }
 
-/// The fraction that is recorded of what burns of some tokens, rounded upward (`effectiveFraction`).
+/// The fraction that is recorded of what burns of some tokens, rounded upward, and at most one
+/// (`effectiveFraction`).
 pub(crate) fn slash_fraction(burned: u128, tokens: u128) -> Dec
     requires some { 0 < tokens }
     requires most { tokens ≤ 10 ^ 18 }
@@ -28,8 +28,25 @@ pub(crate) fn slash_fraction(burned: u128, tokens: u128) -> Dec
     ensures value { result ≡ slash_fraction burned tokens }
     ensures most { result ≤ 10 ^ 18 }
 {
-    let all = Dec::of_whole(tokens).unwrap();
-    Dec::of_whole(burned).unwrap().quo_up(all).unwrap()
+    part_of(burned, tokens).unwrap()
+}
+
+/// What part of some tokens so many are, rounded upward (`QuoRoundUp`).
+fn part_of(some: u128, tokens: u128) -> Result<Dec, Over>
+    requires above { 0 < tokens }
+    requires most { tokens ≤ 10 ^ 18 }
+    requires within { some ≤ tokens }
+    ensures { result ≡ quo_up_of (some * 10 ^ 18) (tokens * 10 ^ 18) }
+{
+    whole(some).quo_up(whole(tokens))
+}
+
+/// The decimal of a whole number.
+fn whole(n: u128) -> Dec
+    requires { n ≤ 10 ^ 18 }
+    ensures { result ≡ n * 10 ^ 18 }
+{
+    Dec::of_whole(n).unwrap()
 }
 
 /// The smaller of two amounts.
@@ -37,14 +54,4 @@ pub(crate) fn smaller(a: u128, b: u128) -> u128
     ensures { result ≡ min a b }
 {
     if a < b { a } else { b }
-}
-
-/// The account that holds the tokens of a validator of this status.
-pub(crate) fn pool_of(status: BondStatus) -> Module
-    ensures { result ≡ pool_of status }
-{
-    match status {
-        BondStatus::Bonded => Module::Bonded,
-        _ => Module::NotBonded,
-    }
 }

@@ -1,28 +1,24 @@
 //! What a slash burns of the validator itself.
 
-ghost use Rattle.std.specs.Prelude.{◌≡◌, ◌+◌, ◌^◌, ◌<◌, ◌≤◌, Some, OnOk, IfErr};
-ghost use Rattle.stk_types.specs.declared.account.Account.TheVariants as account;
+ghost use Rattle.std.specs.Prelude.{◌≡◌, ◌^◌, ◌<◌, ◌≤◌, Some, OnOk};
 ghost use Rattle.stk_keep.specs.Answers.{Follows};
-ghost use Rattle.stk_keep.specs.declared.faults.HookFault.TheVariants.{NoMemory};
 ghost use Rattle.stk_keep.specs.Ground.{seen, CanBeUndone};
-ghost use Rattle.stk_keep.specs.Holdings.{balance_of, IsBacked};
 ghost use Rattle.stk_keep.specs.Hooks.{MayCall};
 ghost use Rattle.stk_keep.specs.Log.{Log};
 ghost use Rattle.stk_keep.specs.Staked.{Staked, validator_at, bonded_tokens, other_tokens, HoldsStake, StakeFalls, StillStand};
-ghost use Rattle.stk_keep.specs.World.{slashing, burnt};
+ghost use Rattle.stk_keep.specs.World.{slashing};
 ghost use Rattle.stk_rules.specs.Answers.{Leaves};
 ghost use Rattle.stk_rules.specs.Slashing.{slash_fraction, slash_told, validator_slashed, rest_slashed};
 ghost use Rattle.stk_book.specs.Calls.{behind_log};
 ghost use Rattle.stk_book.specs.Scenes.{IsHooked};
 ghost use Rattle.stk_slash.specs.Scenes.{HasTokens, LeavesBehind};
 
-use crate::amounts::{pool_of, slash_fraction, smaller};
+use crate::amounts::{slash_fraction, smaller};
 use std::alloc::Global;
 use std::sync::ledger::Ledger;
-use stk_book::Staking;
-use stk_coins::Coin;
+use stk_book::{Staking, burn_bond, pool_of};
 use stk_keep::{Bank, Fact, Ground, HookFault, StakingHooks, Validator, ValidatorView};
-use stk_types::{Addr, Module, Steps};
+use stk_types::{Addr, Steps};
 
 /// The validator of an operator, where it still stands, burns an amount, and at most its tokens. Answers what it
 /// burned.
@@ -96,7 +92,7 @@ fn slash_validator<B: Bank, H: StakingHooks, L: Ledger>(
     let burned = smaller(amount, v.tokens);
     tell_slash(alloc, g, hooks, v, burned, steps)?;
     staking.burn_tokens(&v.operator, burned, steps)?;
-    burn(alloc, g, pool_of(v.status), burned, steps)?;
+    burn_bond(alloc, g, pool_of(v.status), burned, steps)?;
     Ok(burned)
 }
 
@@ -135,32 +131,4 @@ fn tell_slash<B: Bank, H: StakingHooks, L: Ledger>(
         burned,
     })?;
     Ok(())
-}
-
-/// Burns so much of the bond denomination from a module's account, which has it. The only error is `NoMemory`.
-fn burn<B: Bank, L: Ledger>(
-    alloc: Global,
-    g: &mut Ground<B>,
-    from: Module,
-    amount: u128,
-    steps: &mut Steps<L>,
-) -> Result<(), HookFault>
-    requires backed { IsBacked (B.holdings g.old.bank) }
-    requires enough { amount ≤ balance_of (B.holdings g.old.bank)
-        (account.Module from) g.old.ctx.params.bond_denom }
-    ensures burnt { OnOk result (seen B.holdings g.new
-        ≡ burnt from g.old.ctx.params.bond_denom amount (seen B.holdings g.old)) }
-    ensures fault { IfErr result (λ fault. fault ≡ NoMemory) }
-    ensures backed { IsBacked (B.holdings g.new.bank) }
-    ensures undone { CanBeUndone B.marks g.old g.new }
-    ensures bank { B.touches g.new.bank ≡ B.touches g.old.bank }
-{
-    let coin = Coin {
-        denom: g.ctx.params.bond_denom,
-        amount,
-    };
-    match g.bank.burn(alloc, &mut g.facts, from, &coin, steps) {
-        Ok(()) => Ok(()),
-        Err(_) => Err(HookFault::NoMemory),
-    }
 }

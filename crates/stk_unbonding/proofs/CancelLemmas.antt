@@ -22,8 +22,9 @@ use Rattle.stk_rules.specs.Sound.{UnbondingIsSound}
 use Rattle.stk_rules.specs.Unbondings.{UnbondingLists, entries_of, with_entries, can_be_cancelled, lowered, cancelled}
 use Rattle.stk_rules.proofs.SoundLemmas.{to_points}
 use Rattle.stk_book.specs.Calls.{IsSoundStake, HasOrigin, over}
-use Rattle.stk_unbonding.specs.Calls.{AreSoundLists, IsWhole, AreWhole, HoldsEntries, AnswersBoth, cancellation}
-use Rattle.stk_unbonding.proofs.AskedLemmas.{answers_no_memory}
+use Rattle.stk_entries.specs.Answers.{AnswersBoth}
+use Rattle.stk_unbonding.specs.Calls.{AreSoundLists, IsWhole, AreWhole, HoldsEntries, cancellation}
+use Rattle.stk_entries.proofs.AnswerLemmas.{answers_no_memory}
 use Rattle.stk_book.proofs.BackLemmas.{delegated-steps, holds-back}
 use Rattle.stk_unbonding.proofs.ChangeLemmas.{less, all-lowered, length-lowered, balances-lowered}
 use Rattle.stk_unbonding.proofs.EntriesLemmas.{all-entries, all-at, list-at, ascend-entries, total-entries, total-within}

@@ -1,9 +1,8 @@
 -- Completing key by key: what stands after one, the whole, and how many steps they take.
 use Rattle.std.proofs.Common.{◌≡◌, ◌∙◌, ℕ, ◌+◌, ◌*◌, ◌^◌, ◌<◌, ◌≤◌, Bool, true, false, cond, not, List, [], ◌∷◌, drop, refl, sym, ap, subst, arith}
-use Rattle.std.specs.Prelude.{All, filter, map, length, ◌||◌}
+use Rattle.std.specs.Prelude.{All, filter, map, sum, length, ◌||◌}
 use Rattle.std.specs.List.{list_any}
 use Rattle.std.specs.Map.{values_of}
-use Rattle.std.proofs.lemmas.List.Sums.{sum_by-cons}
 use Rattle.stk_types.specs.declared.account.Account.TheVariants as account
 use Rattle.stk_types.specs.declared.account.Module.TheVariants as holder
 use Rattle.std.proofs.lemmas.List.Elements.{All-nil, All-cons, All-head, All-tail, recursion_from_All}
@@ -11,17 +10,24 @@ use Rattle.stk_keep.specs.declared.entities.UnbondingEntry.{UnbondingEntry}
 use Rattle.stk_keep.specs.declared.params.Ctx.{Ctx}
 use Rattle.stk_keep.specs.Ground.{AreInRange, IsInOrder, end_of_blocks}
 use Rattle.stk_keep.specs.Holdings.{balance_of, IsBacked}
+use Rattle.stk_keep.specs.Orders.{pair_cmp}
 use Rattle.stk_keep.specs.Staked.{HoldsStake}
 use Rattle.stk_keep.specs.World.{View}
 use Rattle.stk_rules.specs.Amounts.{count_where}
+use Rattle.stk_rules.specs.EntrySlashes.{unbonding_made}
 use Rattle.stk_rules.specs.Owed.{balances_of, entry_balances}
 use Rattle.stk_rules.specs.Sound.{UnbondingIsSound}
 use Rattle.stk_rules.specs.Unbondings.{UnbondingLists, entries_of, with_entries, is_mature, paid_back, completed}
-use Rattle.stk_unbonding.specs.Calls.{AreSoundLists, mature_balances, mature_entries}
-use Rattle.stk_unbonding.specs.Walked.{Key, stepped, keys_where, paid_at, is_due}
+use Rattle.stk_rules.proofs.OrderLemmas.{pair_total}
+use Rattle.stk_entries.specs.Kept.{Kept}
+use Rattle.stk_entries.specs.Walked.{stepped, keys_where, is_due, mature_entries}
+use Rattle.stk_entries.proofs.CountLemmas.{drop_end}
+use Rattle.stk_entries.proofs.WalkedLemmas.{stepped-walked}
+use Rattle.stk_unbonding.specs.Calls.{AreSoundLists, mature_balances}
+use Rattle.stk_unbonding.specs.Walked.{Key, paid_at}
 use Rattle.stk_unbonding.proofs.EntriesLemmas.{all-entries, all-at, list-at, ascend-entries, total-entries}
 use Rattle.stk_unbonding.proofs.PaidLemmas.{paid_out, mature-left, ctx-paid, held-paid, IsHeld}
-use Rattle.stk_unbonding.proofs.WalkedLemmas.{stepped-walked, completed-walked, drop_end, stepped-end}
+use Rattle.stk_unbonding.proofs.WalkedLemmas.{completed-walked, stepped-end}
 
 -- entries of which none is mature stay, and nothing is paid
 none_mature : (now : ℕ) (es : List UnbondingEntry) → list_any (is_mature now) es ≡ false → filter (λ e. not (is_mature now e)) es ≡ es
@@ -50,15 +56,15 @@ module _ (ctx : Ctx) where
   stays : (k : Key) (es : List UnbondingEntry) (v : View) → v.ctx ≡ ctx → (paid_at k es v).1.ctx ≡ ctx
   stays k es v c = ctx-paid k.0 es v ∙ c
 
-  skips : (k : Key) (es : List UnbondingEntry) (v : View) → v.ctx ≡ ctx → is_due ctx.time k es ≡ false → paid_at k es v ≡ (es, v)
+  skips : (k : Key) (es : List UnbondingEntry) (v : View) → v.ctx ≡ ctx → is_due unbonding_made ctx.time k es ≡ false → paid_at k es v ≡ (es, v)
   skips k es v c h =
       let none : list_any (is_mature v.ctx.time) es ≡ false = ap (λ (x : Ctx). list_any (is_mature x.time) es) c ∙ h in
       λ i. (none_mature v.ctx.time es none i, none_paid k.0 es v none i)
 
   -- completing the keys that have a mature entry is completing all
-  pub stepped-completed : (u : UnbondingLists) (v : View) → v.ctx ≡ ctx → AreSoundLists u → stepped paid_at (keys_where (is_due ctx.time) u) u v ≡ completed u v
+  pub stepped-completed : (u : UnbondingLists) (v : View) → v.ctx ≡ ctx → AreSoundLists u → stepped pair_cmp paid_at (keys_where (is_due unbonding_made ctx.time) u) u v ≡ completed u v
   stepped-completed u v c h =
-      stepped-walked paid_at ctx stays (is_due ctx.time) skips u v c h.1.ascend (recursion_from_All (λ p. 0 < length p.1) u h.1.some) ∙ sym (completed-walked u v)
+      stepped-walked pair_cmp pair_total paid_at (λ (x : View). x.ctx ≡ ctx) stays (is_due unbonding_made ctx.time) skips u v c h.1.ascend (recursion_from_All (λ p. 0 < length p.1) u h.1.some) ∙ sym (completed-walked u v)
 
 -- ---- what stands once one key was completed
 
@@ -110,9 +116,6 @@ module _ (now : ℕ) (delegator operator : List ℕ) (u : UnbondingLists) (h : A
       let b = mature-left now old in
       omega (arith, a, b)
 
-  pub mature_within : mature_balances now old ≤ entry_balances u
-  mature_within = let a = completed-balances in omega (arith, a)
-
   abbrev mature_of : List UnbondingEntry → ℕ
   mature_of es = count_where (is_mature now) es
 
@@ -127,12 +130,18 @@ module _ (now : ℕ) (delegator operator : List ℕ) (u : UnbondingLists) (h : A
       by true q later = later
       by false q later = let one : ◌≡◌ {A = ℕ} (cond (is_mature now e) 1 0) 0 = ap (λ b. cond b 1 0) q in omega (arith, one, later)
 
-  -- so many fewer are mature
-  pub completed-mature : mature_entries now (with_entries delegator operator left u) + mature_of old ≡ mature_entries now u
-  completed-mature =
+  abbrev all_mature : UnbondingLists → ℕ
+  all_mature x = sum (map mature_of (values_of x))
+
+  mature_falls : all_mature (with_entries delegator operator left u) + mature_of old ≡ all_mature u
+  mature_falls =
       let a = total-entries mature_of refl delegator operator left u h.1.ascend in
       let b = none_left old in
       omega (arith, a, b)
+
+  -- so many fewer are mature
+  pub completed-mature : mature_entries unbonding_made now (with_entries delegator operator left u) + mature_of old ≡ mature_entries unbonding_made now u
+  completed-mature = mature_falls
 
 -- ---- while keys are completed one after another
 
@@ -192,47 +201,34 @@ module _ (u : UnbondingLists) (v : View) (start : HoldsStake v 0 (entry_balances
       }
 
   -- so many fewer are mature
-  pub mature-one : (now : ℕ) → v2.ctx.time ≡ now → mature_entries now u3 + count_where (is_mature now) es ≡ mature_entries now u2
-  mature-one now e = subst (λ t. mature_entries t u3 + count_where (is_mature t) es ≡ mature_entries t u2) e (completed-mature v2.ctx.time key.0 key.1 u2 c.entries)
+  pub mature-one : (now : ℕ) → v2.ctx.time ≡ now → mature_entries unbonding_made now u3 + count_where (is_mature now) es ≡ mature_entries unbonding_made now u2
+  mature-one now e = subst (λ t. mature_entries unbonding_made t u3 + count_where (is_mature t) es ≡ mature_entries unbonding_made t u2) e (completed-mature v2.ctx.time key.0 key.1 u2 c.entries)
+
+-- the keys that have a mature entry, of what a register holds and of what is seen of it
+pub due-seen : (now : ℕ) (held seen : Kept Key UnbondingEntry) → held ≡ seen → keys_where (is_due unbonding_made now) held.lists ≡ keys_where (is_due unbonding_made now) seen.lists
+due-seen now held seen e = ap (λ (k : Kept Key UnbondingEntry). keys_where (is_due unbonding_made now) k.lists) e
 
 -- all keys that have a mature entry were completed
-pub completed-all : (ks : List Key) (i : ℕ) (u : UnbondingLists) (v : View) (u2 : UnbondingLists) (v2 : View) → stepped paid_at (drop i ks) u2 v2 ≡ stepped paid_at ks u v → length ks ≤ i
-    → ks ≡ keys_where (is_due v.ctx.time) u → AreSoundLists u → (u2, v2) ≡ completed u v
+pub completed-all : (ks : List Key) (i : ℕ) (u : UnbondingLists) (v : View) (u2 : UnbondingLists) (v2 : View) → stepped pair_cmp paid_at (drop i ks) u2 v2 ≡ stepped pair_cmp paid_at ks u v → length ks ≤ i
+    → ks ≡ keys_where (is_due unbonding_made v.ctx.time) u → AreSoundLists u → (u2, v2) ≡ completed u v
 completed-all ks i u v u2 v2 told all is h =
-    sym (stepped-end paid_at (drop i ks) u2 v2 (drop_end ks i all)) ∙ told ∙ ap (λ l. stepped paid_at l u v) is ∙ stepped-completed v.ctx u v refl h
+    sym (stepped-end paid_at (drop i ks) u2 v2 (drop_end ks i all)) ∙ told ∙ ap (λ l. stepped pair_cmp paid_at l u v) is ∙ stepped-completed v.ctx u v refl h
 
 -- ---- how many steps
 
--- each key that has a mature entry has one at least
-pub due_few : (now : ℕ) (u : UnbondingLists) → length (keys_where (is_due now) u) ≤ mature_entries now u
-due_few now [] = omega arith
-due_few now (p ∷ u) = by (list_any (is_mature now) p.1) refl (due_few now u)
-  where
-    some : (es : List UnbondingEntry) → list_any (is_mature now) es ≡ true → 1 ≤ count_where (is_mature now) es
-    some [] h = absurd cc
-    some (e ∷ es) h = at_first (is_mature now e) (list_any (is_mature now) es) h (some es)
-      where
-        at_first : (b c : Bool) → (b || c) ≡ true → (c ≡ true → 1 ≤ count_where (is_mature now) es) → 1 ≤ cond b 1 0 + count_where (is_mature now) es
-        at_first true c h later = omega arith
-        at_first false c h later = let l = later h in omega (arith, l)
+-- the steps to find the keys: one for each, and one more
+pub cost-first : (steps first keys due all : ℕ) → steps ≤ first + due + 1 → keys ≡ due → steps + 6 * keys + 8 * all ≤ first + 1 + 7 * keys + 8 * all
+cost-first steps first keys due all cost same = omega (arith, cost, same)
 
-    total : mature_entries now (p ∷ u) ≡ count_where (is_mature now) p.1 + mature_entries now u
-    total = sum_by-cons (λ (n : ℕ). n) (count_where (is_mature now) p.1) (map (λ (es : List UnbondingEntry). count_where (is_mature now) es) (values_of u))
-
-    by : (b : Bool) → list_any (is_mature now) p.1 ≡ b → length (keys_where (is_due now) u) ≤ mature_entries now u
-        → length (map (λ (x : Key × List UnbondingEntry). x.0) (cond b (p ∷ filter (λ (x : Key × List UnbondingEntry). is_due now x.0 x.1) u) (filter (λ (x : Key × List UnbondingEntry). is_due now x.0 x.1) u))) ≤ mature_entries now (p ∷ u)
-    by true e later = let one = some p.1 e in let t = total in let goal : length (p.0 ∷ keys_where (is_due now) u) ≤ mature_entries now (p ∷ u) = omega (arith, one, t, later) in goal
-    by false e later = let t = total in let goal : length (keys_where (is_due now) u) ≤ mature_entries now (p ∷ u) = omega (arith, t, later) in goal
-
--- the steps of one more key
-pub cost-next : (steps steps2 m keys left left2 first all now then : ℕ) → steps2 ≤ steps + (5 + 8 * m) → then + m ≡ now → left ≡ left2 + 1 → steps + 5 * left + 8 * now ≤ first + 1 + 6 * keys + 8 * all
-    → steps2 + 5 * left2 + 8 * then ≤ first + 1 + 6 * keys + 8 * all
+-- those of one more key
+pub cost-next : (steps steps2 m keys left left2 first all now then : ℕ) → steps2 ≤ steps + (6 + 8 * m) → then + m ≡ now → left ≡ left2 + 1 → steps + 6 * left + 8 * now ≤ first + 1 + 7 * keys + 8 * all
+    → steps2 + 6 * left2 + 8 * then ≤ first + 1 + 7 * keys + 8 * all
 cost-next steps steps2 m keys left left2 first all now then cost fall one h = omega (arith, cost, fall, one, h)
 
 -- and of all of them
-pub cost-all : (steps keys left first all now : ℕ) → keys ≤ all → steps + 5 * left + 8 * now ≤ first + 1 + 6 * keys + 8 * all → steps ≤ first + 24 * (all + 1)
+pub cost-all : (steps keys left first all now : ℕ) → keys ≤ all → steps + 6 * left + 8 * now ≤ first + 1 + 7 * keys + 8 * all → steps ≤ first + (15 * all + 1)
 cost-all steps keys left first all now few h = omega (arith, few, h)
 
 -- and of those up to a key at which memory was wanting
-pub cost-stopped : (steps steps2 m keys left left2 first all now then : ℕ) → steps2 ≤ steps + (5 + 8 * m) → then + m ≡ now → left ≡ left2 + 1 → keys ≤ all → steps + 5 * left + 8 * now ≤ first + 1 + 6 * keys + 8 * all → steps2 ≤ first + 24 * (all + 1)
+pub cost-stopped : (steps steps2 m keys left left2 first all now then : ℕ) → steps2 ≤ steps + (6 + 8 * m) → then + m ≡ now → left ≡ left2 + 1 → keys ≤ all → steps + 6 * left + 8 * now ≤ first + 1 + 7 * keys + 8 * all → steps2 ≤ first + (15 * all + 1)
 cost-stopped steps steps2 m keys left left2 first all now then cost fall one few h = omega (arith, cost, fall, one, few, h)

@@ -1,5 +1,5 @@
 -- The entries of one key take the place of others: what holds of all, their order, and their sums.
-use Rattle.std.proofs.Common.{◌≡◌, ◌∙◌, ℕ, ◌+◌, ◌<◌, ◌≤◌, Bool, true, false, cond, List, [], ◌∷◌, Option, Some, None, refl, sym, ap, subst, arith, inl, inr}
+use Rattle.std.proofs.Common.{◌≡◌, ◌∙◌, ℕ, ◌+◌, ◌^◌, ◌<◌, ◌≤◌, Bool, true, false, cond, List, [], ◌∷◌, Option, Some, None, refl, sym, ap, subst, arith, inl, inr}
 use Rattle.std.specs.Prelude.{◌⊎◌, All, map, sum, length, unwrap_or}
 use Rattle.std.specs.declared.cmp.Ordering.{Ordering}
 use Rattle.std.specs.declared.cmp.Ordering.TheVariants.{Less, Equal, Greater}
@@ -7,7 +7,7 @@ use Rattle.std.specs.Ordering.{is_eq, match_ordering}
 use Rattle.std.specs.BTreeMap.{insert_entry, is_at}
 use Rattle.std.specs.List.Sorted.{IsStrictlySortedBy}
 use Rattle.std.specs.Map.{keys_of, values_of}
-use Rattle.std.proofs.lemmas.List.Elements.{All-nil}
+use Rattle.std.proofs.lemmas.List.Elements.{All-nil, All-weaker}
 use Rattle.std.proofs.lemmas.List.Sums.{sum_by-cons}
 use Rattle.std.proofs.lemmas.Map.{lookup-none}
 use Rattle.std.proofs.lemmas.Map.Entries.{none_below_head}
@@ -15,14 +15,32 @@ use Rattle.stk_types.proofs.MapLemmas.{ascend-taken}
 use Rattle.stk_keep.specs.declared.entities.UnbondingEntry.{UnbondingEntry}
 use Rattle.stk_keep.specs.Entries.{at, with, without}
 use Rattle.stk_keep.specs.Orders.{pair_cmp}
+use Rattle.stk_rules.specs.EntrySlashes.{unbonding_made}
+use Rattle.stk_rules.specs.Sound.{UnbondingIsSound}
 use Rattle.stk_rules.specs.Unbondings.{UnbondingLists, entries_of, with_entries}
 use Rattle.stk_rules.proofs.EntryLemmas.{at-put, at-taken, ascend-put, from_all, to_all}
 use Rattle.stk_rules.proofs.OrderLemmas.{pair_total, equal}
 use Rattle.stk_rules.proofs.SoundLemmas.{exact_pair, either_some}
-use Rattle.stk_unbonding.specs.Queue.{list_at}
+use Rattle.stk_entries.specs.Lists.{list_at, with_list, AreFew}
+use Rattle.stk_unbonding.specs.Calls.{AreSoundLists}
+use Rattle.stk_unbonding.specs.Walked.{Key}
 
-abbrev pub Key : Type 0
-Key = List ℕ × List ℕ
+-- ---- as lists by key
+
+-- the entries that a delegator and an operator then have are those of their key
+pub with_list-is : (key : Key) (l : List UnbondingEntry) (u : UnbondingLists) → with_list pair_cmp key l u ≡ with_entries key.0 key.1 l u
+with_list-is key [] u = refl
+with_list-is key (e ∷ es) u = refl
+
+-- sound entries are few, and of at most so much
+pub are_few : (u : UnbondingLists) → AreSoundLists u → AreFew pair_cmp unbonding_made u
+are_few u h = record {
+  ascend = h.1.ascend;
+  some = h.1.some;
+  most = h.1.most;
+  initials = All-weaker (λ p. All (UnbondingIsSound h.0) p.1) (λ p. All (λ e. (unbonding_made e).initial ≤ 10 ^ 18) p.1)
+      (λ p a. All-weaker (UnbondingIsSound h.0) (λ e. (unbonding_made e).initial ≤ 10 ^ 18) (λ e k. k.initial) p.1 a) u h.1.entries;
+}
 
 -- ---- what holds of all
 
@@ -78,7 +96,7 @@ module _ (f : List UnbondingEntry → ℕ) (z : f [] ≡ 0) where
   total-cons : (p : Key × List UnbondingEntry) (u : UnbondingLists) → total (p ∷ u) ≡ f p.1 + total u
   total-cons p u = sum_by-cons (λ (n : ℕ). n) (f p.1) (map f (values_of u))
 
-  total-put : (k : Key) (l : List UnbondingEntry) (u : UnbondingLists) → IsStrictlySortedBy pair_cmp (keys_of u) → total (with pair_cmp u k l) + f (list_at u k) ≡ total u + f l
+  total-put : (k : Key) (l : List UnbondingEntry) (u : UnbondingLists) → IsStrictlySortedBy pair_cmp (keys_of u) → total (with pair_cmp u k l) + f (list_at pair_cmp u k) ≡ total u + f l
   unfolding IsStrictlySortedBy
   total-put k l [] s =
       let one = total-cons (k, l) [] in
@@ -87,13 +105,13 @@ module _ (f : List UnbondingEntry → ℕ) (z : f [] ≡ 0) where
       goal
   total-put k l (e ∷ es) s = by (pair_cmp k e.0) refl (total-put k l es s.1)
     where
-      by : (r : Ordering) → pair_cmp k e.0 ≡ r → total (insert_entry pair_cmp es k l) + f (list_at es k) ≡ total es + f l
+      by : (r : Ordering) → pair_cmp k e.0 ≡ r → total (insert_entry pair_cmp es k l) + f (list_at pair_cmp es k) ≡ total es + f l
           → total (match_ordering r ((k, l) ∷ e ∷ es) ((e.0, l) ∷ es) (e ∷ insert_entry pair_cmp es k l)) + f (unwrap_or (cond (is_eq r) (Some e.1) (at pair_cmp es k)) []) ≡ total (e ∷ es) + f l
       by Less p later =
           let none : at pair_cmp es k ≡ None = lookup-none (is_at (pair_cmp k)) es (none_below_head pair_total k e es s p).1 in
-          let zero : f (list_at es k) ≡ 0 = ap (λ o. f (unwrap_or o [])) none ∙ z in
+          let zero : f (list_at pair_cmp es k) ≡ 0 = ap (λ o. f (unwrap_or o [])) none ∙ z in
           let one = total-cons (k, l) (e ∷ es) in
-          let goal : total ((k, l) ∷ e ∷ es) + f (list_at es k) ≡ total (e ∷ es) + f l = omega (arith, zero, one) in
+          let goal : total ((k, l) ∷ e ∷ es) + f (list_at pair_cmp es k) ≡ total (e ∷ es) + f l = omega (arith, zero, one) in
           goal
       by Equal p later =
           let one = total-cons (e.0, l) es in
@@ -103,20 +121,20 @@ module _ (f : List UnbondingEntry → ℕ) (z : f [] ≡ 0) where
       by Greater p later =
           let one = total-cons e (insert_entry pair_cmp es k l) in
           let two = total-cons e es in
-          let goal : total (e ∷ insert_entry pair_cmp es k l) + f (list_at es k) ≡ total (e ∷ es) + f l = omega (arith, one, two, later) in
+          let goal : total (e ∷ insert_entry pair_cmp es k l) + f (list_at pair_cmp es k) ≡ total (e ∷ es) + f l = omega (arith, one, two, later) in
           goal
 
-  total-take : (k : Key) (u : UnbondingLists) → total (without pair_cmp u k) + f (list_at u k) ≡ total u
+  total-take : (k : Key) (u : UnbondingLists) → total (without pair_cmp u k) + f (list_at pair_cmp u k) ≡ total u
   total-take k [] = let none : total [] ≡ 0 = refl in let goal : total [] + f [] ≡ total [] = omega (arith, z, none) in goal
   total-take k (e ∷ es) = by (is_at (pair_cmp k) e.0) (total-take k es)
     where
-      by : (b : Bool) → total (without pair_cmp es k) + f (list_at es k) ≡ total es
+      by : (b : Bool) → total (without pair_cmp es k) + f (list_at pair_cmp es k) ≡ total es
           → total (cond b es (e ∷ without pair_cmp es k)) + f (unwrap_or (cond b (Some e.1) (at pair_cmp es k)) []) ≡ total (e ∷ es)
       by true later = let two = total-cons e es in let goal : total es + f e.1 ≡ total (e ∷ es) = omega (arith, two) in goal
       by false later =
           let one = total-cons e (without pair_cmp es k) in
           let two = total-cons e es in
-          let goal : total (e ∷ without pair_cmp es k) + f (list_at es k) ≡ total (e ∷ es) = omega (arith, one, two, later) in
+          let goal : total (e ∷ without pair_cmp es k) + f (list_at pair_cmp es k) ≡ total (e ∷ es) = omega (arith, one, two, later) in
           goal
 
   -- the sum once other entries stand under a key

@@ -1,5 +1,3 @@
-pub mod QueueLemmas
-pub mod StepLemmas
 pub mod ItemLemmas
 pub mod SameLemmas
 pub mod EntriesLemmas
@@ -8,8 +6,6 @@ pub mod AskedLemmas
 pub mod MadeLemmas
 pub mod CancelLemmas
 pub mod WalkedLemmas
-pub mod DueLemmas
 pub mod PaidLemmas
 pub mod CompletedLemmas
 pub mod SlashedLemmas
-pub mod UndoneLemmas

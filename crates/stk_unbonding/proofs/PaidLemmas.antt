@@ -8,10 +8,10 @@ use Rattle.stk_keep.specs.Holdings.{balance_of, IsBacked}
 use Rattle.stk_keep.specs.Staked.{HoldsStake}
 use Rattle.stk_keep.specs.World.{View, sent}
 use Rattle.stk_keep.specs.declared.params.Ctx.{Ctx}
-use Rattle.stk_unbonding.proofs.WalkedLemmas.{drop_end}
 use Rattle.stk_rules.specs.Amounts.{bond_coins, count_where}
 use Rattle.stk_rules.specs.Owed.{balances_of}
 use Rattle.stk_rules.specs.Unbondings.{is_mature, paid_back}
+use Rattle.stk_entries.proofs.CountLemmas.{drop_end}
 use Rattle.stk_unbonding.specs.Calls.{mature_balances}
 use Rattle.stk_unbonding.proofs.ChangeLemmas.{balances-cons}
 use Rattle.stk_book.proofs.GroundLemmas.{moved_one, moved_backed}

@@ -1,15 +1,11 @@
 -- What a slash of the entries of one key leaves of the entries and of the accounts.
-use Rattle.std.proofs.Common.{◌≡◌, ◌∙◌, ℕ, ◌+◌, ◌-◌, ◌<◌, ◌≤◌, ◌^◌, Bool, true, false, cond, List, [], ◌∷◌, ◌++◌, Option, Some, None, drop, get_or, append-nil, append_assoc, refl, sym, ap, subst, arith, inl, inr}
+use Rattle.std.proofs.Common.{◌≡◌, ◌∙◌, ℕ, ◌+◌, ◌-◌, ◌<◌, ◌≤◌, Bool, true, false, cond, List, [], ◌∷◌, drop, get_or, refl, sym, ap, subst, arith}
 use Rattle.std.specs.Prelude.{◌&&◌, All, map, length, min, filter, sum}
 use Rattle.std.specs.BTreeMap.{is_at}
 use Rattle.std.specs.Cmp.{eq_by_cmp_equiv}
 use Rattle.std.proofs.lemmas.List.Sums.{sum_by-cons}
 use Rattle.std.proofs.lemmas.List.Elements.{All-nil, All-cons, All-head, All-tail, recursion_from_All}
-use Rattle.std.proofs.Math.Nat.{div-le_of_le-mul}
-use Rattle.std.proofs.lemmas.Nat.{mul-le}
 use Rattle.std.specs.List.{AllByRecursion}
-use Rattle.std.specs.List.Sorted.{IsStrictlySortedBy}
-use Rattle.std.specs.Map.{keys_of}
 use Rattle.stk_types.specs.declared.account.Account.{Account}
 use Rattle.stk_types.specs.declared.account.Account.TheVariants as account
 use Rattle.stk_types.specs.declared.account.Module.TheVariants as holder
@@ -24,19 +20,21 @@ use Rattle.stk_keep.specs.World.{View, burnt}
 use Rattle.stk_keep.specs.declared.params.Ctx.{Ctx}
 use Rattle.stk_keep.proofs.HoldingLemmas.{account_total, denom_total}
 use Rattle.stk_keep.proofs.BurnLemmas.{burns_by_amounts, burns_lower_supplies}
-use Rattle.stk_table.specs.Tabled.{entry_above}
-use Rattle.stk_rows.proofs.MemberLemmas.{Member}
-use Rattle.stk_rows.proofs.WalkLemmas.{left_of, walk-end, walk-more}
 use Rattle.stk_rules.proofs.OrderLemmas.{pair_total}
-use Rattle.stk_rules.specs.EntrySlashes.{is_hit, part_of, counted, counted_of, all_counted, burned_of, entry_slashed, entries_slashed, unbonding_made, Made}
+use Rattle.stk_rules.specs.EntrySlashes.{is_hit, part_of, burned_of, entry_slashed, entries_slashed}
 use Rattle.stk_rules.specs.Owed.{balances_of, entry_balances}
 use Rattle.stk_rules.specs.Sound.{UnbondingIsSound}
 use Rattle.stk_rules.specs.Unbondings.{UnbondingLists, entries_of, with_entries}
+use Rattle.stk_entries.specs.Lists.{list_at, with_list}
+use Rattle.stk_entries.specs.Slashed.{is_from}
+use Rattle.stk_entries.specs.Walked.{stepped, keys_where}
+use Rattle.stk_entries.proofs.CountLemmas.{next_of, drop_end}
+use Rattle.stk_entries.proofs.WalkedLemmas.{stepped-walked}
 use Rattle.stk_unbonding.specs.Calls.{AreSoundLists}
-use Rattle.stk_unbonding.specs.Walked.{Key, stepped, keys_where, slashed_in, slashed_at, is_of}
+use Rattle.stk_unbonding.specs.Walked.{Key, slashed_in, slashed_at}
 use Rattle.stk_unbonding.proofs.ChangeLemmas.{balances-cons}
 use Rattle.stk_unbonding.proofs.CompletedLemmas.{still_in_order}
-use Rattle.stk_unbonding.proofs.WalkedLemmas.{stepped-walked, slashed-walked, next_of, drop_end, stepped-end}
+use Rattle.stk_unbonding.proofs.WalkedLemmas.{slashed-walked, stepped-end}
 use Rattle.stk_unbonding.proofs.EntriesLemmas.{all-entries, all-at, list-at, ascend-entries, total-entries}
 
 module _ (infraction factor now : ℕ) where
@@ -229,25 +227,29 @@ module _ (infraction factor : ℕ) (u : UnbondingLists) (v : View) (u2 : Unbondi
 -- ---- slashing the keys of an operator is the rule's slash
 
 module _ (operator : List ℕ) (infraction factor : ℕ) where
-  all_of : (u : UnbondingLists) → AllByRecursion (λ (k : Key). same_addr k.1 operator ≡ true) (keys_where (is_of operator) u)
+  -- a key is of this operator
+  abbrev is_own : Key → List UnbondingEntry → Bool
+  is_own key es = is_from (λ (k : Key). k.1) operator key es
+
+  all_of : (u : UnbondingLists) → AllByRecursion (λ (k : Key). same_addr k.1 operator ≡ true) (keys_where is_own u)
   all_of [] = tt
   all_of (p ∷ u) = by (same_addr p.0.1 operator) refl (all_of u)
     where
-      by : (b : Bool) → same_addr p.0.1 operator ≡ b → AllByRecursion (λ (k : Key). same_addr k.1 operator ≡ true) (keys_where (is_of operator) u)
-          → AllByRecursion (λ (k : Key). same_addr k.1 operator ≡ true) (map (λ (x : Key × List UnbondingEntry). x.0) (cond b (p ∷ filter (λ x. is_of operator x.0 x.1) u) (filter (λ x. is_of operator x.0 x.1) u)))
+      by : (b : Bool) → same_addr p.0.1 operator ≡ b → AllByRecursion (λ (k : Key). same_addr k.1 operator ≡ true) (keys_where is_own u)
+          → AllByRecursion (λ (k : Key). same_addr k.1 operator ≡ true) (map (λ (x : Key × List UnbondingEntry). x.0) (cond b (p ∷ filter (λ x. is_own x.0 x.1) u) (filter (λ x. is_own x.0 x.1) u)))
       by true e later = (e, later)
       by false e later = later
 
   one_of : (k : Key) (es : List UnbondingEntry) (v : View) (b : Bool) → same_addr k.1 operator ≡ b → slashed_at operator infraction factor k es v ≡ cond b (slashed_in infraction factor k es v) (es, v)
   one_of k es v b e = ap (λ c. cond c (slashed_in infraction factor k es v) (es, v)) e
 
-  stepped-of : (ks : List Key) → AllByRecursion (λ (k : Key). same_addr k.1 operator ≡ true) ks → (u : UnbondingLists) (v : View) → stepped (slashed_in infraction factor) ks u v ≡ stepped (slashed_at operator infraction factor) ks u v
+  stepped-of : (ks : List Key) → AllByRecursion (λ (k : Key). same_addr k.1 operator ≡ true) ks → (u : UnbondingLists) (v : View) → stepped pair_cmp (slashed_in infraction factor) ks u v ≡ stepped pair_cmp (slashed_at operator infraction factor) ks u v
   stepped-of [] h u v = refl
   stepped-of (k ∷ ks) h u v =
-      let es = entries_of u k.0 k.1 in
+      let es = list_at pair_cmp u k in
       let one = slashed_in infraction factor k es v in
-      stepped-of ks h.1 (with_entries k.0 k.1 one.0 u) one.1
-      ∙ ap (λ (r : List UnbondingEntry × View). stepped (slashed_at operator infraction factor) ks (with_entries k.0 k.1 r.0 u) r.1) (sym (one_of k es v true h.0))
+      stepped-of ks h.1 (with_list pair_cmp k one.0 u) one.1
+      ∙ ap (λ (r : List UnbondingEntry × View). stepped pair_cmp (slashed_at operator infraction factor) ks (with_list pair_cmp k r.0 u) r.1) (sym (one_of k es v true h.0))
 
   same_ctx : (k : Key) (es : List UnbondingEntry) (v : View) → (slashed_at operator infraction factor k es v).1.ctx ≡ v.ctx
   same_ctx k es v = by (same_addr k.1 operator)
@@ -256,126 +258,24 @@ module _ (operator : List ℕ) (infraction factor : ℕ) where
       by true = refl
       by false = refl
 
-  pub stepped-slashed : (u : UnbondingLists) (v : View) → AreSoundLists u → stepped (slashed_in infraction factor) (keys_where (is_of operator) u) u v ≡ entries_slashed operator infraction factor u v
+  pub stepped-slashed : (u : UnbondingLists) (v : View) → AreSoundLists u → stepped pair_cmp (slashed_in infraction factor) (keys_where is_own u) u v ≡ entries_slashed operator infraction factor u v
   stepped-slashed u v h =
       let some = recursion_from_All (λ p. 0 < length p.1) u h.1.some in
-      stepped-of (keys_where (is_of operator) u) (all_of u) u v
-      ∙ stepped-walked (slashed_at operator infraction factor) v.ctx (λ k es v2 c. same_ctx k es v2 ∙ c) (is_of operator) (λ k es v2 c e. one_of k es v2 false e) u v refl h.1.ascend some
+      stepped-of (keys_where is_own u) (all_of u) u v
+      ∙ stepped-walked pair_cmp pair_total (slashed_at operator infraction factor) (λ (x : View). x.ctx ≡ v.ctx) (λ k es v2 c. same_ctx k es v2 ∙ c) is_own (λ k es v2 c e. one_of k es v2 false e) u v refl h.1.ascend some
       ∙ sym (slashed-walked operator infraction factor u v some)
 
   -- all keys of the operator were slashed
-  pub slashed-all : (ks : List Key) (i : ℕ) (u : UnbondingLists) (v : View) (u2 : UnbondingLists) (v2 : View) → stepped (slashed_in infraction factor) (drop i ks) u2 v2 ≡ stepped (slashed_in infraction factor) ks u v → length ks ≤ i
-      → ks ≡ keys_where (is_of operator) u → AreSoundLists u → (u2, v2) ≡ entries_slashed operator infraction factor u v
+  pub slashed-all : (ks : List Key) (i : ℕ) (u : UnbondingLists) (v : View) (u2 : UnbondingLists) (v2 : View) → stepped pair_cmp (slashed_in infraction factor) (drop i ks) u2 v2 ≡ stepped pair_cmp (slashed_in infraction factor) ks u v → length ks ≤ i
+      → ks ≡ keys_where is_own u → AreSoundLists u → (u2, v2) ≡ entries_slashed operator infraction factor u v
   slashed-all ks i u v u2 v2 told all is h =
-      sym (stepped-end (slashed_in infraction factor) (drop i ks) u2 v2 (drop_end ks i all)) ∙ told ∙ ap (λ l. stepped (slashed_in infraction factor) l u v) is ∙ stepped-slashed u v h
+      sym (stepped-end (slashed_in infraction factor) (drop i ks) u2 v2 (drop_end ks i all)) ∙ told ∙ ap (λ l. stepped pair_cmp (slashed_in infraction factor) l u v) is ∙ stepped-slashed u v h
 
--- ---- what is counted
+-- ---- walking entries
 
-pub part_few : (factor initial : ℕ) → factor ≤ 10 ^ 18 → initial ≤ 10 ^ 18 → part_of factor initial ≤ 10 ^ 18
-part_few factor initial p q = div-le_of_le-mul (10 ^ 18) (mul-le initial factor (10 ^ 18) (10 ^ 18) q p)
-
-module _ (infraction factor now : ℕ) where
-  pub counted-cons : (e : UnbondingEntry) (es : List UnbondingEntry)
-      → counted_of infraction factor now (map unbonding_made (e ∷ es)) ≡ cond (is_hit infraction now e.created e.completes) (part_of factor e.initial) 0 + counted_of infraction factor now (map unbonding_made es)
-  counted-cons e es = by (is_hit infraction now e.created e.completes)
-    where
-      rest : List Made
-      rest = filter (λ (x : Made). is_hit infraction now x.created x.completes) (map unbonding_made es)
-
-      by : (b : Bool) → sum (map (λ (x : Made). part_of factor x.initial) (cond b (unbonding_made e ∷ rest) rest)) ≡ cond b (part_of factor e.initial) 0 + sum (map (λ (x : Made). part_of factor x.initial) rest)
-      by true = sum_by-cons (λ (n : ℕ). n) (part_of factor e.initial) (map (λ (x : Made). part_of factor x.initial) rest)
-      by false = omega arith
-
-  pub all_counted-cons : (operator : List ℕ) (p : Key × List UnbondingEntry) (u : UnbondingLists)
-      → all_counted operator infraction factor now (p ∷ u) ≡ cond (same_addr p.0.1 operator) (counted_of infraction factor now (map unbonding_made p.1)) 0 + all_counted operator infraction factor now u
-  all_counted-cons operator p u = by (same_addr p.0.1 operator)
-    where
-      of_key : Key × List UnbondingEntry → ℕ
-      of_key x = counted_of infraction factor now (map unbonding_made x.1)
-
-      rest : UnbondingLists
-      rest = filter (λ (x : Key × List UnbondingEntry). same_addr x.0.1 operator) u
-
-      by : (b : Bool) → sum (map of_key (cond b (p ∷ rest) rest)) ≡ cond b (of_key p) 0 + sum (map of_key rest)
-      by true = sum_by-cons (λ (n : ℕ). n) (of_key p) (map of_key rest)
-      by false = omega arith
-
--- a sum that is cut at each step is cut as the whole is
-pub counted-next : (s x rest : ℕ) → counted (counted (s + x) + rest) ≡ counted (s + (x + rest))
-counted-next s x rest = omega arith
-
--- ---- walking entries, and keys
-
-module _ (infraction factor now : ℕ) (es : List UnbondingEntry) (i : ℕ) (e : UnbondingEntry) (less : i < length es) (is : e ≡ get_or es i e) where
-  rest_is : drop i es ≡ e ∷ drop (i + 1) es
-  rest_is = next_of es i e less is
-
-  pub counted-step : (sum next : ℕ) → next ≡ sum + cond (is_hit infraction now e.created e.completes) (part_of factor e.initial) 0
-      → sum + counted_of infraction factor now (map unbonding_made (drop i es)) ≡ counted_of infraction factor now (map unbonding_made es)
-      → next + counted_of infraction factor now (map unbonding_made (drop (i + 1) es)) ≡ counted_of infraction factor now (map unbonding_made es)
-  counted-step sum next n told =
-      let c = ap (λ l. counted_of infraction factor now (map unbonding_made l)) rest_is ∙ counted-cons infraction factor now e (drop (i + 1) es) in
-      omega (arith, n, told, c)
-
-  pub burned-step : (sum next : ℕ) → next ≡ sum + cond (is_hit infraction now e.created e.completes) (min (part_of factor e.initial) e.balance) 0
-      → sum + burned_of infraction factor now (drop i es) ≡ burned_of infraction factor now es → next + burned_of infraction factor now (drop (i + 1) es) ≡ burned_of infraction factor now es
-  burned-step sum next n told =
-      let c = ap (burned_of infraction factor now) rest_is ∙ burned-cons infraction factor now e (drop (i + 1) es) in
-      omega (arith, n, told, c)
-
-filter_member : {A : Type 0} (p : A → Bool) (xs : List A) (x : A) → Member (filter p xs) x → Member xs x
-filter_member p [] x m = absurd m
-filter_member p (y ∷ xs) x m = by (p y) (filter_member p xs x) m
-  where
-    by : (b : Bool) → (Member (filter p xs) x → Member xs x) → Member (cond b (y ∷ filter p xs) (filter p xs)) x → Member (y ∷ xs) x
-    by true more (inl e) = inl e
-    by true more (inr n) = inr (more n)
-    by false more n = inr (more n)
-
-left_member : (u : UnbondingLists) (after : Option Key) (e : Key × List UnbondingEntry) → Member (left_of pair_cmp u after) e → Member u e
-left_member u None e m = m
-left_member u (Some k) e m = filter_member _ u e m
-
-of_member : {A : Type 0} (P : A → Type 0) (xs : List A) → AllByRecursion P xs → (x : A) → Member xs x → P x
-of_member P [] h x m = absurd m
-of_member P (y ∷ xs) h x (inl e) = subst P e h.0
-of_member P (y ∷ xs) h x (inr m) = of_member P xs h.1 x m
-
-module _ (u : UnbondingLists) (s : IsStrictlySortedBy pair_cmp (keys_of u)) (after : Option Key) where
-  abbrev left_at : Option Key → UnbondingLists
-  left_at x = left_of pair_cmp u x
-
-  module _ (test : Key → List UnbondingEntry → Bool) (ks : List Key) (told : ks ++ keys_where test (left_at after) ≡ keys_where test u) where
-    pub where-end : entry_above pair_cmp u after ≡ None → ks ≡ keys_where test u
-    where-end f = sym (append-nil ks) ∙ ap (λ l. ks ++ keys_where test l) (sym (walk-end pair_cmp u after f)) ∙ told
-
-  module _ (e : Key × List UnbondingEntry) (f : entry_above pair_cmp u after ≡ Some e) where
-    left_is : left_at after ≡ e ∷ left_at (Some e.0)
-    left_is = walk-more pair_cmp pair_total u after e s f
-
-    pub where-shorter : length (left_at (Some e.0)) < length (left_at after)
-    where-shorter = let n = ap length left_is in omega (arith, n)
-
-    pub where-next : (test : Key → List UnbondingEntry → Bool) (ks next : List Key) → ks ++ keys_where test (left_at after) ≡ keys_where test u → next ≡ ks ++ cond (test e.0 e.1) (e.0 ∷ []) [] → next ++ keys_where test (left_at (Some e.0)) ≡ keys_where test u
-    where-next test ks next told n =
-        ap (λ l. l ++ keys_where test (left_at (Some e.0))) n ∙ append_assoc ks (cond (test e.0 e.1) (e.0 ∷ []) []) (keys_where test (left_at (Some e.0)))
-        ∙ ap (λ l. ks ++ l) (where_cons (test e.0 e.1)) ∙ ap (λ l. ks ++ keys_where test l) (sym left_is) ∙ told
-      where
-        rest : UnbondingLists
-        rest = filter (λ (x : Key × List UnbondingEntry). test x.0 x.1) (left_at (Some e.0))
-
-        where_cons : (b : Bool) → cond b (e.0 ∷ []) [] ++ keys_where test (left_at (Some e.0)) ≡ map (λ (x : Key × List UnbondingEntry). x.0) (cond b (e ∷ rest) rest)
-        where_cons true = refl
-        where_cons false = refl
-
-    pub count-next : (operator : List ℕ) (infraction factor now sum next : ℕ) → counted (sum + all_counted operator infraction factor now (left_at after)) ≡ counted (all_counted operator infraction factor now u)
-        → next ≡ counted (sum + cond (same_addr e.0.1 operator) (counted_of infraction factor now (map unbonding_made e.1)) 0)
-        → counted (next + all_counted operator infraction factor now (left_at (Some e.0))) ≡ counted (all_counted operator infraction factor now u)
-    count-next operator infraction factor now sum next told n =
-        ap (λ x. counted (x + all_counted operator infraction factor now (left_at (Some e.0)))) n
-        ∙ counted-next sum (cond (same_addr e.0.1 operator) (counted_of infraction factor now (map unbonding_made e.1)) 0) (all_counted operator infraction factor now (left_at (Some e.0)))
-        ∙ ap (λ x. counted (sum + x)) (sym (ap (all_counted operator infraction factor now) left_is ∙ all_counted-cons infraction factor now operator e (left_at (Some e.0)))) ∙ told
-
-    -- what holds of all entries holds of that one
-    pub all-left : (P : Key × List UnbondingEntry → Type 0) → All P u → P e
-    all-left P h = of_member P u (recursion_from_All P u h) e (left_member u after e (subst (λ l. Member l e) (sym left_is) (inl refl)))
+pub burned-step : (infraction factor now : ℕ) (es : List UnbondingEntry) (i : ℕ) (e : UnbondingEntry) → i < length es → e ≡ get_or es i e → (sum next : ℕ)
+    → next ≡ sum + cond (is_hit infraction now e.created e.completes) (min (part_of factor e.initial) e.balance) 0
+    → sum + burned_of infraction factor now (drop i es) ≡ burned_of infraction factor now es → next + burned_of infraction factor now (drop (i + 1) es) ≡ burned_of infraction factor now es
+burned-step infraction factor now es i e less is sum next n told =
+    let c = ap (burned_of infraction factor now) (next_of es i e less is) ∙ burned-cons infraction factor now e (drop (i + 1) es) in
+    omega (arith, n, told, c)

@@ -1,20 +1,17 @@
 -- What calls of unbonding need, and what they leave.
-use Rattle.std.specs.Prelude.{◌≡◌, ℕ, ◌==◌, Bool, nat_le, nat_lt, List, length, map, sum, filter, find, All, Result, Ok, if◌then◌else◌}
-use Rattle.std.specs.Map.{values_of}
+use Rattle.std.specs.Prelude.{◌≡◌, ℕ, ◌==◌, Bool, nat_le, nat_lt, List, length, filter, find, All, Result, Ok, if◌then◌else◌}
 use Rattle.stk_types.specs.declared.account.Account.TheVariants as account
 use Rattle.stk_types.specs.declared.account.Module.TheVariants as holder
 use Rattle.stk_coins.specs.declared.coin.Coin.{Coin}
 use Rattle.stk_shares.specs.Shares.{has_invalid_rate}
 use Rattle.stk_keep.specs.declared.entities.UnbondingEntry.{UnbondingEntry}
 use Rattle.stk_keep.specs.declared.entities.Validator.{Validator}
-use Rattle.stk_keep.specs.declared.faults.Stop.{Stop}
 use Rattle.stk_keep.specs.declared.refusal.Refusal.{Refusal}
 use Rattle.stk_keep.specs.declared.refusal.Refusal.TheVariants.{WrongDenom, NonPositive, NoValidator, RateInvalid, UnbondingsFull, Jailed, NoEntry, CancelTooMuch}
 use Rattle.stk_keep.specs.Staked.{Staked, validator_at, delegation, bonded_tokens, HoldsStake}
 use Rattle.stk_keep.specs.Steps.{◌>>=◌, ◌>>◌, stop_if, or_stop}
-use Rattle.stk_keep.specs.World.{View, World, sent}
-use Rattle.stk_rules.specs.Amounts.{bond_coins, count_where}
-use Rattle.stk_keep.specs.Answers.{AsRuled, StopsForMemory, RefusesAs}
+use Rattle.stk_keep.specs.World.{View, sent}
+use Rattle.stk_rules.specs.Amounts.{bond_coins}
 use Rattle.stk_rules.specs.Delegating.{is_wrong}
 use Rattle.stk_rules.specs.Owed.{balances_of, owed_from_not_bonded}
 use Rattle.stk_rules.specs.Sound.{UnbondingsAreSound}
@@ -36,12 +33,6 @@ AreWhole height u = All (λ p. All (IsWhole height) p.1) u
 -- the two staking accounts hold at least what is owed from them to validators and to entries
 abbrev pub HoldsEntries : View → Staked → UnbondingLists → Type 0
 HoldsEntries v s u = HoldsStake v (bonded_tokens s) (owed_from_not_bonded s u)
-
--- What a message answers and leaves that changes entries and delegations: what the rule gives, or its refusal; or memory is
--- wanting. Of what hooks keep it is said for which plain values it stands.
-abbrev pub AnswersBoth : {A U S H : Type 0} → Result (A × U × World S H) Refusal → U → S → (H → Type 0) → View → Result A Stop → Type 0
-AnswersBoth rule u s holds v answer = AsRuled rule answer
-    (λ due a. (a ≡ due.0) × (u ≡ due.1) × (s ≡ due.2.mine) × holds due.2.hooks × (v ≡ due.2.view)) StopsForMemory RefusesAs
 
 -- What is refused of an undelegation before a share is unbonded; or else the validator, and the shares that the amount
 -- stands for.
@@ -74,7 +65,3 @@ cancellation delegator operator coin height u s view = do
 -- the balances of mature entries
 abbrev pub mature_balances : ℕ → List UnbondingEntry → ℕ
 mature_balances now es = balances_of (filter (is_mature now) es)
-
--- how many entries are mature
-abbrev pub mature_entries : ℕ → UnbondingLists → ℕ
-mature_entries now u = sum (map (λ es. count_where (is_mature now) es) (values_of u))

@@ -1,5 +1,3 @@
-pub mod Queue
-pub mod Kept
 pub mod Rows
 pub mod Calls
 pub mod Scenes

@@ -6,17 +6,18 @@ ghost use Rattle.stk_keep.specs.Ground.{seen};
 ghost use Rattle.stk_rules.specs.Unbondings.{entries_of, with_entries, can_be_cancelled, lowered, cancelled};
 ghost use Rattle.stk_book.specs.Calls.{over};
 ghost use Rattle.stk_book.specs.Scenes.{GoesOn};
-ghost use Rattle.stk_unbonding.specs.Calls.{AreWhole, AnswersBoth, cancellation};
-ghost use Rattle.stk_unbonding.specs.Kept.{behind, holding};
-ghost use Rattle.stk_unbonding.specs.Scenes.{IsEntryScene, EntriesGoOn};
+ghost use Rattle.stk_entries.specs.Answers.{AnswersBoth, EntriesGoOn};
+ghost use Rattle.stk_entries.specs.Kept.{behind, holding};
+ghost use Rattle.stk_unbonding.specs.Calls.{AreWhole, cancellation};
+ghost use Rattle.stk_unbonding.specs.Scenes.{IsUnbondingScene};
 
 use crate::changing::{first_open, lowered};
-use crate::entries::is_wrong;
 use crate::unbondings::Unbondings;
 use std::alloc::Global;
 use std::sync::ledger::Ledger;
 use stk_book::{Origin, Staking};
 use stk_coins::Coin;
+use stk_entries::is_wrong;
 use stk_keep::{
     Bank, Ground, Listed, Refusal, StakingHooks, Stop, UnbondingEntry, Validator, ValidatorView,
 };
@@ -41,7 +42,7 @@ impl Unbondings {
         created: u64,
         steps: &mut Steps<L>,
     ) -> Result<(), Stop>
-        requires scene { IsEntryScene H.tells (H.holds hooks.old)
+        requires scene { IsUnbondingScene H.tells (H.holds hooks.old)
             (seen B.holdings g.old) staking.old.staked self.old.lists }
 
         ensures told { (h : H.Held) → H.holds hooks.old h
@@ -49,7 +50,7 @@ impl Unbondings {
             self.old.lists (over staking.old.staked h (seen B.holdings g.old)))
             self.new.lists staking.new.staked (H.holds hooks.new)
             (seen B.holdings g.new) result }
-        ensures scene { OnOk result (IsEntryScene H.tells (H.holds hooks.new)
+        ensures scene { OnOk result (IsUnbondingScene H.tells (H.holds hooks.new)
             (seen B.holdings g.new) staking.new.staked self.new.lists) }
         ensures whole { (height : ℕ) → AreWhole height self.old.lists
             → OnOk result (AreWhole height self.new.lists) }

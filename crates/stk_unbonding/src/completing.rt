@@ -1,6 +1,6 @@
 //! Completing: mature entries are paid at the end of a block, and go.
 
-ghost use Rattle.std.specs.Prelude.{◌≡◌, ◌+◌, ◌*◌, ◌≤◌, ℕ, true, ◌∷◌, [], length, if◌then◌else◌, OnOk, IfOk, IfErr};
+ghost use Rattle.std.specs.Prelude.{◌≡◌, ◌+◌, ◌*◌, ◌≤◌, ℕ, true, ◌∷◌, [], not, filter, if◌then◌else◌, OnOk, IfOk, IfErr};
 ghost use Rattle.stk_types.specs.declared.account.Account.TheVariants as account;
 ghost use Rattle.stk_types.specs.declared.account.Module.TheVariants as holder;
 ghost use Rattle.stk_keep.specs.declared.faults.HookFault.TheVariants.{NoMemory};
@@ -8,19 +8,19 @@ ghost use Rattle.stk_keep.specs.Ground.{seen, IsInOrder, CanBeUndone};
 ghost use Rattle.stk_keep.specs.Holdings.{balance_of, IsBacked};
 ghost use Rattle.stk_keep.specs.Staked.{HoldsStake};
 ghost use Rattle.stk_rules.specs.Amounts.{count_where};
+ghost use Rattle.stk_rules.specs.EntrySlashes.{unbonding_made};
 ghost use Rattle.stk_rules.specs.Owed.{entry_balances};
 ghost use Rattle.stk_rules.specs.Unbondings.{is_mature, entries_of, with_entries, paid_back, completed};
-ghost use Rattle.stk_unbonding.specs.Calls.{AreSoundLists, mature_balances, mature_entries};
-ghost use Rattle.stk_unbonding.specs.Kept.{behind, holding};
-ghost use Rattle.stk_unbonding.specs.Queue.{IsQueue, due_in};
-ghost use Rattle.stk_unbonding.specs.Walked.{keys_where, is_due, paid_at};
+ghost use Rattle.stk_entries.specs.Kept.{behind, holding};
+ghost use Rattle.stk_entries.specs.Walked.{mature_entries};
+ghost use Rattle.stk_unbonding.specs.Calls.{AreSoundLists, mature_balances};
+ghost use Rattle.stk_unbonding.specs.Walked.{paid_at};
 
-use crate::entries::{is_mature, unmatured};
-use crate::paying::send_from;
-use crate::queue::{Lists, Queue};
 use crate::unbondings::Unbondings;
 use std::alloc::Global;
 use std::sync::ledger::Ledger;
+use stk_book::send_from;
+use stk_entries::is_mature;
 use stk_keep::{Bank, Ground, HookFault, Listed, UnbondingEntry};
 use stk_table::TableFault;
 use stk_types::{Account, Addr, Module, Moment, Steps};
@@ -29,7 +29,8 @@ impl Unbondings {
     /// Pays the balances of all mature entries from the not-bonded account, by delegator, then operator, and
     /// takes the entries out (`CompleteUnbonding`). It calls no hook, so the only error is `NoMemory`.
     ///
-    /// It looks at mature entries alone: where none is mature, it takes one step at most.
+    /// Over a bank whose `send` of one coin takes at most 8 steps, it takes at most 15 for each mature entry,
+    /// and one more: where none is mature, one at most.
     pub fn complete<B: Bank, L: Ledger>(
         &mut self,
         alloc: Global,
@@ -52,7 +53,7 @@ impl Unbondings {
             (other + entry_balances self.new.lists)) }
         ensures fault { IfErr result (λ fault. fault ≡ NoMemory) }
         ensures cost { B.touches g.old.bank ≤ 8 → steps.new ≤ steps.old
-            + 24 * (mature_entries g.old.ctx.time self.old.lists + 1) }
+            + (15 * mature_entries unbonding_made g.old.ctx.time self.old.lists + 1) }
 
         // Whatever the answer.
         ensures undone { CanBeUndone B.marks g.old g.new }
@@ -61,27 +62,11 @@ impl Unbondings {
         ensures spent { self.old.spent ≡ true → self.new.spent ≡ true }
         ensures unspent { OnOk result (self.new.spent ≡ self.old.spent) }
     {
-        self.known();
-        let keys = self.due(alloc, g.ctx.time, steps)?;
+        let keys = self.entries.due(alloc, g.ctx.time, steps)?;
         for key in &keys {
             self.pay(alloc, g, key, steps)?;
         }
         Ok(())
-    }
-
-    /// The delegators and operators that have a mature entry, in their order.
-    fn due<L: Ledger>(
-        &self,
-        alloc: Global,
-        now: Moment,
-        steps: &mut Steps<L>,
-    ) -> Result<Vec<(Addr, Addr)>, TableFault>
-        ensures keys { IfOk result
-            (λ keys. keys.items ≡ keys_where (is_due now) self.now.lists) }
-        ensures cost { steps.new ≤ steps.old
-            + (length (keys_where (is_due now) self.now.lists) + 1) }
-    {
-        due(alloc, &self.lists, &self.queue, now, steps)
     }
 
     /// Pays the mature entries of a delegator and an operator, and takes them out.
@@ -105,7 +90,7 @@ impl Unbondings {
             (seen B.holdings g.old)).1) }
         ensures fault { IfErr result (λ fault. fault ≡ NoMemory) }
         ensures backed { IsBacked (B.holdings g.new.bank) }
-        ensures cost { B.touches g.old.bank ≤ 8 → steps.new ≤ steps.old + (5 + 8 * count_where
+        ensures cost { B.touches g.old.bank ≤ 8 → steps.new ≤ steps.old + (6 + 8 * count_where
             (is_mature g.old.ctx.time) (entries_of self.old.lists key.now.0 key.now.1)) }
 
         // Whatever the answer.
@@ -142,63 +127,33 @@ impl Unbondings {
         ensures backed { IsBacked (B.holdings g.new.bank) }
         ensures undone { CanBeUndone B.marks g.old g.new }
         ensures bank { B.touches g.new.bank ≡ B.touches g.old.bank }
-        ensures cost { B.touches g.old.bank ≤ 8 → steps.new ≤ steps.old + (1 + 8 * count_where
+        ensures cost { B.touches g.old.bank ≤ 8 → steps.new ≤ steps.old + (2 + 8 * count_where
             (is_mature g.old.ctx.time) (entries_of self.now.lists key.now.0 key.now.1)) }
     {
         let now = g.ctx.time;
         match self.at(key, steps) {
             Some(list) => {
                 pay_all(alloc, g, &key.0, list.as_slice(), steps)?;
-                Ok(unmatured(alloc, list.as_slice(), now)?)
+                Ok(self.left_at(alloc, key, now, steps)?)
             }
             None => Ok(Listed::new(alloc)),
         }
     }
-}
 
-/// The keys that have a mature entry, in their order.
-fn due<L: Ledger>(
-    alloc: Global,
-    lists: &Lists,
-    queue: &Queue,
-    now: Moment,
-    steps: &mut Steps<L>,
-) -> Result<Vec<(Addr, Addr)>, TableFault>
-    requires queue { IsQueue lists.now.entries queue.now.entries }
-    ensures keys { IfOk result
-        (λ keys. keys.items ≡ keys_where (is_due now) lists.now.entries) }
-    ensures cost { steps.new ≤ steps.old
-        + (length (keys_where (is_due now) lists.now.entries) + 1) }
-{
-    lists.known();
-    queue.known();
-    let mut keys = queued(alloc, queue, now, steps)?;
-    // Each key stands once in the queue.
-    keys.sort_unstable();
-    Ok(keys)
-}
-
-/// The keys that have a mature entry, in the order of the queue.
-fn queued<L: Ledger>(
-    alloc: Global,
-    queue: &Queue,
-    now: Moment,
-    steps: &mut Steps<L>,
-) -> Result<Vec<(Addr, Addr)>, TableFault>
-    ensures keys { IfOk result (λ keys. keys.items ≡ due_in now queue.now.entries) }
-    ensures cost { steps.new ≤ steps.old + (length (due_in now queue.now.entries) + 1) }
-{
-    queue.known();
-    let mut keys = Vec::new(alloc);
-    let mut after: Option<(Moment, (Addr, Addr))> = None;
-    while let Some((place, _stands)) = queue.next(after.as_ref(), steps) {
-        if now.nanos() < place.0.nanos() {
-            return Ok(keys);
-        }
-        keys.push(place.1)?;
-        after = Some(*place);
+    /// The entries of a delegator and an operator that are not mature.
+    fn left_at<L: Ledger>(
+        &self,
+        alloc: Global,
+        key: &(Addr, Addr),
+        now: Moment,
+        steps: &mut Steps<L>,
+    ) -> Result<Listed<UnbondingEntry>, TableFault>
+        ensures left { IfOk result (λ list. list ≡ filter (λ e. not (is_mature now e))
+            (entries_of self.now.lists key.now.0 key.now.1)) }
+        ensures cost { steps.new ≡ steps.old + 1 }
+    {
+        self.entries.unmatured_at(alloc, key, now, steps)
     }
-    Ok(keys)
 }
 
 /// Pays the balance of each mature entry of a delegator.

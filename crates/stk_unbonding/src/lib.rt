@@ -1,4 +1,4 @@
-//! Unbonding entries (Cosmos SDK v0.47: module `x/staking`), with a queue of what completes first.
+//! Unbonding entries (Cosmos SDK v0.47: module `x/staking`).
 #![tactic(auto)]
 
 mod cancelling;
@@ -6,8 +6,6 @@ mod changing;
 mod completing;
 mod entries;
 mod items;
-mod paying;
-mod queue;
 mod records;
 mod slashing;
 mod unbondings;

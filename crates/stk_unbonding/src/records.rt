@@ -11,7 +11,7 @@ use crate::unbondings::Unbondings;
 use std::alloc::Global;
 use std::sync::ledger::Ledger;
 use stk_keep::{Item, RecordFault, Records};
-use stk_rows::{Kinds, One, mark_both};
+use stk_rows::{Kinds, One};
 use stk_types::Steps;
 
 impl Records for Unbondings {
@@ -32,7 +32,7 @@ impl Records for Unbondings {
     ghost is_kind = { is_unbonding };
 
     fn ordered(&self) {
-        self.known();
+        self.entries.known();
     }
 
     fn mark<L: Ledger>(
@@ -40,21 +40,16 @@ impl Records for Unbondings {
         _alloc: Global,
         _steps: &mut Steps<L>,
     ) -> Result<(), RecordFault> {
-        if self.spent {
-            return Err(RecordFault::NoMemory);
-        }
-        mark_both(&mut self.lists, &mut self.queue)?;
+        self.entries.mark()?;
         Ok(())
     }
 
     fn back<L: Ledger>(&mut self, _steps: &mut Steps<L>) {
-        self.lists.back();
-        self.queue.back();
+        self.entries.back();
     }
 
     fn forget<L: Ledger>(&mut self, _steps: &mut Steps<L>) {
-        self.lists.forget();
-        self.queue.forget();
+        self.entries.forget();
     }
 
     fn items_into<L: Ledger>(
@@ -62,7 +57,9 @@ impl Records for Unbondings {
         out: &mut Vec<Item>,
         steps: &mut Steps<L>,
     ) -> Result<(), RecordFault> {
-        let kind = One::<UnbondingKind> { table: &self.lists };
+        let kind = One::<UnbondingKind> {
+            table: self.entries.table(),
+        };
         kind.items_into(out, steps)
     }
 
@@ -71,8 +68,10 @@ impl Records for Unbondings {
         out: &mut Vec<(Item, bool)>,
         steps: &mut Steps<L>,
     ) -> Result<(), RecordFault> {
-        let kind = One::<UnbondingKind> { table: &self.lists };
-        kind.changes_into(self.alloc, out, steps)
+        let kind = One::<UnbondingKind> {
+            table: self.entries.table(),
+        };
+        kind.changes_into(*out.allocator(), out, steps)
     }
 
     fn load<L: Ledger>(
@@ -81,23 +80,25 @@ impl Records for Unbondings {
         item: &Item,
         steps: &mut Steps<L>,
     ) -> Result<bool, RecordFault> {
-        if self.spent {
+        if self.entries.is_spent() {
             return Err(RecordFault::NoMemory);
         }
-        self.known();
+        self.entries.known();
         match item {
             Item::Unbonding {
                 delegator,
                 operator,
                 entries,
-            } => self.put_copy(&(*delegator, *operator), entries, steps)?,
+            } => {
+                let key = (*delegator, *operator);
+                self.entries.put_copy(&key, entries, steps)?;
+            }
             _ => return Ok(false),
         }
         Ok(true)
     }
 
     fn settle<L: Ledger>(&mut self, _steps: &mut Steps<L>) {
-        self.lists.settle();
-        self.queue.settle();
+        self.entries.settle();
     }
 }

@@ -7,28 +7,26 @@ ghost use Rattle.stk_keep.specs.declared.faults.HookFault.TheVariants as hook;
 ghost use Rattle.stk_keep.specs.Ground.{seen, CanBeUndone};
 ghost use Rattle.stk_keep.specs.Holdings.{IsBacked, balance_of};
 ghost use Rattle.stk_keep.specs.Staked.{is_bonded};
-ghost use Rattle.stk_rules.specs.Unbonding.{shares_to_unbond};
 ghost use Rattle.stk_rules.specs.Unbondings.{entries_of, with_entries, grown, undelegated};
 ghost use Rattle.stk_book.specs.Calls.{IsSoundStake, over};
 ghost use Rattle.stk_book.specs.Scenes.{GoesOn};
-ghost use Rattle.stk_unbonding.specs.Calls.{AreSoundLists, AreWhole, AnswersBoth, undelegation, moved_out};
-ghost use Rattle.stk_unbonding.specs.Kept.{behind, holding};
-ghost use Rattle.stk_unbonding.specs.Scenes.{IsEntryScene, EntriesGoOn};
+ghost use Rattle.stk_entries.specs.Answers.{AnswersBoth, EntriesGoOn};
+ghost use Rattle.stk_entries.specs.Kept.{behind, holding};
+ghost use Rattle.stk_unbonding.specs.Calls.{AreSoundLists, AreWhole, undelegation, moved_out};
+ghost use Rattle.stk_unbonding.specs.Scenes.{IsUnbondingScene};
 
 use crate::changing::grown;
-use crate::entries::{completion, is_wrong};
-use crate::paying::send_from;
 use crate::unbondings::Unbondings;
 use std::alloc::Global;
 use std::sync::ledger::Ledger;
-use stk_book::Staking;
+use stk_book::{Staking, send_from};
 use stk_coins::Coin;
 use stk_dec::Dec;
+use stk_entries::{completion, is_wrong, shares_to_unbond};
 use stk_keep::{
     Bank, Ground, HookFault, Listed, Refusal, StakingHooks, Stop, Unbonder, UnbondingEntry,
     Validator, ValidatorView,
 };
-use stk_shares::shares_for;
 use stk_table::TableFault;
 use stk_types::{Account, Addr, BondStatus, Module, Moment, Steps};
 
@@ -50,7 +48,7 @@ impl Unbondings {
         coin: &Coin,
         steps: &mut Steps<L>,
     ) -> Result<Moment, Stop>
-        requires scene { IsEntryScene H.tells (H.holds hooks.old)
+        requires scene { IsUnbondingScene H.tells (H.holds hooks.old)
             (seen B.holdings g.old) staking.old.staked self.old.lists }
         requires whole { AreWhole g.old.ctx.height self.old.lists }
 
@@ -59,7 +57,7 @@ impl Unbondings {
             self.old.lists (over staking.old.staked h (seen B.holdings g.old)))
             self.new.lists staking.new.staked (H.holds hooks.new)
             (seen B.holdings g.new) result }
-        ensures scene { OnOk result (IsEntryScene H.tells (H.holds hooks.new)
+        ensures scene { OnOk result (IsUnbondingScene H.tells (H.holds hooks.new)
             (seen B.holdings g.new) staking.new.staked self.new.lists) }
         ensures whole { (height : ℕ) → AreWhole height self.old.lists
             → OnOk result (AreWhole height self.new.lists) }
@@ -121,10 +119,7 @@ impl Unbondings {
     fn count<L: Ledger>(&self, key: &(Addr, Addr), steps: &mut Steps<L>) -> usize
         ensures { result ≡ length (entries_of self.now.lists key.now.0 key.now.1) }
     {
-        match self.at(key, steps) {
-            Some(list) => list.len(),
-            None => 0,
-        }
+        self.entries.count(key, steps)
     }
 
     /// Adds an entry, or lets one grow.
@@ -170,28 +165,6 @@ impl Unbondings {
             None => grown(alloc, &[], height, completes, amount),
         }
     }
-}
-
-/// All shares of a delegation, and those that an amount stands for (`ValidateUnbondAmount`).
-fn shares_to_unbond(held: &Option<Dec>, v: &Validator, amount: u128) -> Result<(Dec, Dec), Refusal>
-    requires tokens { v.now.tokens ≤ 10 ^ 18 }
-    ensures { result ≡ shares_to_unbond held.now v.now amount }
-{
-    let all = match held {
-        Some(all) => *all,
-        None => return Err(Refusal::NoDelegation),
-    };
-    if v.tokens == 0 {
-        return Err(Refusal::NoTokens);
-    }
-    let part = match shares_for(v.tokens, v.shares, amount) {
-        Ok(part) => part,
-        Err(_) => return Err(Refusal::TooManyShares),
-    };
-    if all.raw() < part.raw() {
-        return Err(Refusal::TooManyShares);
-    }
-    Ok((all, part))
 }
 
 /// Whether a validator of this status is bonded.

@@ -27,7 +27,7 @@ use Rattle.stk_keep.specs.declared.entities.Validator.{Validator}
 use Rattle.stk_book.specs.Calls.{IsSoundStake, changed_at}
 use Rattle.stk_book.proofs.BurntLemmas.{burnt, owes-burnt}
 use Rattle.stk_unbonding.specs.Calls.{AreSoundLists, IsWhole, AreWhole}
-use Rattle.stk_unbonding.specs.Scenes.{IsEntryScene}
+use Rattle.stk_unbonding.specs.Scenes.{IsUnbondingScene}
 use Rattle.stk_unbonding_trials.specs.Trials.{IsFit, IsKept}
 
 -- no validator and no delegation
@@ -73,7 +73,7 @@ fit-none u s v e sound order accounts = subst (λ x. IsFit x s v) (sym e) (recor
 -- ---- from call to call
 
 -- the scene of a call, over hooks that do nothing
-pub scene-of_kept : (u : UnbondingLists) (s : Staked) (v : View) → IsKept u s v → IsEntryScene nothing_told (λ (h : Unit {0}). Unit {0}) v s u
+pub scene-of_kept : (u : UnbondingLists) (s : Staked) (v : View) → IsKept u s v → IsUnbondingScene nothing_told (λ (h : Unit {0}). Unit {0}) v s u
 scene-of_kept u s v f = record {
   hooked = record { sound = f.sound; stand = (tt, (tt, record { lists = tt; owed = tt; late = none; in_order = f.in_order })) };
   entries = f.entries;
@@ -84,14 +84,14 @@ scene-of_kept u s v f = record {
     none = omega arith
 
 -- and what a call left of it
-kept-of_scene : (u : UnbondingLists) (s : Staked) (v : View) → IsEntryScene nothing_told (λ (h : Unit {0}). Unit {0}) v s u → IsKept u s v
+kept-of_scene : (u : UnbondingLists) (s : Staked) (v : View) → IsUnbondingScene nothing_told (λ (h : Unit {0}). Unit {0}) v s u → IsKept u s v
 kept-of_scene u s v e = record { sound = e.hooked.sound; in_order = e.hooked.stand.1.1.in_order; entries = e.entries; accounts = e.accounts }
 
-pub kept-after : {A E : Type 0} (r : Result A E) (u2 : UnbondingLists) (s2 : Staked) (v2 : View) → OnOk r (IsEntryScene nothing_told (λ (h : Unit {0}). Unit {0}) v2 s2 u2) → OnOk r (IsKept u2 s2 v2)
+pub kept-after : {A E : Type 0} (r : Result A E) (u2 : UnbondingLists) (s2 : Staked) (v2 : View) → OnOk r (IsUnbondingScene nothing_told (λ (h : Unit {0}). Unit {0}) v2 s2 u2) → OnOk r (IsKept u2 s2 v2)
 kept-after (Ok a) u2 s2 v2 e = kept-of_scene u2 s2 v2 e
 kept-after (Err fault) u2 s2 v2 e = tt
 
-pub fit-after : {A E : Type 0} (r : Result A E) (u u2 : UnbondingLists) (s2 : Staked) (v2 : View) → OnOk r (IsEntryScene nothing_told (λ (h : Unit {0}). Unit {0}) v2 s2 u2)
+pub fit-after : {A E : Type 0} (r : Result A E) (u u2 : UnbondingLists) (s2 : Staked) (v2 : View) → OnOk r (IsUnbondingScene nothing_told (λ (h : Unit {0}). Unit {0}) v2 s2 u2)
     → ((height : ℕ) → AreWhole height u → OnOk r (AreWhole height u2)) → ((height : ℕ) → AreWhole height u) → OnOk r (IsFit u2 s2 v2)
 fit-after (Ok a) u u2 s2 v2 e w k = record { kept = kept-of_scene u2 s2 v2 e; whole = λ height. w height (k height) }
 fit-after (Err fault) u u2 s2 v2 e w k = tt

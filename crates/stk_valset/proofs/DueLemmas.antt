@@ -1,24 +1,29 @@
 -- Who matures: from the queue, sorted, they are the unbonding validators whose time has come.
-use Rattle.std.proofs.Common.{◌≡◌, ◌∙◌, ℕ, ◌+◌, ◌<◌, ◌≤◌, ◌++◌, get_or, length, append_assoc, append-nil, Bool, true, false, cond, List, [], ◌∷◌, Option, Some, None, refl, sym, ap, subst, arith, inl, inr}
-use Rattle.std.specs.Prelude.{◌&&◌, nat_le, map, filter, option_map}
+use Rattle.std.proofs.Common.{◌≡◌, ◌∙◌, ℕ, ◌+◌, ◌*◌, ◌<◌, ◌≤◌, ◌++◌, get_or, length, length-append, append_assoc, append-nil, Bool, true, false, cond, List, [], ◌∷◌, Option, Some, None, refl, sym, ap, subst, arith, inl, inr}
+use Rattle.std.specs.Prelude.{◌&&◌, ◌||◌, nat_le, map, filter, option_map}
 use Rattle.std.proofs.lemmas.Bool.Decides.{nat_tests}
 use Rattle.std.specs.declared.cmp.Ordering.{Ordering}
 use Rattle.std.specs.declared.cmp.Ordering.TheVariants.{Less, Equal, Greater}
 use Rattle.std.specs.Ordering.{is_eq, is_lt, nat_cmp, eq_by_cmp, ordering_then, ordering_reverse}
-use Rattle.std.specs.Cmp.{IsTotalOrder, eq_by_cmp_equiv}
+use Rattle.std.specs.Cmp.{eq_by_cmp_equiv}
 use Rattle.std.specs.BTreeMap.{is_at}
 use Rattle.std.specs.List.{AllByRecursion, IsDistinct}
 use Rattle.std.specs.List.Sorted.{IsStrictlySortedBy, IsSorted, IsPermutation}
 use Rattle.std.specs.Map.{keys_of, values_of}
+use Rattle.std.specs.Set.{is_member}
+use Rattle.std.proofs.lemmas.List.{length-map}
+use Rattle.std.proofs.lemmas.Map.Made.{length-le_from_is_member}
 use Rattle.std.proofs.lemmas.List.Sorted.{IsPermutation-sym, Contains-permutation}
 use Rattle.std.proofs.lemmas.Map.Keys.{sorted_tail, IsDistinct-from_sorted, IsDistinct-IsPermutation, apart_from_distinct, sorted_from_all_adjacent}
 use Rattle.std.proofs.lemmas.Map.Views.{Contains-from_lookup, lookup-from_Contains}
 use Rattle.stk_types.specs.Orders.{addr_cmp}
 use Rattle.stk_keep.specs.declared.entities.Validator.{Validator}
 use Rattle.stk_keep.specs.Entries.{at}
+use Rattle.stk_rows.proofs.AscendLemmas.{once-ascends, same_members}
 use Rattle.stk_rows.proofs.MemberLemmas.{Member, member, contained, all_member}
 use Rattle.stk_rows.proofs.WalkLemmas.{left_of, walk-end, walk-more}
 use Rattle.stk_table.specs.Tabled.{entry_above}
+use Rattle.stk_rules.specs.Amounts.{count_where}
 use Rattle.stk_rules.specs.Stakes.{is_unbonding}
 use Rattle.stk_rules.proofs.OrderLemmas.{addr_total, equal, same_is, same_itself}
 use Rattle.stk_book.specs.Listed.{Validators}
@@ -28,6 +33,7 @@ use Rattle.stk_book.proofs.IndexLemmas.{keyed_found}
 use Rattle.stk_book.proofs.ListedLemmas.{time_total, maturing_placed}
 use Rattle.stk_book.proofs.PlaceLemmas.{in_order-ascend, listed_stands, stands_listed, next_found, found_behind}
 use Rattle.stk_valset.specs.Sets.{is_due, due_in}
+use Rattle.stk_valset.proofs.LoopLemmas.{length_count}
 
 abbrev pub Place : Type 0
 Place = ℕ × List ℕ
@@ -64,52 +70,23 @@ module _ (now : ℕ) (q : Maturing) (sq : IsStrictlySortedBy time_cmp (keys_of q
 
 -- ---- lists of operators
 
-not_below : (x : List ℕ) → addr_cmp x x ≡ Less → ⊥
-not_below x p = let back : Less ≡ Greater = sym p ∙ addr_total.antisymm x x ∙ ap ordering_reverse p in absurd cc
-
-below : (k x : List ℕ) (ks : List (List ℕ)) → AllByRecursion (λ y. addr_cmp k y ≡ Less) ks → Member ks x → addr_cmp k x ≡ Less
-below k x [] h m = absurd m
-below k x (y ∷ ks) h (inl e) = ap (addr_cmp k) (sym e) ∙ h.0
-below k x (y ∷ ks) h (inr m) = below k x ks h.1 m
-
-less : (a b : List ℕ) → is_lt (addr_cmp b a) ≡ false → eq_by_cmp addr_cmp a b ≡ false → addr_cmp a b ≡ Less
-less a b p q = by (addr_cmp a b) refl
+-- among the keys of a list that compare
+in_list : (ks : List (List ℕ)) (x : List ℕ) → is_member (eq_by_cmp addr_cmp) ks x ≡ true → Member ks x
+in_list [] x e = absurd cc
+in_list (k ∷ ks) x e = by (eq_by_cmp addr_cmp x k) refl e (λ f. in_list ks x f)
   where
-    by : (r : Ordering) → addr_cmp a b ≡ r → r ≡ Less
-    by Less e = refl
-    by Equal e = let clash : false ≡ true = sym q ∙ ap is_eq e in absurd cc
-    by Greater e = let clash : false ≡ true = sym p ∙ ap is_lt (addr_total.antisymm b a ∙ ap ordering_reverse e) in absurd cc
+    by : (b : Bool) → eq_by_cmp addr_cmp x k ≡ b → (b || is_member (eq_by_cmp addr_cmp) ks x) ≡ true → (is_member (eq_by_cmp addr_cmp) ks x ≡ true → Member ks x) → Member (k ∷ ks) x
+    by true p f later = inl (sym (same_is x k p))
+    by false p f later = inr (later f)
 
-once-ascends : (ks : List (List ℕ)) (d : List ℕ) → IsSorted addr_cmp ks → IsDistinct (eq_by_cmp addr_cmp) ks → IsStrictlySortedBy addr_cmp ks
-once-ascends ks d s once =
-    sorted_from_all_adjacent addr_total ks d (λ k n. less (get_or ks k d) (get_or ks (k + 1) d) (s k d (omega arith) n) (apart_from_distinct (eq_by_cmp addr_cmp) ks k (k + 1) d once (omega arith) n))
-
--- ascending lists with the same members are one
-same_members : (ks ls : List (List ℕ)) → IsStrictlySortedBy addr_cmp ks → IsStrictlySortedBy addr_cmp ls → ((x : List ℕ) → Member ks x → Member ls x) → ((x : List ℕ) → Member ls x → Member ks x) → ks ≡ ls
-unfolding IsStrictlySortedBy
-same_members [] [] s t f g = refl
-same_members [] (l ∷ ls) s t f g = absurd (g l (inl refl))
-same_members (k ∷ ks) [] s t f g = absurd (f k (inl refl))
-same_members (k ∷ ks) (l ∷ ls) s t f g =
-    let heads = first (f k (inl refl)) (g l (inl refl)) in
-    let rest = same_members ks ls s.1 t.1 (λ x m. later x m heads (f x (inr m))) (λ x m. earlier x m heads (g x (inr m))) in
-    λ i. heads i ∷ rest i
+listed_in : (ks : List (List ℕ)) (x : List ℕ) → Member ks x → is_member (eq_by_cmp addr_cmp) ks x ≡ true
+listed_in [] x m = absurd m
+listed_in (k ∷ ks) x (inl e) = ap (λ b. b || is_member (eq_by_cmp addr_cmp) ks x) (ap (eq_by_cmp addr_cmp x) e ∙ same_itself x)
+listed_in (k ∷ ks) x (inr m) = by (eq_by_cmp addr_cmp x k) (listed_in ks x m)
   where
-    first : Member (l ∷ ls) k → Member (k ∷ ks) l → k ≡ l
-    first (inl e) m = sym e
-    first (inr n) (inl e) = e
-    first (inr n) (inr m) =
-        let under = below l k ls t.0 n in
-        let back = below k l ks s.0 m in
-        absurd (not_below k (addr_total.trans k l k back under))
-
-    later : (x : List ℕ) → Member ks x → k ≡ l → Member (l ∷ ls) x → Member ls x
-    later x m e (inl q) = absurd (not_below k (ap (addr_cmp k) (e ∙ q) ∙ below k x ks s.0 m))
-    later x m e (inr n) = n
-
-    earlier : (x : List ℕ) → Member ls x → k ≡ l → Member (k ∷ ks) x → Member ks x
-    earlier x m e (inl q) = absurd (not_below l (ap (addr_cmp l) (sym e ∙ q) ∙ below l x ls t.0 m))
-    earlier x m e (inr n) = n
+    by : (b : Bool) → is_member (eq_by_cmp addr_cmp) ks x ≡ true → (b || is_member (eq_by_cmp addr_cmp) ks x) ≡ true
+    by true f = refl
+    by false f = f
 
 -- ---- the queue
 
@@ -186,6 +163,15 @@ distinct-due now first (e ∷ q) s h = by (nat_le e.0.0 now) (distinct-due now f
 
 abbrev pub operators_of : List Validator → List (List ℕ)
 operators_of vs = map (λ v. v.operator) vs
+
+-- where none is counted, none is listed
+pub none_listed : (t : Validator → Bool) (vs : List Validator) → count_where t vs ≡ 0 → operators_of (filter t vs) ≡ []
+none_listed t [] e = refl
+none_listed t (v ∷ vs) e = by (t v) e (λ f. none_listed t vs f)
+  where
+    by : (b : Bool) → cond b 1 0 + count_where t vs ≡ 0 → (count_where t vs ≡ 0 → operators_of (filter t vs) ≡ []) → operators_of (cond b (v ∷ filter t vs) (filter t vs)) ≡ []
+    by true f later = absurd (omega (arith, f))
+    by false f later = let none : count_where t vs ≡ 0 = omega (arith, f) in later none
 
 module _ (test : Validator → Bool) where
   abbrev passing : Validators → List (List ℕ)
@@ -308,6 +294,20 @@ module _ (now r : ℕ) (es : Validators) (s : IsStrictlySortedBy addr_cmp (keys_
   pub due-sorted : (ks : List (List ℕ)) → IsPermutation (due_in now queue) ks → IsSorted addr_cmp ks → ks ≡ passing (is_due now) es
   due-sorted ks p q =
       let once = IsDistinct-IsPermutation (eq_by_cmp addr_cmp) (eq_by_cmp_equiv addr_total).symm (due_in now queue) ks p apart in
-      same_members ks (passing (is_due now) es) (once-ascends ks [] q once) (ascend-passing (is_due now) es s k)
+      same_members addr_total ks (passing (is_due now) es) (once-ascends addr_total ks q once) (ascend-passing (is_due now) es s k)
       (λ x m. due-there x (member (due_in now queue) x (Contains-permutation ks (due_in now queue) x (IsPermutation-sym (due_in now queue) ks p) (contained ks x m))))
       (λ x m. member ks x (Contains-permutation (due_in now queue) ks x p (contained (due_in now queue) x (there-due x m))))
+
+  -- no more are listed than are due
+  due-few : length (due_in now queue) ≤ count_where (is_due now) (values_of es)
+  due-few =
+      let all : length (passing (is_due now) es) ≡ count_where (is_due now) (values_of es) = length-map (filter (is_due now) (values_of es)) (λ v. v.operator) ∙ length_count (is_due now) (values_of es) in
+      subst (λ n. length (due_in now queue) ≤ n) all
+      (length-le_from_is_member (eq_by_cmp_equiv addr_total) (due_in now queue) (passing (is_due now) es) apart (λ x h. listed_in (passing (is_due now) es) x (due-there x (in_list (due_in now queue) x h))))
+
+  -- so the walk, of two steps for each that it lists and two more, takes no more than two for each that is due and two more
+  pub due-steps : (ks : List (List ℕ)) (past : Option Place) → ks ++ due_in now (left_of time_cmp queue past) ≡ due_in now queue → (n n1 n2 : ℕ) → n1 ≤ n + 2 * length ks → n2 ≤ n1 + 2 → n2 ≤ n + 2 * (count_where (is_due now) (values_of es) + 1)
+  due-steps ks past told n n1 n2 h k =
+      let part = sym (length-append ks (due_in now (left_of time_cmp queue past))) ∙ ap length told in
+      let few = due-few in
+      omega (arith, part, few, h, k)

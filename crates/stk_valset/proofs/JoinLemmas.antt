@@ -1,7 +1,6 @@
 -- A validator joins the bonded set: its hook may be called, and exceeds nothing where hooks are sure.
-use Rattle.std.proofs.Common.{◌≡◌, ◌∙◌, ℕ, ◌^◌, ◌≤◌, true, List, [], ◌∷◌, ◌++◌, Some, refl, sym, ap, subst}
+use Rattle.std.proofs.Common.{◌≡◌, ◌∙◌, true, List, [], ◌∷◌, ◌++◌, Some, refl, ap}
 use Rattle.std.specs.Prelude.{Err, is_some, option_map}
-use Rattle.stk_types.specs.declared.status.BondStatus.{BondStatus}
 use Rattle.stk_types.specs.declared.status.BondStatus.TheVariants.{Bonded}
 use Rattle.stk_keep.specs.declared.entities.Validator.{Validator}
 use Rattle.stk_keep.specs.declared.faults.HookFault.{HookFault}
@@ -11,7 +10,7 @@ use Rattle.stk_keep.specs.declared.facts.Fact.{Fact}
 use Rattle.stk_keep.specs.Hooks.{Lists, Tells, Stand, Ready, Lawful, Keeps}
 use Rattle.stk_keep.specs.Staked.{Staked, validator_at, put_validator, lists_of}
 use Rattle.stk_keep.specs.World.{View, bonded}
-use Rattle.stk_rules.proofs.SoundLemmas.{IsSoundAt, to_points, found_itself}
+use Rattle.stk_rules.proofs.SoundLemmas.{to_points, found_itself}
 use Rattle.stk_book.specs.Calls.{IsSoundStake, with_if, changed_at}
 use Rattle.stk_book.proofs.ListLemmas.{lists-put}
 use Rattle.stk_book.proofs.RemoveLemmas.{given_fault}

@@ -1,10 +1,9 @@
 -- How far validators have joined the bonded set, from each plain value that the hooks held before.
-use Rattle.std.proofs.Common.{◌≡◌, ◌∙◌, ℕ, true, List, [], ◌∷◌, ◌++◌, Option, Some, None, refl, sym, ap, subst}
-use Rattle.std.specs.Prelude.{Result, Ok, Err, ⊤}
+use Rattle.std.proofs.Common.{◌≡◌, ◌∙◌, List, [], ◌∷◌, ◌++◌, Some, None, refl, sym, ap, subst}
+use Rattle.std.specs.Prelude.{Result, Ok, Err}
 use Rattle.stk_dec.specs.declared.over.Over.{Over}
 use Rattle.stk_types.specs.declared.status.BondStatus.TheVariants.{Bonded}
 use Rattle.stk_keep.specs.declared.entities.Validator.{Validator}
-use Rattle.stk_keep.specs.declared.facts.Fact.{Fact}
 use Rattle.stk_keep.specs.declared.faults.HookFault.{HookFault}
 use Rattle.stk_keep.specs.declared.faults.HookFault.TheVariants as hook
 use Rattle.stk_keep.specs.declared.facts.Fact.TheVariants as fact
@@ -12,11 +11,11 @@ use Rattle.stk_keep.specs.Hooks.{Tells, Stand, Ready, Lawful, Keeps}
 use Rattle.stk_keep.specs.Log.{Log}
 use Rattle.stk_keep.specs.Staked.{Staked, validator_at, put_validator, lists_of}
 use Rattle.stk_keep.specs.Steps.{◌>>=◌, each}
-use Rattle.stk_keep.specs.World.{View, World, Hook, Told, gives, exceeds, bonded, noted, hooked}
+use Rattle.stk_keep.specs.World.{View, World, Told, gives, exceeds, bonded, noted, hooked}
 use Rattle.stk_keep.proofs.HookLemmas.{stand-noted}
 use Rattle.stk_rules.specs.Answers.{Leaves}
 use Rattle.stk_rules.specs.BondedSet.{joined_set}
-use Rattle.stk_book.specs.Calls.{IsSoundStake, over, behind_log}
+use Rattle.stk_book.specs.Calls.{IsSoundStake, behind_log}
 use Rattle.stk_book.proofs.GroundLemmas.{keeps-noted, keeps_then}
 use Rattle.stk_valset.proofs.JoinLemmas.{in_set, lists-joined_set, ready-bonded, nothing_kept}
 
@@ -39,25 +38,25 @@ each-stopped {H} f x rest w s holds v fault a = by (f x w) fault a
 
 -- ---- how far they have come
 
--- From a plain value that was held, so many have joined: one is held with which the rule goes on as it would have gone from
+-- From a plain value that was held and what was logged before, so many have joined: one is held with which the rule goes on as it would have gone from
 -- the start; it touches as much, is as sure, owes nothing where the first did, stands where the first stood, and has kept
 -- what no hook changes.
-pub record HasJoined {H : Type 0} (t : Tells H) (holds : H → Type 0) (h0 : H) (s0 : Staked) (v0 : View) (all rest : List Validator) (s : Staked) (v : View) : Type 0 where
+pub record HasJoined {H : Type 0} (t : Tells H) (holds : H → Type 0) (h0 : H) (l0 : Log) (s0 : Staked) (v0 : View) (all rest : List Validator) (s : Staked) (v : View) : Type 0 where
   pub now : H
   pub log : Log
   pub held : holds now
-  pub rule : each (joined_set t.told) rest (behind_log log s now v) ≡ each (joined_set t.told) all (over s0 h0 v0)
+  pub rule : each (joined_set t.told) rest (behind_log log s now v) ≡ each (joined_set t.told) all (behind_log l0 s0 h0 v0)
   pub touches : t.touches now ≡ t.touches h0
   pub sure : t.sure now ≡ t.sure h0
   pub owes : t.owes h0 ≡ None → t.owes now ≡ None
   pub stand : Stand t h0 v0 (lists_of s0) → Stand t now v (lists_of s)
   pub keeps : Stand t h0 v0 (lists_of s0) → Keeps (t.owes h0 ≡ None) v0 v
 
-module _ {H : Type 0} (t : Tells H) (lawful : Lawful t) (h0 : H) (s0 : Staked) (v0 : View) (all : List Validator) where
-  pub joined-first : (holds : H → Type 0) → holds h0 → HasJoined t holds h0 s0 v0 all all s0 v0
+module _ {H : Type 0} (t : Tells H) (lawful : Lawful t) (h0 : H) (l0 : Log) (s0 : Staked) (v0 : View) (all : List Validator) where
+  pub joined-first : (holds : H → Type 0) → holds h0 → HasJoined t holds h0 l0 s0 v0 all all s0 v0
   joined-first holds o = record {
     now = h0;
-    log = [];
+    log = l0;
     held = o;
     rule = refl;
     touches = refl;
@@ -68,7 +67,7 @@ module _ {H : Type 0} (t : Tells H) (lawful : Lawful t) (h0 : H) (s0 : Staked) (
   }
 
   -- what the rule gives of one more, where its hook gives something
-  module _ (holds holds2 : H → Type 0) (x : Validator) (rest : List Validator) (s s2 : Staked) (v v2 : View) (before : HasJoined t holds h0 s0 v0 all (x ∷ rest) s v) (found : validator_at s x.operator ≡ Some x) (sound : IsSoundStake s2) where
+  module _ (holds holds2 : H → Type 0) (x : Validator) (rest : List Validator) (s s2 : Staked) (v v2 : View) (before : HasJoined t holds h0 l0 s0 v0 all (x ∷ rest) s v) (found : validator_at s x.operator ≡ Some x) (sound : IsSoundStake s2) where
     abbrev told : View
     told = noted (fact.Changed x.operator Bonded) v
 
@@ -77,7 +76,7 @@ module _ {H : Type 0} (t : Tells H) (lawful : Lawful t) (h0 : H) (s0 : Staked) (
     next r = r >>= λ w. each (joined_set t.told) rest w
 
     step : (r : Told H) → t.told before.now (bonded (in_set x)) told ≡ r
-        → Leaves (hooked r (record { mine = put_validator (in_set x) s; hooks = before.now; view = told; log = before.log })) s2 holds2 v2 (Ok tt) → HasJoined t holds2 h0 s0 v0 all rest s2 v2
+        → Leaves (hooked r (record { mine = put_validator (in_set x) s; hooks = before.now; view = told; log = before.log })) s2 holds2 v2 (Ok tt) → HasJoined t holds2 h0 l0 s0 v0 all rest s2 v2
     step (exceeds over) e a = absurd a
     step (gives h v3 log) e a =
         let same : s2 ≡ put_validator (in_set x) s = a.0 in
@@ -101,12 +100,12 @@ module _ {H : Type 0} (t : Tells H) (lawful : Lawful t) (h0 : H) (s0 : Staked) (
               (lawful.keeps before.now h (bonded (in_set x)) told v3 log (lists_of s2) (ready p) e));
         }
 
-    pub joined-more : Leaves (joined_set t.told x (behind_log before.log s before.now v)) s2 holds2 v2 (Ok tt) → HasJoined t holds2 h0 s0 v0 all rest s2 v2
+    pub joined-more : Leaves (joined_set t.told x (behind_log before.log s before.now v)) s2 holds2 v2 (Ok tt) → HasJoined t holds2 h0 l0 s0 v0 all rest s2 v2
     joined-more a = step (t.told before.now (bonded (in_set x)) told) refl a
 
-  pub joined-stopped : (holds holds2 : H → Type 0) (x : Validator) (rest : List Validator) (s s2 : Staked) (v v2 : View) (fault : HookFault) (before : HasJoined t holds h0 s0 v0 all (x ∷ rest) s v)
-      → Leaves (joined_set t.told x (behind_log before.log s before.now v)) s2 holds2 v2 (Err fault) → Leaves (each (joined_set t.told) all (over s0 h0 v0)) s2 holds2 v2 (Err fault)
+  pub joined-stopped : (holds holds2 : H → Type 0) (x : Validator) (rest : List Validator) (s s2 : Staked) (v v2 : View) (fault : HookFault) (before : HasJoined t holds h0 l0 s0 v0 all (x ∷ rest) s v)
+      → Leaves (joined_set t.told x (behind_log before.log s before.now v)) s2 holds2 v2 (Err fault) → Leaves (each (joined_set t.told) all (behind_log l0 s0 h0 v0)) s2 holds2 v2 (Err fault)
   joined-stopped holds holds2 x rest s s2 v v2 fault before a = subst (λ r. Leaves r s2 holds2 v2 (Err fault)) before.rule (each-stopped (joined_set t.told) x rest (behind_log before.log s before.now v) s2 holds2 v2 fault a)
 
-  pub joined-all : (holds : H → Type 0) (s : Staked) (v : View) → HasJoined t holds h0 s0 v0 all [] s v → Leaves (each (joined_set t.told) all (over s0 h0 v0)) s holds v (Ok tt)
+  pub joined-all : (holds : H → Type 0) (s : Staked) (v : View) → HasJoined t holds h0 l0 s0 v0 all [] s v → Leaves (each (joined_set t.told) all (behind_log l0 s0 h0 v0)) s holds v (Ok tt)
   joined-all holds s v d = subst (λ r. Leaves r s holds v (Ok tt)) d.rule (refl, d.held, refl)

@@ -1,14 +1,13 @@
 -- What the rule gives of validators that leave the bonded set, one after another.
-use Rattle.std.proofs.Common.{◌≡◌, ℕ, List, [], ◌∷◌, refl}
-use Rattle.std.specs.Prelude.{Result, Ok}
-use Rattle.stk_dec.specs.declared.over.Over.{Over}
+use Rattle.std.proofs.Common.{◌≡◌, List, [], ◌∷◌, refl}
+use Rattle.std.specs.Prelude.{Ok}
 use Rattle.stk_types.specs.declared.status.BondStatus.TheVariants.{Unbonding}
 use Rattle.stk_keep.specs.declared.entities.Validator.{Validator}
 use Rattle.stk_keep.specs.declared.facts.Fact.TheVariants as fact
 use Rattle.stk_keep.specs.Log.{Log}
 use Rattle.stk_keep.specs.Staked.{Staked, put_validator}
 use Rattle.stk_keep.specs.Steps.{each}
-use Rattle.stk_keep.specs.World.{View, World, Hook, Told, noted}
+use Rattle.stk_keep.specs.World.{View, Hook, Told, noted}
 use Rattle.stk_rules.specs.BondedSet.{left_set}
 use Rattle.stk_rules.specs.Unbondings.{completion}
 use Rattle.stk_book.specs.Calls.{behind_log}

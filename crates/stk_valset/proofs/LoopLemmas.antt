@@ -1,13 +1,29 @@
 -- Loops over lists of validators: what is left, what can be taken back, and steps.
-use Rattle.std.proofs.Common.{◌≡◌, ◌∙◌, ℕ, ◌+◌, ◌*◌, ◌<◌, ◌≤◌, List, [], ◌∷◌, ◌++◌, length, get_or, drop, add-one, append-nil, append_assoc, refl, sym, ap, arith}
+use Rattle.std.proofs.Common.{◌≡◌, ◌∙◌, ℕ, ◌+◌, ◌*◌, ◌<◌, ◌≤◌, Bool, true, false, cond, List, [], ◌∷◌, ◌++◌, length, get_or, drop, add-one, append-nil, append_assoc, refl, sym, ap, arith}
+use Rattle.std.specs.Prelude.{filter}
 use Rattle.std.proofs.Math.Nat.{suc-mul, mul-le-mul, mul-le-mul_right}
 use Rattle.std.proofs.Math.Seq.{drop-cons}
 use Rattle.stk_keep.specs.declared.bank.Ground.{Ground}
 use Rattle.stk_keep.specs.Ground.{CanBeUndone}
+use Rattle.stk_rules.specs.Amounts.{count_where}
 
 -- the next item, and what is left behind it
 pub next_of : {A : Type 0} (xs : List A) (i : ℕ) (x : A) → i < length xs → x ≡ get_or xs i x → drop i xs ≡ x ∷ drop (i + 1) xs
 next_of xs i x lt is = rw (add-one) (drop-cons xs i x lt) ∙ ap (λ y. y ∷ drop (i + 1) xs) (sym is)
+
+-- none in a list of none
+pub no_item : {A : Type 0} (xs : List A) (i : ℕ) → xs ≡ [] → i < length xs → ⊥
+no_item [] i e lt = omega (arith, lt)
+no_item (x ∷ xs) i e lt = absurd cc
+
+-- as many pass a test as it counts
+pub length_count : {A : Type 0} (t : A → Bool) (xs : List A) → length (filter t xs) ≡ count_where t xs
+length_count t [] = refl
+length_count t (x ∷ xs) = by (t x) (length_count t xs)
+  where
+    by : (b : Bool) → length (filter t xs) ≡ count_where t xs → length (cond b (x ∷ filter t xs) (filter t xs)) ≡ cond b 1 0 + count_where t xs
+    by true ih = omega (arith, ih)
+    by false ih = omega (arith, ih)
 
 -- ---- what can be taken back
 

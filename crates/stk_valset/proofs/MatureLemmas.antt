@@ -1,7 +1,7 @@
 -- An unbonding validator whose time has come is unbonded, and goes where it has no shares; and how far all of them have, from
 -- each plain value that the hooks held before.
 use Rattle.std.proofs.Common.{◌≡◌, ◌∙◌, ℕ, ◌==◌, Bool, true, false, cond, List, [], ◌∷◌, ◌++◌, Some, None, refl, sym, ap, subst, arith}
-use Rattle.std.specs.Prelude.{◌&&◌, nat_le, if◌then◌else◌, map, filter, Result, Ok, Err, ⊤}
+use Rattle.std.specs.Prelude.{◌&&◌, nat_le, if◌then◌else◌, filter, Result, Ok, Err, ⊤}
 use Rattle.std.specs.List.{AllByRecursion}
 use Rattle.std.specs.List.Sorted.{IsStrictlySortedBy}
 use Rattle.std.specs.Map.{keys_of, values_of}
@@ -20,7 +20,7 @@ use Rattle.stk_keep.specs.Steps.{◌>>=◌, each}
 use Rattle.stk_keep.specs.World.{View, World, Hook, Told, gives, exceeds, removed, noted, hooked, over_view}
 use Rattle.stk_keep.proofs.HookLemmas.{stand-noted}
 use Rattle.stk_rules.specs.Answers.{Leaves}
-use Rattle.stk_rules.specs.BondedSet.{matured}
+use Rattle.stk_rules.specs.BondedSet.{HaveOwnOperators, matured}
 use Rattle.stk_rules.specs.Stakes.{is_unbonding, without_validator}
 use Rattle.stk_rules.specs.Unbonding.{validator_removed}
 use Rattle.stk_rules.proofs.OrderLemmas.{same_back}
@@ -30,7 +30,7 @@ use Rattle.stk_book.proofs.GroundLemmas.{keeps-noted, keeps_then}
 use Rattle.stk_book.proofs.ListLemmas.{lists-put, lists-left}
 use Rattle.stk_book.proofs.RemoveLemmas.{ready-removed}
 use Rattle.stk_book.proofs.SoundLemmas.{sound-set, found-taken}
-use Rattle.stk_valset.specs.Sets.{AllStand, AreApart, is_due}
+use Rattle.stk_valset.specs.Sets.{AllStand, is_due}
 use Rattle.stk_valset.proofs.DueLemmas.{operators_of}
 use Rattle.stk_valset.proofs.JoinLemmas.{nothing_kept}
 use Rattle.stk_valset.proofs.JoinedLemmas.{each-stopped}
@@ -96,7 +96,7 @@ pub record NextDue {H : Type 0} (told : H → Hook → View → Told H) (now : �
   pub due : is_due now v ≡ true
   pub left : operators_of (filter (is_due now) later) ≡ more
   pub stands : (s : Staked) → AllStand s rest → (validator_at s v.operator ≡ Some v) × AllStand s later
-  pub apart : AreApart rest → AllByRecursion (λ u. same_addr v.operator u.operator ≡ false) later × AreApart later
+  pub apart : HaveOwnOperators rest → AllByRecursion (λ u. same_addr v.operator u.operator ≡ false) later × HaveOwnOperators later
   pub rule : (w : World Staked H) → w.view.ctx.time ≡ now → each (matured told) rest w ≡ (matured told v w >>= λ w1. each (matured told) later w1)
 
 module _ {H : Type 0} (told : H → Hook → View → Told H) (now : ℕ) where
@@ -141,23 +141,23 @@ module _ {H : Type 0} (told : H → Hook → View → Told H) (now : ℕ) where
 
 -- ---- how far they have come
 
--- From a plain value that was held, so many have matured: one is held with which the rule goes on as it would have gone from
+-- From a plain value that was held and what was logged before, so many have matured: one is held with which the rule goes on as it would have gone from
 -- the start; it is as sure, owes nothing where the first did, stands where the first stood, and has kept what no hook changes.
-pub record HasMatured {H : Type 0} (t : Tells H) (holds : H → Type 0) (h0 : H) (s0 : Staked) (v0 : View) (all rest : List Validator) (s : Staked) (v : View) : Type 0 where
+pub record HasMatured {H : Type 0} (t : Tells H) (holds : H → Type 0) (h0 : H) (l0 : Log) (s0 : Staked) (v0 : View) (all rest : List Validator) (s : Staked) (v : View) : Type 0 where
   pub now : H
   pub log : Log
   pub held : holds now
-  pub rule : each (matured t.told) rest (behind_log log s now v) ≡ each (matured t.told) all (over s0 h0 v0)
+  pub rule : each (matured t.told) rest (behind_log log s now v) ≡ each (matured t.told) all (behind_log l0 s0 h0 v0)
   pub sure : t.sure now ≡ t.sure h0
   pub owes : t.owes h0 ≡ None → t.owes now ≡ None
   pub stand : Stand t h0 v0 (lists_of s0) → Stand t now v (lists_of s)
   pub keeps : Stand t h0 v0 (lists_of s0) → Keeps (t.owes h0 ≡ None) v0 v
 
-module _ {H : Type 0} (t : Tells H) (lawful : Lawful t) (h0 : H) (s0 : Staked) (v0 : View) (all : List Validator) where
-  pub matured-first : (holds : H → Type 0) → holds h0 → HasMatured t holds h0 s0 v0 all all s0 v0
+module _ {H : Type 0} (t : Tells H) (lawful : Lawful t) (h0 : H) (l0 : Log) (s0 : Staked) (v0 : View) (all : List Validator) where
+  pub matured-first : (holds : H → Type 0) → holds h0 → HasMatured t holds h0 l0 s0 v0 all all s0 v0
   matured-first holds o = record {
     now = h0;
-    log = [];
+    log = l0;
     held = o;
     rule = refl;
     sure = refl;
@@ -172,7 +172,7 @@ module _ {H : Type 0} (t : Tells H) (lawful : Lawful t) (h0 : H) (s0 : Staked) (
       sound-set s (put_validator (unbonded v) s) (unbonded v) v sound found refl refl refl refl
       (λ m. record { max_rate = m.max_rate; rate = m.rate; max_change = m.max_change; tokens = m.tokens; empty = m.empty })
 
-  module _ (holds holds2 : H → Type 0) (now : ℕ) (rest : List Validator) (o : List ℕ) (more : List (List ℕ)) (s s2 : Staked) (u u2 : View) (before : HasMatured t holds h0 s0 v0 all rest s u) (next : NextDue t.told now rest o more)
+  module _ (holds holds2 : H → Type 0) (now : ℕ) (rest : List Validator) (o : List ℕ) (more : List (List ℕ)) (s s2 : Staked) (u u2 : View) (before : HasMatured t holds h0 l0 s0 v0 all rest s u) (next : NextDue t.told now rest o more)
       (time : u.ctx.time ≡ now) (sound : IsSoundStake s) (found : validator_at s next.v.operator ≡ Some next.v) where
     abbrev v : Validator
     v = next.v
@@ -190,7 +190,7 @@ module _ {H : Type 0} (t : Tells H) (lawful : Lawful t) (h0 : H) (s0 : Staked) (
     due = ap (λ n. is_due n v) time ∙ next.due
 
     -- the rule behind what it gives of this one
-    so_far : behind (matured t.told v (behind_log before.log s before.now u)) ≡ each (matured t.told) all (over s0 h0 v0)
+    so_far : behind (matured t.told v (behind_log before.log s before.now u)) ≡ each (matured t.told) all (behind_log l0 s0 h0 v0)
     so_far = sym (next.rule (behind_log before.log s before.now u) time) ∙ before.rule
 
     stand_told : Stand t h0 v0 (lists_of s0) → Stand t before.now told (lists_of put)
@@ -199,7 +199,7 @@ module _ {H : Type 0} (t : Tells H) (lawful : Lawful t) (h0 : H) (s0 : Staked) (
     keeps_told : Stand t h0 v0 (lists_of s0) → Keeps (t.owes h0 ≡ None) v0 told
     keeps_told p = keeps-noted (t.owes h0 ≡ None) v0 u (fact.Changed v.operator Unbonded) told.facts refl (before.keeps p)
 
-    kept : (v.shares == 0) ≡ false → Leaves (Ok (changed_world t.told v before.log before.now s u due)) s2 holds2 u2 (Ok tt) → HasMatured t holds2 h0 s0 v0 all next.later s2 u2
+    kept : (v.shares == 0) ≡ false → Leaves (Ok (changed_world t.told v before.log before.now s u due)) s2 holds2 u2 (Ok tt) → HasMatured t holds2 h0 l0 s0 v0 all next.later s2 u2
     kept e a =
         let same : s2 ≡ put = a.0 in
         let ground : u2 ≡ told = a.2 in
@@ -217,7 +217,7 @@ module _ {H : Type 0} (t : Tells H) (lawful : Lawful t) (h0 : H) (s0 : Staked) (
     abbrev gone : Told H → Result (World Staked H) Over
     gone r = hooked r (record { mine = without_validator v.operator put; hooks = before.now; view = told; log = before.log }) >>= λ w1. Ok (over_view (noted (fact.Removed v.operator)) w1)
 
-    taken : (v.shares == 0) ≡ true → (v.shares ≡ 0) → (r : Told H) → t.told before.now (removed (unbonded v)) told ≡ r → Leaves (gone r) s2 holds2 u2 (Ok tt) → HasMatured t holds2 h0 s0 v0 all next.later s2 u2
+    taken : (v.shares == 0) ≡ true → (v.shares ≡ 0) → (r : Told H) → t.told before.now (removed (unbonded v)) told ≡ r → Leaves (gone r) s2 holds2 u2 (Ok tt) → HasMatured t holds2 h0 l0 s0 v0 all next.later s2 u2
     taken e z (exceeds over) g a = absurd a
     taken e z (gives h u3 log) g a =
         let sound2 = sound_unbonded s v sound found in
@@ -246,10 +246,10 @@ module _ {H : Type 0} (t : Tells H) (lawful : Lawful t) (h0 : H) (s0 : Staked) (
     zero_is : (n : ℕ) → (n == 0) ≡ true → n ≡ 0
     zero_is n e = grind (arith, nat_tests)
 
-    pub matured-more : Leaves (matured t.told v (behind_log before.log s before.now u)) s2 holds2 u2 (Ok tt) → HasMatured t holds2 h0 s0 v0 all next.later s2 u2
+    pub matured-more : Leaves (matured t.told v (behind_log before.log s before.now u)) s2 holds2 u2 (Ok tt) → HasMatured t holds2 h0 l0 s0 v0 all next.later s2 u2
     matured-more a = by (v.shares == 0) refl
       where
-        by : (b : Bool) → (v.shares == 0) ≡ b → HasMatured t holds2 h0 s0 v0 all next.later s2 u2
+        by : (b : Bool) → (v.shares == 0) ≡ b → HasMatured t holds2 h0 l0 s0 v0 all next.later s2 u2
         by false e = kept e (subst (λ r. Leaves r s2 holds2 u2 (Ok tt)) (matured-is t.told v before.log before.now s u due false e) a)
         by true e = taken e (zero_is v.shares e) (t.told before.now (removed (unbonded v)) told) refl (subst (λ r. Leaves r s2 holds2 u2 (Ok tt)) (matured-is t.told v before.log before.now s u due true e) a)
 
@@ -270,11 +270,11 @@ module _ {H : Type 0} (t : Tells H) (lawful : Lawful t) (h0 : H) (s0 : Staked) (
         by false e = let b = subst (λ r. Leaves r s2 holds2 u2 (Ok tt)) (matured-is t.told v before.log before.now s u due false e) a in subst (λ y. AllStand y next.later) (sym b.0) still
         by true e = left (t.told before.now (removed (unbonded v)) told) (subst (λ r. Leaves r s2 holds2 u2 (Ok tt)) (matured-is t.told v before.log before.now s u due true e) a)
 
-    pub matured-stopped : (fault : HookFault) → Leaves (matured t.told v (behind_log before.log s before.now u)) s2 holds2 u2 (Err fault) → Leaves (each (matured t.told) all (over s0 h0 v0)) s2 holds2 u2 (Err fault)
+    pub matured-stopped : (fault : HookFault) → Leaves (matured t.told v (behind_log before.log s before.now u)) s2 holds2 u2 (Err fault) → Leaves (each (matured t.told) all (behind_log l0 s0 h0 v0)) s2 holds2 u2 (Err fault)
     matured-stopped fault a = subst (λ r. Leaves r s2 holds2 u2 (Err fault)) so_far (each-stopped (matured t.told) v next.later (behind_log before.log s before.now u) s2 holds2 u2 fault a)
 
-  pub matured-all : (holds : H → Type 0) (now : ℕ) (rest : List Validator) (s : Staked) (u : View) → HasMatured t holds h0 s0 v0 all rest s u → operators_of (filter (is_due now) rest) ≡ [] → u.ctx.time ≡ now
-      → Leaves (each (matured t.told) all (over s0 h0 v0)) s holds u (Ok tt)
+  pub matured-all : (holds : H → Type 0) (now : ℕ) (rest : List Validator) (s : Staked) (u : View) → HasMatured t holds h0 l0 s0 v0 all rest s u → operators_of (filter (is_due now) rest) ≡ [] → u.ctx.time ≡ now
+      → Leaves (each (matured t.told) all (behind_log l0 s0 h0 v0)) s holds u (Ok tt)
   matured-all holds now rest s u d e q = subst (λ r. Leaves r s holds u (Ok tt)) (sym (none-due t.told now rest (behind_log d.log s d.now u) e q) ∙ d.rule) (refl, d.held, refl)
 
 -- How far all have come, from whichever plain value: who is left, of which those that are due have these operators.
@@ -282,5 +282,5 @@ pub record AreMaturing {H : Type 0} (t : Tells H) (first holds : H → Type 0) (
   pub rest : List Validator
   pub left : operators_of (filter (is_due now) rest) ≡ operators
   pub stand : AllStand s rest
-  pub apart : AreApart rest
-  pub matured : (h : H) → first h → HasMatured t holds h s0 v0 (values_of s0.validators) rest s v
+  pub apart : HaveOwnOperators rest
+  pub matured : (h : H) → first h → (log : Log) → HasMatured t holds h log s0 v0 (values_of s0.validators) rest s v

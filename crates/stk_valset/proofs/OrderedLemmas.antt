@@ -1,6 +1,6 @@
 -- Who joins and who leaves the bonded set, by the validators in the order of power and by the bonded ones.
-use Rattle.std.proofs.Common.{◌≡◌, ◌∙◌, ℕ, ◌+◌, ◌<◌, Bool, true, false, cond, List, [], ◌∷◌, ◌++◌, Option, Some, None, refl, sym, ap, subst, arith}
-use Rattle.std.specs.Prelude.{◌&&◌, not, nat_lt, map, filter, take}
+use Rattle.std.proofs.Common.{◌≡◌, ◌∙◌, ℕ, ◌+◌, Bool, true, false, cond, List, [], ◌∷◌, Option, Some, None, refl, sym, ap, subst, arith}
+use Rattle.std.specs.Prelude.{◌&&◌, not, nat_lt, filter, take}
 use Rattle.std.specs.declared.cmp.Ordering.{Ordering}
 use Rattle.std.specs.declared.cmp.Ordering.TheVariants.{Less, Equal, Greater}
 use Rattle.std.specs.BTreeMap.{insert_entry}
@@ -13,18 +13,17 @@ use Rattle.stk_types.specs.Orders.{addr_cmp}
 use Rattle.stk_types.proofs.MapLemmas.{all-put}
 use Rattle.stk_keep.specs.declared.entities.Validator.{Validator}
 use Rattle.stk_keep.specs.Entries.{at}
-use Rattle.stk_keep.specs.Orders.{same_addr}
 use Rattle.stk_keep.specs.Staked.{is_bonded}
-use Rattle.stk_rules.specs.BondedSet.{is_able, rank_of, is_in_bonded_set, by_power, joining_of, leaving_of}
-use Rattle.stk_rules.proofs.OrderLemmas.{addr_total, same_itself}
+use Rattle.stk_rules.specs.BondedSet.{is_able, rank_of, is_in_bonded_set, joining_of, leaving_of}
+use Rattle.stk_rules.proofs.OrderLemmas.{same_itself}
 use Rattle.stk_book.specs.declared.places.Standing.{Standing}
 use Rattle.stk_book.specs.Listed.{Validators}
 use Rattle.stk_book.specs.Places.{standing_cmp, power_place, bonded_place, in_order, with_if}
 use Rattle.stk_book.specs.Registered.{AreKeyed}
-use Rattle.stk_book.proofs.ListedLemmas.{standing_total, power_placed, bonded_placed}
+use Rattle.stk_book.proofs.ListedLemmas.{standing_total, power_placed}
 use Rattle.stk_book.proofs.PlaceLemmas.{in_order-ascend, stands_listed}
 use Rattle.stk_valset.specs.Sets.{place, last_place, is_not_behind, is_within}
-use Rattle.stk_valset.proofs.SetLemmas.{by_place, Apart, AllApart, ArePlaced, by_place-placed, by_power-filter, rank_is, before_count, Counted, filter_is_take, not_behind_is}
+use Rattle.stk_valset.proofs.SetLemmas.{by_place, Apart, AllApart, by_place-placed, by_power-filter, rank_is, before_count, Counted, filter_is_take, not_behind_is}
 
 -- ---- operators that ascend differ
 

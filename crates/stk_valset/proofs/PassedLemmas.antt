@@ -1,6 +1,6 @@
 -- How far walks over the validators by power and over the bonded ones have come.
-use Rattle.std.proofs.Common.{◌≡◌, ◌∙◌, ℕ, ◌+◌, ◌*◌, ◌<◌, ◌≤◌, Bool, true, false, cond, List, [], ◌∷◌, ◌++◌, Option, Some, None, length, append_assoc, refl, sym, ap, subst, arith}
-use Rattle.std.specs.Prelude.{◌&&◌, not, zero, suc, map, filter, take, drop, option_map}
+use Rattle.std.proofs.Common.{◌≡◌, ◌∙◌, ℕ, ◌+◌, ◌≤◌, Bool, true, false, cond, List, [], ◌∷◌, ◌++◌, Option, Some, None, length, append_assoc, refl, sym, ap, subst, arith}
+use Rattle.std.specs.Prelude.{◌&&◌, not, zero, suc, filter, take, drop, option_map}
 use Rattle.std.specs.List.{AllByRecursion}
 use Rattle.std.specs.List.Sorted.{IsStrictlySortedBy}
 use Rattle.std.specs.Map.{keys_of, values_of}
@@ -24,6 +24,7 @@ use Rattle.stk_book.specs.Registered.{AreKeyed}
 use Rattle.stk_book.proofs.ListedLemmas.{standing_total, power_placed, bonded_placed, some_if}
 use Rattle.stk_book.proofs.PlaceLemmas.{in_order-ascend, listed_stands, next_found, found_behind}
 use Rattle.stk_valset.specs.Sets.{place, last_place, is_within}
+use Rattle.stk_valset.proofs.LoopLemmas.{length_count}
 use Rattle.stk_valset.proofs.SetLemmas.{by_place}
 use Rattle.stk_valset.proofs.OrderedLemmas.{all_apart, by_place-ascend, joining_is, within_is, bonded_is, leaving_is}
 
@@ -249,14 +250,6 @@ module _ (r : ℕ) (es : Validators) (s : IsStrictlySortedBy addr_cmp (keys_of e
       ∙ sym (leaving_is r most r es s k)
 
   -- as many are left at first as are bonded
-  length_count : (t : Validator → Bool) (vs : List Validator) → length (filter t vs) ≡ count_where t vs
-  length_count t [] = refl
-  length_count t (v ∷ vs) = by (t v) (length_count t vs)
-    where
-      by : (b : Bool) → length (filter t vs) ≡ count_where t vs → length (cond b (v ∷ filter t vs) (filter t vs)) ≡ cond b 1 0 + count_where t vs
-      by true ih = omega (arith, ih)
-      by false ih = omega (arith, ih)
-
   pub bonded_count : length bonded ≡ count_where (λ v. is_bonded v.status) (values_of es)
   bonded_count = sym (length-values_of bonded) ∙ ap length (bonded_is r es s k) ∙ length_count (λ v. is_bonded v.status) (values_of es)
 

@@ -13,18 +13,18 @@ use Rattle.stk_keep.specs.Hooks.{Lists, Tells, Stand, Keeps}
 use Rattle.stk_keep.specs.Staked.{Staked, put_validator, lists_of, bonded_tokens, other_tokens, HoldsStake}
 use Rattle.stk_keep.specs.World.{View, noted}
 use Rattle.stk_keep.proofs.HookLemmas.{stand-noted}
-use Rattle.stk_rules.specs.BondedSet.{joining_of, leaving_of, tokens_of, difference_moved}
+use Rattle.stk_rules.specs.BondedSet.{HaveOwnOperators, joining_of, leaving_of, tokens_of, difference_moved}
 use Rattle.stk_book.specs.Calls.{IsSoundStake}
 use Rattle.stk_book.proofs.GroundLemmas.{holds-kept}
 use Rattle.stk_book.proofs.ListLemmas.{lists-put}
-use Rattle.stk_valset.specs.Sets.{AllStand, AreApart, all_joined, all_left, all_leavings_noted}
+use Rattle.stk_valset.specs.Sets.{AllStand, all_joined, all_left, all_leavings_noted}
 use Rattle.stk_valset.proofs.StakeLemmas.{sound_ascend}
 use Rattle.stk_valset.proofs.StandLemmas.{joining-stand, joining-apart, joining-new, leaving-stand, leaving-apart, leaving-bonded, leaving-stand-still}
 use Rattle.stk_valset.proofs.TokenLemmas.{still_stand}
 use Rattle.stk_valset.proofs.UpdateLemmas.{HasMoved, enough-other, enough-bonded, holds-moved, noted-holds, difference-accounts, stand-difference}
 
 -- the operators and the started pairs stay as validators leave the set
-pub lists-all_left : (height time : ℕ) (vs : List Validator) (s : Staked) → AllStand s vs → AreApart vs → lists_of (all_left height time vs s) ≡ lists_of s
+pub lists-all_left : (height time : ℕ) (vs : List Validator) (s : Staked) → AllStand s vs → HaveOwnOperators vs → lists_of (all_left height time vs s) ≡ lists_of s
 lists-all_left height time [] s h a = refl
 lists-all_left height time (v ∷ vs) s h a =
     let w : Validator = record v { status = Unbonding; unbonding_height = height; unbonding_time = time } in

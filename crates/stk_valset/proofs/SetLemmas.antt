@@ -1,6 +1,6 @@
 -- The bonded set as the beginning of the validators in the order of power.
-use Rattle.std.proofs.Common.{◌≡◌, ◌∙◌, ℕ, ◌+◌, ◌<◌, Bool, true, false, cond, List, [], ◌∷◌, ◌++◌, Option, Some, None, refl, sym, ap, subst, arith}
-use Rattle.std.specs.Prelude.{◌==◌, ◌&&◌, ◌||◌, ◌-◌, not, nat_lt, zero, suc, if◌then◌else◌, map, filter, take, drop}
+use Rattle.std.proofs.Common.{◌≡◌, ◌∙◌, ℕ, ◌+◌, Bool, true, false, cond, List, [], ◌∷◌, Option, Some, None, refl, sym, ap, subst, arith}
+use Rattle.std.specs.Prelude.{◌==◌, ◌&&◌, ◌||◌, not, nat_lt, zero, suc, if◌then◌else◌, filter, take}
 use Rattle.std.specs.declared.cmp.Ordering.{Ordering}
 use Rattle.std.specs.declared.cmp.Ordering.TheVariants.{Less, Equal, Greater}
 use Rattle.std.specs.BTreeMap.{insert_entry}
@@ -11,16 +11,13 @@ use Rattle.std.specs.Ordering.{is_eq, is_lt, ordering_then, ordering_reverse, ma
 use Rattle.std.proofs.lemmas.Bool.Decides.{nat_tests}
 use Rattle.std.proofs.lemmas.Map.Keys.{sorted_head, sorted_tail}
 use Rattle.stk_types.specs.Orders.{addr_cmp}
-use Rattle.stk_types.proofs.MapLemmas.{all-put}
 use Rattle.stk_keep.specs.declared.entities.Validator.{Validator}
 use Rattle.stk_keep.specs.Entries.{at}
-use Rattle.stk_keep.specs.Orders.{same_addr}
-use Rattle.stk_keep.specs.Staked.{is_bonded}
 use Rattle.stk_rules.specs.Amounts.{count_where}
-use Rattle.stk_rules.specs.BondedSet.{power_of, is_able, stands_before, rank_of, is_in_bonded_set, placed, by_power, joining_of, leaving_of}
+use Rattle.stk_rules.specs.BondedSet.{power_of, is_able, stands_before, rank_of, placed, by_power}
 use Rattle.stk_book.specs.declared.places.Standing.{Standing}
 use Rattle.stk_book.specs.Listed.{Validators}
-use Rattle.stk_book.specs.Places.{standing, standing_cmp, power_place, in_order, with_if}
+use Rattle.stk_book.specs.Places.{standing_cmp, power_place, in_order, with_if}
 use Rattle.stk_book.proofs.ListedLemmas.{standing_total, standing_exact}
 use Rattle.stk_valset.specs.Sets.{place, last_place, is_not_behind}
 

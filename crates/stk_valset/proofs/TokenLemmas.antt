@@ -1,5 +1,5 @@
 -- What is owed from the two staking accounts once validators joined or left the bonded set.
-use Rattle.std.proofs.Common.{◌≡◌, ◌∙◌, ℕ, ◌+◌, Bool, true, false, cond, List, [], ◌∷◌, map, Some, refl, sym, ap, subst, arith}
+use Rattle.std.proofs.Common.{◌≡◌, ◌∙◌, ℕ, ◌+◌, Bool, true, false, cond, List, [], ◌∷◌, map, Some, ap, arith}
 use Rattle.std.specs.List.{AllByRecursion}
 use Rattle.std.specs.List.Sorted.{IsStrictlySortedBy}
 use Rattle.std.specs.Map.{keys_of}
@@ -11,11 +11,11 @@ use Rattle.stk_types.proofs.MapLemmas.{ascend-put}
 use Rattle.stk_keep.specs.declared.entities.Validator.{Validator}
 use Rattle.stk_keep.specs.Orders.{same_addr}
 use Rattle.stk_keep.specs.Staked.{Staked, validator_at, put_validator, is_bonded, bonded_tokens, other_tokens}
-use Rattle.stk_rules.specs.BondedSet.{tokens_of}
+use Rattle.stk_rules.specs.BondedSet.{HaveOwnOperators, tokens_of}
 use Rattle.stk_rules.proofs.OrderLemmas.{addr_total, same_back}
 use Rattle.stk_rules.proofs.SoundLemmas.{found-put}
 use Rattle.stk_rules.proofs.TokenLemmas.{tokens-put}
-use Rattle.stk_valset.specs.Sets.{AllStand, AreApart, all_joined, all_left}
+use Rattle.stk_valset.specs.Sets.{AllStand, all_joined, all_left}
 
 abbrev others : BondStatus → Bool
 others status = cond (is_bonded status) false true
@@ -57,7 +57,7 @@ summed x y z t a b e f g = omega (arith, e, f, g)
 lessened : (x y z t a b : ℕ) → y + t ≡ x → z + a ≡ y → b ≡ t + a → z + b ≡ x
 lessened x y z t a b e f g = omega (arith, e, f, g)
 
-pub tokens-joined : (vs : List Validator) (s : Staked) → IsStrictlySortedBy addr_cmp (keys_of s.validators) → AllStand s vs → AreApart vs → AllByRecursion (λ v. is_bonded v.status ≡ false) vs
+pub tokens-joined : (vs : List Validator) (s : Staked) → IsStrictlySortedBy addr_cmp (keys_of s.validators) → AllStand s vs → HaveOwnOperators vs → AllByRecursion (λ v. is_bonded v.status ≡ false) vs
     → (bonded_tokens (all_joined vs s) ≡ bonded_tokens s + tokens_of vs) × (other_tokens (all_joined vs s) + tokens_of vs ≡ other_tokens s)
 tokens-joined [] s c h a n = (none (bonded_tokens s), same (other_tokens s))
   where
@@ -77,7 +77,7 @@ tokens-joined (v ∷ vs) s c h a n =
     )
 
 module _ (height time : ℕ) where
-  pub tokens-left : (vs : List Validator) (s : Staked) → IsStrictlySortedBy addr_cmp (keys_of s.validators) → AllStand s vs → AreApart vs → AllByRecursion (λ v. is_bonded v.status ≡ true) vs
+  pub tokens-left : (vs : List Validator) (s : Staked) → IsStrictlySortedBy addr_cmp (keys_of s.validators) → AllStand s vs → HaveOwnOperators vs → AllByRecursion (λ v. is_bonded v.status ≡ true) vs
       → (bonded_tokens (all_left height time vs s) + tokens_of vs ≡ bonded_tokens s) × (other_tokens (all_left height time vs s) ≡ other_tokens s + tokens_of vs)
   tokens-left [] s c h a n = (same (bonded_tokens s), none (other_tokens s))
     where

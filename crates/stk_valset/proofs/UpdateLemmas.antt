@@ -1,6 +1,6 @@
 -- The rule of the bonded set from its parts, and what the staking accounts hold behind it.
 use Rattle.std.proofs.Common.{◌≡◌, ◌∙◌, ℕ, ◌+◌, ◌<◌, ◌≤◌, ◌==◌, Bool, true, false, cond, List, [], ◌∷◌, refl, sym, ap, subst, arith}
-use Rattle.std.specs.Prelude.{◌-◌, nat_lt, if◌then◌else◌, Result, Ok, Err, ⊤}
+use Rattle.std.specs.Prelude.{◌-◌, nat_lt, if◌then◌else◌, Result, Ok, Err}
 use Rattle.std.specs.List.{AllByRecursion}
 use Rattle.std.specs.List.Sorted.{IsStrictlySortedBy}
 use Rattle.std.specs.Map.{keys_of, values_of}
@@ -17,18 +17,17 @@ use Rattle.stk_keep.specs.declared.faults.HookFault.{HookFault}
 use Rattle.stk_keep.specs.declared.faults.HookFault.TheVariants as hook
 use Rattle.stk_keep.specs.declared.params.Ctx.{Ctx}
 use Rattle.stk_keep.specs.Holdings.{IsBacked, balance_of}
-use Rattle.stk_keep.specs.Hooks.{Lists, Tells, Stand, Keeps}
+use Rattle.stk_keep.specs.Hooks.{Lists, Tells, Stand}
 use Rattle.stk_keep.specs.Staked.{Staked, bonded_tokens, other_tokens, is_bonded, HoldsStake}
 use Rattle.stk_keep.specs.Steps.{◌>>=◌, each}
 use Rattle.stk_keep.specs.World.{View, World, Hook, Told, sent, noted, over_view}
 use Rattle.stk_rules.specs.Amounts.{bond_coins}
 use Rattle.stk_rules.specs.Answers.{Leaves}
-use Rattle.stk_rules.specs.BondedSet.{joined_set, left_set, set_updated, joining_of, leaving_of, tokens_of, difference_moved}
+use Rattle.stk_rules.specs.BondedSet.{HaveOwnOperators, joined_set, left_set, set_updated, joining_of, leaving_of, tokens_of, difference_moved}
 use Rattle.stk_rules.specs.Delegating.{pool}
 use Rattle.stk_rules.specs.Unbondings.{completion}
-use Rattle.stk_book.specs.Calls.{behind_log}
-use Rattle.stk_book.proofs.GroundLemmas.{IsPaid, paid-accounts, stand-paid, holds-kept}
-use Rattle.stk_valset.specs.Sets.{AllStand, AreApart, all_joined, all_left, all_leavings_noted}
+use Rattle.stk_book.proofs.GroundLemmas.{paid-accounts, stand-paid}
+use Rattle.stk_valset.specs.Sets.{AllStand, all_joined, all_left, all_leavings_noted}
 use Rattle.stk_valset.proofs.JoinedLemmas.{memory_wanting}
 use Rattle.stk_valset.proofs.LeftLemmas.{each-left}
 use Rattle.stk_valset.proofs.TokenLemmas.{tokens-joined, tokens-left}
@@ -183,8 +182,8 @@ enough_up : (o2 o0 j l held : ℕ) → o2 + j ≡ o0 + l → o0 ≤ held → j -
 enough_up o2 o0 j l held e f = omega (arith, e, f)
 
 module _ (s0 s1 s2 : Staked) (joining leaving : List Validator) (height time : ℕ) (joined : s1 ≡ all_joined joining s0) (left : s2 ≡ all_left height time leaving s1)
-    (c0 : IsStrictlySortedBy addr_cmp (keys_of s0.validators)) (c1 : IsStrictlySortedBy addr_cmp (keys_of s1.validators)) (js : AllStand s0 joining) (ja : AreApart joining) (jn : AllByRecursion (λ v. is_bonded v.status ≡ false) joining)
-    (ls : AllStand s1 leaving) (la : AreApart leaving) (lb : AllByRecursion (λ v. is_bonded v.status ≡ true) leaving) where
+    (c0 : IsStrictlySortedBy addr_cmp (keys_of s0.validators)) (c1 : IsStrictlySortedBy addr_cmp (keys_of s1.validators)) (js : AllStand s0 joining) (ja : HaveOwnOperators joining) (jn : AllByRecursion (λ v. is_bonded v.status ≡ false) joining)
+    (ls : AllStand s1 leaving) (la : HaveOwnOperators leaving) (lb : AllByRecursion (λ v. is_bonded v.status ≡ true) leaving) where
   added : (a b c j l : ℕ) → b ≡ a + j → c + l ≡ b → c + l ≡ a + j
   added a b c j l e f = omega (arith, e, f)
 

@@ -5,7 +5,6 @@ use Rattle.std.specs.List.{AllByRecursion}
 use Rattle.std.specs.Map.{values_of}
 use Rattle.stk_types.specs.declared.status.BondStatus.TheVariants.{Bonded, Unbonding}
 use Rattle.stk_keep.specs.declared.entities.Validator.{Validator}
-use Rattle.stk_keep.specs.Orders.{same_addr}
 use Rattle.stk_keep.specs.Staked.{Staked, validator_at, put_validator}
 use Rattle.stk_keep.specs.declared.facts.Fact.TheVariants as fact
 use Rattle.stk_keep.specs.World.{View, noted}
@@ -40,11 +39,6 @@ TellsSet reduction most s last = (o : List ℕ) (v : Validator) → validator_at
 -- each of these stands under its operator
 abbrev pub AllStand : Staked → List Validator → Type 0
 AllStand s vs = AllByRecursion (λ v. validator_at s v.operator ≡ Some v) vs
-
--- no operator stands twice among these
-abbrev pub AreApart : List Validator → Type 0
-AreApart [] = Unit {0}
-AreApart (v ∷ vs) = AllByRecursion (λ u. same_addr v.operator u.operator ≡ false) vs × AreApart vs
 
 -- validators with these in the set
 abbrev pub all_joined : List Validator → Staked → Staked

@@ -1,6 +1,6 @@
 //! Validators whose unbonding is mature.
 
-ghost use Rattle.std.specs.Prelude.{◌≡◌, true, Some, map, filter, OnOk, IfOk, IfErr};
+ghost use Rattle.std.specs.Prelude.{◌≡◌, ◌+◌, ◌*◌, ◌≤◌, true, [], Some, length, map, filter, OnOk, IfOk, IfErr};
 ghost use Rattle.std.specs.Map.{values_of};
 ghost use Rattle.stk_keep.specs.declared.entities.Validator.{Validator};
 ghost use Rattle.stk_keep.specs.declared.faults.HookFault.TheVariants.{NoMemory};
@@ -8,9 +8,10 @@ ghost use Rattle.stk_keep.specs.Ground.{seen, CanBeUndone};
 ghost use Rattle.stk_keep.specs.Hooks.{Stand};
 ghost use Rattle.stk_keep.specs.Log.{Log};
 ghost use Rattle.stk_keep.specs.Staked.{validator_at, lists_of};
+ghost use Rattle.stk_rules.specs.Amounts.{count_where};
 ghost use Rattle.stk_rules.specs.Answers.{Leaves};
 ghost use Rattle.stk_rules.specs.BondedSet.{matured, validators_matured};
-ghost use Rattle.stk_book.specs.Calls.{IsSoundStake, over, behind_log};
+ghost use Rattle.stk_book.specs.Calls.{IsSoundStake, behind_log};
 ghost use Rattle.stk_book.specs.Registered.{behind};
 ghost use Rattle.stk_book.specs.Scenes.{IsHooked, GoesOn, KeepsAccounts};
 ghost use Rattle.stk_book.specs.Places.{time_cmp, maturing_place, in_order};
@@ -23,7 +24,7 @@ use stk_keep::{Bank, Ground, HookFault, StakingHooks, ValidatorView};
 use stk_types::{Addr, BondStatus, Moment, Steps};
 
 /// Validators whose unbonding is mature become unbonded, by rising operator, and go where they have no shares
-/// (`UnbondAllMatureValidators`).
+/// (`UnbondAllMatureValidators`). Where none is mature, that takes at most two steps.
 ///
 /// `Over` comes exactly where a hook exceeds, which sure hooks never do.
 pub fn mature_validators<B: Bank, H: StakingHooks, L: Ledger>(
@@ -36,9 +37,9 @@ pub fn mature_validators<B: Bank, H: StakingHooks, L: Ledger>(
     requires hooked { IsHooked H.tells (H.holds hooks.old)
         (seen B.holdings g.old) staking.old.staked }
 
-    ensures told { (h : H.Held) → H.holds hooks.old h
+    ensures told { (h : H.Held) → H.holds hooks.old h → (log : Log)
         → Leaves (validators_matured H.tells.told
-        (over staking.old.staked h (seen B.holdings g.old)))
+        (behind_log log staking.old.staked h (seen B.holdings g.old)))
         staking.new.staked (H.holds hooks.new) (seen B.holdings g.new) result }
     ensures sure { (h : H.Held) → H.holds hooks.old h
         → Stand H.tells h (seen B.holdings g.old) (lists_of staking.old.staked)
@@ -55,6 +56,8 @@ pub fn mature_validators<B: Bank, H: StakingHooks, L: Ledger>(
     ensures behind { behind staking.new ≡ behind staking.old }
     ensures spent { staking.old.spent ≡ true → staking.new.spent ≡ true }
     ensures unspent { OnOk result (staking.new.spent ≡ staking.old.spent) }
+    ensures cost { count_where (is_due g.old.ctx.time)
+        (values_of staking.old.staked.validators) ≡ 0 → steps.new ≤ steps.old + 2 }
 {
     let due = who_matures(alloc, staking, g.ctx.time, steps)?;
     mature_all(alloc, g, hooks, staking, due.as_slice(), steps)
@@ -74,9 +77,9 @@ fn mature_all<B: Bank, H: StakingHooks, L: Ledger>(
     requires hooked { IsHooked H.tells (H.holds hooks.old)
         (seen B.holdings g.old) staking.old.staked }
 
-    ensures told { (h : H.Held) → H.holds hooks.old h
+    ensures told { (h : H.Held) → H.holds hooks.old h → (log : Log)
         → Leaves (validators_matured H.tells.told
-        (over staking.old.staked h (seen B.holdings g.old)))
+        (behind_log log staking.old.staked h (seen B.holdings g.old)))
         staking.new.staked (H.holds hooks.new) (seen B.holdings g.new) result }
     ensures sure { (h : H.Held) → H.holds hooks.old h
         → Stand H.tells h (seen B.holdings g.old) (lists_of staking.old.staked)
@@ -93,6 +96,7 @@ fn mature_all<B: Bank, H: StakingHooks, L: Ledger>(
     ensures behind { behind staking.new ≡ behind staking.old }
     ensures spent { staking.old.spent ≡ true → staking.new.spent ≡ true }
     ensures unspent { OnOk result (staking.new.spent ≡ staking.old.spent) }
+    ensures cost { due.now ≡ [] → steps.new ≡ steps.old }
 {
     for operator in due {
         mature(alloc, g, hooks, staking, operator, steps)?;
@@ -112,6 +116,8 @@ fn who_matures<L: Ledger>(
     ensures due { IfOk result (λ due. due.items
         ≡ map (λ v. v.operator) (filter (is_due now) (values_of staking.now.staked.validators))) }
     ensures fault { IfErr result (λ fault. fault ≡ NoMemory) }
+    ensures cost { steps.new ≤ steps.old + 2
+        * (count_where (is_due now) (values_of staking.now.staked.validators) + 1) }
 {
     let mut due = queued(alloc, staking, now, steps)?;
     due.sort_unstable();
@@ -129,6 +135,8 @@ fn queued<L: Ledger>(
     ensures due { IfOk result (λ due. due.items ≡ due_in now (in_order time_cmp
         (maturing_place staking.now.power_reduction) staking.now.staked.validators)) }
     ensures fault { IfErr result (λ fault. fault ≡ NoMemory) }
+    ensures cost { steps.new ≤ steps.old + 2
+        * (count_where (is_due now) (values_of staking.now.staked.validators) + 1) }
 {
     let mut due = Vec::new(alloc);
     let mut after: Option<(Moment, Addr)> = None;

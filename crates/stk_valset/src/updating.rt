@@ -6,16 +6,17 @@ ghost use Rattle.std.specs.Map.{values_of};
 ghost use Rattle.stk_keep.specs.declared.faults.HookFault.TheVariants.{NoMemory};
 ghost use Rattle.stk_keep.specs.Ground.{seen, CanBeUndone, IsInOrder};
 ghost use Rattle.stk_keep.specs.Hooks.{Stand};
+ghost use Rattle.stk_keep.specs.Log.{Log};
 ghost use Rattle.stk_keep.specs.Staked.{lists_of, is_bonded};
 ghost use Rattle.stk_keep.specs.Steps.{each};
 ghost use Rattle.stk_rules.specs.Amounts.{count_where};
 ghost use Rattle.stk_rules.specs.Answers.{Leaves};
-ghost use Rattle.stk_rules.specs.BondedSet.{joined_set, set_updated, tokens_of};
-ghost use Rattle.stk_book.specs.Calls.{IsSoundStake, over};
+ghost use Rattle.stk_rules.specs.BondedSet.{HaveOwnOperators, joined_set, set_updated, tokens_of};
+ghost use Rattle.stk_book.specs.Calls.{IsSoundStake, behind_log};
 ghost use Rattle.stk_book.specs.Registered.{behind};
 ghost use Rattle.stk_book.specs.Scenes.{IsHooked, IsScene, KeepsAccounts};
 ghost use Rattle.stk_rules.specs.Unbondings.{completion};
-ghost use Rattle.stk_valset.specs.Sets.{AllStand, AreApart, all_joined, all_left, all_leavings_noted};
+ghost use Rattle.stk_valset.specs.Sets.{AllStand, all_joined, all_left, all_leavings_noted};
 
 use crate::joining::join;
 use crate::leaving::leave;
@@ -44,8 +45,9 @@ pub fn update<B: Bank, H: StakingHooks, L: Ledger>(
         (seen B.holdings g.old) staking.old.staked }
     requires power { staking.old.power_reduction ≡ g.old.ctx.params.power_reduction }
 
-    ensures told { (h : H.Held) → H.holds hooks.old h
-        → Leaves (set_updated H.tells.told (over staking.old.staked h (seen B.holdings g.old)))
+    ensures told { (h : H.Held) → H.holds hooks.old h → (log : Log)
+        → Leaves (set_updated H.tells.told
+        (behind_log log staking.old.staked h (seen B.holdings g.old)))
         staking.new.staked (H.holds hooks.new) (seen B.holdings g.new) result }
     ensures sure { (h : H.Held) → H.holds hooks.old h
         → Stand H.tells h (seen B.holdings g.old) (lists_of staking.old.staked)
@@ -89,13 +91,13 @@ fn join_all<B: Bank, H: StakingHooks, L: Ledger>(
     steps: &mut Steps<L>,
 ) -> Result<(), HookFault>
     requires stand { AllStand staking.old.staked joining.now }
-    requires apart { AreApart joining.now }
+    requires apart { HaveOwnOperators joining.now }
     requires hooked { IsHooked H.tells (H.holds hooks.old)
         (seen B.holdings g.old) staking.old.staked }
 
-    ensures told { (h : H.Held) → H.holds hooks.old h
+    ensures told { (h : H.Held) → H.holds hooks.old h → (log : Log)
         → Leaves (each (joined_set H.tells.told) joining.now
-        (over staking.old.staked h (seen B.holdings g.old)))
+        (behind_log log staking.old.staked h (seen B.holdings g.old)))
         staking.new.staked (H.holds hooks.new) (seen B.holdings g.new) result }
     ensures staked { OnOk result (staking.new.staked
         ≡ all_joined joining.now staking.old.staked) }
@@ -131,7 +133,7 @@ fn leave_all<B: Bank, L: Ledger>(
     steps: &mut Steps<L>,
 ) -> Result<(), HookFault>
     requires stand { AllStand staking.old.staked leaving.now }
-    requires apart { AreApart leaving.now }
+    requires apart { HaveOwnOperators leaving.now }
     requires sound { IsSoundStake staking.old.staked }
     requires in_order { IsInOrder (seen B.holdings g.old) }
 

@@ -1,14 +1,11 @@
-use Rattle.std.proofs.Common.{◌≡◌, ◌∙◌, ◌+◌, ◌≤◌, Bool, true, false, Some, length, sym, ap, arith}
-use Rattle.std.specs.Prelude.{if◌then◌else◌, is_some}
+use Rattle.std.proofs.Common.{◌≡◌, ◌∙◌, ◌+◌, ◌≤◌, Some, length, sym, ap, arith}
+use Rattle.std.specs.Prelude.{is_some}
 use Rattle.std.proofs.lemmas.List.{length_push}
 use Rattle.stk_table.specs.Tabled.{entry_above}
 use Rattle.stk_entries.specs.Queue.{completion_cmp}
+use Rattle.stk_entries.proofs.CountLemmas.{one_step}
 use Rattle.stk_entries.proofs.DueLemmas.{due-next, due-shorter}
 use Rattle.stk_entries.proofs.due.queued.Goals as goal
-
-one_step : (b : Bool) → (if b then 1 else 0) ≤ 1
-one_step true = omega arith
-one_step false = omega arith
 
 pub loop-place-preserved : goal.loop-place-preserved
 loop-place-preserved g c =

@@ -4,5 +4,5 @@ use Rattle.std.specs.Map.{keys_of}
 use Rattle.stk_redelegate.proofs.OrderLemmas.{triple_order_is}
 use Rattle.stk_redelegate.proofs.keyed.known.Goals as goal
 
-pub returns : goal.returns
-returns c = subst (λ order. IsStrictlySortedBy order (keys_of c.args.entries.now.lists)) triple_order_is c.known.ensures
+pub returns-clause-ordered : goal.returns-clause-ordered
+returns-clause-ordered c = subst (λ order. IsStrictlySortedBy order (keys_of c.args.entries.now.lists)) triple_order_is c.known.ensures.ordered

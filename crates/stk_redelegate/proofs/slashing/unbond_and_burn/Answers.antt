@@ -14,11 +14,11 @@ use Rattle.stk_redelegate.proofs.BurntLemmas.{can_burn, slashed-once, held-burnt
 use Rattle.stk_redelegate.proofs.GoesOnLemmas.{goes-burnt, leaves_burnt, leaves_fault}
 use Rattle.stk_redelegate.proofs.slashing.unbond_and_burn.Goals as goal
 
-pub burn-requires-clause-backed : goal.burn-requires-clause-backed
-burn-requires-clause-backed g c = c.in_ok-out.ensures.stand.1.1.in_order.bank
+pub burn_bond-requires-clause-backed : goal.burn_bond-requires-clause-backed
+burn_bond-requires-clause-backed g c = c.in_ok-out.ensures.stand.1.1.in_order.bank
 
-pub burn-requires-clause-enough : goal.burn-requires-clause-enough
-burn-requires-clause-enough g c =
+pub burn_bond-requires-clause-enough : goal.burn_bond-requires-clause-enough
+burn_bond-requires-clause-enough g c =
     let holdings = g.B.Bank.holdings in
     let v0 = seen holdings c.args.g.now in
     let v1 = seen holdings c.unbond.new.g in
@@ -53,8 +53,8 @@ returns-clause-told g c = λ h o log.
     let stand = c.requires.scene.stand in
     let keeps = c.in_ok-out.ensures.keeps stand.0 stand.1.0 stand.1.1 in
     let iu = c.in_ok-out.ensures.unbonded in
-    let v2 = seen holdings c.burn.new.g in
-    let is_burnt : v2 ≡ burnt (pool_of t.status) v1.ctx.params.bond_denom out v1 = c.in_ok-burn.ensures.burnt ∙ ap (λ m. burnt m v1.ctx.params.bond_denom out v1) c.pool_of.ensures in
+    let v2 = seen holdings c.burn_bond.new.g in
+    let is_burnt : v2 ≡ burnt (pool_of t.status) v1.ctx.params.bond_denom out v1 = c.in_ok-burn_bond.ensures.burnt ∙ ap (λ m. burnt m v1.ctx.params.bond_denom out v1) c.pool_of.ensures in
     let backed = c.in_ok-out.ensures.stand.1.1.in_order.bank in
     leaves_burnt lent t c.args.delegator.now c.args.part (behind_log log d0 h v0) d1 (holds c.unbond.new.hooks) v1 v2 out (c.in_ok-out.ensures.told h o log) keeps.ctx is_burnt
 
@@ -72,14 +72,14 @@ returns-clause-scene g c =
     let stand = c.requires.scene.stand in
     let keeps = c.in_ok-out.ensures.keeps stand.0 stand.1.0 stand.1.1 in
     let iu = c.in_ok-out.ensures.unbonded in
-    let v2 = seen holdings c.burn.new.g in
-    let is_burnt : v2 ≡ burnt (pool_of t.status) v1.ctx.params.bond_denom out v1 = c.in_ok-burn.ensures.burnt ∙ ap (λ m. burnt m v1.ctx.params.bond_denom out v1) c.pool_of.ensures in
+    let v2 = seen holdings c.burn_bond.new.g in
+    let is_burnt : v2 ≡ burnt (pool_of t.status) v1.ctx.params.bond_denom out v1 = c.in_ok-burn_bond.ensures.burnt ∙ ap (λ m. burnt m v1.ctx.params.bond_denom out v1) c.pool_of.ensures in
     let backed = c.in_ok-out.ensures.stand.1.1.in_order.bank in
     let p = c.in_ok-out.ensures.stand in
     record {
       sound = c.in_ok-out.ensures.sound;
-      stand = (p.0, (p.1.0, stand-burnt c.args.delegator.now t.operator c.args.part out s s1 iu t c.requires.stands _ v0 v1 keeps c.requires.scene.accounts backed v2 is_burnt c.in_ok-burn.ensures.backed g.H.StakingHooks.tells p.0 (lists_of s1) p.1.1));
-      accounts = held-burnt c.args.delegator.now t.operator c.args.part out s s1 iu t c.requires.stands _ v0 v1 keeps c.requires.scene.accounts backed v2 is_burnt c.in_ok-burn.ensures.backed;
+      stand = (p.0, (p.1.0, stand-burnt c.args.delegator.now t.operator c.args.part out s s1 iu t c.requires.stands _ v0 v1 keeps c.requires.scene.accounts backed v2 is_burnt c.in_ok-burn_bond.ensures.backed g.H.StakingHooks.tells p.0 (lists_of s1) p.1.1));
+      accounts = held-burnt c.args.delegator.now t.operator c.args.part out s s1 iu t c.requires.stands _ v0 v1 keeps c.requires.scene.accounts backed v2 is_burnt c.in_ok-burn_bond.ensures.backed;
     }
 
 pub returns-clause-slashed : goal.returns-clause-slashed
@@ -96,15 +96,15 @@ returns-clause-slashed g c =
     let stand = c.requires.scene.stand in
     let keeps = c.in_ok-out.ensures.keeps stand.0 stand.1.0 stand.1.1 in
     let iu = c.in_ok-out.ensures.unbonded in
-    let v2 = seen holdings c.burn.new.g in
-    let is_burnt : v2 ≡ burnt (pool_of t.status) v1.ctx.params.bond_denom out v1 = c.in_ok-burn.ensures.burnt ∙ ap (λ m. burnt m v1.ctx.params.bond_denom out v1) c.pool_of.ensures in
+    let v2 = seen holdings c.burn_bond.new.g in
+    let is_burnt : v2 ≡ burnt (pool_of t.status) v1.ctx.params.bond_denom out v1 = c.in_ok-burn_bond.ensures.burnt ∙ ap (λ m. burnt m v1.ctx.params.bond_denom out v1) c.pool_of.ensures in
     let backed = c.in_ok-out.ensures.stand.1.1.in_order.bank in
-    slashed-once c.args.delegator.now t.operator c.args.part out s s1 iu t c.requires.stands _ v0 v1 keeps c.requires.scene.accounts backed v2 is_burnt c.in_ok-burn.ensures.backed
+    slashed-once c.args.delegator.now t.operator c.args.part out s s1 iu t c.requires.stands _ v0 v1 keeps c.requires.scene.accounts backed v2 is_burnt c.in_ok-burn_bond.ensures.backed
 
 pub returns-clause-goes_on : goal.returns-clause-goes_on
 returns-clause-goes_on g c =
-    goes-burnt g.B.Bank.marks g.B.Bank.touches g.H.StakingHooks.marks g.D.Unbonder.marks c.args.g.now c.unbond.new.g c.burn.new.g c.args.hooks.now c.unbond.new.hooks c.args.delegations.now c.unbond.new.self
-    (record { undone = c.unbond.ensures.undone; bank = c.unbond.ensures.bank; hooks = c.unbond.ensures.hook_marks; delegations = c.unbond.ensures.marks }) c.burn.ensures.undone c.burn.ensures.bank
+    goes-burnt g.B.Bank.marks g.B.Bank.touches g.H.StakingHooks.marks g.D.Unbonder.marks c.args.g.now c.unbond.new.g c.burn_bond.new.g c.args.hooks.now c.unbond.new.hooks c.args.delegations.now c.unbond.new.self
+    (record { undone = c.unbond.ensures.undone; bank = c.unbond.ensures.bank; hooks = c.unbond.ensures.hook_marks; delegations = c.unbond.ensures.marks }) c.burn_bond.ensures.undone c.burn_bond.ensures.bank
 
 pub returns-in_err-out-clause-told : goal.returns-in_err-out-clause-told
 returns-in_err-out-clause-told g c = λ h o log.

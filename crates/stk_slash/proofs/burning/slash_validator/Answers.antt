@@ -26,8 +26,8 @@ tell_slash-requires-clause-ready g c =
     let one = (to_points c.requires.hooked.sound.0 s c.requires.hooked.sound.1).validators c.args.v.now.operator c.args.v.now c.requires.stands in
     (h.0, (h.1.0, (lists_of s, ready-slash g.H.StakingHooks.tells c.args.v.now c.smaller-burned.result h.0 (seen g.B.Bank.holdings c.args.g.now) (lists_of s) h.1.1 (ap is_some c.requires.stands) one.tokens)))
 
-pub burn-requires-clause-backed : goal.burn-requires-clause-backed
-burn-requires-clause-backed g c =
+pub burn_bond-requires-clause-backed : goal.burn_bond-requires-clause-backed
+burn_bond-requires-clause-backed g c =
     let s = c.args.staking.now.staked in
     let h = c.requires.hooked.stand in
     let one = (to_points c.requires.hooked.sound.0 s c.requires.hooked.sound.1).validators c.args.v.now.operator c.args.v.now c.requires.stands in
@@ -35,8 +35,8 @@ burn-requires-clause-backed g c =
     h.1.1 (ap is_some c.requires.stands) one.tokens (c.in_ok-tell_slash.ensures.told h.0 h.1.0 [] s) in
     told.1.1.in_order.bank
 
-pub burn-requires-clause-enough : goal.burn-requires-clause-enough
-burn-requires-clause-enough g c =
+pub burn_bond-requires-clause-enough : goal.burn_bond-requires-clause-enough
+burn_bond-requires-clause-enough g c =
     let s = c.args.staking.now.staked in
     let h = c.requires.hooked.stand in
     let u = seen g.B.Bank.holdings c.args.g.now in
@@ -55,13 +55,13 @@ returns-clause-falls g c =
     let h = c.requires.hooked.stand in
     let u = seen g.B.Bank.holdings c.args.g.now in
     let u1 = seen g.B.Bank.holdings c.tell_slash.new.g in
-    let u2 = seen g.B.Bank.holdings c.burn.new.g in
+    let u2 = seen g.B.Bank.holdings c.burn_bond.new.g in
     let one = (to_points c.requires.hooked.sound.0 s c.requires.hooked.sound.1).validators v.operator v c.requires.stands in
     let told = slash-leaves g.H.StakingHooks.tells v n h.0 u (lists_of s) g.met.H.StakingHooks.lawful s [] (g.H.StakingHooks.holds c.tell_slash.new.hooks) u1
     h.1.1 (ap is_some c.requires.stands) one.tokens (c.in_ok-tell_slash.ensures.told h.0 h.1.0 [] s) in
     falls-own v n s c.burn_tokens.new.self.staked _ u u1 u2 c.requires.hooked.sound c.requires.stands (within n c.args.amount v.tokens c.smaller-burned.ensures)
     (c.in_ok-burn_tokens.ensures.burned ∙ ap (λ o. with_if (option_map (less_by n) o) s) c.requires.stands) told.1.2 told.1.1.in_order.bank c.requires.tokens
-    (c.in_ok-burn.ensures.burnt ∙ ap (λ (m : Module). burnt m u1.ctx.params.bond_denom n u1) c.pool_of.ensures)
+    (c.in_ok-burn_bond.ensures.burnt ∙ ap (λ (m : Module). burnt m u1.ctx.params.bond_denom n u1) c.pool_of.ensures)
 
 pub returns-clause-still : goal.returns-clause-still
 returns-clause-still g c =
@@ -79,7 +79,7 @@ returns-clause-hooked g c =
     let tells = g.H.StakingHooks.tells in
     let u = seen g.B.Bank.holdings c.args.g.now in
     let u1 = seen g.B.Bank.holdings c.tell_slash.new.g in
-    let u2 = seen g.B.Bank.holdings c.burn.new.g in
+    let u2 = seen g.B.Bank.holdings c.burn_bond.new.g in
     let one = (to_points c.requires.hooked.sound.0 s c.requires.hooked.sound.1).validators v.operator v c.requires.stands in
     let told = slash-leaves tells v n h.0 u (lists_of s) g.met.H.StakingHooks.lawful s [] (g.H.StakingHooks.holds c.tell_slash.new.hooks) u1
     h.1.1 (ap is_some c.requires.stands) one.tokens (c.in_ok-tell_slash.ensures.told h.0 h.1.0 [] s) in
@@ -91,8 +91,8 @@ returns-clause-hooked g c =
         (
           told.1.0,
           subst (Stand tells told.0 u2) (sym (ap lists_of put ∙ lists-put s (less_by n v) v c.requires.stands))
-              (stand-burnt tells told.0 v.status n u1 u2 (lists_of s) (c.in_ok-burn.ensures.burnt ∙ ap (λ (m : Module). burnt m u1.ctx.params.bond_denom n u1) c.pool_of.ensures)
-              (has-burned v n _ u u1 told.1.2 (within n c.args.amount v.tokens c.smaller-burned.ensures) c.requires.tokens) c.burn.ensures.backed told.1.1),
+              (stand-burnt tells told.0 v.status n u1 u2 (lists_of s) (c.in_ok-burn_bond.ensures.burnt ∙ ap (λ (m : Module). burnt m u1.ctx.params.bond_denom n u1) c.pool_of.ensures)
+              (has-burned v n _ u u1 told.1.2 (within n c.args.amount v.tokens c.smaller-burned.ensures) c.requires.tokens) c.burn_bond.ensures.backed told.1.1),
         ),
       );
     }

@@ -1,8 +1,8 @@
 use Rattle.std.proofs.Common.{◌∙◌, ◌+◌, ◌≤◌, drop, refl, sym, ap, subst, cond, arith}
 use Rattle.stk_keep.specs.Ground.{seen}
 use Rattle.stk_rules.specs.Unbondings.{is_mature}
-use Rattle.stk_unbonding.proofs.UndoneLemmas.{undone-none, undone-then}
-use Rattle.stk_unbonding.proofs.WalkedLemmas.{next_of}
+use Rattle.stk_entries.proofs.CountLemmas.{next_of}
+use Rattle.stk_entries.proofs.UndoneLemmas.{undone-none, undone-then}
 use Rattle.stk_unbonding.proofs.PaidLemmas.{one-enough, paid-next, can_pay-next, paid-cost, paid-end}
 use Rattle.stk_unbonding.proofs.completing.pay_all.Goals as goal
 

@@ -1,7 +1,7 @@
-use Rattle.std.proofs.Common.{◌≡◌, ◌∙◌, ap, sym, subst}
+use Rattle.std.proofs.Common.{sym, subst}
 use Rattle.stk_keep.specs.Ground.{seen}
 use Rattle.stk_keep.specs.Hooks.{Stand}
-use Rattle.stk_keep.specs.Staked.{put_validator, lists_of}
+use Rattle.stk_keep.specs.Staked.{lists_of}
 use Rattle.stk_keep.specs.World.{bonded}
 use Rattle.stk_keep.proofs.HookLemmas.{stand-noted, Stand-after_ok, picked}
 use Rattle.stk_book.proofs.DelegateLemmas.{keeps-ok}

@@ -1,4 +1,4 @@
-use Rattle.std.proofs.Common.{◌≡◌, ◌∙◌, ◌+◌, Some, drop, refl, ap, sym, subst, rules}
+use Rattle.std.proofs.Common.{◌≡◌, ◌∙◌, ◌+◌, [], drop, refl, ap, sym, subst, rules}
 use Rattle.std.specs.Prelude.{Err, IfErr}
 use Rattle.std.proofs.lemmas.List.{drop_all}
 use Rattle.std.specs.Map.{values_of}
@@ -7,13 +7,14 @@ use Rattle.stk_keep.specs.Ground.{seen}
 use Rattle.stk_keep.specs.Steps.{each}
 use Rattle.stk_rules.specs.Answers.{Leaves}
 use Rattle.stk_rules.specs.BondedSet.{matured}
-use Rattle.stk_book.specs.Calls.{over}
+use Rattle.stk_book.specs.Calls.{behind_log}
 use Rattle.stk_keep.specs.Staked.{validator_at}
 use Rattle.stk_valset.specs.Sets.{is_due}
-use Rattle.stk_valset.proofs.LoopLemmas.{next_of, undone-none, undone-then}
+use Rattle.stk_valset.proofs.LoopLemmas.{next_of, no_item, undone-none, undone-then}
 use Rattle.stk_valset.proofs.MatureLemmas.{matured-first, matured-stopped, matured-all, next-due, matured-more, others-stand}
 use Rattle.stk_valset.proofs.StakeLemmas.{sound_ascend, sound_keyed}
-use Rattle.stk_valset.proofs.StandLemmas.{all_stand, values_apart}
+use Rattle.stk_rules.proofs.OperatorLemmas.{values_own}
+use Rattle.stk_valset.proofs.StandLemmas.{all_stand}
 use Rattle.stk_valset.proofs.maturing.mature_all.Goals as goal
 
 pub loop-operator-init : goal.loop-operator-init
@@ -26,8 +27,8 @@ loop-operator-init g c =
         rest = values_of s.validators;
         left = sym c.requires.due;
         stand = all_stand s sound 0 0;
-        apart = values_apart s.validators (sound_ascend s sound) (sound_keyed s sound);
-        matured = λ h o. matured-first g.H.StakingHooks.tells g.met.H.StakingHooks.lawful h s v (values_of s.validators) (g.H.StakingHooks.holds c.args.hooks.now) o;
+        apart = values_own s.validators (sound_ascend s sound) (sound_keyed s sound);
+        matured = λ h o log. matured-first g.H.StakingHooks.tells g.met.H.StakingHooks.lawful h log s v (values_of s.validators) (g.H.StakingHooks.holds c.args.hooks.now) o;
       };
       hooked = c.requires.hooked;
       undone = undone-none g.B.Bank.marks c.args.g.now;
@@ -35,6 +36,7 @@ loop-operator-init g c =
       marks = refl;
       behind = refl;
       spent = refl;
+      none = λ e. refl;
     }
 
 pub mature-requires : goal.mature-requires
@@ -77,17 +79,17 @@ loop-operator-preserved g c =
     let away = next.apart h.apart in
     let stands = ap (validator_at s) (sym next.own) ∙ found in
     let more = c.in_ok-mature.ensures.goes_on in
-    let some = h.matured c.requires.hooked.stand.0 c.requires.hooked.stand.1.0 in
+    let some = h.matured c.requires.hooked.stand.0 c.requires.hooked.stand.1.0 [] in
     record {
       maturing = record {
         rest = next.later;
         left = next.left;
-        stand = others-stand t lawful c.requires.hooked.stand.0 s0 v0 (values_of s0.validators) holds holds2 now h.rest o rest s s2 u u2 some next time before.hooked.sound found (c.in_ok-mature.ensures.told some.now some.held some.log next.v stands) away.0
+        stand = others-stand t lawful c.requires.hooked.stand.0 [] s0 v0 (values_of s0.validators) holds holds2 now h.rest o rest s s2 u u2 some next time before.hooked.sound found (c.in_ok-mature.ensures.told some.now some.held some.log next.v stands) away.0
             (next.stands s h.stand).1;
         apart = away.1;
-        matured = λ k w.
-            let one = h.matured k w in
-            matured-more t lawful k s0 v0 (values_of s0.validators) holds holds2 now h.rest o rest s s2 u u2 one next time before.hooked.sound found (c.in_ok-mature.ensures.told one.now one.held one.log next.v stands);
+        matured = λ k w log.
+            let one = h.matured k w log in
+            matured-more t lawful k log s0 v0 (values_of s0.validators) holds holds2 now h.rest o rest s s2 u u2 one next time before.hooked.sound found (c.in_ok-mature.ensures.told one.now one.held one.log next.v stands);
       };
       hooked = c.in_ok-mature.ensures.hooked;
       undone = undone-then g.B.Bank.marks c.args.g.now c.loop-operator.g c.mature.new.g before.undone more.undone;
@@ -95,10 +97,11 @@ loop-operator-preserved g c =
       marks = more.hook_marks ∙ before.marks;
       behind = more.register.behind ∙ before.behind;
       spent = more.register.unspent ∙ before.spent;
+      none = λ e. absurd (no_item xs c.loop-operator.operator-index e c.loop-operator-test.true);
     }
 
 pub returns-in_err-mature-clause-told : goal.returns-in_err-mature-clause-told
-returns-in_err-mature-clause-told g c = λ k w.
+returns-in_err-mature-clause-told g c = λ k w log.
     let xs = c.args.due.now in
     let o = c.operator-item.result in
     let rest = drop (c.loop-operator.operator-index + 1) xs in
@@ -121,27 +124,30 @@ returns-in_err-mature-clause-told g c = λ k w.
     let stands = ap (validator_at s) (sym next.own) ∙ found in
     let fault = c.in_err-mature.field-0.0 in
     let given : c.from_residual.result ≡ Err fault = search rules in
-    let one = h.matured k w in
-    subst (Leaves (each (matured t.told) (values_of s0.validators) (over s0 k v0)) s2 holds2 u2) (sym given)
-    (matured-stopped t g.met.H.StakingHooks.lawful k s0 v0 (values_of s0.validators) holds holds2 now h.rest o rest s s2 u u2 one next time before.hooked.sound found fault (c.in_err-mature.ensures.told one.now one.held one.log next.v stands))
+    let one = h.matured k w log in
+    subst (Leaves (each (matured t.told) (values_of s0.validators) (behind_log log s0 k v0)) s2 holds2 u2) (sym given)
+    (matured-stopped t g.met.H.StakingHooks.lawful k log s0 v0 (values_of s0.validators) holds holds2 now h.rest o rest s s2 u u2 one next time before.hooked.sound found fault (c.in_err-mature.ensures.told one.now one.held one.log next.v stands))
 
 pub returns-in_err-mature-clause-sure : goal.returns-in_err-mature-clause-sure
 returns-in_err-mature-clause-sure g c = λ k w stand sure.
     let fault = c.in_err-mature.field-0.0 in
     let given : c.from_residual.result ≡ Err fault = search rules in
-    let one = c.loop-operator.invariant.maturing.matured k w in
+    let one = c.loop-operator.invariant.maturing.matured k w [] in
     subst (λ r. IfErr r (λ f. f ≡ hook.NoMemory)) (sym given) (c.in_err-mature.ensures.sure one.now one.held (one.stand stand) (one.sure ∙ sure))
 
 pub returns-in_err-mature-clause-undone : goal.returns-in_err-mature-clause-undone
 returns-in_err-mature-clause-undone g c = undone-then g.B.Bank.marks c.args.g.now c.loop-operator.g c.mature.new.g c.loop-operator.invariant.undone c.mature.ensures.goes_on.undone
 
 pub returns-clause-told : goal.returns-clause-told
-returns-clause-told g c = λ k w.
+returns-clause-told g c = λ k w log.
     let h = c.loop-operator.invariant.maturing in
     let s0 = c.args.staking.now.staked in
     let none = drop_all c.loop-operator.operator-index c.args.due.now c.loop-operator-test.false in
-    matured-all g.H.StakingHooks.tells g.met.H.StakingHooks.lawful k s0 (seen g.B.Bank.holdings c.args.g.now) (values_of s0.validators) (g.H.StakingHooks.holds c.loop-operator.hooks) c.args.g.now.ctx.time h.rest c.loop-operator.staking.staked
-    (seen g.B.Bank.holdings c.loop-operator.g) (h.matured k w) (h.left ∙ none) (ap (λ x. x.time) c.loop-operator.invariant.undone.ctx)
+    matured-all g.H.StakingHooks.tells g.met.H.StakingHooks.lawful k log s0 (seen g.B.Bank.holdings c.args.g.now) (values_of s0.validators) (g.H.StakingHooks.holds c.loop-operator.hooks) c.args.g.now.ctx.time h.rest c.loop-operator.staking.staked
+    (seen g.B.Bank.holdings c.loop-operator.g) (h.matured k w log) (h.left ∙ none) (ap (λ x. x.time) c.loop-operator.invariant.undone.ctx)
 
 pub returns-clause-keeps : goal.returns-clause-keeps
-returns-clause-keeps g c = λ k w stand. (c.loop-operator.invariant.maturing.matured k w).keeps stand
+returns-clause-keeps g c = λ k w stand. (c.loop-operator.invariant.maturing.matured k w []).keeps stand
+
+pub returns-in_err-mature-clause-cost : goal.returns-in_err-mature-clause-cost
+returns-in_err-mature-clause-cost g c = λ e. absurd (no_item c.args.due.now c.loop-operator.operator-index e c.loop-operator-test.true)

@@ -1,4 +1,4 @@
-use Rattle.std.proofs.Common.{◌≡◌, drop}
+use Rattle.std.proofs.Common.{◌≡◌, [], drop}
 use Rattle.stk_keep.specs.Ground.{seen, CanBeUndone}
 use Rattle.stk_book.specs.Registered.{behind}
 use Rattle.stk_book.specs.Scenes.{IsHooked}
@@ -14,4 +14,5 @@ invariant-loop-operator g l = record {
   marks : g.H.StakingHooks.marks l.hooks ≡ g.H.StakingHooks.marks l.fn.hooks;
   behind : behind l.staking ≡ behind l.fn.staking;
   spent : l.staking.spent ≡ l.fn.staking.spent;
+  none : l.due ≡ [] → l.steps ≡ l.fn.steps;
 }

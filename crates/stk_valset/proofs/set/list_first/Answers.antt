@@ -1,4 +1,4 @@
-use Rattle.std.proofs.Common.{◌≡◌, ◌∙◌, ℕ, ◌≤◌, None, ap, sym, subst, arith}
+use Rattle.std.proofs.Common.{◌≡◌, ◌∙◌, ◌≤◌, None, ap, sym, subst, arith}
 use Rattle.std.specs.Prelude.{option_map}
 use Rattle.stk_table.specs.Tabled.{entry_above}
 use Rattle.stk_book.specs.Places.{standing, standing_cmp, power_place, in_order}

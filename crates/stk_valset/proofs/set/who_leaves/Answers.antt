@@ -1,11 +1,11 @@
-use Rattle.std.proofs.Common.{◌∙◌, ap, sym, subst, arith}
+use Rattle.std.proofs.Common.{◌∙◌, ap, arith}
 use Rattle.std.specs.Prelude.{not, option_map}
 use Rattle.stk_types.specs.Orders.{addr_cmp}
 use Rattle.stk_table.specs.Tabled.{entry_above}
 use Rattle.stk_book.specs.Places.{standing, bonded_place, in_order}
 use Rattle.stk_valset.specs.Sets.{is_within}
 use Rattle.stk_valset.proofs.StakeLemmas.{sound_ascend, sound_keyed}
-use Rattle.stk_valset.proofs.PassedLemmas.{left-first, left-step, left-less, left-leaving, bonded_count}
+use Rattle.stk_valset.proofs.PassedLemmas.{left-step, left-less, left-leaving, bonded_count}
 use Rattle.stk_valset.proofs.set.who_leaves.Goals as goal
 
 pub loop-v-preserved : goal.loop-v-preserved

@@ -1,13 +1,13 @@
-use Rattle.std.proofs.Common.{◌≡◌, ◌∙◌, ◌+◌, ◌≤◌, length, drop, refl, ap, sym, subst, arith, rules}
+use Rattle.std.proofs.Common.{◌≡◌, ◌∙◌, ◌+◌, ◌≤◌, [], length, drop, refl, ap, sym, subst, arith, rules}
 use Rattle.std.specs.Prelude.{Err, IfErr}
 use Rattle.std.proofs.lemmas.List.{drop_all}
 use Rattle.stk_keep.specs.declared.faults.HookFault.TheVariants as hook
 use Rattle.stk_keep.specs.Ground.{seen}
 use Rattle.stk_keep.specs.Steps.{each}
 use Rattle.stk_rules.specs.Answers.{Leaves}
-use Rattle.stk_rules.specs.BondedSet.{joined_set}
-use Rattle.stk_book.specs.Calls.{over}
-use Rattle.stk_valset.specs.Sets.{AllStand, AreApart, all_joined}
+use Rattle.stk_rules.specs.BondedSet.{HaveOwnOperators, joined_set}
+use Rattle.stk_book.specs.Calls.{behind_log}
+use Rattle.stk_valset.specs.Sets.{AllStand, all_joined}
 use Rattle.stk_valset.proofs.JoinLemmas.{in_set}
 use Rattle.stk_valset.proofs.JoinedLemmas.{HasJoined, joined-first, joined-more, joined-stopped, joined-all}
 use Rattle.stk_valset.proofs.LoopLemmas.{next_of, undone-none, undone-then, cost_more, cost_within}
@@ -17,7 +17,7 @@ use Rattle.stk_valset.proofs.updating.join_all.Goals as goal
 pub loop-v-init : goal.loop-v-init
 loop-v-init g c = record {
   within = omega arith;
-  joined = λ h o. joined-first g.H.StakingHooks.tells g.met.H.StakingHooks.lawful h c.args.staking.now.staked (seen g.B.Bank.holdings c.args.g.now) c.args.joining.now (g.H.StakingHooks.holds c.args.hooks.now) o;
+  joined = λ h o log. joined-first g.H.StakingHooks.tells g.met.H.StakingHooks.lawful h log c.args.staking.now.staked (seen g.B.Bank.holdings c.args.g.now) c.args.joining.now (g.H.StakingHooks.holds c.args.hooks.now) o;
   staked = refl;
   hooked = c.requires.hooked;
   stand = c.requires.stand;
@@ -54,14 +54,14 @@ loop-v-preserved g c =
     let t = g.H.StakingHooks.tells in
     let holds = g.H.StakingHooks.holds c.loop-v.hooks in
     let stand = subst (AllStand s) left before.stand in
-    let apart = subst AreApart left before.apart in
+    let apart = subst HaveOwnOperators left before.apart in
     let more = c.in_ok-join.ensures.goes_on in
     let test = c.loop-v-test.true in
     record {
       within = omega (arith, test);
-      joined = λ h o.
-          let one = subst (λ l. HasJoined t holds h s0 v0 xs l s v) left (before.joined h o) in
-          joined-more t g.met.H.StakingHooks.lawful h s0 v0 xs holds (g.H.StakingHooks.holds c.join.new.hooks) x rest s s2 v v2 one stand.0 c.in_ok-join.ensures.hooked.sound (c.in_ok-join.ensures.told one.now one.held one.log);
+      joined = λ h o log.
+          let one = subst (λ l. HasJoined t holds h log s0 v0 xs l s v) left (before.joined h o log) in
+          joined-more t g.met.H.StakingHooks.lawful h log s0 v0 xs holds (g.H.StakingHooks.holds c.join.new.hooks) x rest s s2 v v2 one stand.0 c.in_ok-join.ensures.hooked.sound (c.in_ok-join.ensures.told one.now one.held one.log);
       staked = ap (all_joined rest) c.in_ok-join.ensures.staked ∙ ap (λ l. all_joined l s) (sym left) ∙ before.staked;
       hooked = c.in_ok-join.ensures.hooked;
       stand = subst (λ y. AllStand y rest) (sym c.in_ok-join.ensures.staked) (still_stand (in_set x) s rest apart.0 stand.1);
@@ -72,13 +72,13 @@ loop-v-preserved g c =
       behind = more.register.behind ∙ before.behind;
       spent = more.register.unspent ∙ before.spent;
       cost = λ h o.
-          let one = before.joined h o in
+          let one = before.joined h o [] in
           let turn = subst (λ n. c.join.new.steps ≤ c.loop-v.steps + 9 + n) one.touches (c.join.ensures.cost one.now one.held) in
           cost_more c.loop-v.v-index (t.touches h) c.args.steps.now c.loop-v.steps c.join.new.steps (before.cost h o) turn;
     }
 
 pub returns-in_err-join-clause-told : goal.returns-in_err-join-clause-told
-returns-in_err-join-clause-told g c = λ h o.
+returns-in_err-join-clause-told g c = λ h o log.
     let xs = c.args.joining.now in
     let x = c.v-item.result in
     let rest = drop (c.loop-v.v-index + 1) xs in
@@ -94,15 +94,15 @@ returns-in_err-join-clause-told g c = λ h o.
     let holds2 = g.H.StakingHooks.holds c.join.new.hooks in
     let fault = c.in_err-join.field-0.0 in
     let given : c.from_residual.result ≡ Err fault = search rules in
-    let one = subst (λ l. HasJoined t holds h s0 v0 xs l s v) left (c.loop-v.invariant.joined h o) in
-    subst (Leaves (each (joined_set t.told) xs (over s0 h v0)) s2 holds2 v2) (sym given)
-    (joined-stopped t g.met.H.StakingHooks.lawful h s0 v0 xs holds holds2 x rest s s2 v v2 fault one (c.in_err-join.ensures.told one.now one.held one.log))
+    let one = subst (λ l. HasJoined t holds h log s0 v0 xs l s v) left (c.loop-v.invariant.joined h o log) in
+    subst (Leaves (each (joined_set t.told) xs (behind_log log s0 h v0)) s2 holds2 v2) (sym given)
+    (joined-stopped t g.met.H.StakingHooks.lawful h log s0 v0 xs holds holds2 x rest s s2 v v2 fault one (c.in_err-join.ensures.told one.now one.held one.log))
 
 pub returns-in_err-join-clause-sure : goal.returns-in_err-join-clause-sure
 returns-in_err-join-clause-sure g c = λ h o stand sure.
     let fault = c.in_err-join.field-0.0 in
     let given : c.from_residual.result ≡ Err fault = search rules in
-    let one = c.loop-v.invariant.joined h o in
+    let one = c.loop-v.invariant.joined h o [] in
     subst (λ r. IfErr r (λ f. f ≡ hook.NoMemory)) (sym given) (c.in_err-join.ensures.sure one.now one.held (one.stand stand) (one.sure ∙ sure))
 
 pub returns-in_err-join-clause-undone : goal.returns-in_err-join-clause-undone
@@ -111,14 +111,14 @@ returns-in_err-join-clause-undone g c = undone-then g.B.Bank.marks c.args.g.now 
 pub returns-in_err-join-clause-cost : goal.returns-in_err-join-clause-cost
 returns-in_err-join-clause-cost g c = λ h o.
     let t = g.H.StakingHooks.tells in
-    let one = c.loop-v.invariant.joined h o in
+    let one = c.loop-v.invariant.joined h o [] in
     let test = c.loop-v-test.true in
     let turn = subst (λ n. c.join.new.steps ≤ c.loop-v.steps + 9 + n) one.touches (c.join.ensures.cost one.now one.held) in
     let more = cost_more c.loop-v.v-index (t.touches h) c.args.steps.now c.loop-v.steps c.join.new.steps (c.loop-v.invariant.cost h o) turn in
     cost_within (c.loop-v.v-index + 1) (length c.args.joining.now) (t.touches h) c.args.steps.now c.join.new.steps (omega (arith, test)) more
 
 pub returns-clause-told : goal.returns-clause-told
-returns-clause-told g c = λ h o.
+returns-clause-told g c = λ h o log.
     let xs = c.args.joining.now in
     let s0 = c.args.staking.now.staked in
     let v0 = seen g.B.Bank.holdings c.args.g.now in
@@ -126,13 +126,13 @@ returns-clause-told g c = λ h o.
     let v = seen g.B.Bank.holdings c.loop-v.g in
     let t = g.H.StakingHooks.tells in
     let holds = g.H.StakingHooks.holds c.loop-v.hooks in
-    joined-all t g.met.H.StakingHooks.lawful h s0 v0 xs holds s v (subst (λ l. HasJoined t holds h s0 v0 xs l s v) (drop_all c.loop-v.v-index xs c.loop-v-test.false) (c.loop-v.invariant.joined h o))
+    joined-all t g.met.H.StakingHooks.lawful h log s0 v0 xs holds s v (subst (λ l. HasJoined t holds h log s0 v0 xs l s v) (drop_all c.loop-v.v-index xs c.loop-v-test.false) (c.loop-v.invariant.joined h o log))
 
 pub returns-clause-staked : goal.returns-clause-staked
 returns-clause-staked g c = ap (λ l. all_joined l c.loop-v.staking.staked) (sym (drop_all c.loop-v.v-index c.args.joining.now c.loop-v-test.false)) ∙ c.loop-v.invariant.staked
 
 pub returns-clause-keeps : goal.returns-clause-keeps
-returns-clause-keeps g c = λ h o stand. (c.loop-v.invariant.joined h o).keeps stand
+returns-clause-keeps g c = λ h o stand. (c.loop-v.invariant.joined h o []).keeps stand
 
 pub returns-clause-cost : goal.returns-clause-cost
 returns-clause-cost g c = λ h o.

@@ -5,7 +5,8 @@ use Rattle.stk_keep.specs.declared.entities.Validator.{Validator}
 use Rattle.stk_keep.specs.Ground.{seen, IsInOrder}
 use Rattle.stk_keep.specs.Staked.{put_validator}
 use Rattle.stk_rules.specs.Unbondings.{completion}
-use Rattle.stk_valset.specs.Sets.{AllStand, AreApart, all_left, all_leavings_noted}
+use Rattle.stk_rules.specs.BondedSet.{HaveOwnOperators}
+use Rattle.stk_valset.specs.Sets.{AllStand, all_left, all_leavings_noted}
 use Rattle.stk_valset.proofs.LoopLemmas.{next_of, undone-none, undone-then}
 use Rattle.stk_valset.proofs.TokenLemmas.{still_stand}
 use Rattle.stk_valset.proofs.updating.leave_all.Goals as goal
@@ -48,7 +49,7 @@ loop-v-preserved g c =
     let own : Validator = record x { status = Unbonding; unbonding_height = c.loop-v.g.ctx.height; unbonding_time = completion c.loop-v.g.ctx } in
     let same : own ≡ w = ap (λ k. record x { status = Unbonding; unbonding_height = k.height; unbonding_time = completion k }) before.undone.ctx in
     let stand = subst (AllStand s) left before.stand in
-    let apart = subst AreApart left before.apart in
+    let apart = subst HaveOwnOperators left before.apart in
     let put = c.in_ok-leave.ensures.staked ∙ ap (λ y. put_validator y s) same in
     let more = c.in_ok-leave.ensures in
     let old = before.in_order in

@@ -3,7 +3,8 @@ use Rattle.stk_keep.specs.Ground.{seen, CanBeUndone, IsInOrder}
 use Rattle.stk_rules.specs.Unbondings.{completion}
 use Rattle.stk_book.specs.Calls.{IsSoundStake}
 use Rattle.stk_book.specs.Registered.{behind}
-use Rattle.stk_valset.specs.Sets.{AllStand, AreApart, all_left, all_leavings_noted}
+use Rattle.stk_rules.specs.BondedSet.{HaveOwnOperators}
+use Rattle.stk_valset.specs.Sets.{AllStand, all_left, all_leavings_noted}
 use Rattle.stk_valset.proofs.updating.leave_all.Given as goal
 
 abbrev pub invariant-loop-v : goal.invariant-loop-v
@@ -12,7 +13,7 @@ invariant-loop-v g l = record {
   staked : all_left l.fn.g.ctx.height (completion l.fn.g.ctx) (drop l.v-index l.leaving) l.staking.staked ≡ all_left l.fn.g.ctx.height (completion l.fn.g.ctx) l.leaving l.fn.staking.staked;
   ground : all_leavings_noted (drop l.v-index l.leaving) (seen g.B.Bank.holdings l.g) ≡ all_leavings_noted l.leaving (seen g.B.Bank.holdings l.fn.g);
   stand : AllStand l.staking.staked (drop l.v-index l.leaving);
-  apart : AreApart (drop l.v-index l.leaving);
+  apart : HaveOwnOperators (drop l.v-index l.leaving);
   sound : IsSoundStake l.staking.staked;
   in_order : IsInOrder (seen g.B.Bank.holdings l.g);
   undone : CanBeUndone g.B.Bank.marks l.fn.g l.g;

@@ -1,4 +1,4 @@
-use Rattle.std.proofs.Common.{◌≡◌, ◌∙◌, ℕ, ◌+◌, ◌*◌, ◌^◌, ◌≤◌, None, length, ap, sym, subst, arith, rules}
+use Rattle.std.proofs.Common.{◌≡◌, ◌∙◌, ℕ, ◌^◌, ◌≤◌, None, length, ap, sym, subst, arith, rules}
 use Rattle.std.specs.Prelude.{◌-◌, Ok, Err, IfErr}
 use Rattle.std.specs.List.{AllByRecursion}
 use Rattle.std.specs.Map.{values_of}
@@ -12,10 +12,10 @@ use Rattle.stk_keep.specs.Staked.{is_bonded}
 use Rattle.stk_keep.specs.Steps.{each}
 use Rattle.stk_rules.specs.Amounts.{count_where}
 use Rattle.stk_rules.specs.Answers.{Leaves}
-use Rattle.stk_rules.specs.BondedSet.{joined_set, set_updated, tokens_of, difference_moved}
+use Rattle.stk_rules.specs.BondedSet.{HaveOwnOperators, joined_set, set_updated, tokens_of, difference_moved}
 use Rattle.stk_rules.specs.Unbondings.{completion}
-use Rattle.stk_book.specs.Calls.{over}
-use Rattle.stk_valset.specs.Sets.{AllStand, AreApart, all_joined, all_left, all_leavings_noted}
+use Rattle.stk_book.specs.Calls.{behind_log}
+use Rattle.stk_valset.specs.Sets.{AllStand, all_joined, all_left, all_leavings_noted}
 use Rattle.stk_valset.proofs.JoinedLemmas.{memory_wanting}
 use Rattle.stk_valset.proofs.LoopLemmas.{turns_within, undone-none, undone-then}
 use Rattle.stk_valset.proofs.PassedLemmas.{joining-few, leaving-few}
@@ -33,7 +33,7 @@ join_all-requires g c =
     let is = c.as_slice-joining.ensures.value ∙ c.in_ok-set.ensures.joining in
     record {
       stand = subst (AllStand s) (sym is) (joining-stand s sound p.power_reduction p.max_validators);
-      apart = subst AreApart (sym is) (joining-apart s sound p.power_reduction p.max_validators);
+      apart = subst HaveOwnOperators (sym is) (joining-apart s sound p.power_reduction p.max_validators);
       hooked = c.requires.scene.hooked;
     }
 
@@ -48,7 +48,7 @@ leave_all-requires g c =
     let joined = c.in_ok-join_all.ensures.staked ∙ ap (λ l. all_joined l s) is in
     record {
       stand = subst (AllStand s1) (sym out) (leaving-stand-now s sound p.power_reduction p.max_validators s1 c.in_ok-join_all.ensures.hooked.sound joined);
-      apart = subst AreApart (sym out) (leaving-apart s sound p.power_reduction p.max_validators);
+      apart = subst HaveOwnOperators (sym out) (leaving-apart s sound p.power_reduction p.max_validators);
       sound = c.in_ok-join_all.ensures.hooked.sound;
       in_order = c.in_ok-join_all.ensures.hooked.stand.1.1.in_order;
     }
@@ -125,7 +125,7 @@ returns-clause-scene g c =
     }
 
 pub returns-clause-told : goal.returns-clause-told
-returns-clause-told g c = λ h o.
+returns-clause-told g c = λ h o log.
     let t = g.H.StakingHooks.tells in
     let s = c.args.staking.now.staked in
     let p = c.args.g.now.ctx.params in
@@ -148,11 +148,11 @@ returns-clause-told g c = λ h o.
     let v3 = seen g.B.Bank.holdings c.move_difference.new.g in
     let moved = c.in_ok-move_difference.ensures.moved ∙ (λ i. difference_moved (more i) (less i) v2) in
     let holds = g.H.StakingHooks.holds c.join_all.new.hooks in
-    leaves-updated t.told (over s h v0) s1 s2 holds v1 v2 v3 (subst (λ l. Leaves (each (joined_set t.told) l (over s h v0)) s1 holds v1 (Ok tt)) is (c.in_ok-join_all.ensures.told h o)) left ground moved
+    leaves-updated t.told (behind_log log s h v0) s1 s2 holds v1 v2 v3 (subst (λ l. Leaves (each (joined_set t.told) l (behind_log log s h v0)) s1 holds v1 (Ok tt)) is (c.in_ok-join_all.ensures.told h o log)) left ground moved
 
 pub returns-in_err-set-clause-told : goal.returns-in_err-set-clause-told
-returns-in_err-set-clause-told g c = λ h o.
-    let rule = set_updated g.H.StakingHooks.tells.told (over c.args.staking.now.staked h (seen g.B.Bank.holdings c.args.g.now)) in
+returns-in_err-set-clause-told g c = λ h o log.
+    let rule = set_updated g.H.StakingHooks.tells.told (behind_log log c.args.staking.now.staked h (seen g.B.Bank.holdings c.args.g.now)) in
     let fault = c.in_err-set.field-0.0 in
     let given : c.from_residual.result ≡ Err fault = search rules in
     let is : fault ≡ hook.NoMemory = c.in_err-set.ensures.fault in
@@ -160,8 +160,8 @@ returns-in_err-set-clause-told g c = λ h o.
     (memory_wanting rule c.args.staking.now.staked (g.H.StakingHooks.holds c.args.hooks.now) (seen g.B.Bank.holdings c.args.g.now))
 
 pub returns-in_err-outside-clause-told : goal.returns-in_err-outside-clause-told
-returns-in_err-outside-clause-told g c = λ h o.
-    let rule = set_updated g.H.StakingHooks.tells.told (over c.args.staking.now.staked h (seen g.B.Bank.holdings c.args.g.now)) in
+returns-in_err-outside-clause-told g c = λ h o log.
+    let rule = set_updated g.H.StakingHooks.tells.told (behind_log log c.args.staking.now.staked h (seen g.B.Bank.holdings c.args.g.now)) in
     let fault = c.in_err-outside.field-0.0 in
     let given : c.from_residual-in_err-outside.result ≡ Err fault = search rules in
     let is : fault ≡ hook.NoMemory = c.in_err-outside.ensures.fault in
@@ -169,8 +169,8 @@ returns-in_err-outside-clause-told g c = λ h o.
     (memory_wanting rule c.args.staking.now.staked (g.H.StakingHooks.holds c.args.hooks.now) (seen g.B.Bank.holdings c.args.g.now))
 
 pub returns-in_err-leave_all-clause-told : goal.returns-in_err-leave_all-clause-told
-returns-in_err-leave_all-clause-told g c = λ h o.
-    let rule = set_updated g.H.StakingHooks.tells.told (over c.args.staking.now.staked h (seen g.B.Bank.holdings c.args.g.now)) in
+returns-in_err-leave_all-clause-told g c = λ h o log.
+    let rule = set_updated g.H.StakingHooks.tells.told (behind_log log c.args.staking.now.staked h (seen g.B.Bank.holdings c.args.g.now)) in
     let fault = c.in_err-leave_all.field-0.0 in
     let given : c.from_residual-in_err-leave_all.result ≡ Err fault = search rules in
     let is : fault ≡ hook.NoMemory = c.in_err-leave_all.ensures.fault in
@@ -178,8 +178,8 @@ returns-in_err-leave_all-clause-told g c = λ h o.
     (memory_wanting rule c.leave_all.new.staking.staked (g.H.StakingHooks.holds c.join_all.new.hooks) (seen g.B.Bank.holdings c.leave_all.new.g))
 
 pub returns-in_err-move_difference-clause-told : goal.returns-in_err-move_difference-clause-told
-returns-in_err-move_difference-clause-told g c = λ h o.
-    let rule = set_updated g.H.StakingHooks.tells.told (over c.args.staking.now.staked h (seen g.B.Bank.holdings c.args.g.now)) in
+returns-in_err-move_difference-clause-told g c = λ h o log.
+    let rule = set_updated g.H.StakingHooks.tells.told (behind_log log c.args.staking.now.staked h (seen g.B.Bank.holdings c.args.g.now)) in
     let fault = c.in_err-move_difference.field-0.0 in
     let given : c.from_residual-in_err-move_difference.result ≡ Err fault = search rules in
     let is : fault ≡ hook.NoMemory = c.in_err-move_difference.ensures.fault in
@@ -187,9 +187,9 @@ returns-in_err-move_difference-clause-told g c = λ h o.
     (memory_wanting rule c.leave_all.new.staking.staked (g.H.StakingHooks.holds c.join_all.new.hooks) (seen g.B.Bank.holdings c.move_difference.new.g))
 
 pub returns-in_err-join_all-clause-told : goal.returns-in_err-join_all-clause-told
-returns-in_err-join_all-clause-told g c = λ h o.
+returns-in_err-join_all-clause-told g c = λ h o log.
     let t = g.H.StakingHooks.tells in
-    let w = over c.args.staking.now.staked h (seen g.B.Bank.holdings c.args.g.now) in
+    let w = behind_log log c.args.staking.now.staked h (seen g.B.Bank.holdings c.args.g.now) in
     let s1 = c.join_all.new.staking.staked in
     let v1 = seen g.B.Bank.holdings c.join_all.new.g in
     let holds = g.H.StakingHooks.holds c.join_all.new.hooks in
@@ -197,7 +197,7 @@ returns-in_err-join_all-clause-told g c = λ h o.
     let given : c.from_residual-in_err-join_all.result ≡ Err fault = search rules in
     let is = c.as_slice-joining.ensures.value ∙ c.in_ok-set.ensures.joining in
     subst (Leaves (set_updated t.told w) s1 holds v1) (sym given)
-    (leaves-stopped t.told w s1 holds v1 fault (subst (λ l. Leaves (each (joined_set t.told) l w) s1 holds v1 (Err fault)) is (c.in_err-join_all.ensures.told h o)))
+    (leaves-stopped t.told w s1 holds v1 fault (subst (λ l. Leaves (each (joined_set t.told) l w) s1 holds v1 (Err fault)) is (c.in_err-join_all.ensures.told h o log)))
 
 pub returns-in_err-join_all-clause-sure : goal.returns-in_err-join_all-clause-sure
 returns-in_err-join_all-clause-sure g c = λ h o stand sure.

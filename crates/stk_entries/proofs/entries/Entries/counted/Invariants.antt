@@ -10,6 +10,7 @@ invariant-loop-key g l =
     record {
       told : counted (l.sum + all_counted g.K.EntryKey.source g.E.Entry.made l.operator l.infraction l.factor l.now rest) ≡ counted (all_counted g.K.EntryKey.source g.E.Entry.made l.operator l.infraction l.factor l.now l.self.lists);
       most : l.sum ≤ 10 ^ 18;
+      cost : l.steps + length rest ≤ l.fn.steps + length l.self.lists;
     }
 
 abbrev pub decreases-loop-key : goal.decreases-loop-key

@@ -19,4 +19,4 @@ returns-clause-added g c = λ _.
     let same : c.self.inside.entries.lists ≡ r = ap (λ (k : Kept Key RedelegationEntry). k.lists) c.self.view_is in
     let made : c.put_copy.new.entries.lists ≡ with triple_cmp r key es = ap (λ (k : Kept Key RedelegationEntry). k.lists) c.in_ok-put_copy-in-Redelegation.ensures.ok ∙ ap (λ l. with triple_cmp l key es) same in
     added-at items_of r _ r c.put_copy.new.entries.lists _ c.args.item.now
-    (redelegation-added r key es (subst (λ l. IsStrictlySortedBy triple_cmp (keys_of l)) same c.known.ensures)) refl made c.in-Redelegation.is
+    (redelegation-added r key es (subst (λ l. IsStrictlySortedBy triple_cmp (keys_of l)) same c.known.ensures.ordered)) refl made c.in-Redelegation.is

@@ -9,11 +9,12 @@ use Rattle.stk_rules.specs.Delegating.{pool}
 use Rattle.stk_rules.specs.Redelegations.{redelegations_of, redelegated, appended, begin_info}
 use Rattle.stk_rules.specs.Unbonding.{shares_unbonded}
 use Rattle.stk_rules.proofs.SoundLemmas.{to_points}
-use Rattle.stk_book.specs.Calls.{over}
+use Rattle.stk_book.specs.Calls.{over, behind_log}
 use Rattle.stk_book.specs.Scenes.{GoesOn}
 use Rattle.stk_entries.specs.Answers.{AnswersBoth}
 use Rattle.stk_redelegate.specs.Calls.{AreSoundLists}
-use Rattle.stk_redelegate.proofs.AskedLemmas.{asked-given, redelegated-asked, redelegated_from, moved_at, answers_refused, answers_fault}
+use Rattle.stk_entries.proofs.AnswerLemmas.{answers_refused, answers_fault}
+use Rattle.stk_redelegate.proofs.AskedLemmas.{asked-given, redelegated-asked, redelegated_from, moved_at}
 use Rattle.stk_book.proofs.BackLemmas.{delegated-steps, holds-back}
 use Rattle.stk_redelegate.proofs.EntryLemmas.{appended-sound}
 use Rattle.stk_redelegate.proofs.LeftLemmas.{out_is, some_out, room_for, out_most, still-there, held-more, held-now, has-origin}
@@ -119,7 +120,7 @@ delegate-requires-clause-origin g c =
     has-origin d source part out s s1 c.in_ok-out.ensures.unbonded v a.leaves.found _ v0 v1 keeps c.requires.scene.staked.accounts
 
 pub returns-clause-told : goal.returns-clause-told
-returns-clause-told g c = λ hs o.
+returns-clause-told g c = λ hs o log.
     let d = c.args.delegator.now in
     let source = c.args.source.now in
     let target = c.args.target.now in
@@ -142,13 +143,13 @@ returns-clause-told g c = λ hs o.
     let s2 = c.delegate.new.self.staked in
     let holds2 = g.H.StakingHooks.holds c.delegate.new.hooks in
     let issued = c.in_ok-issued.issued in
-    let w = over s hs v0 in
+    let w = behind_log log s hs v0 in
     let is = redelegated-asked told d source target r w c.args.coin.now ∙ ap (λ x. x >>= redelegated_from told d source target r w) (sym c.in_ok-asked.ensures) in
     let begun : c.begun-begun.result ≡ begin_info v (is_none (validator_at s1 source)) v0.ctx = c.begun-begun.ensures ∙ (λ i. begin_info v (c.is_gone-gone.ensures i) (keeps.ctx i)) in
     let r2 = c.append.new.self.lists in
     let made : r2 ≡ appended d source target (begin_info v (is_none (validator_at s1 source)) v0.ctx) out issued r = ap (λ k. k.lists) c.in_ok-append.ensures.ok ∙ (λ i. appended d source target (begun i) out issued r) in
     subst (λ x. AnswersBoth x r2 s2 holds2 v2 (Ok tt)) (sym is)
-    (answers_begun told d source target r w v t a.joins.there part s1 holds1 v1 out (c.in_ok-out.ensures.told hs o []) s2 holds2 v2 issued r2 (λ h1 o1. c.in_ok-issued.ensures.told h1 o1 t there) made)
+    (answers_begun told d source target r w v t a.joins.there part s1 holds1 v1 out (c.in_ok-out.ensures.told hs o log) s2 holds2 v2 issued r2 (λ h1 o1. c.in_ok-issued.ensures.told h1 o1 t there) made)
 
 pub returns-clause-scene : goal.returns-clause-scene
 returns-clause-scene g c =
@@ -216,7 +217,7 @@ returns-clause-goes_on g c =
     c.in_ok-out.out c.in_ok-issued.issued tt c.in_ok-out.ensures.goes_on c.in_ok-issued.ensures.goes_on
 
 pub returns-in_err-asked-clause-told : goal.returns-in_err-asked-clause-told
-returns-in_err-asked-clause-told g c = λ hs o.
+returns-in_err-asked-clause-told g c = λ hs o log.
     let d = c.args.delegator.now in
     let source = c.args.source.now in
     let target = c.args.target.now in
@@ -225,7 +226,7 @@ returns-in_err-asked-clause-told g c = λ hs o.
     let v0 = seen g.B.Bank.holdings c.args.g.now in
     let told = g.H.StakingHooks.tells.told in
     let holds0 = g.H.StakingHooks.holds c.args.hooks.now in
-    let w = over s hs v0 in
+    let w = behind_log log s hs v0 in
     let why = c.in_err-asked.field-0.0 in
     let given : c.from_residual.result ≡ Err (stop.Refused why) = search rules in
     let is = redelegated-asked told d source target r w c.args.coin.now ∙ ap (λ x. x >>= redelegated_from told d source target r w) (sym c.in_err-asked.ensures) in
@@ -233,7 +234,7 @@ returns-in_err-asked-clause-told g c = λ hs o.
     (answers_refused (redelegated told d source target c.args.coin.now r w) r s holds0 v0 why is)
 
 pub returns-in_err-out-clause-told : goal.returns-in_err-out-clause-told
-returns-in_err-out-clause-told g c = λ hs o.
+returns-in_err-out-clause-told g c = λ hs o log.
     let d = c.args.delegator.now in
     let source = c.args.source.now in
     let target = c.args.target.now in
@@ -247,16 +248,16 @@ returns-in_err-out-clause-told g c = λ hs o.
     let s1 = c.unbond.new.self.staked in
     let told = g.H.StakingHooks.tells.told in
     let holds1 = g.H.StakingHooks.holds c.unbond.new.hooks in
-    let w = over s hs v0 in
+    let w = behind_log log s hs v0 in
     let is = redelegated-asked told d source target r w c.args.coin.now ∙ ap (λ x. x >>= redelegated_from told d source target r w) (sym c.in_ok-asked.ensures) in
     let fault = c.in_err-out.field-0.0 in
     let given : c.from_residual-in_err-out.result ≡ Err (stop_of_hook fault) = search rules in
     subst (AnswersBoth (redelegated told d source target c.args.coin.now r w) r s1 holds1 v1) (sym given)
     (subst (λ x. AnswersBoth x r s1 holds1 v1 (Err (stop_of_hook fault))) (sym is)
-    (answers_fault (shares_unbonded told d source part w) (moved_at told d source target r w (validator_at w.mine target) v) s1 s1 holds1 holds1 v1 v1 r fault (c.in_err-out.ensures.told hs o [])))
+    (answers_fault (shares_unbonded told d source part w) (moved_at told d source target r w (validator_at w.mine target) v) s1 s1 holds1 holds1 v1 v1 r fault (c.in_err-out.ensures.told hs o log)))
 
 pub returns-in_err-issued-clause-told : goal.returns-in_err-issued-clause-told
-returns-in_err-issued-clause-told g c = λ hs o.
+returns-in_err-issued-clause-told g c = λ hs o log.
     let d = c.args.delegator.now in
     let source = c.args.source.now in
     let target = c.args.target.now in
@@ -278,13 +279,13 @@ returns-in_err-issued-clause-told g c = λ hs o.
     let v2 = seen g.B.Bank.holdings c.delegate.new.g in
     let s2 = c.delegate.new.self.staked in
     let holds2 = g.H.StakingHooks.holds c.delegate.new.hooks in
-    let w = over s hs v0 in
+    let w = behind_log log s hs v0 in
     let is = redelegated-asked told d source target r w c.args.coin.now ∙ ap (λ x. x >>= redelegated_from told d source target r w) (sym c.in_ok-asked.ensures) in
     let why = c.in_err-issued.field-0.0 in
     let given : c.from_residual-in_err-issued.result ≡ Err why = search rules in
     subst (AnswersBoth (redelegated told d source target c.args.coin.now r w) r s2 holds2 v2) (sym given)
     (subst (λ x. AnswersBoth x r s2 holds2 v2 (Err why)) (sym is)
-    (answers_stopped told d source target r w v t a.joins.there part s1 holds1 v1 out (c.in_ok-out.ensures.told hs o []) s2 holds2 v2 why r (λ h1 o1. c.in_err-issued.ensures.told h1 o1 t there)))
+    (answers_stopped told d source target r w v t a.joins.there part s1 holds1 v1 out (c.in_ok-out.ensures.told hs o log) s2 holds2 v2 why r (λ h1 o1. c.in_err-issued.ensures.told h1 o1 t there)))
 
 pub returns-in_err-issued-clause-goes_on : goal.returns-in_err-issued-clause-goes_on
 returns-in_err-issued-clause-goes_on g c =

@@ -98,7 +98,7 @@ returns-clause-told g c = λ h o log.
     let slashed = λ (ks : List Key). keys_slashed lent c.args.infraction c.args.factor ks r in
     let keyed : Leaves (slashed keys w) d1 (holds c.loop-key.hooks) v1 (Ok tt) = reached-last (slashed keys w) (slashed rest) d1 (holds c.loop-key.hooks) v1 (c.loop-key.invariant.told h o log)
     (keys-end lent c.args.infraction c.args.factor r rest (drop_end keys c.loop-key.key-index c.loop-key-test.false)) in
-    let is : slashed keys w ≡ sources_slashed lent operator c.args.infraction c.args.factor r w = ap (λ ks. slashed ks w) (c.deref-key-items.ensures.value ∙ c.in_ok-keys.ensures ∙ ap (λ (k : Kept Key RedelegationEntry). keys_where (is_from (λ (x : Key). x.1) operator) k.lists) c.self.view_is) ∙ sym (sources-keyed lent c.args.infraction c.args.factor operator r (subst (λ (k : Kept Key RedelegationEntry). IsStrictlySortedBy triple_cmp (keys_of k.lists)) c.self.view_is c.known.ensures) w) in
+    let is : slashed keys w ≡ sources_slashed lent operator c.args.infraction c.args.factor r w = ap (λ ks. slashed ks w) (c.deref-key-items.ensures.value ∙ c.in_ok-keys.ensures.keys ∙ ap (λ (k : Kept Key RedelegationEntry). keys_where (is_from (λ (x : Key). x.1) operator) k.lists) c.self.view_is) ∙ sym (sources-keyed lent c.args.infraction c.args.factor operator r (subst (λ (k : Kept Key RedelegationEntry). IsStrictlySortedBy triple_cmp (keys_of k.lists)) c.self.view_is c.known.ensures.ordered) w) in
     let all = counted (all_counted (λ (k : Key). k.1) redelegation_made operator c.args.infraction c.args.factor v0.ctx.time r) in
     subst (λ n. FollowsLent (redelegations_slashed lent operator c.args.infraction c.args.factor r w) r d1 (holds c.loop-key.hooks) v1 (Ok n)) (ap (λ (k : Kept Key RedelegationEntry). counted (all_counted (λ (x : Key). x.1) redelegation_made operator c.args.infraction c.args.factor v0.ctx.time k.lists)) (sym c.self.view_is) ∙ sym c.counted-counted.ensures.value)
     (follows-counted (sources_slashed lent operator c.args.infraction c.args.factor r w) all r d1 (holds c.loop-key.hooks) v1 (subst (λ x. Leaves x d1 (holds c.loop-key.hooks) v1 (Ok tt)) is keyed))
@@ -149,7 +149,7 @@ returns-in_err-slash_at-clause-told g c = λ h o log.
     let w = behind_log log d0 h v0 in
     let fault = c.in_err-slash_at.field-0.0 in
     let given : c.from_residual-in_err-slash_at.result ≡ Err fault = search rules in
-    let is_all : whole w ≡ sources_slashed lent operator c.args.infraction c.args.factor r w = ap (λ ks. keys_slashed lent c.args.infraction c.args.factor ks r w) (c.deref-key-items.ensures.value ∙ c.in_ok-keys.ensures ∙ ap (λ (k : Kept Key RedelegationEntry). keys_where (is_from (λ (x : Key). x.1) operator) k.lists) c.self.view_is) ∙ sym (sources-keyed lent c.args.infraction c.args.factor operator r (subst (λ (k : Kept Key RedelegationEntry). IsStrictlySortedBy triple_cmp (keys_of k.lists)) c.self.view_is c.known.ensures) w) in
+    let is_all : whole w ≡ sources_slashed lent operator c.args.infraction c.args.factor r w = ap (λ ks. keys_slashed lent c.args.infraction c.args.factor ks r w) (c.deref-key-items.ensures.value ∙ c.in_ok-keys.ensures.keys ∙ ap (λ (k : Kept Key RedelegationEntry). keys_where (is_from (λ (x : Key). x.1) operator) k.lists) c.self.view_is) ∙ sym (sources-keyed lent c.args.infraction c.args.factor operator r (subst (λ (k : Kept Key RedelegationEntry). IsStrictlySortedBy triple_cmp (keys_of k.lists)) c.self.view_is c.known.ensures.ordered) w) in
     let stopped = reached-err (whole w) left d1 (holds c.loop-key.hooks) v1 (h0.told h o log) one next is d2 (holds c.slash_at.new.hooks) v2 fault c.in_err-slash_at.ensures.told in
     subst (FollowsLent (redelegations_slashed lent operator c.args.infraction c.args.factor r w) r d2 (holds c.slash_at.new.hooks) v2) (sym given)
     (follows-fault (sources_slashed lent operator c.args.infraction c.args.factor r w) _ r r d2 (holds c.slash_at.new.hooks) v2 fault (subst (λ x. Leaves x d2 (holds c.slash_at.new.hooks) v2 (Err fault)) is_all stopped))

@@ -1,12 +1,24 @@
 use Rattle.std.proofs.Common.{◌∙◌, ◌+◌, drop, refl, sym, ap, subst}
 use Rattle.stk_keep.specs.Ground.{seen}
 use Rattle.stk_keep.specs.Holdings.{IsBacked}
+use Rattle.stk_keep.specs.Orders.{pair_cmp}
 use Rattle.stk_keep.specs.World.{View}
-use Rattle.stk_unbonding.specs.Walked.{slashed_in}
-use Rattle.stk_unbonding.proofs.UndoneLemmas.{undone-none, undone-then}
-use Rattle.stk_unbonding.proofs.WalkedLemmas.{next_of, stepped-next}
+use Rattle.stk_keep.specs.declared.entities.UnbondingEntry.{UnbondingEntry}
+use Rattle.stk_rules.specs.EntrySlashes.{counted, unbonding_made}
+use Rattle.stk_entries.specs.Kept.{Kept}
+use Rattle.stk_entries.specs.Lists.{AreFew}
+use Rattle.stk_entries.specs.Slashed.{all_counted, is_from}
+use Rattle.stk_entries.specs.Walked.{keys_where}
+use Rattle.stk_entries.proofs.CountLemmas.{next_of}
+use Rattle.stk_entries.proofs.UndoneLemmas.{undone-none, undone-then}
+use Rattle.stk_unbonding.specs.Walked.{Key, slashed_in}
+use Rattle.stk_unbonding.proofs.EntriesLemmas.{are_few}
+use Rattle.stk_unbonding.proofs.WalkedLemmas.{stepped-next}
 use Rattle.stk_unbonding.proofs.SlashedLemmas.{IsSlashing, slashing-none, slashing-one, can_burn, slashed-all, u3}
 use Rattle.stk_unbonding.proofs.slashing.UnbondingsUnbondingSlash.slash_unbondings.Goals as goal
+
+pub counted-counted-requires-clause-entries : goal.counted-counted-requires-clause-entries
+counted-counted-requires-clause-entries g c = subst (λ (k : Kept Key UnbondingEntry). AreFew pair_cmp unbonding_made k.lists) (sym c.self.view_is) (are_few c.args.self.now.lists c.requires.sound)
 
 pub loop-key-init : goal.loop-key-init
 loop-key-init g c = record {
@@ -54,9 +66,16 @@ loop-key-preserved g c =
 pub returns-clause-told : goal.returns-clause-told
 returns-clause-told g c =
     let holdings = g.B.Bank.holdings in
-    let all = slashed-all c.args.operator.now c.args.infraction c.args.factor c.deref-key-items.result.now c.loop-key.key-index c.args.self.now.lists (seen holdings c.args.g.now) c.loop-key.self.lists (seen holdings c.loop-key.g)
-    c.loop-key.invariant.told c.loop-key-test.false (c.deref-key-items.ensures.value ∙ c.in_ok-keys.ensures) c.requires.sound in
-    (c.counted_of-counted.ensures, ap (λ p. p.0) all, ap (λ p. p.1) all)
+    let operator = c.args.operator.now in
+    let now = c.args.g.now.ctx.time in
+    let is = c.deref-key-items.ensures.value ∙ c.in_ok-keys.ensures.keys ∙ ap (λ (k : Kept Key UnbondingEntry). keys_where (is_from (λ (x : Key). x.1) operator) k.lists) c.self.view_is in
+    let all = slashed-all operator c.args.infraction c.args.factor c.deref-key-items.result.now c.loop-key.key-index c.args.self.now.lists (seen holdings c.args.g.now) c.loop-key.self.lists (seen holdings c.loop-key.g)
+    c.loop-key.invariant.told c.loop-key-test.false is c.requires.sound in
+    let found = c.counted-counted.ensures.value ∙ ap (λ (k : Kept Key UnbondingEntry). counted (all_counted (λ (x : Key). x.1) unbonding_made operator c.args.infraction c.args.factor now k.lists)) c.self.view_is in
+    (found, ap (λ p. p.0) all, ap (λ p. p.1) all)
+
+pub returns-clause-most : goal.returns-clause-most
+returns-clause-most g c = c.counted-counted.ensures.most
 
 pub returns-clause-burned : goal.returns-clause-burned
 returns-clause-burned g c = c.loop-key.invariant.stands.burned

@@ -1,7 +1,9 @@
 use Rattle.std.proofs.Common.{◌≡◌, drop}
 use Rattle.stk_keep.specs.Ground.{seen, CanBeUndone}
-use Rattle.stk_unbonding.specs.Kept.{behind}
-use Rattle.stk_unbonding.specs.Walked.{stepped, slashed_in}
+use Rattle.stk_keep.specs.Orders.{pair_cmp}
+use Rattle.stk_entries.specs.Kept.{behind}
+use Rattle.stk_entries.specs.Walked.{stepped}
+use Rattle.stk_unbonding.specs.Walked.{slashed_in}
 use Rattle.stk_unbonding.proofs.SlashedLemmas.{IsSlashing}
 use Rattle.stk_unbonding.proofs.slashing.UnbondingsUnbondingSlash.slash_unbondings.Given as goal
 
@@ -10,7 +12,7 @@ invariant-loop-key g l =
     let holdings = g.B.Bank.holdings in
     let change = slashed_in l.infraction l.factor in
     record {
-      told : stepped change (drop l.key-index l.key-items) l.self.lists (seen holdings l.g) ≡ stepped change l.key-items l.fn.self.lists (seen holdings l.fn.g);
+      told : stepped pair_cmp change (drop l.key-index l.key-items) l.self.lists (seen holdings l.g) ≡ stepped pair_cmp change l.key-items l.fn.self.lists (seen holdings l.fn.g);
       stands : IsSlashing l.fn.self.lists (seen holdings l.fn.g) l.self.lists (seen holdings l.g);
       undone : CanBeUndone g.B.Bank.marks l.fn.g l.g;
       bank : g.B.Bank.touches l.g.bank ≡ g.B.Bank.touches l.fn.g.bank;

@@ -4,9 +4,10 @@ use Rattle.stk_keep.specs.Ground.{seen}
 use Rattle.stk_keep.specs.Steps.{◌>>=◌}
 use Rattle.stk_keep.specs.declared.faults.Stop.TheVariants as stop
 use Rattle.stk_rules.specs.Unbondings.{cancelled}
-use Rattle.stk_unbonding.proofs.AskedLemmas.{answers_refused}
+use Rattle.stk_entries.proofs.AnswerLemmas.{answers_refused}
 use Rattle.stk_book.specs.Calls.{over}
-use Rattle.stk_unbonding.specs.Calls.{AreSoundLists, AreWhole, HoldsEntries, AnswersBoth}
+use Rattle.stk_entries.specs.Answers.{AnswersBoth}
+use Rattle.stk_unbonding.specs.Calls.{AreSoundLists, AreWhole, HoldsEntries}
 use Rattle.stk_unbonding.proofs.CancelLemmas.{open-given, cancelled-asked, cancelled_from, answers_lowered, answers_stopped, lowered-sound, lowered-whole, lowered-accounts, has_origin, has_stake}
 use Rattle.stk_unbonding.proofs.unbondings.Unbondings.cancel.Goals as goal
 

@@ -2,11 +2,16 @@ use Rattle.std.proofs.Common.{◌≡◌, ◌∙◌, ◌+◌, ◌*◌, ◌≤◌,
 use Rattle.stk_keep.specs.Ground.{seen}
 use Rattle.stk_rules.specs.Amounts.{count_where}
 use Rattle.stk_rules.specs.Unbondings.{entries_of, is_mature}
-use Rattle.stk_unbonding.specs.Calls.{mature_entries}
-use Rattle.stk_unbonding.specs.Walked.{keys_where, is_due, paid_at}
-use Rattle.stk_unbonding.proofs.UndoneLemmas.{undone-none, undone-then}
-use Rattle.stk_unbonding.proofs.WalkedLemmas.{next_of, length_next, stepped-next}
-use Rattle.stk_unbonding.proofs.CompletedLemmas.{IsCompleting, completing-none, completing-one, can_pay, mature-one, u3, completed-all, due_few, cost-next, cost-all, cost-stopped}
+use Rattle.stk_keep.specs.declared.entities.UnbondingEntry.{UnbondingEntry}
+use Rattle.stk_rules.specs.EntrySlashes.{unbonding_made}
+use Rattle.stk_entries.specs.Kept.{Kept}
+use Rattle.stk_entries.specs.Walked.{keys_where, is_due, mature_entries}
+use Rattle.stk_entries.proofs.CountLemmas.{next_of}
+use Rattle.stk_entries.proofs.DueLemmas.{due_few}
+use Rattle.stk_entries.proofs.UndoneLemmas.{undone-none, undone-then}
+use Rattle.stk_unbonding.specs.Walked.{Key, paid_at}
+use Rattle.stk_unbonding.proofs.WalkedLemmas.{length_next, stepped-next}
+use Rattle.stk_unbonding.proofs.CompletedLemmas.{IsCompleting, completing-none, completing-one, can_pay, mature-one, u3, due-seen, completed-all, cost-first, cost-next, cost-all, cost-stopped}
 use Rattle.stk_unbonding.proofs.unbondings.Unbondings.complete.Goals as goal
 
 pub loop-key-init : goal.loop-key-init
@@ -14,9 +19,9 @@ loop-key-init g c =
     let u = c.args.self.now.lists in
     let v = seen g.B.Bank.holdings c.args.g.now in
     let keys = c.deref-key-items.result.now in
-    let is = c.deref-key-items.ensures.value ∙ c.in_ok-keys.ensures.keys in
-    let same : length keys ≡ length (keys_where (is_due c.args.g.now.ctx.time) u) = ap length is in
-    let cost = c.due.ensures.cost in
+    let now = c.args.g.now.ctx.time in
+    let due = length (keys_where (is_due unbonding_made now) c.self.inside.entries.lists) in
+    let same : length keys ≡ due = ap length (c.deref-key-items.ensures.value ∙ c.in_ok-keys.ensures.keys) in
     record {
       told = refl;
       stands = completing-none u v c.requires.entries c.requires.in_order;
@@ -24,7 +29,7 @@ loop-key-init g c =
       bank = refl;
       behind = refl;
       spent = refl;
-      cost = λ few. omega (arith, cost, same);
+      cost = λ few. cost-first c.due.new.steps c.args.steps.now (length keys) due (mature_entries unbonding_made now u) c.due.ensures.cost same;
     }
 
 pub pay-requires-clause-backed : goal.pay-requires-clause-backed
@@ -52,7 +57,7 @@ loop-key-preserved g c =
     let one = completing-one u v c.requires.account u2 v2 h.stands key in
     let now = c.args.g.now.ctx.time in
     let same = ap (λ k. k.time) h.stands.ctx in
-    let fall = subst (λ x. mature_entries now x + count_where (is_mature now) (entries_of u2 key.0 key.1) ≡ mature_entries now u2) (sym lists) (mature-one u v c.requires.account u2 v2 h.stands key now same) in
+    let fall = subst (λ x. mature_entries unbonding_made now x + count_where (is_mature now) (entries_of u2 key.0 key.1) ≡ mature_entries unbonding_made now u2) (sym lists) (mature-one u v c.requires.account u2 v2 h.stands key now same) in
     let n = length_next (drop c.loop-key.key-index keys) (drop (c.loop-key.key-index + 1) keys) key left in
     record {
       told = stepped-next paid_at (drop c.loop-key.key-index keys) (drop (c.loop-key.key-index + 1) keys) key u2 c.pay.new.self.lists v2 v3 left lists ground ∙ h.told;
@@ -63,20 +68,20 @@ loop-key-preserved g c =
       spent = ap (λ k. k.spent) c.in_ok-pay.ensures.lists ∙ h.spent;
       cost = λ few.
           let few_now = subst (λ t. t ≤ 8) (sym h.bank) few in
-          let cost = subst (λ t. c.pay.new.steps ≤ c.loop-key.steps + (5 + 8 * count_where (is_mature t) (entries_of u2 key.0 key.1))) same (c.pay.ensures.cost few_now) in
+          let cost = subst (λ t. c.pay.new.steps ≤ c.loop-key.steps + (6 + 8 * count_where (is_mature t) (entries_of u2 key.0 key.1))) same (c.pay.ensures.cost few_now) in
           cost-next c.loop-key.steps c.pay.new.steps (count_where (is_mature now) (entries_of u2 key.0 key.1)) (length keys) (length (drop c.loop-key.key-index keys)) (length (drop (c.loop-key.key-index + 1) keys)) c.args.steps.now
-          (mature_entries now u) (mature_entries now u2) (mature_entries now c.pay.new.self.lists) cost fall n (h.cost few);
+          (mature_entries unbonding_made now u) (mature_entries unbonding_made now u2) (mature_entries unbonding_made now c.pay.new.self.lists) cost fall n (h.cost few);
     }
 
 pub returns-clause-lists : goal.returns-clause-lists
 returns-clause-lists g c =
     let holdings = g.B.Bank.holdings in
-    ap (λ p. p.0) (completed-all c.deref-key-items.result.now c.loop-key.key-index c.args.self.now.lists (seen holdings c.args.g.now) c.loop-key.self.lists (seen holdings c.loop-key.g) c.loop-key.invariant.told c.loop-key-test.false (c.deref-key-items.ensures.value ∙ c.in_ok-keys.ensures.keys) c.requires.entries)
+    ap (λ p. p.0) (completed-all c.deref-key-items.result.now c.loop-key.key-index c.args.self.now.lists (seen holdings c.args.g.now) c.loop-key.self.lists (seen holdings c.loop-key.g) c.loop-key.invariant.told c.loop-key-test.false (c.deref-key-items.ensures.value ∙ c.in_ok-keys.ensures.keys ∙ due-seen c.args.g.now.ctx.time _ _ c.self.view_is) c.requires.entries)
 
 pub returns-clause-ground : goal.returns-clause-ground
 returns-clause-ground g c =
     let holdings = g.B.Bank.holdings in
-    ap (λ p. p.1) (completed-all c.deref-key-items.result.now c.loop-key.key-index c.args.self.now.lists (seen holdings c.args.g.now) c.loop-key.self.lists (seen holdings c.loop-key.g) c.loop-key.invariant.told c.loop-key-test.false (c.deref-key-items.ensures.value ∙ c.in_ok-keys.ensures.keys) c.requires.entries)
+    ap (λ p. p.1) (completed-all c.deref-key-items.result.now c.loop-key.key-index c.args.self.now.lists (seen holdings c.args.g.now) c.loop-key.self.lists (seen holdings c.loop-key.g) c.loop-key.invariant.told c.loop-key-test.false (c.deref-key-items.ensures.value ∙ c.in_ok-keys.ensures.keys ∙ due-seen c.args.g.now.ctx.time _ _ c.self.view_is) c.requires.entries)
 
 pub returns-clause-entries : goal.returns-clause-entries
 returns-clause-entries g c = c.loop-key.invariant.stands.entries
@@ -92,14 +97,16 @@ returns-clause-cost g c = λ few.
     let u = c.args.self.now.lists in
     let now = c.args.g.now.ctx.time in
     let keys = c.deref-key-items.result.now in
-    let few_keys = subst (λ n. n ≤ mature_entries now u) (sym (ap length (c.deref-key-items.ensures.value ∙ c.in_ok-keys.ensures.keys))) (due_few now u) in
-    cost-all c.loop-key.steps (length keys) (length (drop c.loop-key.key-index keys)) c.args.steps.now (mature_entries now u) (mature_entries now c.loop-key.self.lists) few_keys (c.loop-key.invariant.cost few)
+    let few_keys = subst (λ n. n ≤ mature_entries unbonding_made now u) (sym (ap length (c.deref-key-items.ensures.value ∙ c.in_ok-keys.ensures.keys ∙ due-seen c.args.g.now.ctx.time _ _ c.self.view_is))) (due_few unbonding_made now u) in
+    cost-all c.loop-key.steps (length keys) (length (drop c.loop-key.key-index keys)) c.args.steps.now (mature_entries unbonding_made now u) (mature_entries unbonding_made now c.loop-key.self.lists) few_keys (c.loop-key.invariant.cost few)
 
 pub returns-in_err-keys-clause-cost : goal.returns-in_err-keys-clause-cost
 returns-in_err-keys-clause-cost g c = λ few.
-    let cost = c.due.ensures.cost in
-    let due = due_few c.args.g.now.ctx.time c.args.self.now.lists in
-    omega (arith, cost, due)
+    let now = c.args.g.now.ctx.time in
+    let found = c.due.ensures.cost in
+    let due = due_few unbonding_made now c.self.inside.entries.lists in
+    let same = ap (λ (k : Kept Key UnbondingEntry). mature_entries unbonding_made now k.lists) c.self.view_is in
+    omega (arith, found, due, same)
 
 pub returns-in_err-pay-clause-cost : goal.returns-in_err-pay-clause-cost
 returns-in_err-pay-clause-cost g c = λ few.
@@ -114,9 +121,9 @@ returns-in_err-pay-clause-cost g c = λ few.
     let now = c.args.g.now.ctx.time in
     let same = ap (λ k. k.time) h.stands.ctx in
     let few_now = subst (λ t. t ≤ 8) (sym h.bank) few in
-    let cost = subst (λ t. c.pay.new.steps ≤ c.loop-key.steps + (5 + 8 * count_where (is_mature t) (entries_of u2 key.0 key.1))) same (c.pay.ensures.cost few_now) in
+    let cost = subst (λ t. c.pay.new.steps ≤ c.loop-key.steps + (6 + 8 * count_where (is_mature t) (entries_of u2 key.0 key.1))) same (c.pay.ensures.cost few_now) in
     let fall = mature-one u v c.requires.account u2 v2 h.stands key now same in
     let n = length_next (drop c.loop-key.key-index keys) (drop (c.loop-key.key-index + 1) keys) key (next_of keys c.loop-key.key-index key c.loop-key-test.true c.key-item.is) in
-    let few_keys = subst (λ n. n ≤ mature_entries now u) (sym (ap length (c.deref-key-items.ensures.value ∙ c.in_ok-keys.ensures.keys))) (due_few now u) in
-    cost-stopped c.loop-key.steps c.pay.new.steps (count_where (is_mature now) (entries_of u2 key.0 key.1)) (length keys) (length (drop c.loop-key.key-index keys)) (length (drop (c.loop-key.key-index + 1) keys)) c.args.steps.now (mature_entries now u)
-    (mature_entries now u2) _ cost fall n few_keys (h.cost few)
+    let few_keys = subst (λ n. n ≤ mature_entries unbonding_made now u) (sym (ap length (c.deref-key-items.ensures.value ∙ c.in_ok-keys.ensures.keys ∙ due-seen c.args.g.now.ctx.time _ _ c.self.view_is))) (due_few unbonding_made now u) in
+    cost-stopped c.loop-key.steps c.pay.new.steps (count_where (is_mature now) (entries_of u2 key.0 key.1)) (length keys) (length (drop c.loop-key.key-index keys)) (length (drop (c.loop-key.key-index + 1) keys)) c.args.steps.now (mature_entries unbonding_made now u)
+    (mature_entries unbonding_made now u2) _ cost fall n few_keys (h.cost few)

@@ -10,8 +10,10 @@ use Rattle.stk_keep.specs.declared.faults.Stop.TheVariants as stop
 use Rattle.stk_rules.specs.Unbonding.{shares_unbonded}
 use Rattle.stk_rules.specs.Unbondings.{entries_of, with_entries, grown, undelegated}
 use Rattle.stk_book.specs.Calls.{over}
-use Rattle.stk_unbonding.specs.Calls.{AnswersBoth, moved_out}
-use Rattle.stk_unbonding.proofs.AskedLemmas.{asked-given, undelegated-asked, undelegated_from, answers_refused, answers_fault, answers_made, entry_made}
+use Rattle.stk_entries.specs.Answers.{AnswersBoth}
+use Rattle.stk_unbonding.specs.Calls.{moved_out}
+use Rattle.stk_entries.proofs.AnswerLemmas.{answers_refused, answers_fault}
+use Rattle.stk_unbonding.proofs.AskedLemmas.{asked-given, undelegated-asked, undelegated_from, answers_made, entry_made}
 use Rattle.stk_unbonding.proofs.MadeLemmas.{out_most, out_enough, stand-out, made}
 use Rattle.stk_unbonding.proofs.unbondings.Unbondings.undelegate.Goals as goal
 

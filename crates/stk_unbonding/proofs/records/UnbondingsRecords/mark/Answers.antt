@@ -1,6 +1,0 @@
-use Rattle.stk_unbonding.proofs.StepLemmas.{in_step-marked}
-use Rattle.stk_unbonding.proofs.records.UnbondingsRecords.mark.Goals as goal
-
-pub invariant_of-self-2 : goal.invariant_of-self-2
-invariant_of-self-2 g c =
-    rw (c.in_ok-mark_both.ensures.first, c.in_ok-mark_both.ensures.second) (in_step-marked c.self.inside.lists c.self.inside.queue c.self.invariant)
