@@ -34,5 +34,5 @@ pub use genesis_reading::read_genesis;
 pub use lines::{push_line_of_genesis, push_lines_of_block};
 pub use reading_example::lines_read_by_example;
 pub use told::Told;
-pub use writing::push_line;
+pub use writing::{push_line, push_told};
 pub use written::lines_written_by_example;

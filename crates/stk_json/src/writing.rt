@@ -169,8 +169,8 @@ fn push_dec_coins(writer: &mut Writer, coins: &DecCoins) -> Result<(), LineFault
     Ok(())
 }
 
-/// What a member tells.
-fn push_told(alloc: Global, writer: &mut Writer, told: &Told<'_>) -> Result<(), LineFault>
+/// Writes what a member tells, as one value. The only error is `NoMemory`.
+pub fn push_told(alloc: Global, writer: &mut Writer, told: &Told<'_>) -> Result<(), LineFault>
     ensures ok { OnOk result (writer.new.tokens
         ≡ writer.old.tokens ++ data_tokens (told_data told.now)) }
     ensures before { OnOk result (writer.new.before ≡ writer.old.before) }
