@@ -1,0 +1,6 @@
+pub mod Kept
+pub mod Owed
+pub mod Calls
+pub mod Shares
+pub mod Rows
+pub mod Laws
