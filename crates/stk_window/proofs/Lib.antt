@@ -1,0 +1,17 @@
+pub mod RingLemmas
+pub mod UptoLemmas
+pub mod StandLemmas
+pub mod TableLemmas
+pub mod StepLemmas
+pub mod ItemLemmas
+pub mod SettledLemmas
+pub mod InfoLemmas
+pub mod VoteLemmas
+pub mod TouchedLemmas
+pub mod PutLemmas
+pub mod WalkLemmas
+pub mod LoopLemmas
+pub mod CallLemmas
+pub mod UnjailLemmas
+pub mod DownLemmas
+pub mod SlashLemmas

@@ -1,0 +1,107 @@
+//! Leaving jail.
+
+ghost use Rattle.std.specs.Prelude.{◌≡◌, ℕ, ◌+◌, ◌^◌, ◌<◌, ◌≤◌, OnOk};
+ghost use Rattle.stk_keep.specs.Ground.{seen, CanBeUndone};
+ghost use Rattle.stk_rules.specs.Answers.{AnswersHeld};
+ghost use Rattle.stk_rules.specs.Window.{may_leave, signing_of, unjailed};
+ghost use Rattle.stk_book.specs.Calls.{IsSoundStake};
+ghost use Rattle.stk_book.specs.Scenes.{RegisterGoesOn};
+ghost use Rattle.stk_window.specs.Stands.{AllVotes, KeepsSignings, IsKept};
+ghost use Rattle.stk_window.specs.Calls.{free_to_leave, over_by};
+
+use crate::window::Window;
+use std::sync::ledger::Ledger;
+use stk_book::Staking;
+use stk_dec::Dec;
+use stk_keep::{Bank, Ground, Refusal, SigningInfo, Stop, Unbonder, Validator, ValidatorView};
+use stk_shares::value_even;
+use stk_types::{Addr, ConsAddr, Moment, Steps};
+
+impl Window {
+    /// The message by which the validator of an operator leaves jail (`msgServer.Unjail`).
+    ///
+    /// It is refused as `NoValidator`, else as `NoSelfDelegation` where the operator has no delegation to it,
+    /// else as `SelfBelowMinimum` where that is worth less than the least self-delegation, else as
+    /// `NotJailed`, else as `Tombstoned`, else as `StillJailed` where the time in jail is not over.
+    pub fn unjail<B: Bank, L: Ledger>(
+        &mut self,
+        g: &mut Ground<B>,
+        staking: &mut Staking,
+        operator: &Addr,
+        steps: &mut Steps<L>,
+    ) -> Result<(), Stop>
+        requires kept { IsKept g.old.ctx.params.signed_blocks_window self.old.kept }
+        requires sound { IsSoundStake staking.old.staked }
+        ensures told { (i : AllVotes)
+            → KeepsSignings g.old.ctx.params.signed_blocks_window self.old.kept i
+            → AnswersHeld (unjailed operator.now i staking.old.staked (seen B.holdings g.old))
+            staking.new.staked (seen B.holdings g.new) result }
+        ensures same { self.new ≡ self.old }
+        ensures sound { OnOk result (IsSoundStake staking.new.staked) }
+
+        // Whatever the answer.
+        ensures undone { CanBeUndone B.marks g.old g.new }
+        ensures bank { B.touches g.new.bank ≡ B.touches g.old.bank }
+        ensures register { RegisterGoesOn staking.old staking.new result }
+    {
+        let v = match staking.validator(operator, steps) {
+            Some(v) => *v,
+            None => return Err(Stop::Refused(Refusal::NoValidator)),
+        };
+        let held = match staking.shares_of(operator, operator, steps) {
+            Some(held) => held,
+            None => return Err(Stop::Refused(Refusal::NoSelfDelegation)),
+        };
+        is_free_to_leave(&v, held)?;
+        self.may_leave(&v.cons, g.ctx.time, steps)?;
+        staking.clear_jail(&mut g.facts, operator, steps)?;
+        Ok(())
+    }
+
+    /// What refuses at a time to let a consensus address leave jail.
+    fn may_leave<L: Ledger>(
+        &self,
+        cons: &ConsAddr,
+        now: Moment,
+        steps: &mut Steps<L>,
+    ) -> Result<(), Refusal>
+        ensures told { (window : ℕ) (i : AllVotes) → KeepsSignings window self.now.kept i
+            → result ≡ may_leave now (signing_of i cons.now) }
+        ensures cost { steps.new ≤ steps.old + 1 }
+    {
+        match self.tables.entry(cons, steps) {
+            Some(entry) => is_over(&entry.info, now),
+            None => Ok(()),
+        }
+    }
+}
+
+/// What refuses at a time to let a record with this info leave jail.
+fn is_over(info: &SigningInfo, now: Moment) -> Result<(), Refusal>
+    ensures { result ≡ over_by now info.now }
+{
+    if info.tombstoned {
+        return Err(Refusal::Tombstoned);
+    }
+    let until = info.jailed_until;
+    if now.nanos() < until.nanos() {
+        return Err(Refusal::StillJailed(until));
+    }
+    Ok(())
+}
+
+/// What refuses of a validator and of the shares that its own operator holds.
+fn is_free_to_leave(v: &Validator, held: Dec) -> Result<(), Refusal>
+    requires tokens { v.now.tokens ≤ 10 ^ 18 }
+    requires some { 0 < v.now.shares }
+    requires part { held ≤ v.now.shares }
+    ensures { result ≡ free_to_leave v.now held }
+{
+    if value_even(v.tokens, v.shares, held).trunc() < v.min_self {
+        return Err(Refusal::SelfBelowMinimum);
+    }
+    if !v.jailed {
+        return Err(Refusal::NotJailed);
+    }
+    Ok(())
+}
