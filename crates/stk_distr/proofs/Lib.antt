@@ -1,0 +1,12 @@
+pub mod CarryLemmas
+pub mod ReadyLemmas
+pub mod PeriodLemmas
+pub mod PayLemmas
+pub mod WithdrawLemmas
+pub mod PendingLemmas
+pub mod PoolLemmas
+pub mod StandLemmas
+pub mod StepLemmas
+pub mod KindLemmas
+pub mod ItemLemmas
+pub mod FundLemmas
