@@ -18,29 +18,11 @@ use Rattle.stk_coins.proofs.Amounts.{itself, is_equal, amount-all, added_fits, s
 use Rattle.stk_coins.proofs.Parts.{by_is_money, whole_below, below_is, whole_is_money}
 use Rattle.stk_coins.proofs.Results.{smaller_is_money}
 use Rattle.stk_coins.proofs.Shorts.{short_by_amounts}
+use Rattle.stk_rules.proofs.PartLemmas.{rest_within}
 use Rattle.stk_rules.specs.Amounts.{in_units}
 use Rattle.stk_alloc.proofs.RuleLemmas.{below_fits, same_ok}
 
 -- ---- whole coins in units
-
-pub amount_in_units : (d : List ℕ) (x : Money) → amount_of (in_units x) d ≡ amount_of x d * 10 ^ 18
-amount_in_units d [] = refl
-amount_in_units d (c ∷ cs) = by (is_at (denom_cmp d) c.0) (amount_in_units d cs)
-  where
-    by : (b : Bool) → unwrap_or (lookup (is_at (denom_cmp d)) (in_units cs)) 0 ≡ unwrap_or (lookup (is_at (denom_cmp d)) cs) 0 * 10 ^ 18
-        → unwrap_or (cond b (Some (c.1 * 10 ^ 18)) (lookup (is_at (denom_cmp d)) (in_units cs))) 0 ≡ unwrap_or (cond b (Some c.1) (lookup (is_at (denom_cmp d)) cs)) 0 * 10 ^ 18
-    by true h = refl
-    by false h = h
-
--- the amounts behind the first coin are no greater than those of all
-rest_within : (c : List ℕ × ℕ) (cs : Money) (d : List ℕ) → Above c.0 cs → amount_of cs d ≤ amount_of (c ∷ cs) d
-rest_within c cs d a = by (is_at (denom_cmp d) c.0) refl
-  where
-    by : (b : Bool) → is_at (denom_cmp d) c.0 ≡ b → amount_of cs d ≤ unwrap_or (cond b (Some c.1) (lookup (is_at (denom_cmp d)) cs)) 0
-    by false e = omega arith
-    by true e =
-        let none : amount_of cs d ≡ 0 = subst (λ x. amount_of cs x ≡ 0) (sym (same_name d c.0 (is_equal d c.0 e))) (amount-above c.0 cs a) in
-        omega (arith, none)
 
 -- where no amount is above this, no coin is
 coins_within : (n : ℕ) (x : Money) → Rises x → ((d : List ℕ) → amount_of x d ≤ n) → AllByRecursion (λ c. c.1 ≤ n) x

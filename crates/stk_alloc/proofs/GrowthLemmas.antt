@@ -14,7 +14,7 @@ use Rattle.stk_keep.specs.declared.faults.HookFault.{HookFault}
 use Rattle.stk_keep.specs.Steps.{◌>>=◌}
 use Rattle.stk_rules.specs.Purses.{share_joined}
 use Rattle.stk_sums.specs.Faults.{IsExcessOf}
-use Rattle.stk_alloc.proofs.RuleLemmas.{below_value}
+use Rattle.stk_rules.proofs.PartLemmas.{below_value}
 use Rattle.stk_alloc.proofs.CoinLemmas.{enough, product_even_money}
 use Rattle.stk_alloc.proofs.AnswerLemmas.{excess_then, excess_after}
 

@@ -23,8 +23,9 @@ use Rattle.stk_alloc.specs.Calls.{IsOfVoter}
 use Rattle.stk_alloc.specs.Laws.{CanAllocate, VotesHaveShares, FeesAreAllShared, LimitsAreOfRewards}
 use Rattle.stk_alloc.specs.Owed.{owed_by, AreWithin, IsMoved}
 use Rattle.stk_alloc.specs.Shares.{AreCovered, VotesExceed, AllocationExceeds}
-use Rattle.stk_alloc.proofs.RuleLemmas.{below_value}
-use Rattle.stk_alloc.proofs.CoinLemmas.{amount_in_units, units_money, product_cut_fits, product_cut_money}
+use Rattle.stk_rules.proofs.PartLemmas.{below_value}
+use Rattle.stk_alloc.proofs.CoinLemmas.{units_money, product_cut_fits, product_cut_money}
+use Rattle.stk_rules.proofs.PartLemmas.{amount_in_units}
 use Rattle.stk_alloc.proofs.ShareLemmas.{powers}
 use Rattle.stk_alloc.proofs.PurseLemmas.{Fits, fits_of}
 use Rattle.stk_alloc.proofs.AllocationLemmas.{Says, says_bind, says_weaker, says_ok, says_err, not_over, HasShared, rest_says, shares_say}

@@ -17,7 +17,8 @@ use Rattle.stk_rules.specs.Purses.{Purses, with_purse, pool_joined, current_empt
 use Rattle.stk_rules.specs.Sound.{PurseIsSound}
 use Rattle.stk_alloc.specs.Calls.{purse_at, commission_of, commission_out}
 use Rattle.stk_alloc.specs.Owed.{owed_by, AreWithin, IsMoved, nothing_more}
-use Rattle.stk_alloc.proofs.CoinLemmas.{amount_in_units, amount_taken, amount_smaller, amount_whole, amount_parts, amount_below, enough, smaller_whole, units_money, sum_fits}
+use Rattle.stk_alloc.proofs.CoinLemmas.{amount_taken, amount_smaller, amount_whole, amount_parts, amount_below, enough, smaller_whole, units_money, sum_fits}
+use Rattle.stk_rules.proofs.PartLemmas.{amount_in_units}
 use Rattle.stk_alloc.proofs.PurseLemmas.{Fits, found_is, own_purse, owed_put, owed_new, owed_left, owed_within, left_out, fits_put, fits_left, joined, owed_joined, join_fits}
 
 -- nothing moves where a purse keeps what is outstanding

@@ -21,7 +21,8 @@ use Rattle.stk_rules.specs.Distribution.{Shared}
 use Rattle.stk_rules.specs.Withdrawals.{is_module, pool_funded, pool_spent}
 use Rattle.stk_rules.specs.Purses.{Purses, is_above_pool, pool_joined, pool_lowered, pooled_told}
 use Rattle.stk_alloc.specs.Owed.{owed_by, AreWithin, IsMoved}
-use Rattle.stk_alloc.proofs.CoinLemmas.{amount_below, amount_in_units, amount_taken}
+use Rattle.stk_alloc.proofs.CoinLemmas.{amount_below, amount_taken}
+use Rattle.stk_rules.proofs.PartLemmas.{amount_in_units}
 use Rattle.stk_alloc.proofs.WithinLemmas.{some_above, within_all, none_above}
 use Rattle.stk_alloc.proofs.PurseLemmas.{Fits, joined, owed_joined, join_fits}
 

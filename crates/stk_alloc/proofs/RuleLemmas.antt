@@ -32,13 +32,6 @@ module _ {A B : Type 0} where
 
 -- ---- numbers below the limit
 
-pub below_value : (e : Over) (n m : ℕ) → below e n ≡ Ok m → m ≡ n
-below_value e n m h = by (nat_lt n (10 ^ 38)) h
-  where
-    by : (b : Bool) → (if b then Ok n else Err e) ≡ Ok m → m ≡ n
-    by true k = sym (same_ok n m k)
-    by false k = err_or_ok m e k
-
 pub below_fits : (e : Over) (n : ℕ) → n < 10 ^ 38 → below e n ≡ Ok n
 below_fits e n h = by (nat_lt n (10 ^ 38)) (grind (arith, nat_tests))
   where

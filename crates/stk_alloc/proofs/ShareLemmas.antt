@@ -11,44 +11,13 @@ use Rattle.stk_coins.proofs.Amounts.{amount-by}
 use Rattle.stk_coins.proofs.Parts.{zero_mul_cut}
 use Rattle.stk_keep.specs.declared.messages.Vote.{Vote}
 use Rattle.stk_keep.specs.Steps.{◌>>=◌}
+use Rattle.stk_rules.proofs.PartLemmas.{part_low, part_high, share_low, share_high, left_covers}
 use Rattle.stk_alloc.specs.Laws.{SharesAreNear}
 use Rattle.stk_alloc.specs.Shares.{share_of, AreCovered, IsNearPart}
-use Rattle.stk_alloc.proofs.RuleLemmas.{step_parts, below_value, below_fits}
+use Rattle.stk_alloc.proofs.RuleLemmas.{step_parts, below_fits}
 use Rattle.stk_alloc.proofs.CoinLemmas.{amount_taken, product_cut_fits, product_cut_money}
 
 -- ---- two cuts
-
--- the part of a power in all power, cut from 36 digits
-part_low : (power total part : ℕ) → 0 < total → quo_cut_of (power * 10 ^ 18) (total * 10 ^ 18) ≡ Ok part → part * total ≤ power * 10 ^ 18
-part_low power total part some e =
-    let digits : ℕ = digits_36 (power * 10 ^ 18) (total * 10 ^ 18) in
-    let is : part ≡ cut digits (10 ^ 18) = below_value _ (cut digits (10 ^ 18)) part e in
-    let one : cut digits (10 ^ 18) * 10 ^ 18 ≤ digits = cut_low digits (10 ^ 18) (omega arith) in
-    let two : digits * (total * 10 ^ 18) ≤ power * 10 ^ 18 * 10 ^ 36 = cut_low (power * 10 ^ 18 * 10 ^ 36) (total * 10 ^ 18) (omega (arith, some)) in
-    let three : part * 10 ^ 18 * total ≤ digits * total = mul-le-mul_right total (omega (arith, is, one)) in
-    omega (arith, two, three)
-
-part_high : (power total part : ℕ) → 0 < total → quo_cut_of (power * 10 ^ 18) (total * 10 ^ 18) ≡ Ok part → power * 10 ^ 18 ≤ part * total + total
-part_high power total part some e =
-    let digits : ℕ = digits_36 (power * 10 ^ 18) (total * 10 ^ 18) in
-    let is : part ≡ cut digits (10 ^ 18) = below_value _ (cut digits (10 ^ 18)) part e in
-    let one : digits < cut digits (10 ^ 18) * 10 ^ 18 + 10 ^ 18 = cut_high digits (10 ^ 18) (omega arith) in
-    let two : power * 10 ^ 18 * 10 ^ 36 < digits * (total * 10 ^ 18) + total * 10 ^ 18 = cut_high (power * 10 ^ 18 * 10 ^ 36) (total * 10 ^ 18) (omega (arith, some)) in
-    let three : (digits + 1) * total ≤ (part * 10 ^ 18 + 10 ^ 18) * total = mul-le-mul_right total (omega (arith, is, one)) in
-    omega (arith, two, three)
-
--- a share is within its part of the base
-share_low : (base part share : ℕ) → mul_cut_of base part ≡ Ok share → share * 10 ^ 18 ≤ base * part
-share_low base part share e =
-    let is : share ≡ cut (base * part) (10 ^ 18) = below_value _ (cut (base * part) (10 ^ 18)) share e in
-    let one : cut (base * part) (10 ^ 18) * 10 ^ 18 ≤ base * part = cut_low (base * part) (10 ^ 18) (omega arith) in
-    omega (arith, is, one)
-
-share_high : (base part share : ℕ) → mul_cut_of base part ≡ Ok share → base * part ≤ share * 10 ^ 18 + 10 ^ 18
-share_high base part share e =
-    let is : share ≡ cut (base * part) (10 ^ 18) = below_value _ (cut (base * part) (10 ^ 18)) share e in
-    let one : base * part < cut (base * part) (10 ^ 18) * 10 ^ 18 + 10 ^ 18 = cut_high (base * part) (10 ^ 18) (omega arith) in
-    omega (arith, is, one)
 
 near_part : (base part share power total : ℕ) → part * total ≤ power * 10 ^ 18 → power * 10 ^ 18 ≤ part * total + total → share * 10 ^ 18 ≤ base * part → base * part ≤ share * 10 ^ 18 + 10 ^ 18
     → IsNearPart base power total share
@@ -62,20 +31,6 @@ near_part base part share power total low high low_share high_share = record {
       let two : power * 10 ^ 18 * base ≤ (part * total + total) * base = mul-le-mul_right base high in
       omega (arith, one, two);
 }
-
--- what is left covers the other votes, and this share
-left_covers : (base left share power rest total : ℕ) → 0 < total → share * total ≤ base * power → base * (power + rest) ≤ left * total → (share ≤ left) × (base * rest ≤ (left - share) * total)
-left_covers base left share power rest total some p q =
-    let within : share ≤ left = le_of_mul-le-mul_right (omega (arith, p, q)) some in (
-      within,
-      covers (left - share) (apart left share within),
-    )
-  where
-    apart : (a b : ℕ) → b ≤ a → a ≡ (a - b) + b
-    apart a b l = omega (arith, l)
-
-    covers : (d : ℕ) → left ≡ d + share → base * rest ≤ d * total
-    covers d e = let whole : left * total ≡ (d + share) * total = ap (λ n. n * total) e in omega (arith, p, q, whole)
 
 -- the part of a power within all power is at most one
 part_fits : (power total : ℕ) → 0 < total → power ≤ total → (part : ℕ) × (quo_cut_of (power * 10 ^ 18) (total * 10 ^ 18) ≡ Ok part) × (part ≤ 10 ^ 18)

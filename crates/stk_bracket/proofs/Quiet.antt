@@ -27,6 +27,7 @@ use Rattle.stk_keep.specs.Log as log
 use Rattle.stk_keep.specs.Orders.{same_addr}
 use Rattle.stk_keep.specs.Steps.{◌>>=◌, ◌>>◌, stop_if, or_stop, stopping}
 use Rattle.stk_keep.specs.World.{View, sent, over_view, noted}
+use Rattle.stk_rules.proofs.PartLemmas.{amount_in_units}
 use Rattle.stk_rules.specs.Amounts.{in_units, is_empty, over_facts}
 use Rattle.stk_rules.specs.Chain.{State, with_shared}
 use Rattle.stk_rules.specs.Distribution.{Shared, payee_of, paid_to}
@@ -159,15 +160,6 @@ spend_reached authority to coins w new e =
     (quiet_reached w one.0.1 one.0.2 (ap (λ x. x.1.rewards) (sym is)) (ap (λ x. x.1.purses.purses) (sym is)) (ap (λ x. x.2.ctx.height) (sym is)))
 
 -- ---- commission
-
-amount_in_units : (d : List ℕ) (x : Money) → amount_of (in_units x) d ≡ amount_of x d * 10 ^ 18
-amount_in_units d [] = refl
-amount_in_units d (c ∷ cs) = by (is_at (denom_cmp d) c.0) (amount_in_units d cs)
-  where
-    by : (b : Bool) → amount_of (in_units cs) d ≡ amount_of cs d * 10 ^ 18
-        → unwrap_or (cond b (Some (c.1 * 10 ^ 18)) (lookup (is_at (denom_cmp d)) (in_units cs))) 0 ≡ unwrap_or (cond b (Some c.1) (lookup (is_at (denom_cmp d)) cs)) 0 * 10 ^ 18
-    by true ih = refl
-    by false ih = ih
 
 -- what leaves is within both
 record IsDue (d : List ℕ) (p : Purse) : Type 0 where

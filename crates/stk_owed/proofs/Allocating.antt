@@ -19,6 +19,7 @@ use Rattle.stk_keep.specs.Log as log
 use Rattle.stk_keep.specs.Log.{Log}
 use Rattle.stk_keep.specs.Steps.{◌>>=◌}
 use Rattle.stk_keep.specs.World.{View, sent}
+use Rattle.stk_rules.proofs.PartLemmas.{part_low, share_low, share_within, left_covers}
 use Rattle.stk_rules.specs.Allocation.{allocated, fees_allocated, shares_allocated, share_given, sharing}
 use Rattle.std.specs.List.{AllByRecursion}
 use Rattle.std.specs.Map.{values_of}
@@ -44,7 +45,8 @@ use Rattle.stk_owed.proofs.Hooking.{stake_hooks}
 use Rattle.stk_owed.proofs.Lists.{weaker}
 use Rattle.stk_owed.proofs.Maturing.{values_stand}
 use Rattle.stk_owed.proofs.Moves.{HooksFit, Leaves, ground_sent, state_left, ground_told}
-use Rattle.stk_owed.proofs.Names.{IsKnown, amount_in_units, known_added, known_mul_cut, known_mul_even, known_taken, units_known}
+use Rattle.stk_owed.proofs.Names.{IsKnown, known_added, known_mul_cut, known_mul_even, known_taken, units_known}
+use Rattle.stk_rules.proofs.PartLemmas.{amount_in_units}
 use Rattle.stk_owed.proofs.Periods.{Ordered, pool_after, some_unwrap}
 use Rattle.stk_owed.proofs.Points.{PurseFits, StateFits, StateLeft, from_fits, to_fits}
 use Rattle.stk_owed.proofs.Purses.{HasJoined, PursesFit, enough_held, has_joined, owed_of, own_purse, purse_put, shared_purses}
@@ -61,50 +63,6 @@ use Rattle.stk_rules.specs.Purses.{Purses, pool_joined, pooled_told, purse_of, s
 use Rattle.stk_types.specs.declared.account.Account.{Account}
 
 -- ---- roundings
-
-below_value : (e : Over) (n m : ℕ) → below e n ≡ Ok m → m ≡ n
-below_value e n m h = by (nat_lt n (10 ^ 38)) h
-  where
-    by : (b : Bool) → (if b then Ok n else Err e) ≡ Ok m → m ≡ n
-    by true k = cc
-    by false k = absurd cc
-
--- the part of a power, cut twice
-part_low : (power total part : ℕ) → 0 < total → quo_cut_of (power * 10 ^ 18) (total * 10 ^ 18) ≡ Ok part → part * total ≤ power * 10 ^ 18
-part_low power total part some e =
-    let digits : ℕ = digits_36 (power * 10 ^ 18) (total * 10 ^ 18) in
-    let is : part ≡ cut digits (10 ^ 18) = below_value _ (cut digits (10 ^ 18)) part e in
-    let one : cut digits (10 ^ 18) * 10 ^ 18 ≤ digits = cut_low digits (10 ^ 18) (omega arith) in
-    let two : digits * (total * 10 ^ 18) ≤ power * 10 ^ 18 * 10 ^ 36 = cut_low (power * 10 ^ 18 * 10 ^ 36) (total * 10 ^ 18) (omega (arith, some)) in
-    let three : part * 10 ^ 18 * total ≤ digits * total = mul-le-mul_right total (omega (arith, is, one)) in
-    omega (arith, two, three)
-
--- a share is within its part of the base
-share_low : (base part share : ℕ) → mul_cut_of base part ≡ Ok share → share * 10 ^ 18 ≤ base * part
-share_low base part share e =
-    let is : share ≡ cut (base * part) (10 ^ 18) = below_value _ (cut (base * part) (10 ^ 18)) share e in
-    let one : cut (base * part) (10 ^ 18) * 10 ^ 18 ≤ base * part = cut_low (base * part) (10 ^ 18) (omega arith) in
-    omega (arith, is, one)
-
-share_within : (base part share power total : ℕ) → part * total ≤ power * 10 ^ 18 → share * 10 ^ 18 ≤ base * part → share * total ≤ base * power
-share_within base part share power total p q =
-    let one : share * 10 ^ 18 * total ≤ base * part * total = mul-le-mul_right total q in
-    let two : part * total * base ≤ power * 10 ^ 18 * base = mul-le-mul_right base p in
-    omega (arith, one, two)
-
--- what is left covers the other votes, and this share
-left_covers : (base left share power rest total : ℕ) → 0 < total → share * total ≤ base * power → base * (power + rest) ≤ left * total → (share ≤ left) × (base * rest ≤ (left - share) * total)
-left_covers base left share power rest total some p q =
-    let within : share ≤ left = le_of_mul-le-mul_right (omega (arith, p, q)) some in (
-      within,
-      covers (left - share) (apart left share within),
-    )
-  where
-    apart : (a b : ℕ) → b ≤ a → a ≡ (a - b) + b
-    apart a b l = omega (arith, l)
-
-    covers : (d : ℕ) → left ≡ d + share → base * rest ≤ d * total
-    covers d e = let whole : left * total ≡ (d + share) * total = ap (λ n. n * total) e in omega (arith, p, q, whole)
 
 -- ---- validators by consensus address
 

@@ -107,12 +107,3 @@ units_known P x m h = record { money = money_from_rises (in_units x) (units_rise
     named_units : (y : Money) → AreNamed P y → AreNamed P (in_units y)
     named_units [] k = tt
     named_units (c ∷ cs) k = (k.0, named_units cs k.1)
-
-pub amount_in_units : (d : List ℕ) (x : Money) → amount_of (in_units x) d ≡ amount_of x d * 10 ^ 18
-amount_in_units d [] = refl
-amount_in_units d (c ∷ cs) = by (is_at (denom_cmp d) c.0) (amount_in_units d cs)
-  where
-    by : (b : Bool) → amount_of (in_units cs) d ≡ amount_of cs d * 10 ^ 18
-        → unwrap_or (cond b (Some (c.1 * 10 ^ 18)) (lookup (is_at (denom_cmp d)) (in_units cs))) 0 ≡ unwrap_or (cond b (Some c.1) (lookup (is_at (denom_cmp d)) cs)) 0 * 10 ^ 18
-    by true ih = refl
-    by false ih = ih

@@ -24,7 +24,8 @@ use Rattle.stk_keep.specs.Staked.{lists_of}
 use Rattle.stk_owed.proofs.Burns.{quiet_behind, quiet_pooled}
 use Rattle.stk_owed.proofs.Bank.{each_within, known_enough}
 use Rattle.stk_owed.proofs.Moves.{IsOther, Leaves, ground_sent, keeps, state_left, user_is_other, ground_told}
-use Rattle.stk_owed.proofs.Names.{IsKnown, amount_in_units, known_smaller, known_taken, known_whole, units_known}
+use Rattle.stk_owed.proofs.Names.{IsKnown, known_smaller, known_taken, known_whole, units_known}
+use Rattle.stk_rules.proofs.PartLemmas.{amount_in_units}
 use Rattle.stk_owed.proofs.Points.{StateFits, GroundFits, PurseFits, SharedFits, StateLeft}
 use Rattle.stk_owed.proofs.Purses.{HasJoined, amounts_within, are_paid, has_joined, owed_of, own_purse, pool_fits, purse_put, shared_purses}
 use Rattle.stk_owed.proofs.Steps.{on_lifted_then, on_then}

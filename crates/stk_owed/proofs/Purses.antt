@@ -20,6 +20,7 @@ use Rattle.stk_keep.specs.Hooks.{Lists, HoldsOwed}
 use Rattle.stk_keep.specs.World.{View, sent}
 use Rattle.stk_keep.proofs.AmountLemmas.{moves_by_amounts}
 use Rattle.stk_keep.proofs.HoldingLemmas.{balance-moved_elsewhere}
+use Rattle.stk_rules.proofs.PartLemmas.{rest_within}
 use Rattle.stk_rules.specs.Distribution.{Shared}
 use Rattle.stk_rules.specs.Purses.{Purses, with_purse, pool_joined}
 use Rattle.stk_rules.proofs.EntryLemmas.{at-put, ascend-put}
@@ -48,16 +49,6 @@ there_still es k q x y h =
 
 abbrev pub owed_of : Purses → List ℕ → ℕ
 owed_of p d = total addr_cmp addr_total (λ q. amount_of q.outstanding d) p.purses + amount_of p.pool d
-
--- amounts of lists of coins
-rest_within : (c : List ℕ × ℕ) (cs : Money) (d : List ℕ) → Above c.0 cs → amount_of cs d ≤ amount_of (c ∷ cs) d
-rest_within c cs d a = by (is_at (denom_cmp d) c.0) refl
-  where
-    by : (b : Bool) → is_at (denom_cmp d) c.0 ≡ b → amount_of cs d ≤ unwrap_or (cond b (Some c.1) (lookup (is_at (denom_cmp d)) cs)) 0
-    by false e = omega arith
-    by true e =
-        let none : amount_of cs d ≡ 0 = subst (λ x. amount_of cs x ≡ 0) (sym (same_name d c.0 (is_equal d c.0 e))) (amount-above c.0 cs a) in
-        omega (arith, none)
 
 -- an account has enough of coins whose amounts are within its balances
 pub enough_held : (coins : Money) (h : Holdings) (who : Account) → Rises coins → ((d : List ℕ) → amount_of coins d ≤ balance_of h who d) → is_short h who coins ≡ false

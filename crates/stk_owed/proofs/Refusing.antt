@@ -15,7 +15,8 @@ use Rattle.stk_keep.specs.Holdings.{balance_of, is_short}
 use Rattle.stk_keep.specs.World.{View, sent}
 use Rattle.stk_owed.proofs.Burns.{total_in}
 use Rattle.stk_owed.proofs.Bank.{each_within, known_enough}
-use Rattle.stk_owed.proofs.Names.{amount_in_units, units_known}
+use Rattle.stk_owed.proofs.Names.{units_known}
+use Rattle.stk_rules.proofs.PartLemmas.{amount_in_units}
 use Rattle.stk_owed.proofs.Points.{StateFits, to_fits}
 use Rattle.stk_owed.proofs.Purses.{amounts_within}
 use Rattle.stk_owed.specs.Kept.{FundsNameConditions}

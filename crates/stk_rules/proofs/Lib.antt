@@ -7,3 +7,4 @@ pub mod TokenLemmas
 pub mod TotalLemmas
 pub mod OperatorLemmas
 pub mod GoingLemmas
+pub mod PartLemmas
