@@ -1,6 +1,6 @@
 -- The first operator of each consensus address, as validators join, change and leave.
 use Rattle.std.proofs.Common.{◌≡◌, ◌∙◌, ℕ, Bool, true, false, cond, List, [], ◌∷◌, Option, Some, None, refl, sym, ap, subst}
-use Rattle.std.specs.Prelude.{find, if◌then◌else◌}
+use Rattle.std.specs.Prelude.{find, if◌then◌else◌, IfSome}
 use Rattle.std.specs.declared.cmp.Ordering.{Ordering}
 use Rattle.std.specs.declared.cmp.Ordering.TheVariants.{Less, Equal, Greater}
 use Rattle.std.specs.Ordering.{is_eq, is_lt, match_ordering, ordering_reverse}
@@ -30,6 +30,11 @@ keyed_found (e ∷ es) o v k f = by (same_addr o e.0) refl f (λ g. keyed_found 
     by : (b : Bool) → same_addr o e.0 ≡ b → cond b (Some e.1) (at addr_cmp es o) ≡ Some v → (at addr_cmp es o ≡ Some v → v.operator ≡ o) → v.operator ≡ o
     by true h g later = let one : e.1 ≡ v = cc in sym (ap (λ x. x.operator) one) ∙ k.0 ∙ sym (same_is o e.0 h)
     by false h g later = later g
+
+-- what holds of a validator wherever one is found
+pub own_if_found : (found : Option Validator) (o : List ℕ) → ((v : Validator) → found ≡ Some v → v.operator ≡ o) → IfSome found (λ v. v.operator ≡ o)
+own_if_found None o each = tt
+own_if_found (Some v) o each = each v refl
 
 pub keyed-put : (es : Validators) (v : Validator) → AreKeyed es → AreKeyed (insert_entry addr_cmp es v.operator v)
 keyed-put [] v k = (refl, tt)

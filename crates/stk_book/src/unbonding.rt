@@ -28,6 +28,7 @@ impl ValidatorView for Staking {
     ghost staked = { λ s. s.staked };
 
     fn validator<L: Ledger>(&self, operator: &Addr, steps: &mut Steps<L>) -> Option<&Validator> {
+        self.known();
         self.at(operator, steps)
     }
 

@@ -1,4 +1,4 @@
-ghost use Rattle.std.specs.Prelude.{◌≡◌, ℕ, ◌+◌, ◌≤◌, List, Option, Some, None, Result, OnOk, IfOk};
+ghost use Rattle.std.specs.Prelude.{◌≡◌, ℕ, ◌+◌, ◌≤◌, List, Option, Some, None, Result, OnOk, IfOk, IfSome};
 ghost use Rattle.std.specs.Option.{option_copied};
 ghost use Rattle.stk_dec.specs.declared.over.Over.{Over};
 ghost use Rattle.stk_keep.specs.Answers.{Follows};
@@ -25,6 +25,7 @@ pub trait ValidatorView {
     /// The validator of an operator, or None exactly where there is none.
     fn validator<L: Ledger>(&self, operator: &Addr, steps: &mut Steps<L>) -> Option<&Validator>
         ensures value { option_copied result ≡ validator_at (staked self.now) operator.now }
+        ensures own { IfSome (option_copied result) (λ v. v.operator ≡ operator.now) }
         ensures cost { steps.new ≤ steps.old + 1 };
 
     /// The validator of a consensus address, or None exactly where there is none.

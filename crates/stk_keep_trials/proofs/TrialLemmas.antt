@@ -3,12 +3,14 @@ use Rattle.std.proofs.Common.{◌≡◌, ℕ, Bool, true, false, cond, List, [],
 use Rattle.std.specs.Prelude.{Option, Some, None, option_map, is_some, IsSome, find}
 use Rattle.std.specs.Map.{values_of}
 use Rattle.std.specs.BTreeMap.{is_at}
+use Rattle.std.specs.declared.cmp.Ordering.{Ordering}
+use Rattle.std.specs.declared.cmp.Ordering.TheVariants.{Less, Equal, Greater}
 use Rattle.std.specs.Ordering.{is_eq, match_ordering}
 use Rattle.std.proofs.lemmas.Cmp.{nat_list_cmp_total, tied_itself}
 use Rattle.stk_types.specs.Orders.{addr_cmp, cons_cmp}
 use Rattle.stk_keep.specs.declared.entities.Validator.{Validator}
 use Rattle.stk_keep.specs.Entries.{at}
-use Rattle.stk_keep.specs.Staked.{validator_by_cons, lists_of, but_jailed, SameButJailed, SameButJailedByCons, IsJailed}
+use Rattle.stk_keep.specs.Staked.{validator_at, validator_by_cons, lists_of, but_jailed, SameButJailed, SameButJailedByCons, IsJailed}
 use Rattle.stk_keep_trials.specs.Trials.{under_own, staked_once, HasOne, jailed, jailed_by_cons}
 
 found : (v : Validator) (delegator : List ℕ) (shares : ℕ) (cons : List ℕ) → IsSome (validator_by_cons (staked_once v None delegator shares) cons) → validator_by_cons (staked_once v None delegator shares) cons ≡ Some v
@@ -51,3 +53,18 @@ same_by_cons-once v spare delegator shares cons = same_by (is_eq (cons_cmp v.con
 
 pub lists-once : (v : Validator) (spare : Option Validator) (delegator : List ℕ) (shares : ℕ) → lists_of (staked_once (record v { jailed = true }) spare delegator shares) ≡ lists_of (staked_once v spare delegator shares)
 lists-once v spare delegator shares = λ i. record { operators = λ o. known_by (is_at (addr_cmp o) v.operator) v (at addr_cmp (under_own spare) o) i; started = (lists_of (staked_once v spare delegator shares)).started }
+
+-- ---- where the validator is not asked for, the spare one is found under its operator
+
+not_equal : (r : Ordering) → ¬ (r ≡ Equal) → is_eq r ≡ false
+not_equal Less n = refl
+not_equal Equal n = absurd (n refl)
+not_equal Greater n = refl
+
+pub spare_at-once : (v : Validator) (spare : Option Validator) (delegator : List ℕ) (shares : ℕ) (operator : List ℕ) (w : Validator) → spare ≡ Some w → ¬ (addr_cmp operator v.operator ≡ Equal) → addr_cmp operator w.operator ≡ Equal
+    → Some w ≡ validator_at (staked_once v spare delegator shares) operator
+spare_at-once v spare delegator shares operator w e n t =
+    sym
+    (ap (λ o. validator_at (staked_once v o delegator shares) operator) e
+    ∙ ap (λ b. cond b (Some v) (cond (is_eq (addr_cmp operator w.operator)) (Some w) None)) (not_equal (addr_cmp operator v.operator) n)
+    ∙ ap (λ r. cond (is_eq r) (Some w) None) t)

@@ -1,6 +1,6 @@
 -- The target's validator, where shares are to be unbonded there, and what the rule does with it.
-use Rattle.std.proofs.Common.{◌≡◌, ℕ, ◌<◌, Bool, true, false, cond, List, Option, Some, None, refl, sym, ap, arith}
-use Rattle.std.specs.Prelude.{◌==◌, Ok}
+use Rattle.std.proofs.Common.{◌≡◌, ℕ, ◌<◌, Bool, true, false, cond, List, Option, Some, None, refl, sym, ap, subst, arith}
+use Rattle.std.specs.Prelude.{◌==◌, Ok, IfSome}
 use Rattle.std.proofs.lemmas.Bool.Decides.{nat_tests}
 use Rattle.stk_keep.specs.declared.entities.Validator.{Validator}
 use Rattle.stk_keep.specs.Lent.{Unbonds}
@@ -12,9 +12,13 @@ pub none_either : (b : Bool) (o : Option Validator) → o ≡ None → None ≡ 
 none_either true o e = refl
 none_either false o e = sym e
 
-pub some_either : (b : Bool) (t t2 : Validator) → cond b None (Some t) ≡ Some t2 → t2 ≡ t
-some_either true t t2 e = absurd cc
-some_either false t t2 e = cc
+-- what is handed on is under its own operator still
+pub own_unless_none : (b : Bool) (t : Validator) (x : List ℕ) → t.operator ≡ x → IfSome (cond b None (Some t)) (λ t. t.operator ≡ x)
+own_unless_none true t x e = tt
+own_unless_none false t x e = e
+
+pub own_target : (o : Option Validator) (t : Validator) (x : List ℕ) → IfSome o (λ t. t.operator ≡ x) → o ≡ Some t → t.operator ≡ x
+own_target o t x h e = subst (λ o. IfSome o (λ t. t.operator ≡ x)) e h
 
 -- where it is one, there are shares, and it stands
 pub some_target : (part : ℕ) (o : Option Validator) (t : Validator) → cond (part == 0) None o ≡ Some t → (0 < part) × (o ≡ Some t)

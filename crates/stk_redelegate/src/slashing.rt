@@ -1,10 +1,9 @@
 //! The slash of entries that are not mature: shares are unbonded at their targets, and what goes out burns.
 
-ghost use Rattle.std.specs.Prelude.{◌≡◌, ◌<◌, ◌≤◌, ◌*◌, ◌^◌, ◌==◌, ℕ, List, Some, None, if◌then◌else◌, OnOk, IfOk, IfErr};
+ghost use Rattle.std.specs.Prelude.{◌≡◌, ◌<◌, ◌≤◌, ◌*◌, ◌^◌, ◌==◌, ℕ, List, Some, None, if◌then◌else◌, OnOk, IfOk, IfSome};
 ghost use Rattle.stk_dec.specs.Rounding.{even};
 ghost use Rattle.stk_keep.specs.declared.entities.RedelegationEntry.{RedelegationEntry};
 ghost use Rattle.stk_keep.specs.declared.entities.Validator.{Validator};
-ghost use Rattle.stk_keep.specs.declared.faults.HookFault.TheVariants.{NoMemory};
 ghost use Rattle.stk_keep.specs.Ground.{seen};
 ghost use Rattle.stk_keep.specs.Log.{Log};
 ghost use Rattle.stk_keep.specs.Orders.{triple_cmp};
@@ -25,7 +24,7 @@ use std::alloc::Global;
 use std::sync::ledger::Ledger;
 use stk_book::{burn_bond, pool_of};
 use stk_dec::Dec;
-use stk_entries::{is_hit, is_same};
+use stk_entries::is_hit;
 use stk_keep::{
     Bank, Ground, HookFault, RedelegationEntry, RedelegationSlash, StakingHooks, Unbonder,
     Validator,
@@ -253,7 +252,7 @@ fn burn_at_target<B: Bank, H: StakingHooks, D: Unbonder, L: Ledger>(
     ensures goes_on { LentGoesOn B.marks B.touches H.marks D.marks
         g.old g.new hooks.old hooks.new delegations.old delegations.new }
 {
-    let found = target_of(delegations, target, part, steps)?;
+    let found = target_of(delegations, target, part, steps);
     let t = match found {
         Some(t) => t,
         None => return Ok(()),
@@ -261,29 +260,21 @@ fn burn_at_target<B: Bank, H: StakingHooks, D: Unbonder, L: Ledger>(
     unbond_and_burn(alloc, g, hooks, delegations, delegator, &t, part, steps)
 }
 
-/// The target's validator, where shares are to be unbonded there: None where it is gone, and for no shares. The
-/// only error is `NoMemory`.
+/// The target's validator, where shares are to be unbonded there: None where it is gone, and for no shares.
 fn target_of<D: Unbonder, L: Ledger>(
     delegations: &D,
     target: &Addr,
     part: Dec,
     steps: &mut Steps<L>,
-) -> Result<Option<Validator>, HookFault>
-    ensures found { IfOk result (λ found. found ≡ (if part == 0 then None
-        else validator_at (D.stake (D.held delegations.now)) target.now)) }
-    ensures own { IfOk result (λ found. (t : Validator) → found ≡ Some t
-        → t.operator ≡ target.now) }
-    ensures fault { IfErr result (λ fault. fault ≡ NoMemory) }
+) -> Option<Validator>
+    ensures found { result ≡ (if part == 0 then None
+        else validator_at (D.stake (D.held delegations.now)) target.now) }
+    ensures own { IfSome result (λ t. t.operator ≡ target.now) }
 {
-    let t = match delegations.validator(target, steps) {
-        Some(t) => *t,
-        None => return Ok(None),
-    };
-    if !is_same(&t.operator, target) {
-        // It never comes: a validator stands under its operator.
-        return Err(HookFault::NoMemory);
+    match delegations.validator(target, steps) {
+        Some(t) => unless_none(*t, part),
+        None => None,
     }
-    Ok(unless_none(t, part))
 }
 
 /// A validator, and None for no shares.

@@ -1,5 +1,5 @@
-use Rattle.std.proofs.Common.{◌≡◌, ◌∙◌, refl, sym, ap, subst, rules}
-use Rattle.std.specs.Prelude.{Ok, Err}
+use Rattle.std.proofs.Common.{◌≡◌, ◌∙◌, refl, sym, ap, subst}
+use Rattle.std.specs.Prelude.{Ok}
 use Rattle.stk_keep.specs.Ground.{seen}
 use Rattle.stk_keep.specs.Lent.{Unbonds}
 use Rattle.stk_keep.specs.Staked.{validator_at, HasShares}
@@ -7,21 +7,21 @@ use Rattle.stk_rules.specs.Answers.{Leaves}
 use Rattle.stk_rules.specs.EntrySlashes.{burned_at_target}
 use Rattle.stk_book.specs.Calls.{behind_log}
 use Rattle.stk_redelegate.proofs.BurntLemmas.{slashed-none}
-use Rattle.stk_redelegate.proofs.GoesOnLemmas.{goes-none, leaves_no_memory}
-use Rattle.stk_redelegate.proofs.TargetLemmas.{some_target, none_burned, some_burned}
+use Rattle.stk_redelegate.proofs.GoesOnLemmas.{goes-none}
+use Rattle.stk_redelegate.proofs.TargetLemmas.{some_target, own_target, none_burned, some_burned}
 use Rattle.stk_redelegate.proofs.slashing.burn_at_target.Goals as goal
 
 pub unbond_and_burn-requires-clause-stands : goal.unbond_and_burn-requires-clause-stands
 unbond_and_burn-requires-clause-stands g c =
     let k = g.D.Unbonder.stake (g.D.Unbonder.held c.args.delegations.now) in
-    let own = c.in_ok-found.ensures.own c.in-Some.t c.in-Some.is in
-    ap (validator_at k) own ∙ (some_target c.args.part (validator_at k c.args.target.now) c.in-Some.t (sym c.in_ok-found.ensures.found ∙ c.in-Some.is)).1
+    let own = own_target c.target_of-found.result c.in-Some.t c.args.target.now c.target_of-found.ensures.own c.in-Some.is in
+    ap (validator_at k) own ∙ (some_target c.args.part (validator_at k c.args.target.now) c.in-Some.t (sym c.target_of-found.ensures.found ∙ c.in-Some.is)).1
 
 pub unbond_and_burn-requires-clause-shares : goal.unbond_and_burn-requires-clause-shares
 unbond_and_burn-requires-clause-shares g c =
     let k = g.D.Unbonder.stake (g.D.Unbonder.held c.args.delegations.now) in
-    let own = c.in_ok-found.ensures.own c.in-Some.t c.in-Some.is in
-    subst (λ o. HasShares k c.args.delegator.now o c.args.part) (sym own) (c.requires.shares (some_target c.args.part (validator_at k c.args.target.now) c.in-Some.t (sym c.in_ok-found.ensures.found ∙ c.in-Some.is)).0)
+    let own = own_target c.target_of-found.result c.in-Some.t c.args.target.now c.target_of-found.ensures.own c.in-Some.is in
+    subst (λ o. HasShares k c.args.delegator.now o c.args.part) (sym own) (c.requires.shares (some_target c.args.part (validator_at k c.args.target.now) c.in-Some.t (sym c.target_of-found.ensures.found ∙ c.in-Some.is)).0)
 
 pub returns-clause-told : goal.returns-clause-told
 returns-clause-told g c = λ h o log.
@@ -31,7 +31,7 @@ returns-clause-told g c = λ h o log.
     let lent : Unbonds g.D.Unbonder.Held g.H.StakingHooks.Held = record { stake = g.D.Unbonder.stake; unbond = g.D.Unbonder.unbonds g.H.StakingHooks.Held g.H.StakingHooks.tells.told } in
     let d = held c.args.delegations.now in
     let w = behind_log log d h (seen holdings c.args.g.now) in
-    let is = some_burned lent c.args.delegator.now c.args.part w (validator_at (g.D.Unbonder.stake d) c.args.target.now) c.in-Some.t (sym c.in_ok-found.ensures.found ∙ c.in-Some.is) in
+    let is = some_burned lent c.args.delegator.now c.args.part w (validator_at (g.D.Unbonder.stake d) c.args.target.now) c.in-Some.t (sym c.target_of-found.ensures.found ∙ c.in-Some.is) in
     subst (λ r. Leaves r (held c.unbond_and_burn.new.delegations) (holds c.unbond_and_burn.new.hooks) (seen holdings c.unbond_and_burn.new.g) c.unbond_and_burn.result) (sym is) (c.unbond_and_burn.ensures.told h o log)
 
 pub returns-in-None-clause-told : goal.returns-in-None-clause-told
@@ -40,7 +40,7 @@ returns-in-None-clause-told g c = λ h o log.
     let lent : Unbonds g.D.Unbonder.Held g.H.StakingHooks.Held = record { stake = g.D.Unbonder.stake; unbond = g.D.Unbonder.unbonds g.H.StakingHooks.Held g.H.StakingHooks.tells.told } in
     let d = g.D.Unbonder.held c.args.delegations.now in
     let v = seen g.B.Bank.holdings c.args.g.now in
-    let is = none_burned lent c.args.delegator.now c.args.part (behind_log log d h v) (validator_at (g.D.Unbonder.stake d) c.args.target.now) (sym c.in_ok-found.ensures.found ∙ c.in-None.is) in
+    let is = none_burned lent c.args.delegator.now c.args.part (behind_log log d h v) (validator_at (g.D.Unbonder.stake d) c.args.target.now) (sym c.target_of-found.ensures.found ∙ c.in-None.is) in
     subst (λ r. Leaves r d (holds c.args.hooks.now) v (Ok tt)) (sym is) (refl, o, refl)
 
 pub returns-in-None-clause-slashed : goal.returns-in-None-clause-slashed
@@ -48,17 +48,3 @@ returns-in-None-clause-slashed g c = slashed-none (seen g.B.Bank.holdings c.args
 
 pub returns-in-None-clause-goes_on : goal.returns-in-None-clause-goes_on
 returns-in-None-clause-goes_on g c = goes-none g.B.Bank.marks g.B.Bank.touches g.H.StakingHooks.marks g.D.Unbonder.marks c.args.g.now c.args.hooks.now c.args.delegations.now
-
-pub returns-in_err-found-clause-told : goal.returns-in_err-found-clause-told
-returns-in_err-found-clause-told g c = λ h o log.
-    let lent : Unbonds g.D.Unbonder.Held g.H.StakingHooks.Held = record { stake = g.D.Unbonder.stake; unbond = g.D.Unbonder.unbonds g.H.StakingHooks.Held g.H.StakingHooks.tells.told } in
-    let d = g.D.Unbonder.held c.args.delegations.now in
-    let v = seen g.B.Bank.holdings c.args.g.now in
-    let holds = g.H.StakingHooks.holds c.args.hooks.now in
-    let rule = burned_at_target lent (validator_at (g.D.Unbonder.stake d) c.args.target.now) c.args.delegator.now c.args.part (behind_log log d h v) in
-    let fault = c.in_err-found.field-0.0 in
-    let given : c.from_residual.result ≡ Err fault = search rules in
-    subst (Leaves rule d holds v) (sym given) (subst (λ f. Leaves rule d holds v (Err f)) (sym c.in_err-found.ensures.fault) (leaves_no_memory rule d holds v))
-
-pub returns-in_err-found-clause-goes_on : goal.returns-in_err-found-clause-goes_on
-returns-in_err-found-clause-goes_on g c = goes-none g.B.Bank.marks g.B.Bank.touches g.H.StakingHooks.marks g.D.Unbonder.marks c.args.g.now c.args.hooks.now c.args.delegations.now
