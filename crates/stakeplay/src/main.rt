@@ -112,9 +112,6 @@ fn main(rt: HostRuntime) -> ExitCode {
         Status::BadInput(_, InputFault::BadShape(_)) => eprintln!(rt;
             "stakeplay: line {line}: bad shape {number}"
         ),
-        Status::BadInput(_, InputFault::Unbuilt) => eprintln!(rt;
-            "stakeplay: line {line}: not built"
-        ),
         Status::BadInput(_, InputFault::BadGenesis(_)) => eprintln!(rt;
             "stakeplay: line {line}: bad genesis {number}"
         ),

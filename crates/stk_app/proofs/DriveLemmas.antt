@@ -11,7 +11,7 @@ use Rattle.stk_app.specs.declared.status.Stop.TheVariants as stops
 use Rattle.stk_app.specs.declared.status.EndStop.{EndStop}
 use Rattle.stk_app.specs.declared.status.EndStop.TheVariants as ends
 use Rattle.stk_app.specs.Lines.{whole_from, rest_from, last_line, lines_from, lines_of}
-use Rattle.stk_app.specs.Machine.{Stage, longest}
+use Rattle.stk_app.specs.Machine.{Standing, longest}
 use Rattle.stk_app.specs.Runs.{Ran, before, ran_from, AreAnswered, Named, Reported, Lacking}
 use Rattle.stk_app.specs.Outcome.{Ends, RunEnds, answer_to, most_bytes, AreEnded, IsUntroubled}
 use Rattle.stk_app.specs.Parts.{Stands, Fed, Finishes, FinishAs, FinishEnds, FinishStops, FinishStatus, status_of, status_at_end, PartEnds, PartStops, lines_after, LongOnly, EndLongOnly}
@@ -22,7 +22,7 @@ use Rattle.stk_app.proofs.PartLemmas.{too_long, none_fed}
 abbrev pub TookBytes : ℕ → List ℕ → Option (List ℕ) → Option (List ℕ) → Type 0
 TookBytes m piece left left' = IfSome left (λ bytes. Takes m bytes piece left')
 
-pub stands_first : (first w : Option (List ℕ)) (n : ℕ) (s : Stage) (line : List ℕ) → n ≡ 1 → s ≡ None → line ≡ [] → Stands first 0 n s line first w w
+pub stands_first : (first w : Option (List ℕ)) (n : ℕ) (s : Standing) (line : List ℕ) → n ≡ 1 → s ≡ None → line ≡ [] → Stands first 0 n s line first w w
 stands_first first w n s line one none empty = rw (one, none, empty) (at_first first w)
   where
     at_first : (first w : Option (List ℕ)) → Stands first 0 1 None [] first w w
@@ -35,13 +35,13 @@ stands_first first w n s line one none empty = rw (one, none, empty) (at_first f
       fed = none_fed 1 None [] w (omega arith);
     }
 
-pub read_ends : (first : Option (List ℕ)) (count n : ℕ) (s : Stage) (line : List ℕ) (left left' w w' : Option (List ℕ)) → Stands first count n s line left w w' → count ≤ most_bytes → Stays left left' → RunEnds first left' w w' ReadFault
+pub read_ends : (first : Option (List ℕ)) (count n : ℕ) (s : Standing) (line : List ℕ) (left left' w w' : Option (List ℕ)) → Stands first count n s line left w w' → count ≤ most_bytes → Stays left left' → RunEnds first left' w w' ReadFault
 read_ends first count n s line left left' w w' at most same = λ input old told told_w.
     let a = at input told in
     let e : count ≡ length a.taken = a.count_is in
     (a.taken, a.rest, a.fed.text, a.input_is, same a.rest a.left_is, a.fed.grows old told_w, (rw (← e) most, record { end = s; answered = a.fed.answered }))
 
-pub goes_on : (first : Option (List ℕ)) (count n : ℕ) (s : Stage) (line : List ℕ) (n2 : ℕ) (s2 : Stage) (line2 : List ℕ) (left left' w w1 w2 : Option (List ℕ)) (m : ℕ) (piece : List ℕ) → Stands first count n s line left w w1 → TookBytes m piece left left'
+pub goes_on : (first : Option (List ℕ)) (count n : ℕ) (s : Standing) (line : List ℕ) (n2 : ℕ) (s2 : Standing) (line2 : List ℕ) (left left' w w1 w2 : Option (List ℕ)) (m : ℕ) (piece : List ℕ) → Stands first count n s line left w w1 → TookBytes m piece left left'
     → Fed n s line (take m piece) n2 s2 line2 w1 w2 → Stands first (count + m) n2 s2 line2 left' w w2
 goes_on first count n s line n2 s2 line2 left left' w w1 w2 m piece at took fed = λ input told.
     let a = at input told in
@@ -60,7 +60,7 @@ goes_on first count n s line n2 s2 line2 left left' w w1 w2 m piece at took fed 
     }
 
 -- the stop of a piece is the stop of the run
-pub join : (first : Option (List ℕ)) (count n : ℕ) (s : Stage) (line : List ℕ) (left left' w w1 w' : Option (List ℕ)) (m : ℕ) (piece : List ℕ) (stop : Stop) (status : Status) → Stands first count n s line left w w1 → TookBytes m piece left left'
+pub join : (first : Option (List ℕ)) (count n : ℕ) (s : Standing) (line : List ℕ) (left left' w w1 w' : Option (List ℕ)) (m : ℕ) (piece : List ℕ) (stop : Stop) (status : Status) → Stands first count n s line left w w1 → TookBytes m piece left left'
     → PartStops n s (lines_after line (take m piece)) (whole_from line (take m piece)) w1 w' stop
     → ((t r text : List ℕ) → length t ≡ count + m → PartEnds 1 None (lines_after [] t) (whole_from [] t) stop text → Ends t r status text)
     → RunEnds first left' w w' status
@@ -96,20 +96,20 @@ part_ends (stops.Ratio m over) count most t r text e h = (rw e most, whole_from 
 part_ends stops.Write count most t r text e h = (rw e most, inl (whole_from [] t, inl refl, h))
 part_ends stops.NoMemory count most t r text e h = (rw e most, inl (whole_from [] t, inl refl, h))
 
-pub feed_ends : (first : Option (List ℕ)) (count n : ℕ) (s : Stage) (line : List ℕ) (left left' w w1 w' : Option (List ℕ)) (m : ℕ) (piece : List ℕ) (stop : Stop) → Stands first count n s line left w w1 → TookBytes m piece left left'
+pub feed_ends : (first : Option (List ℕ)) (count n : ℕ) (s : Standing) (line : List ℕ) (left left' w w1 w' : Option (List ℕ)) (m : ℕ) (piece : List ℕ) (stop : Stop) → Stands first count n s line left w w1 → TookBytes m piece left left'
     → PartStops n s (lines_after line (take m piece)) (whole_from line (take m piece)) w1 w' stop → count + m ≤ most_bytes → RunEnds first left' w w' (status_of stop)
 feed_ends first count n s line left left' w w1 w' m piece stop at took part most = join first count n s line left left' w w1 w' m piece stop (status_of stop) at took part (part_ends stop (count + m) most)
 
 -- one byte more than the input may have, at which the line is too long
-long_stops : (n b : ℕ) (s : Stage) (line : List ℕ) (w : Option (List ℕ)) → b ≢ 10 → length line ≡ longest → PartStops n s (lines_after line (b ∷ [])) (whole_from line (b ∷ [])) w w (stops.Long n)
+long_stops : (n b : ℕ) (s : Standing) (line : List ℕ) (w : Option (List ℕ)) → b ≢ 10 → length line ≡ longest → PartStops n s (lines_after line (b ∷ [])) (whole_from line (b ∷ [])) w w (stops.Long n)
 long_stops n b s line w ne full = λ old told. ([], told ∙ ap Some (sym (append-nil old)), λ more. rw (ne_eqb b 10 ne) (too_long more (line ++ b ∷ []) n s (rw (length-append line (b ∷ [])) (omega arith))))
 
-pub long_ends : (first : Option (List ℕ)) (count n : ℕ) (s : Stage) (line : List ℕ) (left left' w w1 : Option (List ℕ)) (piece : List ℕ) (b : ℕ) → Stands first count n s line left w w1 → TookBytes 1 piece left left' → take 1 piece ≡ b ∷ [] → count ≤ most_bytes → b ≢ 10 → length line ≡ longest
+pub long_ends : (first : Option (List ℕ)) (count n : ℕ) (s : Standing) (line : List ℕ) (left left' w w1 : Option (List ℕ)) (piece : List ℕ) (b : ℕ) → Stands first count n s line left w w1 → TookBytes 1 piece left left' → take 1 piece ≡ b ∷ [] → count ≤ most_bytes → b ≢ 10 → length line ≡ longest
     → RunEnds first left' w w1 (Limit n Line)
 long_ends first count n s line left left' w w1 piece b at took one most ne full =
     join first count n s line left left' w w1 w1 1 piece (stops.Long n) (Limit n Line) at took (rw one (long_stops n b s line w1 ne full)) (λ t r text e h. (rw e (omega arith), h))
 
-pub pass_ends : (first : Option (List ℕ)) (count n : ℕ) (s : Stage) (line : List ℕ) (left left' w w1 : Option (List ℕ)) (piece : List ℕ) (b : ℕ) → Stands first count n s line left w w1 → TookBytes 1 piece left left' → take 1 piece ≡ b ∷ [] → count ≡ most_bytes → (b ≡ 10) ⊎ (length line < longest)
+pub pass_ends : (first : Option (List ℕ)) (count n : ℕ) (s : Standing) (line : List ℕ) (left left' w w1 : Option (List ℕ)) (piece : List ℕ) (b : ℕ) → Stands first count n s line left w w1 → TookBytes 1 piece left left' → take 1 piece ≡ b ∷ [] → count ≡ most_bytes → (b ≡ 10) ⊎ (length line < longest)
     → RunEnds first left' w w1 (Limit n Input)
 pass_ends first count n s line left left' w w1 piece b at took one full short = λ input old told told_w.
     let a = at input told in
@@ -130,17 +130,17 @@ pass_ends first count n s line left left' w w1 piece b at took one full short = 
 all_lines : (t line : List ℕ) → line ≡ rest_from [] t → lines_of t ≡ whole_from [] t ++ (last_line line ++ [])
 all_lines t line e = ap (λ (l : List ℕ). whole_from [] t ++ last_line l) (sym e) ∙ ap (λ (l : List (List ℕ)). whole_from [] t ++ l) (sym (append-nil (last_line line)))
 
-whole_answer : (n : ℕ) (s : Stage) (t line done text : List ℕ) → AreAnswered 1 None (whole_from [] t) done s → n ≡ 1 + length (whole_from [] t) → line ≡ rest_from [] t → ran_from n s (last_line line) ≡ record { text = text; fault = None } → answer_to t ≡ record { text = done ++ text; fault = None }
+whole_answer : (n : ℕ) (s : Standing) (t line done text : List ℕ) → AreAnswered 1 None (whole_from [] t) done s → n ≡ 1 + length (whole_from [] t) → line ≡ rest_from [] t → ran_from n s (last_line line) ≡ record { text = text; fault = None } → answer_to t ≡ record { text = done ++ text; fault = None }
 whole_answer n s t line done text good number e h =
     let h2 : ran_from (1 + length (whole_from [] t)) s (last_line (rest_from [] t)) ≡ record { text = text; fault = None } = rw (number, e) at h in
     ran-append 1 None (whole_from [] t) (last_line (rest_from [] t)) done s good ∙ ap (before done) h2
 
-all_answered : (n : ℕ) (s : Stage) (t line done text : List ℕ) (end : Stage) → AreAnswered 1 None (whole_from [] t) done s → n ≡ 1 + length (whole_from [] t) → line ≡ rest_from [] t → AreAnswered n s (last_line line) text end → AreAnswered 1 None (lines_of t) (done ++ text) end
+all_answered : (n : ℕ) (s : Standing) (t line done text : List ℕ) (end : Standing) → AreAnswered 1 None (whole_from [] t) done s → n ≡ 1 + length (whole_from [] t) → line ≡ rest_from [] t → AreAnswered n s (last_line line) text end → AreAnswered 1 None (lines_of t) (done ++ text) end
 all_answered n s t line done text end good number e h =
     let h2 : AreAnswered (1 + length (whole_from [] t)) s (last_line (rest_from [] t)) text end = rw (number, e) at h in
     answered-append 1 None (whole_from [] t) (last_line (rest_from [] t)) done s text end good h2
 
-all_reported : (n : ℕ) (s : Stage) (t line done text : List ℕ) → AreAnswered 1 None (whole_from [] t) done s → n ≡ 1 + length (whole_from [] t) → line ≡ rest_from [] t → Reported n s (last_line line) text → Reported 1 None (lines_of t) (done ++ text)
+all_reported : (n : ℕ) (s : Standing) (t line done text : List ℕ) → AreAnswered 1 None (whole_from [] t) done s → n ≡ 1 + length (whole_from [] t) → line ≡ rest_from [] t → Reported n s (last_line line) text → Reported 1 None (lines_of t) (done ++ text)
 all_reported n s t line done text good number e h = record {
   end = h.end;
   done = done ++ h.done;
@@ -152,10 +152,10 @@ all_reported n s t line done text good number e h = record {
   text_is = ap (λ (u : List ℕ). done ++ u) h.text_is ∙ sym (append_assoc done h.done h.front);
 }
 
-all_lacking : (n : ℕ) (s : Stage) (t line done text : List ℕ) (fault : Stop) → AreAnswered 1 None (whole_from [] t) done s → n ≡ 1 + length (whole_from [] t) → line ≡ rest_from [] t → Lacking n s (last_line line) text fault → Lacking 1 None (lines_of t) (done ++ text) fault
+all_lacking : (n : ℕ) (s : Standing) (t line done text : List ℕ) (fault : Stop) → AreAnswered 1 None (whole_from [] t) done s → n ≡ 1 + length (whole_from [] t) → line ≡ rest_from [] t → Lacking n s (last_line line) text fault → Lacking 1 None (lines_of t) (done ++ text) fault
 all_lacking n s t line done text fault good number e h = record { end = h.end; answered = all_answered n s t line done text h.end good number e h.answered; fault_is = h.fault_is }
 
-end_as : (n : ℕ) (s : Stage) (t line done text : List ℕ) (status : Status) → length t ≤ most_bytes → AreAnswered 1 None (whole_from [] t) done s → n ≡ 1 + length (whole_from [] t) → line ≡ rest_from [] t → FinishAs n s (last_line line) status text → Ends t [] status (done ++ text)
+end_as : (n : ℕ) (s : Standing) (t line done text : List ℕ) (status : Status) → length t ≤ most_bytes → AreAnswered 1 None (whole_from [] t) done s → n ≡ 1 + length (whole_from [] t) → line ≡ rest_from [] t → FinishAs n s (last_line line) status text → Ends t [] status (done ++ text)
 end_as n s t line done text Done most good number e h = (refl, most, whole_answer n s t line done text good number e h)
 end_as n s t line done text Usage most good number e h = absurd h
 end_as n s t line done text (BadInput m fault) most good number e (inl h) = (most, inl (lines_of t, inr (refl, refl), named_along 1 None (whole_from [] t) done s (last_line line) [] (lines_of t) text _ good (all_lines t line e) (rw number at h)))
@@ -172,14 +172,14 @@ end_as n s t line done text NoMemory most good number e (inl (inr h)) = (most, i
 end_as n s t line done text NoMemory most good number e (inr h) = (most, inr (refl, all_reported n s t line done text good number e h))
 
 -- one line, or the report, that stops the end
-line_as : (n : ℕ) (s : Stage) (line : List ℕ) (ls : List (List ℕ)) (text : List ℕ) (stop : Stop) → length line ≤ longest → LongOnly stop line → PartEnds n s (λ (_ : ⊤). ls) ls stop text → FinishAs n s ls (status_of stop) text
+line_as : (n : ℕ) (s : Standing) (line : List ℕ) (ls : List (List ℕ)) (text : List ℕ) (stop : Stop) → length line ≤ longest → LongOnly stop line → PartEnds n s (λ (_ : ⊤). ls) ls stop text → FinishAs n s ls (status_of stop) text
 line_as n s line ls text (stops.BadInput m fault) short long h = inl h
 line_as n s line ls text (stops.Long m) short long h = absurd (omega arith)
 line_as n s line ls text (stops.Ratio m over) short long h = h
 line_as n s line ls text stops.Write short long h = inl h
 line_as n s line ls text stops.NoMemory short long h = inl h
 
-end_stop_as : (n : ℕ) (s : Stage) (line : List ℕ) (ls : List (List ℕ)) (text : List ℕ) (stop : EndStop) → length line ≤ longest → EndLongOnly stop line → FinishEnds n s ls stop text → FinishAs n s ls (status_at_end stop) text
+end_stop_as : (n : ℕ) (s : Standing) (line : List ℕ) (ls : List (List ℕ)) (text : List ℕ) (stop : EndStop) → length line ≤ longest → EndLongOnly stop line → FinishEnds n s ls stop text → FinishAs n s ls (status_at_end stop) text
 end_stop_as n s line ls text (ends.Line stop) short long h = line_as n s line ls text stop short long h
 end_stop_as n s line ls text (ends.Lacking m fault) short long h = inr h
 end_stop_as n s line ls text ends.Report short long h = inr (inl h)
@@ -187,10 +187,10 @@ end_stop_as n s line ls text ends.Flush short long h = inr (inr h)
 end_stop_as n s line ls text ends.NoMemory short long (inl h) = inr h
 end_stop_as n s line ls text ends.NoMemory short long (inr h) = inl (inr (record { before = ls; after = []; middle = h.end; lines_are = sym (append-nil ls); answered = h.answered }))
 
-pub end_stop_status : (n : ℕ) (s : Stage) (line : List ℕ) (ls : List (List ℕ)) (w w' : Option (List ℕ)) (stop : EndStop) → length line ≤ longest → EndLongOnly stop line → FinishStops n s ls w w' stop → FinishStatus n s ls w w' (status_at_end stop)
+pub end_stop_status : (n : ℕ) (s : Standing) (line : List ℕ) (ls : List (List ℕ)) (w w' : Option (List ℕ)) (stop : EndStop) → length line ≤ longest → EndLongOnly stop line → FinishStops n s ls w w' stop → FinishStatus n s ls w w' (status_at_end stop)
 end_stop_status n s line ls w w' stop short long stops = λ old told. let o = stops old told in (o.0, o.1, end_stop_as n s line ls o.0 stop short long o.2)
 
-pub end_ends : (first : Option (List ℕ)) (count n : ℕ) (s : Stage) (line : List ℕ) (left left' w w1 w' : Option (List ℕ)) (piece : List ℕ) (status : Status) → Stands first count n s line left w w1 → count ≤ most_bytes → IfSome left (λ bytes. bytes ≡ []) → TookBytes 0 piece left left'
+pub end_ends : (first : Option (List ℕ)) (count n : ℕ) (s : Standing) (line : List ℕ) (left left' w w1 w' : Option (List ℕ)) (piece : List ℕ) (status : Status) → Stands first count n s line left w w1 → count ≤ most_bytes → IfSome left (λ bytes. bytes ≡ []) → TookBytes 0 piece left left'
     → FinishStatus n s (last_line line) w1 w' status → RunEnds first left' w w' status
 end_ends first count n s line left left' w w1 w' piece status at most end took finish = λ input old told told_w.
     let a = at input told in
@@ -208,7 +208,7 @@ end_ends first count n s line left left' w w1 w' piece status at most end took f
     )
 
 -- a run that comes to its end
-pub done_status : (n : ℕ) (s : Stage) (lines : List (List ℕ)) (w w' : Option (List ℕ)) → Finishes n s lines w w' → FinishStatus n s lines w w' Done
+pub done_status : (n : ℕ) (s : Standing) (lines : List (List ℕ)) (w w' : Option (List ℕ)) → Finishes n s lines w w' → FinishStatus n s lines w w' Done
 done_status n s lines w w' ends = λ old told. (ends.0, ends.2 old told, ends.1)
 
 pub first_of : (piece : List ℕ) (d : ℕ) → 0 < length piece → take 1 piece ≡ slice_index_or piece 0 d ∷ []
@@ -221,10 +221,10 @@ byte_or b line (inr ne) h = inr (omega arith)
 
 -- ---- a run whose source and sink do not fail comes to its end
 
-named_ran : (n : ℕ) (s : Stage) (lines : List (List ℕ)) (text : List ℕ) (fault : Stop) → Named n s lines text fault → (ran_from n s lines).fault ≡ Some fault
+named_ran : (n : ℕ) (s : Standing) (lines : List (List ℕ)) (text : List ℕ) (fault : Stop) → Named n s lines text fault → (ran_from n s lines).fault ≡ Some fault
 named_ran n s lines text fault w = rw w.lines_are (ap (λ (r : Ran). r.fault) (ran-append n s w.before (w.line ∷ w.after) text w.middle w.answered) ∙ rw w.fault_is refl)
 
-lacking_ran : (n : ℕ) (s : Stage) (lines : List (List ℕ)) (text : List ℕ) (fault : Stop) → Lacking n s lines text fault → (ran_from n s lines).fault ≡ Some fault
+lacking_ran : (n : ℕ) (s : Standing) (lines : List (List ℕ)) (text : List ℕ) (fault : Stop) → Lacking n s lines text fault → (ran_from n s lines).fault ≡ Some fault
 lacking_ran n s lines text fault w = ap (λ (ls : List (List ℕ)). (ran_from n s ls).fault) (sym (append-nil lines)) ∙ ap (λ (r : Ran). r.fault) (ran-append n s lines [] text w.end w.answered) ∙ rw w.fault_is refl
 
 at_end : (taken rest : List ℕ) → rest ≡ [] → taken ++ rest ≡ taken

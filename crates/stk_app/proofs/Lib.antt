@@ -3,8 +3,9 @@ pub mod RunLemmas
 pub mod PartLemmas
 pub mod DriveLemmas
 pub mod ReadLemmas
+pub mod SizeLemmas
 pub mod SoundLemmas
-pub mod NamedLemmas
+pub mod WholeLemmas
 pub mod ReportLemmas
-pub mod StageLemmas
+pub mod AnswerLemmas
 pub mod LineLemmas

@@ -289,3 +289,7 @@ height_is_low line block e = (holds_ok BlockIsRead (block_of line) block e (hold
 pub all_have_coins : (blocks : List Block) → AllByRecursion AllHaveCoins blocks → All (λ (b : Block). All TxHasCoins b.txs) blocks
 unfolding AllHaveCoins
 all_have_coins blocks h = All-from_recursion (λ (b : Block). All TxHasCoins b.txs) blocks h
+
+pub its_coins : (block : Block) → AllHaveCoins block → All TxHasCoins block.txs
+unfolding AllHaveCoins
+its_coins block h = h

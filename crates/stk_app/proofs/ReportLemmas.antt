@@ -1,25 +1,33 @@
--- The report of a state is written from its items.
-use Rattle.std.proofs.Common.{◌≡◌, ◌∙◌, ℕ, List, [], ◌++◌, Some, Ok, ap, subst, sym}
+-- The report of a state is written from its items and its pending rewards.
+use Rattle.std.proofs.Common.{◌≡◌, ◌∙◌, ℕ, List, [], ◌∷◌, ◌++◌, Some, Ok, refl, ap, subst, sym}
+use Rattle.std.specs.List.Sorted.{IsPermutation}
+use Rattle.std.proofs.lemmas.List.Elements.{All-from_recursion}
+use Rattle.std.proofs.lemmas.List.Sorted.{IsPermutation-refl}
 use Rattle.stk_keep.specs.declared.items.Item.{Item}
+use Rattle.stk_msgs.specs.declared.report.Pending.{Pending}
 use Rattle.stk_rules.specs.Chain.{State}
-use Rattle.stk_machine.specs.Built.{stake_over, built_report}
-use Rattle.stk_machine.specs.Items.{IsInKeyOrder, ground_items, staked_items}
+use Rattle.stk_machine.specs.Items.{IsInKeyOrder, items_of}
+use Rattle.stk_machine.specs.Report.{pending_of}
 use Rattle.stk_report.specs.Groups.{report_from}
-use Rattle.stk_report.specs.Laws.{AreItemsOf, StatesAreReported}
+use Rattle.stk_report.specs.Laws.{AreItemsOf, IsUnread, StatesAreReported}
 use Rattle.stk_report.specs.Lines.{lines_of, text_of}
 use Rattle.stk_app.specs.Machine.{report_of}
 
--- the items of validators and delegations over a ground are those of the state
-all_of : StatesAreReported → (w : State) → w ≡ stake_over w.mine.staked w.view → AreItemsOf w (ground_items w.view ++ staked_items w.mine.staked)
-all_of law w alone = subst (λ x. AreItemsOf x (ground_items w.view ++ staked_items w.mine.staked)) (sym alone) (law.staked w.mine.staked w.view)
+none_behind : (items : List Item) → items ++ [] ≡ items
+none_behind [] = refl
+none_behind (i ∷ items) = ap (λ l. i ∷ l) (none_behind items)
 
-pub reported : StatesAreReported → (w : State) (items : List Item) → w ≡ stake_over w.mine.staked w.view → IsInKeyOrder w → items ≡ ground_items w.view ++ staked_items w.mine.staked
-    → text_of (lines_of (report_from items [])) ≡ text_of (lines_of (built_report w))
-reported law w items alone order is =
-    ap (λ r. text_of (lines_of r)) (ap (λ l. report_from l []) is ∙ law.without_rewards w (ground_items w.view ++ staked_items w.mine.staked) order (all_of law w alone))
+-- all items of a state are its items
+all_of : (w : State) → AreItemsOf w (items_of w)
+all_of w = record {
+  missing = [];
+  unread = All-from_recursion IsUnread [] tt;
+  rest = subst (IsPermutation (items_of w)) (sym (none_behind (items_of w))) (IsPermutation-refl (items_of w));
+}
 
--- the same as the report of a stage
-pub report_is : StatesAreReported → (w : State) (items : List Item) (text : List ℕ) → w ≡ stake_over w.mine.staked w.view → IsInKeyOrder w → items ≡ ground_items w.view ++ staked_items w.mine.staked
-    → text ≡ text_of (lines_of (report_from items [])) → report_of (Some w) ≡ Ok text
+-- from them, and from its pending rewards in whatever order, its report is written
+pub report_is : StatesAreReported → (w : State) (items : List Item) (pending : List Pending) (text : List ℕ) → IsInKeyOrder w → items ≡ items_of w → IsPermutation (pending_of w) pending
+    → text ≡ text_of (lines_of (report_from items pending)) → report_of (Some w) ≡ Ok text
 unfolding report_of
-report_is law w items text alone order is written = ap (λ (t : List ℕ). Ok t) (sym (written ∙ reported law w items alone order is))
+report_is law w items pending text order is are written =
+    ap (λ (t : List ℕ). Ok t) (sym (written ∙ ap (λ r. text_of (lines_of r)) (law.whole w items pending order (subst (AreItemsOf w) (sym is) (all_of w)) are)))

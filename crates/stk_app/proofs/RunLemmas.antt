@@ -4,7 +4,7 @@ use Rattle.std.proofs.lemmas.List.{append-nil}
 use Rattle.stk_app.specs.declared.status.Stop.{Stop}
 use Rattle.stk_app.specs.declared.status.Stop.TheVariants.{BadInput, Long, Ratio, Write, NoMemory}
 use Rattle.stk_app.specs.Lines.{whole_from, rest_from, lines_from}
-use Rattle.stk_app.specs.Machine.{Stage}
+use Rattle.stk_app.specs.Machine.{Standing}
 use Rattle.stk_app.specs.Runs.{before, ran_from, AreAnswered, Named, Wrote, Held}
 use Rattle.stk_app.specs.Parts.{PartEnds, PartStops, Grows, Fed}
 use Rattle.stk_app.proofs.CutLemmas.{whole-append, rest-append, lines-append, whole_no_longer}
@@ -14,22 +14,22 @@ regroup a b l c d = simp append_assoc
 
 -- ---- running
 
-pub ran-append : (n : ℕ) (s : Stage) (ls more : List (List ℕ)) (text : List ℕ) (end : Stage) → AreAnswered n s ls text end → ran_from n s (ls ++ more) ≡ before text (ran_from (n + length ls) end more)
+pub ran-append : (n : ℕ) (s : Standing) (ls more : List (List ℕ)) (text : List ℕ) (end : Standing) → AreAnswered n s ls text end → ran_from n s (ls ++ more) ≡ before text (ran_from (n + length ls) end more)
 ran-append n s [] more text end good = rw (add-zero n, good.0, good.1) refl
 ran-append n s (l ∷ ls) more text end good =
     let m : n + 1 + length ls ≡ n + length (l ∷ ls) = omega arith in
-    rw (good.2, ran-append (n + 1) good.0.stage ls more good.1 end good.4, m, good.3) (ap (λ (t : List ℕ). record { text = t; fault = (ran_from (n + length (l ∷ ls)) end more).fault }) (sym (append_assoc good.0.text _ _)))
+    rw (good.2, ran-append (n + 1) good.0.standing ls more good.1 end good.4, m, good.3) (ap (λ (t : List ℕ). record { text = t; fault = (ran_from (n + length (l ∷ ls)) end more).fault }) (sym (append_assoc good.0.text _ _)))
 
-pub answered-append : (n : ℕ) (s : Stage) (a b : List (List ℕ)) (text : List ℕ) (middle : Stage) (text' : List ℕ) (end : Stage) → AreAnswered n s a text middle → AreAnswered (n + length a) middle b text' end → AreAnswered n s (a ++ b) (text ++ text') end
+pub answered-append : (n : ℕ) (s : Standing) (a b : List (List ℕ)) (text : List ℕ) (middle : Standing) (text' : List ℕ) (end : Standing) → AreAnswered n s a text middle → AreAnswered (n + length a) middle b text' end → AreAnswered n s (a ++ b) (text ++ text') end
 answered-append n s [] b text middle text' end g h =
     let h2 : AreAnswered n s b text' end = rw (add-zero n, g.1) at h in
     rw g.0 h2
 answered-append n s (l ∷ a) b text middle text' end g h =
     let m : n + length (l ∷ a) ≡ n + 1 + length a = omega arith in
     let h2 : AreAnswered (n + 1 + length a) middle b text' end = rw m at h in
-    (g.0, g.1 ++ text', g.2, ap (λ (t : List ℕ). t ++ text') g.3 ∙ append_assoc g.0.text g.1 text', answered-append (n + 1) g.0.stage a b g.1 middle text' end g.4 h2)
+    (g.0, g.1 ++ text', g.2, ap (λ (t : List ℕ). t ++ text') g.3 ∙ append_assoc g.0.text g.1 text', answered-append (n + 1) g.0.standing a b g.1 middle text' end g.4 h2)
 
-pub fed-append : (n : ℕ) (s : Stage) (line a : List ℕ) (n1 : ℕ) (s1 : Stage) (line1 b : List ℕ) (n2 : ℕ) (s2 : Stage) (line2 : List ℕ) (w w1 w2 : Option (List ℕ)) → Fed n s line a n1 s1 line1 w w1 → Fed n1 s1 line1 b n2 s2 line2 w1 w2 → Fed n s line (a ++ b) n2 s2 line2 w w2
+pub fed-append : (n : ℕ) (s : Standing) (line a : List ℕ) (n1 : ℕ) (s1 : Standing) (line1 b : List ℕ) (n2 : ℕ) (s2 : Standing) (line2 : List ℕ) (w w1 w2 : Option (List ℕ)) → Fed n s line a n1 s1 line1 w w1 → Fed n1 s1 line1 b n2 s2 line2 w1 w2 → Fed n s line (a ++ b) n2 s2 line2 w w2
 fed-append n s line a n1 s1 line1 b n2 s2 line2 w w1 w2 f g =
     let number : n2 ≡ n + length (whole_from line a) + length (whole_from (rest_from line a) b) = rw (f.number, f.line_is) at g.number in
     let line_is : line2 ≡ rest_from (rest_from line a) b = rw f.line_is at g.line_is in
@@ -46,7 +46,7 @@ fed-append n s line a n1 s1 line1 b n2 s2 line2 w w1 w2 f g =
 pub no_growth : (w : Option (List ℕ)) → Grows w w []
 no_growth w = λ old told. told ∙ ap Some (sym (append-nil old))
 
-pub fed_number : (n : ℕ) (s : Stage) (line piece : List ℕ) (n2 : ℕ) (s2 : Stage) (line2 : List ℕ) (w w' : Option (List ℕ)) → Fed n s line piece n2 s2 line2 w w' → n2 ≤ n + length piece
+pub fed_number : (n : ℕ) (s : Standing) (line piece : List ℕ) (n2 : ℕ) (s2 : Standing) (line2 : List ℕ) (w w' : Option (List ℕ)) → Fed n s line piece n2 s2 line2 w w' → n2 ≤ n + length piece
 fed_number n s line piece n2 s2 line2 w w' fed =
     let e : n2 ≡ n + length (whole_from line piece) = fed.number in
     let h : length (whole_from line piece) ≤ length piece = whole_no_longer piece line in
@@ -54,7 +54,7 @@ fed_number n s line piece n2 s2 line2 w w' fed =
 
 -- ---- stopping: answered lines before, and later lines after
 
-pub named_along : (n : ℕ) (s : Stage) (done : List (List ℕ)) (text' : List ℕ) (s' : Stage) (ls more all : List (List ℕ)) (text : List ℕ) (fault : Stop) → AreAnswered n s done text' s' → all ≡ done ++ (ls ++ more) → Named (n + length done) s' ls text fault → Named n s all (text' ++ text) fault
+pub named_along : (n : ℕ) (s : Standing) (done : List (List ℕ)) (text' : List ℕ) (s' : Standing) (ls more all : List (List ℕ)) (text : List ℕ) (fault : Stop) → AreAnswered n s done text' s' → all ≡ done ++ (ls ++ more) → Named (n + length done) s' ls text fault → Named n s all (text' ++ text) fault
 named_along n s done text' s' ls more all text fault good e w =
     let m : n + length (done ++ w.before) ≡ n + length done + length w.before = omega (arith, length-append done w.before) in
     record {
@@ -67,7 +67,7 @@ named_along n s done text' s' ls more all text fault good e w =
       fault_is = rw m w.fault_is;
     }
 
-pub wrote_along : (n : ℕ) (s : Stage) (done : List (List ℕ)) (text' : List ℕ) (s' : Stage) (ls more all : List (List ℕ)) (text : List ℕ) → AreAnswered n s done text' s' → all ≡ done ++ (ls ++ more) → Wrote (n + length done) s' ls text → Wrote n s all (text' ++ text)
+pub wrote_along : (n : ℕ) (s : Standing) (done : List (List ℕ)) (text' : List ℕ) (s' : Standing) (ls more all : List (List ℕ)) (text : List ℕ) → AreAnswered n s done text' s' → all ≡ done ++ (ls ++ more) → Wrote (n + length done) s' ls text → Wrote n s all (text' ++ text)
 wrote_along n s done text' s' ls more all text good e w =
     let m : n + length (done ++ w.before) ≡ n + length done + length w.before = omega (arith, length-append done w.before) in
     record {
@@ -85,7 +85,7 @@ wrote_along n s done text' s' ls more all text good e w =
       text_is = ap (λ (t : List ℕ). text' ++ t) w.text_is ∙ sym (append_assoc text' w.done w.front);
     }
 
-pub held_along : (n : ℕ) (s : Stage) (done : List (List ℕ)) (text' : List ℕ) (s' : Stage) (ls more all : List (List ℕ)) (text : List ℕ) → AreAnswered n s done text' s' → all ≡ done ++ (ls ++ more) → Held (n + length done) s' ls text → Held n s all (text' ++ text)
+pub held_along : (n : ℕ) (s : Standing) (done : List (List ℕ)) (text' : List ℕ) (s' : Standing) (ls more all : List (List ℕ)) (text : List ℕ) → AreAnswered n s done text' s' → all ≡ done ++ (ls ++ more) → Held (n + length done) s' ls text → Held n s all (text' ++ text)
 held_along n s done text' s' ls more all text good e w = record {
   before = done ++ w.before;
   after = w.after ++ more;
@@ -94,7 +94,7 @@ held_along n s done text' s' ls more all text good e w = record {
   answered = answered-append n s done w.before text' s' text w.middle good w.answered;
 }
 
-pub ends_along : {X Y : Type 0} (n : ℕ) (s : Stage) (done : List (List ℕ)) (text' : List ℕ) (s' : Stage) (lines : X → List (List ℕ)) (lines' : Y → List (List ℕ)) (f : Y → X) (ended more ended' : List (List ℕ)) (text : List ℕ) (stop : Stop) → AreAnswered n s done text' s'
+pub ends_along : {X Y : Type 0} (n : ℕ) (s : Standing) (done : List (List ℕ)) (text' : List ℕ) (s' : Standing) (lines : X → List (List ℕ)) (lines' : Y → List (List ℕ)) (f : Y → X) (ended more ended' : List (List ℕ)) (text : List ℕ) (stop : Stop) → AreAnswered n s done text' s'
     → ((y : Y) → lines' y ≡ done ++ lines (f y)) → ended' ≡ done ++ (ended ++ more) → PartEnds (n + length done) s' lines ended stop text → PartEnds n s lines' ended' stop (text' ++ text)
 ends_along n s done text' s' lines lines' f ended more ended' text (BadInput m fault) good same e h = named_along n s done text' s' ended more ended' text _ good e h
 ends_along n s done text' s' lines lines' f ended more ended' text (Long m) good same e h = λ y. named_along n s done text' s' (lines (f y)) [] (lines' y) text _ good (same y ∙ ap (λ (l : List (List ℕ)). done ++ l) (sym (append-nil (lines (f y))))) (h (f y))
@@ -103,14 +103,14 @@ ends_along n s done text' s' lines lines' f ended more ended' text Write good sa
 ends_along n s done text' s' lines lines' f ended more ended' text NoMemory good same e (inl h) = inl (wrote_along n s done text' s' ended more ended' text good e h)
 ends_along n s done text' s' lines lines' f ended more ended' text NoMemory good same e (inr h) = inr (held_along n s done text' s' ended more ended' text good e h)
 
-pub stops_along : {X Y : Type 0} (n n' : ℕ) (s : Stage) (done : List (List ℕ)) (text' : List ℕ) (s' : Stage) (lines : X → List (List ℕ)) (lines' : Y → List (List ℕ)) (f : Y → X) (ended more ended' : List (List ℕ)) (w w1 w' : Option (List ℕ)) (stop : Stop) → AreAnswered n s done text' s' → n' ≡ n + length done
+pub stops_along : {X Y : Type 0} (n n' : ℕ) (s : Standing) (done : List (List ℕ)) (text' : List ℕ) (s' : Standing) (lines : X → List (List ℕ)) (lines' : Y → List (List ℕ)) (f : Y → X) (ended more ended' : List (List ℕ)) (w w1 w' : Option (List ℕ)) (stop : Stop) → AreAnswered n s done text' s' → n' ≡ n + length done
     → ((y : Y) → lines' y ≡ done ++ lines (f y)) → ended' ≡ done ++ (ended ++ more) → Grows w w1 text' → PartStops n' s' lines ended w1 w' stop → PartStops n s lines' ended' w w' stop
 stops_along n n' s done text' s' lines lines' f ended more ended' w w1 w' stop good e same e2 grows stops = λ old told.
     let t = stops _ (grows old told) in
     (text' ++ t.0, t.1 ∙ ap Some (append_assoc old text' t.0), ends_along n s done text' s' lines lines' f ended more ended' t.0 stop good same e2 (rw e at t.2))
 
 -- the same, from a place in the bytes to the next
-pub fed_stops : (n : ℕ) (s : Stage) (line a : List ℕ) (n1 : ℕ) (s1 : Stage) (line1 b c : List ℕ) (all : List ℕ) (w w1 w' : Option (List ℕ)) (stop : Stop) → Fed n s line a n1 s1 line1 w w1 → all ≡ a ++ (b ++ c)
+pub fed_stops : (n : ℕ) (s : Standing) (line a : List ℕ) (n1 : ℕ) (s1 : Standing) (line1 b c : List ℕ) (all : List ℕ) (w w1 w' : Option (List ℕ)) (stop : Stop) → Fed n s line a n1 s1 line1 w w1 → all ≡ a ++ (b ++ c)
     → PartStops n1 s1 (λ (more : List ℕ). lines_from line1 (b ++ more)) (whole_from line1 b) w1 w' stop → PartStops n s (λ (more : List ℕ). lines_from line (all ++ more)) (whole_from line all) w w' stop
 fed_stops n s line a n1 s1 line1 b c all w w1 w' stop fed e stops =
     let more : List (List ℕ) = whole_from (rest_from line1 b) c in

@@ -1,197 +1,172 @@
--- What the machine keeps, wherever lines lead to.
-use Rattle.std.proofs.Common.{◌≡◌, ◌∙◌, ℕ, ◌+◌, ◌==◌, Bool, true, false, cond, nat_lt, length, List, [], ◌∷◌, Option, Some, None, Result, Ok, Err, refl, sym, ap, subst, rules, arith}
-use Rattle.std.specs.Prelude.{◌&&◌}
-use Rattle.std.specs.List.{AllByRecursion, list_all}
+-- Lines that are answered are a replay.
+use Rattle.std.proofs.Common.{◌≡◌, ◌∙◌, ℕ, ◌+◌, ◌^◌, ◌<◌, ◌≤◌, Bool, true, false, cond, nat_lt, length, All, List, [], ◌∷◌, ◌++◌, Option, Some, None, Result, Ok, Err, refl, sym, ap, arith}
+use Rattle.std.specs.Prelude.{Contains, IsOkAnd}
+use Rattle.std.specs.List.{AllByRecursion}
+use Rattle.std.proofs.lemmas.Bool.Decides.{nat_tests}
 use Rattle.std.proofs.lemmas.List.Elements.{All-from_recursion}
 use Rattle.stk_keep.specs.declared.refusal.Refusal.{Refusal}
-use Rattle.stk_keep.specs.Holdings.{IsBacked}
 use Rattle.stk_msgs.specs.declared.faults.BlockFault.{BlockFault}
 use Rattle.stk_msgs.specs.declared.faults.LineFault.{LineFault}
 use Rattle.stk_msgs.specs.declared.genesis.Genesis.{Genesis}
 use Rattle.stk_msgs.specs.declared.block.Block.{Block}
-use Rattle.stk_msgs.specs.declared.block.Tx.{Tx}
 use Rattle.stk_json.specs.Genesis.{genesis_of}
 use Rattle.stk_json.specs.Block.{block_of}
-use Rattle.stk_json.specs.Written.{text_of_block}
+use Rattle.stk_json.specs.Written.{text_of_genesis, text_of_block}
 use Rattle.stk_rules.specs.Chain.{State}
-use Rattle.stk_machine.specs.Built.{IsBuilt, is_built, built_start, built_step, built_run}
-use Rattle.stk_machine.specs.BuiltLaws.{GenesisStarts, Replay, state_after, SuppliesAreKept, HoldsStakes, StakingAccountsHoldWhatIsOwed}
-use Rattle.stk_machine.specs.Genesis.{supplies_with}
-use Rattle.stk_machine.specs.GenesisConditions.{accounts_at_start, start_condition}
-use Rattle.stk_machine.specs.GenesisState.{Start}
-use Rattle.stk_machine.specs.Machine.{Step, going_on}
+use Rattle.stk_rules.specs.Sound.{IsSound}
+use Rattle.stk_machine.specs.GenesisConditions.{start_condition}
+use Rattle.stk_machine.specs.GenesisState.{Start, chain_started}
+use Rattle.stk_machine.specs.Machine.{Run, Step, block_checked, going_on, run_of, step}
+use Rattle.stk_machine.specs.Promises.{IsGoodGenesis, Replayed}
+use Rattle.stk_machine.proofs.DueLemmas.{is_due}
+use Rattle.stk_owed.proofs.Points.{StateFits, to_fits}
+use Rattle.stk_owed.proofs.Burns.{total_in}
+use Rattle.stk_owed.proofs.Running.{StepFits, block_fits, first_ok}
+use Rattle.stk_owed.proofs.Starting.{started_well}
+use Rattle.stk_owed.proofs.Founding.{genesis_is_sound}
+use Rattle.stk_owed.proofs.Steps.{from_if}
 use Rattle.stk_app.specs.declared.status.Stop.TheVariants as stop
-use Rattle.stk_app.specs.declared.status.InputFault.TheVariants as input
-use Rattle.stk_app.specs.Machine.{Stage, Answer, longest, line_answer, answer_within, genesis_answer, started_answer, begun, told, block_answer, applied_answer, stepped, is_built_block}
+use Rattle.stk_app.specs.Machine.{Standing, Answer, longest, line_answer, answer_within, genesis_answer, started_answer, begun, told, block_answer, applied_answer, stepped}
 use Rattle.stk_app.specs.Runs.{AreAnswered}
-use Rattle.stk_app.specs.Laws.{Starts, SupplyStays, StakesAreHeld}
-use Rattle.stk_app.proofs.ReadLemmas.{AllHaveCoins, block_has_coins, all_have_coins}
+use Rattle.stk_app.specs.Laws.{SpellBlocks, texts_of, LinesAreReplayed}
+use Rattle.stk_app.proofs.ReadLemmas.{AllHaveCoins, block_has_coins, all_have_coins, height_is_low, its_coins}
+use Rattle.stk_app.proofs.SizeLemmas.{delegations_few}
 
 -- ---- a line that is answered
 
-pub within : (n : ℕ) (s : Stage) (line : List ℕ) (answer : Answer) → line_answer n s line ≡ Ok answer → answer_within n s line ≡ Ok answer
+-- it is within the limit
+record IsWithin (n : ℕ) (s : Standing) (line : List ℕ) (answer : Answer) : Type 0 where
+  short : length line ≤ 4194304
+  is : answer_within n s line ≡ Ok answer
+
+within : (n : ℕ) (s : Standing) (line : List ℕ) (answer : Answer) → line_answer n s line ≡ Ok answer → IsWithin n s line answer
 unfolding line_answer
-within n s line answer e = by (nat_lt longest (length line)) e
+within n s line answer e = by (nat_lt longest (length line)) refl e
   where
-    by : (b : Bool) → cond b (Err (stop.Long n)) (answer_within n s line) ≡ Ok answer → answer_within n s line ≡ Ok answer
-    by true h = absurd cc
-    by false h = h
-
--- ---- blocks of the kinds that are built
-
-no_more : {A : Type 0} (xs : List A) → (length xs == 0) ≡ true → xs ≡ []
-no_more [] h = refl
-no_more (x ∷ xs) h = absurd (grind (arith, h))
-
-all_three : (a b c : Bool) → (a && b && c) ≡ true → (a ≡ true) × (b ≡ true) × (c ≡ true)
-all_three true true true e = (refl, refl, refl)
-all_three true true false e = absurd cc
-all_three true false c e = absurd cc
-all_three false b c e = absurd cc
-
-both : (a b : Bool) → (a && b) ≡ true → (a ≡ true) × (b ≡ true)
-both true true e = (refl, refl)
-both true false e = absurd cc
-both false b e = absurd cc
-
-built_txs : (txs : List Tx) → list_all (λ (tx : Tx). list_all is_built tx.msgs) txs ≡ true → AllByRecursion (λ (tx : Tx). list_all is_built tx.msgs ≡ true) txs
-built_txs [] h = tt
-built_txs (tx ∷ txs) h = let b = both (list_all is_built tx.msgs) (list_all (λ (x : Tx). list_all is_built x.msgs) txs) h in (b.0, built_txs txs b.1)
-
-pub block_is_built : (block : Block) → is_built_block block ≡ true → IsBuilt block
-block_is_built block h =
-    let three = all_three (length block.votes == 0) (length block.evidence == 0) (list_all (λ (tx : Tx). list_all is_built tx.msgs) block.txs) h in
-    record {
-      votes = no_more block.votes three.0;
-      evidence = no_more block.evidence three.1;
-      messages = All-from_recursion (λ (tx : Tx). list_all is_built tx.msgs ≡ true) block.txs (built_txs block.txs three.2);
-    }
+    by : (b : Bool) → nat_lt longest (length line) ≡ b → cond b (Err (stop.Long n)) (answer_within n s line) ≡ Ok answer → IsWithin n s line answer
+    by true q h = absurd cc
+    by false q h = record { short = grind (arith, nat_tests, q); is = h }
 
 -- a block that the line spells was applied
-pub record Led (line : List ℕ) (s : State) (answer : Answer) : Type 0 where
-  pub block : Block
-  pub line_is : block_of line ≡ Ok block
-  pub built : IsBuilt block
-  pub step : Step
-  pub step_is : built_step block s ≡ Ok step
-  pub text_is : answer.text ≡ text_of_block step.report
-  pub stage_is : answer.stage ≡ Some step.state
+record Led (line : List ℕ) (s : State) (answer : Answer) : Type 0 where
+  block : Block
+  line_is : block_of line ≡ Ok block
+  done : Step
+  done_is : step block s ≡ Ok done
+  standing_is : answer.standing ≡ Some done.state
+  text_is : answer.text ≡ text_of_block done.report
 
-pub block_led : (n : ℕ) (line : List ℕ) (s : State) (r : Result Block LineFault) → block_of line ≡ r → (answer : Answer) → block_answer n s r ≡ Ok answer → Led line s answer
+block_led : (n : ℕ) (line : List ℕ) (s : State) (r : Result Block LineFault) → block_of line ≡ r → (answer : Answer) → block_answer n s r ≡ Ok answer → Led line s answer
 block_led n line s (Err fault) is answer e = absurd cc
-block_led n line s (Ok block) is answer e = by (is_built_block block) refl e
+block_led n line s (Ok block) is answer e = by (step block s) refl e
   where
-    by_step : IsBuilt block → (r : Result Step BlockFault) → built_step block s ≡ r → applied_answer n r ≡ Ok answer → Led line s answer
-    by_step built (Ok step) some h =
-        let same : stepped step ≡ answer = cc in
-        record { block = block; line_is = is; built = built; step = step; step_is = some; text_is = sym (ap (λ (a : Answer). a.text) same); stage_is = sym (ap (λ (a : Answer). a.stage) same) }
-    by_step built (Err fault) none h = absurd cc
+    by : (r : Result Step BlockFault) → step block s ≡ r → applied_answer n r ≡ Ok answer → Led line s answer
+    by (Ok done) some h =
+        let same : stepped done ≡ answer = cc in
+        record { block = block; line_is = is; done = done; done_is = some; standing_is = sym (ap (λ (a : Answer). a.standing) same); text_is = sym (ap (λ (a : Answer). a.text) same) }
+    by (Err fault) none h = absurd cc
 
-    by : (b : Bool) → is_built_block block ≡ b → cond b (applied_answer n (built_step block s)) (Err (stop.BadInput n input.Unbuilt)) ≡ Ok answer → Led line s answer
-    by true built h = by_step (block_is_built block built) (built_step block s) refl h
-    by false built h = absurd cc
+-- ---- blocks
 
--- ---- lines
-
--- the lines spell blocks, which lead from one state to the other
-record Runs (s : State) (end : Stage) : Type 0 where
+-- the lines spell blocks, which lead from one state to the other and report this text, and no more of them than there are heights
+record Runs (s : State) (lines : List (List ℕ)) (text : List ℕ) (end : Standing) : Type 0 where
   blocks : List Block
+  spelled : SpellBlocks lines blocks
   coins : AllByRecursion AllHaveCoins blocks
-  built : AllByRecursion IsBuilt blocks
-  end_is : end ≡ Some (built_run blocks s).state
+  low : s.view.ctx.height + length blocks < 2 ^ 63
+  no_fault : (run_of blocks s).fault ≡ None
+  text_is : text ≡ texts_of (run_of blocks s).reports
+  end_is : end ≡ Some (run_of blocks s).state
 
-one_more : (block : Block) (blocks : List Block) (s : State) (step : Step) → built_step block s ≡ Ok step → (built_run (block ∷ blocks) s).state ≡ (built_run blocks step.state).state
-one_more block blocks s step is = ap (λ (r : Result Step BlockFault). (going_on s r (λ u. built_run blocks u)).state) is
+one_run : (b : Block) (blocks : List Block) (s : State) (done : Step) → step b s ≡ Ok done → going_on s (Ok done) (λ u. run_of blocks u) ≡ run_of (b ∷ blocks) s
+one_run b blocks s done is = ap (λ (r : Result Step BlockFault). going_on s r (λ u. run_of blocks u)) (sym is)
 
-lines_run : (n : ℕ) (s : State) (lines : List (List ℕ)) (text : List ℕ) (end : Stage) → AreAnswered n (Some s) lines text end → Runs s end
-lines_run n s [] text end answered = record { blocks = []; coins = tt; built = tt; end_is = answered.1 }
-lines_run n s (line ∷ lines) text end answered =
-    let led : Led line s answered.0 = block_led n line s (block_of line) refl answered.0 (within n (Some s) line answered.0 answered.2) in
-    let next : State = led.step.state in
-    let rest : AreAnswered (n + 1) (Some next) lines answered.1 end = rw led.stage_is at answered.4 in
-    let runs : Runs next end = lines_run (n + 1) next lines answered.1 end rest in
-    record {
-      blocks = led.block ∷ runs.blocks;
-      coins = (block_has_coins line led.block led.line_is, runs.coins);
-      built = (led.built, runs.built);
-      end_is = runs.end_is ∙ ap Some (sym (one_more led.block runs.blocks s led.step led.step_is));
-    }
+next_height : (b : Block) (s : State) (done : Step) → step b s ≡ Ok done → b.height ≡ s.view.ctx.height + 1
+next_height b s done e = let first = first_ok (block_checked b s) _ done e in (is_due b s first.1).height
+
+module _ (P : List ℕ → Type 0) where
+  lines_run : (n : ℕ) (s : State) → StateFits P (total_in s.view) s → s.view.ctx.height < 2 ^ 63 → (lines : List (List ℕ)) (text : List ℕ) (end : Standing) → AreAnswered n (Some s) lines text end → Runs s lines text end
+  lines_run n s fits low [] text end answered = record { blocks = []; spelled = tt; coins = tt; low = omega (arith, low); no_fault = refl; text_is = answered.0; end_is = answered.1 }
+  lines_run n s fits low (line ∷ lines) text end answered =
+      let led : Led line s answered.0 = block_led n line s (block_of line) refl answered.0 (within n (Some s) line answered.0 answered.2).is in
+      let next : State = led.done.state in
+      let height = next_height led.block s led.done led.done_is in
+      let high = height_is_low line led.block led.line_is in
+      let room : s.view.ctx.height + 1 < 2 ^ 63 = omega (arith, height, high) in
+      let coins : AllHaveCoins led.block = block_has_coins line led.block led.line_is in
+      let after : StepFits P s led.done = from_if (StepFits P s) (step led.block s) led.done led.done_is (block_fits P led.block (total_in s.view) s (its_coins led.block coins) fits room) in
+      let grown = after.height in
+      let rest : AreAnswered (n + 1) (Some next) lines answered.1 end = rw led.standing_is at answered.4 in
+      let runs : Runs next lines answered.1 end = lines_run (n + 1) next after.fits (omega (arith, grown, room)) lines answered.1 end rest in
+      let few = runs.low in
+      let run = one_run led.block runs.blocks s led.done led.done_is in
+      record {
+        blocks = led.block ∷ runs.blocks;
+        spelled = (led.line_is, runs.spelled);
+        coins = (coins, runs.coins);
+        low = omega (arith, grown, few);
+        no_fault = sym (ap (λ (r : Run). r.fault) run) ∙ runs.no_fault;
+        text_is = answered.3 ∙ ap (λ (t : List ℕ). t ++ answered.1) led.text_is ∙ ap (λ (t : List ℕ). text_of_block led.done.report ++ t) runs.text_is ∙ ap (λ (r : Run). texts_of r.reports) run;
+        end_is = runs.end_is ∙ ap (λ (r : Run). Some r.state) run;
+      }
 
 -- ---- the first line
 
 record Begun (line : List ℕ) (answer : Answer) : Type 0 where
-  start : State
-  stage_is : answer.stage ≡ Some start
-  starts : Starts line start
+  genesis : Genesis
+  line_is : genesis_of line ≡ Ok genesis
+  good : IsGoodGenesis genesis
+  start : Start
+  started : chain_started genesis ≡ Ok start
+  standing_is : answer.standing ≡ Some start.state
+  text_is : answer.text ≡ text_of_genesis start.state.view.bank.supplies
 
-genesis_led : GenesisStarts → (n : ℕ) (line : List ℕ) (r : Result Genesis LineFault) → genesis_of line ≡ r → (answer : Answer) → genesis_answer n r ≡ Ok answer → Begun line answer
-genesis_led law n line (Err fault) is answer e = absurd cc
-genesis_led law n line (Ok g) is answer e = by (start_condition g) refl e
+good_start : (g : Genesis) (r : Result Start Refusal) → IsOkAnd r (λ s. IsSound s.state) → (start : Start) × (r ≡ Ok start)
+good_start g (Ok start) k = (start, refl)
+good_start g (Err why) k = absurd k
+
+genesis_led : (n : ℕ) (line : List ℕ) → length line ≤ 4194304 → (r : Result Genesis LineFault) → genesis_of line ≡ r → (answer : Answer) → genesis_answer n r ≡ Ok answer → Begun line answer
+genesis_led n line short (Err fault) is answer e = absurd cc
+genesis_led n line short (Ok g) is answer e = by (start_condition g) refl e
   where
     by : (o : Option ℕ) → start_condition g ≡ o → started_answer n g o ≡ Ok answer → Begun line answer
     by None none h =
-        let first = law g none in
-        let same : told (begun g (built_start g)) ≡ answer = cc in
+        let few = delegations_few line g is in
+        let good : IsGoodGenesis g = record { no_condition = none; few = omega (arith, few, short) } in
+        let first = good_start g (chain_started g) (genesis_is_sound g good) in
+        let same : told (begun g (chain_started g)) ≡ answer = cc in
         record {
+          genesis = g;
+          line_is = is;
+          good = good;
           start = first.0;
-          stage_is = sym (ap (λ (a : Answer). a.stage) same) ∙ ap (λ (r : Result Start Refusal). Some (begun g r)) first.1;
-          starts = record { genesis = g; line_is = is; condition = none; start_is = first.1 };
+          started = first.1;
+          standing_is = sym (ap (λ (a : Answer). a.standing) same) ∙ ap (λ (r : Result Start Refusal). Some (begun g r)) first.1;
+          text_is = sym (ap (λ (a : Answer). a.text) same) ∙ ap (λ (r : Result Start Refusal). text_of_genesis (begun g r).view.bank.supplies) first.1;
         }
     by (Some condition) some h = absurd cc
 
 some_same : (x y : State) → Some x ≡ Some y → x ≡ y
 some_same x y e = cc
 
--- ---- what the lines of an input replay
+no_coins : All AllHaveCoins []
+no_coins = All-from_recursion AllHaveCoins [] tt
 
--- a replay that leads from the state that the first line starts to the last one
-record Replayed (line : List ℕ) (end : State) : Type 0 where
-  start : State
-  starts : Starts line start
-  replay : Replay
-  genesis_is : replay.genesis ≡ starts.genesis
-  start_is : replay.start.state ≡ start
-  end_is : end ≡ state_after replay
-
-replayed : GenesisStarts → (line : List ℕ) (lines : List (List ℕ)) (text : List ℕ) (end : State) → AreAnswered 1 None (line ∷ lines) text (Some end) → Replayed line end
-replayed law line lines text end answered =
-    let first : Begun line answered.0 = genesis_led law 1 line (genesis_of line) refl answered.0 (within 1 None line answered.0 answered.2) in
-    let rest : AreAnswered 2 (Some first.start) lines answered.1 (Some end) = rw first.stage_is at answered.4 in
-    let runs : Runs first.start (Some end) = lines_run 2 first.start lines answered.1 (Some end) rest in
+pub lines_replayed : LinesAreReplayed
+lines_replayed line lines text end answered =
+    let first : Begun line answered.0 = genesis_led 1 line (within 1 None line answered.0 answered.2).short (genesis_of line) refl answered.0 (within 1 None line answered.0 answered.2).is in
+    let bare : Replayed = record { genesis = first.genesis; good = first.good; start = first.start; started = first.started; blocks = []; input = record { coins = all_have_coins [] tt; few = omega arith } } in
+    let well = started_well bare in
+    let zero = well.height in
+    let s : State = first.start.state in
+    let rest : AreAnswered 2 (Some s) lines answered.1 (Some end) = rw first.standing_is at answered.4 in
+    let runs : Runs s lines answered.1 (Some end) = lines_run (Contains well.sound.few.some) 2 s (to_fits s well.sound) (omega (arith, zero)) lines answered.1 (Some end) rest in
+    let low = runs.low in
     record {
-      start = first.start;
-      starts = first.starts;
-      replay = record {
-        genesis = first.starts.genesis;
-        no_condition = first.starts.condition;
-        start = record { facts = []; state = first.start };
-        started = first.starts.start_is;
-        blocks = runs.blocks;
-        built = All-from_recursion IsBuilt runs.blocks runs.built;
-        coins = all_have_coins runs.blocks runs.coins;
-      };
-      genesis_is = refl;
-      start_is = refl;
-      end_is = some_same end _ runs.end_is;
+      replay = record { genesis = first.genesis; good = first.good; start = first.start; started = first.started; blocks = runs.blocks; input = record { coins = all_have_coins runs.blocks runs.coins; few = omega (arith, low, zero) } };
+      genesis_is = first.line_is;
+      blocks_are = runs.spelled;
+      no_fault = runs.no_fault;
+      text_is = answered.3 ∙ ap (λ (t : List ℕ). t ++ answered.1) first.text_is ∙ ap (λ (t : List ℕ). text_of_genesis s.view.bank.supplies ++ t) runs.text_is;
+      end_is = sym (some_same end _ runs.end_is);
     }
-
--- the same replay without its blocks
-at_start : Replay → Replay
-at_start r = record { genesis = r.genesis; no_condition = r.no_condition; start = r.start; started = r.started; blocks = []; built = search rules; coins = search rules }
-
--- the supplies are those of this genesis, and backed
-abbrev Kept : Genesis → State → Type 0
-Kept g s = (s.view.bank.supplies ≡ supplies_with (accounts_at_start g) []) × IsBacked s.view.bank
-
-pub supply_stays : GenesisStarts → SuppliesAreKept → SupplyStays
-unfolding at_start
-supply_stays law stay line lines text end answered =
-    let r : Replayed line end = replayed law line lines text end answered in
-    let last : Kept r.replay.genesis end = subst (Kept r.replay.genesis) (sym r.end_is) (stay r.replay) in
-    let first : Kept r.replay.genesis r.start = subst (Kept r.replay.genesis) r.start_is (stay (at_start r.replay)) in
-    (r.start, r.starts, last.0 ∙ sym first.0, last.1)
-
-pub stakes_are_held : GenesisStarts → StakingAccountsHoldWhatIsOwed → StakesAreHeld
-stakes_are_held law held line lines text end answered =
-    let r : Replayed line end = replayed law line lines text end answered in
-    subst HoldsStakes (sym r.end_is) (held r.replay).1

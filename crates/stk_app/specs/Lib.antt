@@ -3,6 +3,6 @@ pub mod Machine
 pub mod Runs
 pub mod Outcome
 pub mod Parts
-pub mod Conditions
 pub mod Laws
 pub mod LineStops
+pub mod Sizes

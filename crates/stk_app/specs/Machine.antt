@@ -1,24 +1,23 @@
 -- What the machine answers to each line of the input.
-use Rattle.std.specs.Prelude.{◌≡◌, ℕ, List, length, nat_lt, ◌==◌, ◌&&◌, Bool, if◌then◌else◌, Option, Some, None, Result, Ok, Err}
-use Rattle.std.specs.List.{list_all}
+use Rattle.std.specs.Prelude.{◌≡◌, ℕ, List, length, nat_lt, if◌then◌else◌, Option, Some, None, Result, Ok, Err}
 use Rattle.stk_msgs.specs.declared.faults.LineFault.{LineFault}
 use Rattle.stk_msgs.specs.declared.faults.LineFault.TheVariants as line
 use Rattle.stk_msgs.specs.declared.faults.BlockFault.{BlockFault}
 use Rattle.stk_msgs.specs.declared.faults.BlockFault.TheVariants as block
 use Rattle.stk_msgs.specs.declared.genesis.Genesis.{Genesis}
 use Rattle.stk_msgs.specs.declared.block.Block.{Block}
-use Rattle.stk_msgs.specs.declared.block.Tx.{Tx}
 use Rattle.stk_json.specs.Genesis.{genesis_of}
 use Rattle.stk_json.specs.Block.{block_of}
 use Rattle.stk_json.specs.Written.{text_of_genesis, text_of_block}
 use Rattle.stk_keep.specs.declared.refusal.Refusal.{Refusal}
 use Rattle.stk_rules.specs.Chain.{State}
-use Rattle.stk_machine.specs.Built.{is_built, built_start, built_step, built_report}
 use Rattle.stk_machine.specs.GenesisConditions.{start_condition}
-use Rattle.stk_machine.specs.GenesisState.{Start, ground_at_start, empty_over}
-use Rattle.stk_machine.specs.Machine.{Step}
+use Rattle.stk_machine.specs.GenesisState.{Start, chain_started, ground_at_start, empty_over}
+use Rattle.stk_machine.specs.Machine.{Step, step}
+use Rattle.stk_machine.specs.Report as machine
 use Rattle.stk_report.specs.Lines.{lines_of, text_of}
-use Rattle.stk_chain.specs.Chained.{Chained, StandsFor}
+use Rattle.stk_modules.specs.Kept.{StandsFor}
+use Rattle.stk_chain.specs.Chained.{Chained}
 use Rattle.stk_chain.specs.declared.fault.ChainFault.{ChainFault}
 use Rattle.stk_chain.specs.declared.fault.ChainFault.TheVariants as chain
 use Rattle.stk_app.specs.declared.status.Stop.{Stop}
@@ -30,25 +29,25 @@ abbrev pub longest : ℕ
 longest = 4194304
 
 -- what the lines have led to: nothing before the genesis, and then a state
-abbrev pub Stage : Type 0
-Stage = Option State
+abbrev pub Standing : Type 0
+Standing = Option State
 
--- A chain stands for a stage: for none before the genesis, and then for a state for which what it
+-- A chain stands so: there is none before the genesis, and then one that stands for a state for which what it
 -- keeps stands.
-abbrev pub StandsAt : Option Chained → Stage → Type 0
+abbrev pub StandsAt : Option Chained → Standing → Type 0
 StandsAt None s = s ≡ None
 StandsAt (Some chain) None = ⊥
 StandsAt (Some chain) (Some p) = StandsFor chain.kept p
 
--- what a line gives: its text, and the stage after it
+-- what a line gives: its text, and what it leads to
 pub record Answer : Type 0 where
   pub text : List ℕ
-  pub stage : Stage
+  pub standing : Standing
 
--- the line of this number has an answer with this text, and the chain stands for the stage after it
+-- the line of this number has an answer with this text, and the chain stands for what it leads to
 abbrev pub AnswersTo : Result Answer Stop → List ℕ → Option Chained → Type 0
 AnswersTo due text chain =
-    (next : Stage) × (due ≡ Ok (record { text = text; stage = next })) × StandsAt chain next
+    (next : Standing) × (due ≡ Ok (record { text = text; standing = next })) × StandsAt chain next
 
 -- why the line of this number is not read
 abbrev pub not_read : ℕ → LineFault → Stop
@@ -89,11 +88,11 @@ begun g (Err why) = empty_over (ground_at_start g)
 
 -- what a genesis starts, told by its supply
 abbrev pub told : State → Answer
-told s = record { text = text_of_genesis s.view.bank.supplies; stage = Some s }
+told s = record { text = text_of_genesis s.view.bank.supplies; standing = Some s }
 
 -- the answer to a genesis, of which this condition holds or none
 abbrev pub started_answer : ℕ → Genesis → Option ℕ → Result Answer Stop
-started_answer n g None = Ok (told (begun g (built_start g)))
+started_answer n g None = Ok (told (begun g (chain_started g)))
 started_answer n g (Some condition) = Err (stop.BadInput n (input.BadGenesis condition))
 
 abbrev pub genesis_answer : ℕ → Result Genesis LineFault → Result Answer Stop
@@ -102,12 +101,8 @@ genesis_answer n (Ok g) = started_answer n g (start_condition g)
 
 -- ---- a block
 
--- The block has no votes and no evidence, and messages of the kinds that are built: nothing else is.
-abbrev pub is_built_block : Block → Bool
-is_built_block b = (length b.votes == 0) && (length b.evidence == 0) && list_all (λ (tx : Tx). list_all is_built tx.msgs) b.txs
-
 abbrev pub stepped : Step → Answer
-stepped step = record { text = text_of_block step.report; stage = Some step.state }
+stepped step = record { text = text_of_block step.report; standing = Some step.state }
 
 -- the answer to a block: its step or its fault
 abbrev pub applied_answer : ℕ → Result Step BlockFault → Result Answer Stop
@@ -116,20 +111,20 @@ applied_answer n (Err fault) = Err (not_applied n fault)
 
 abbrev pub block_answer : ℕ → State → Result Block LineFault → Result Answer Stop
 block_answer n s (Err fault) = Err (not_read n fault)
-block_answer n s (Ok b) = if is_built_block b then applied_answer n (built_step b s) else Err (stop.BadInput n input.Unbuilt)
+block_answer n s (Ok b) = applied_answer n (step b s)
 
 -- ---- lines
 
 -- the first line is a genesis, and each further line a block
-abbrev pub answer_within : ℕ → Stage → List ℕ → Result Answer Stop
+abbrev pub answer_within : ℕ → Standing → List ℕ → Result Answer Stop
 answer_within n None line = genesis_answer n (genesis_of line)
 answer_within n (Some s) line = block_answer n s (block_of line)
 
 -- the answer to the line of this number: nothing is read from a line over its limit
-unfoldable pub line_answer : ℕ → Stage → List ℕ → Result Answer Stop
+unfoldable pub line_answer : ℕ → Standing → List ℕ → Result Answer Stop
 line_answer n s line = if nat_lt longest (length line) then Err (stop.Long n) else answer_within n s line
 
 -- the report of what the lines led to, or that the genesis is missing
-unfoldable pub report_of : Stage → Result (List ℕ) Stop
+unfoldable pub report_of : Standing → Result (List ℕ) Stop
 report_of None = Err (stop.BadInput 1 input.Missing)
-report_of (Some s) = Ok (text_of (lines_of (built_report s)))
+report_of (Some s) = Ok (text_of (lines_of (machine.report_of s)))

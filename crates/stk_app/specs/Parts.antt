@@ -8,7 +8,7 @@ use Rattle.stk_app.specs.declared.status.Stop.TheVariants as stop
 use Rattle.stk_app.specs.declared.status.EndStop.{EndStop}
 use Rattle.stk_app.specs.declared.status.EndStop.TheVariants as end
 use Rattle.stk_app.specs.Lines.{whole_from, rest_from, lines_from}
-use Rattle.stk_app.specs.Machine.{Stage, Answer, longest, line_answer}
+use Rattle.stk_app.specs.Machine.{Standing, Answer, longest, line_answer}
 use Rattle.stk_app.specs.Runs.{ran_from, AreAnswered, Named, Wrote, Held, Answered, Reported, Lacking}
 
 abbrev pub status_of : Stop → Status
@@ -45,22 +45,22 @@ abbrev pub Grows : Option (List ℕ) → Option (List ℕ) → List ℕ → Type
 Grows written written' text = (old : List ℕ) → written ≡ Some old → written' ≡ Some (old ++ text)
 
 -- A part of a run: `lines` are all lines that there will be, by what is still to come, and `ended` are those that have ended.
-abbrev pub PartEnds : {X : Type 0} → ℕ → Stage → (X → List (List ℕ)) → List (List ℕ) → Stop → List ℕ → Type 0
+abbrev pub PartEnds : {X : Type 0} → ℕ → Standing → (X → List (List ℕ)) → List (List ℕ) → Stop → List ℕ → Type 0
 PartEnds n s lines ended (stop.BadInput m fault) text = Named n s ended text (stop.BadInput m fault)
 PartEnds n s lines ended (stop.Long m) text = (x : _) → Named n s (lines x) text (stop.Long m)
 PartEnds n s lines ended (stop.Ratio m over) text = Named n s ended text (stop.Ratio m over)
 PartEnds n s lines ended stop.Write text = Wrote n s ended text
 PartEnds n s lines ended stop.NoMemory text = Wrote n s ended text ⊎ Held n s ended text
 
-abbrev pub PartStops : {X : Type 0} → ℕ → Stage → (X → List (List ℕ)) → List (List ℕ) → Option (List ℕ) → Option (List ℕ) → Stop → Type 0
+abbrev pub PartStops : {X : Type 0} → ℕ → Standing → (X → List (List ℕ)) → List (List ℕ) → Option (List ℕ) → Option (List ℕ) → Stop → Type 0
 PartStops n s lines ended written written' stop = (old : List ℕ) → written ≡ Some old → (text : List ℕ) × (written' ≡ Some (old ++ text)) × PartEnds n s lines ended stop text
 
 -- a line was answered, and its text written
-abbrev pub Took : ℕ → Stage → List ℕ → Stage → Option (List ℕ) → Option (List ℕ) → Type 0
-Took n s line s' written written' = (text : List ℕ) × (line_answer n s line ≡ Ok (record { text = text; stage = s' })) × Grows written written' text
+abbrev pub Took : ℕ → Standing → List ℕ → Standing → Option (List ℕ) → Option (List ℕ) → Type 0
+Took n s line s' written written' = (text : List ℕ) × (line_answer n s line ≡ Ok (record { text = text; standing = s' })) × Grows written written' text
 
--- From this number, stage and line on, the bytes were taken: each of their lines was answered.
-pub record Fed (n : ℕ) (s : Stage) (line bytes : List ℕ) (n' : ℕ) (s' : Stage) (line' : List ℕ) (written written' : Option (List ℕ)) : Type 0 where
+-- From this number, from where the chain stands and from this begun line on, the bytes were taken: each of their lines was answered.
+pub record Fed (n : ℕ) (s : Standing) (line bytes : List ℕ) (n' : ℕ) (s' : Standing) (line' : List ℕ) (written written' : Option (List ℕ)) : Type 0 where
   pub text : List ℕ
   pub number : n' ≡ n + length (whole_from line bytes)
   pub line_is : line' ≡ rest_from line bytes
@@ -72,14 +72,14 @@ abbrev pub lines_after : List ℕ → List ℕ → List ℕ → List (List ℕ)
 lines_after line bytes more = lines_from line (bytes ++ more)
 
 -- the end of a run, with these lines left
-abbrev pub FinishEnds : ℕ → Stage → List (List ℕ) → EndStop → List ℕ → Type 0
+abbrev pub FinishEnds : ℕ → Standing → List (List ℕ) → EndStop → List ℕ → Type 0
 FinishEnds n s lines (end.Line stop) text = PartEnds n s (λ (_ : ⊤). lines) lines stop text
 FinishEnds n s lines (end.Lacking m fault) text = Lacking n s lines text (stop.BadInput m fault)
 FinishEnds n s lines end.Report text = Reported n s lines text
 FinishEnds n s lines end.Flush text = ran_from n s lines ≡ record { text = text; fault = None }
 FinishEnds n s lines end.NoMemory text = Reported n s lines text ⊎ Answered n s lines text
 
-abbrev pub FinishStops : ℕ → Stage → List (List ℕ) → Option (List ℕ) → Option (List ℕ) → EndStop → Type 0
+abbrev pub FinishStops : ℕ → Standing → List (List ℕ) → Option (List ℕ) → Option (List ℕ) → EndStop → Type 0
 FinishStops n s lines written written' stop = (old : List ℕ) → written ≡ Some old → (text : List ℕ) × (written' ≡ Some (old ++ text)) × FinishEnds n s lines stop text
 
 -- the report and the flush stop by these
@@ -91,11 +91,11 @@ IsOfReport end.Flush = Unit {0}
 IsOfReport end.NoMemory = Unit {0}
 
 -- what is written for the last lines and the report
-abbrev pub Finishes : ℕ → Stage → List (List ℕ) → Option (List ℕ) → Option (List ℕ) → Type 0
+abbrev pub Finishes : ℕ → Standing → List (List ℕ) → Option (List ℕ) → Option (List ℕ) → Type 0
 Finishes n s lines written written' = (text : List ℕ) × (ran_from n s lines ≡ record { text = text; fault = None }) × Grows written written' text
 
 -- Where a run stands: these bytes were taken, and this rest is left.
-pub record At (input : List ℕ) (count n : ℕ) (s : Stage) (line : List ℕ) (left written written' : Option (List ℕ)) : Type 0 where
+pub record At (input : List ℕ) (count n : ℕ) (s : Standing) (line : List ℕ) (left written written' : Option (List ℕ)) : Type 0 where
   pub taken : List ℕ
   pub rest : List ℕ
   pub input_is : input ≡ taken ++ rest
@@ -104,11 +104,11 @@ pub record At (input : List ℕ) (count n : ℕ) (s : Stage) (line : List ℕ) (
   pub fed : Fed 1 None [] taken n s line written written'
 
 -- the facts that a loop keeps of a source that tells
-abbrev pub Stands : Option (List ℕ) → ℕ → ℕ → Stage → List ℕ → Option (List ℕ) → Option (List ℕ) → Option (List ℕ) → Type 0
+abbrev pub Stands : Option (List ℕ) → ℕ → ℕ → Standing → List ℕ → Option (List ℕ) → Option (List ℕ) → Option (List ℕ) → Type 0
 Stands first count n s line left w w' = (input : List ℕ) → first ≡ Some input → At input count n s line left w w'
 
 -- at the end of the input, with these lines left
-abbrev pub FinishAs : ℕ → Stage → List (List ℕ) → Status → List ℕ → Type 0
+abbrev pub FinishAs : ℕ → Standing → List (List ℕ) → Status → List ℕ → Type 0
 FinishAs n s lines Done text = ran_from n s lines ≡ record { text = text; fault = None }
 FinishAs n s lines Usage text = ⊥
 FinishAs n s lines (BadInput m fault) text = Named n s lines text (stop.BadInput m fault) ⊎ Lacking n s lines text (stop.BadInput m fault)
@@ -119,7 +119,7 @@ FinishAs n s lines ReadFault text = ⊥
 FinishAs n s lines WriteFault text = Wrote n s lines text ⊎ Reported n s lines text ⊎ (ran_from n s lines ≡ record { text = text; fault = None })
 FinishAs n s lines NoMemory text = (Wrote n s lines text ⊎ Held n s lines text) ⊎ Reported n s lines text
 
-abbrev pub FinishStatus : ℕ → Stage → List (List ℕ) → Option (List ℕ) → Option (List ℕ) → Status → Type 0
+abbrev pub FinishStatus : ℕ → Standing → List (List ℕ) → Option (List ℕ) → Option (List ℕ) → Status → Type 0
 FinishStatus n s lines written written' status = (old : List ℕ) → written ≡ Some old → (text : List ℕ) × (written' ≡ Some (old ++ text)) × FinishAs n s lines status text
 
 -- no end of a line is among the bytes
@@ -128,7 +128,7 @@ HasNoEnd [] = Unit {0}
 HasNoEnd (b ∷ bytes) = ((b == 10) ≡ false) × HasNoEnd bytes
 
 -- why the machine does not answer a line; memory may always be wanting
-abbrev pub NotAnswered : Stop → ℕ → Stage → List ℕ → Type 0
+abbrev pub NotAnswered : Stop → ℕ → Standing → List ℕ → Type 0
 NotAnswered stop.NoMemory n s line = Unit {0}
 NotAnswered stop.Write n s line = ⊥
 NotAnswered (stop.BadInput m fault) n s line = line_answer n s line ≡ Err (stop.BadInput m fault)

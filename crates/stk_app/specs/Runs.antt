@@ -2,7 +2,7 @@
 use Rattle.std.specs.Prelude.{◌≡◌, ℕ, ◌+◌, List, [], ◌∷◌, ◌++◌, length, Option, Some, None, Result, Ok, Err}
 use Rattle.stk_io.specs.Outside.{IsPart}
 use Rattle.stk_app.specs.declared.status.Stop.{Stop}
-use Rattle.stk_app.specs.Machine.{Stage, Answer, line_answer, report_of}
+use Rattle.stk_app.specs.Machine.{Standing, Answer, line_answer, report_of}
 
 -- the whole output, up to the first fault, and that fault
 pub record Ran : Type 0 where
@@ -12,41 +12,41 @@ pub record Ran : Type 0 where
 abbrev pub before : List ℕ → Ran → Ran
 before text ran = record { text = text ++ ran.text; fault = ran.fault }
 
-abbrev pub ran_after : Result Answer Stop → (Stage → Ran) → Ran
-ran_after (Ok answer) next = before answer.text (next answer.stage)
+abbrev pub ran_after : Result Answer Stop → (Standing → Ran) → Ran
+ran_after (Ok answer) next = before answer.text (next answer.standing)
 ran_after (Err fault) next = record { text = []; fault = Some fault }
 
 abbrev pub ran_report : Result (List ℕ) Stop → Ran
 ran_report (Ok text) = record { text = text; fault = None }
 ran_report (Err fault) = record { text = []; fault = Some fault }
 
--- what is written for the lines from this number and stage on, and for the report after them
-abbrev pub ran_from : ℕ → Stage → List (List ℕ) → Ran
+-- what is written for the lines from this number and from where the chain stands, and for the report after them
+abbrev pub ran_from : ℕ → Standing → List (List ℕ) → Ran
 ran_from n s [] = ran_report (report_of s)
 ran_from n s (line ∷ lines) = ran_after (line_answer n s line) (λ next. ran_from (n + 1) next lines)
 
--- each of the lines has an answer; their texts, one after the other, are this text, and they lead to this stage
-abbrev pub AreAnswered : ℕ → Stage → List (List ℕ) → List ℕ → Stage → Type 0
+-- each of the lines has an answer; their texts, one after the other, are this text, and this is what they lead to
+abbrev pub AreAnswered : ℕ → Standing → List (List ℕ) → List ℕ → Standing → Type 0
 AreAnswered n s [] text end = (text ≡ []) × (end ≡ s)
 AreAnswered n s (line ∷ lines) text end =
-    (answer : Answer) × (rest : List ℕ) × (line_answer n s line ≡ Ok answer) × (text ≡ answer.text ++ rest) × AreAnswered (n + 1) answer.stage lines rest end
+    (answer : Answer) × (rest : List ℕ) × (line_answer n s line ≡ Ok answer) × (text ≡ answer.text ++ rest) × AreAnswered (n + 1) answer.standing lines rest end
 
 -- the first of the lines that has a fault has this one, and the texts of those before it were written
-pub record Named (n : ℕ) (s : Stage) (lines : List (List ℕ)) (text : List ℕ) (fault : Stop) : Type 0 where
+pub record Named (n : ℕ) (s : Standing) (lines : List (List ℕ)) (text : List ℕ) (fault : Stop) : Type 0 where
   pub before : List (List ℕ)
   pub line : List ℕ
   pub after : List (List ℕ)
-  pub middle : Stage
+  pub middle : Standing
   pub lines_are : lines ≡ before ++ line ∷ after
   pub answered : AreAnswered n s before text middle
   pub fault_is : line_answer (n + length before) middle line ≡ Err fault
 
 -- the texts of the lines before one of the lines were written, and a part of its own
-pub record Wrote (n : ℕ) (s : Stage) (lines : List (List ℕ)) (text : List ℕ) : Type 0 where
+pub record Wrote (n : ℕ) (s : Standing) (lines : List (List ℕ)) (text : List ℕ) : Type 0 where
   pub before : List (List ℕ)
   pub line : List ℕ
   pub after : List (List ℕ)
-  pub middle : Stage
+  pub middle : Standing
   pub done : List ℕ
   pub answer : Answer
   pub front : List ℕ
@@ -57,21 +57,21 @@ pub record Wrote (n : ℕ) (s : Stage) (lines : List (List ℕ)) (text : List �
   pub text_is : text ≡ done ++ front
 
 -- the texts of the first lines were written
-pub record Held (n : ℕ) (s : Stage) (lines : List (List ℕ)) (text : List ℕ) : Type 0 where
+pub record Held (n : ℕ) (s : Standing) (lines : List (List ℕ)) (text : List ℕ) : Type 0 where
   pub before : List (List ℕ)
   pub after : List (List ℕ)
-  pub middle : Stage
+  pub middle : Standing
   pub lines_are : lines ≡ before ++ after
   pub answered : AreAnswered n s before text middle
 
 -- the texts of all lines were written
-pub record Answered (n : ℕ) (s : Stage) (lines : List (List ℕ)) (text : List ℕ) : Type 0 where
-  pub end : Stage
+pub record Answered (n : ℕ) (s : Standing) (lines : List (List ℕ)) (text : List ℕ) : Type 0 where
+  pub end : Standing
   pub answered : AreAnswered n s lines text end
 
 -- the texts of all lines were written, and a part of the report
-pub record Reported (n : ℕ) (s : Stage) (lines : List (List ℕ)) (text : List ℕ) : Type 0 where
-  pub end : Stage
+pub record Reported (n : ℕ) (s : Standing) (lines : List (List ℕ)) (text : List ℕ) : Type 0 where
+  pub end : Standing
   pub done : List ℕ
   pub report : List ℕ
   pub front : List ℕ
@@ -81,7 +81,7 @@ pub record Reported (n : ℕ) (s : Stage) (lines : List (List ℕ)) (text : List
   pub text_is : text ≡ done ++ front
 
 -- the texts of all lines were written, and they lead to no report, by this fault
-pub record Lacking (n : ℕ) (s : Stage) (lines : List (List ℕ)) (text : List ℕ) (fault : Stop) : Type 0 where
-  pub end : Stage
+pub record Lacking (n : ℕ) (s : Standing) (lines : List (List ℕ)) (text : List ℕ) (fault : Stop) : Type 0 where
+  pub end : Standing
   pub answered : AreAnswered n s lines text end
   pub fault_is : report_of end ≡ Err fault

@@ -1,7 +1,7 @@
 ghost use Rattle.std.specs.Prelude.{◌≡◌, ◌≤◌, ◌<◌, ◌^◌, ◌+◌, ◌∷◌, ◌++◌, [], List, ℕ, IfErr, IfSome, IfNone, OnOk, OnErr, IsErrOf, length, take, drop, slice_index};
 ghost use Rattle.stk_io.specs.Outside.{Rose};
 ghost use Rattle.stk_app.specs.Lines.{whole_from};
-ghost use Rattle.stk_app.specs.Machine.{longest, Stage, StandsAt};
+ghost use Rattle.stk_app.specs.Machine.{longest, Standing, StandsAt};
 ghost use Rattle.stk_app.specs.Parts.{PartStops, Fed, lines_after, HasNoEnd, NotExtended, UnlessWrite};
 
 use crate::line::{Buffers, LONGEST, take_line};
@@ -65,11 +65,11 @@ fn end_line<K: Sink>(
     requires number { progress.old.number < 2 ^ 63 }
     requires short { length progress.old.line.items ≤ longest }
     requires before { HasNoEnd bytes.now }
-    ensures fed { (s : Stage) → StandsAt progress.old.chain s → OnOk result ((next : Stage)
+    ensures fed { (s : Standing) → StandsAt progress.old.chain s → OnOk result ((next : Standing)
         × Fed progress.old.number s progress.old.line.items (bytes.now ++ 10 ∷ [])
         progress.new.number next progress.new.line.items (K.written sink.old) (K.written sink.new)
         × StandsAt progress.new.chain next) }
-    ensures stops { (s : Stage) → StandsAt progress.old.chain s
+    ensures stops { (s : Standing) → StandsAt progress.old.chain s
         → IfErr result (PartStops progress.old.number s
         (lines_after progress.old.line.items (bytes.now ++ 10 ∷ []))
         (whole_from progress.old.line.items (bytes.now ++ 10 ∷ []))
@@ -107,12 +107,12 @@ pub fn feed<K: Sink>(
 ) -> Result<(), Stop>
     requires number { progress.old.number + length piece.now < 2 ^ 63 }
     requires short { length progress.old.line.items ≤ longest }
-    requires stands { (s : Stage) × StandsAt progress.old.chain s }
-    ensures fed { (s : Stage) → StandsAt progress.old.chain s → OnOk result ((next : Stage)
+    requires stands { (s : Standing) × StandsAt progress.old.chain s }
+    ensures fed { (s : Standing) → StandsAt progress.old.chain s → OnOk result ((next : Standing)
         × Fed progress.old.number s progress.old.line.items piece.now
         progress.new.number next progress.new.line.items (K.written sink.old) (K.written sink.new)
         × StandsAt progress.new.chain next) }
-    ensures stops { (s : Stage) → StandsAt progress.old.chain s
+    ensures stops { (s : Standing) → StandsAt progress.old.chain s
         → IfErr result (PartStops progress.old.number s
         (lines_after progress.old.line.items piece.now)
         (whole_from progress.old.line.items piece.now) (K.written sink.old) (K.written sink.new)) }

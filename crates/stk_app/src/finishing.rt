@@ -1,7 +1,7 @@
 ghost use Rattle.std.specs.Prelude.{◌≡◌, ◌≤◌, ◌⊎◌, true, IfErr, OnOk, IsErrOf, []};
 ghost use Rattle.stk_io.specs.Outside.{Rose};
 ghost use Rattle.stk_app.specs.Lines.{last_line};
-ghost use Rattle.stk_app.specs.Machine.{Stage, StandsAt};
+ghost use Rattle.stk_app.specs.Machine.{Standing, StandsAt};
 ghost use Rattle.stk_app.specs.Parts.{EndLongOnly, IsOfReport, FinishStops, Finishes, UnlessWriteAtEnd};
 
 use crate::line::{Buffers, take_line};
@@ -15,9 +15,9 @@ use stk_io::{Sink, SinkFault, write_all};
 #[tactic(auto, unfolding(crate::specs::Machine::report_of))]
 fn report<K: Sink>(alloc: Global, sink: &mut K, chain: &Option<Chain>) -> Result<(), EndStop>
     ensures clean { OnOk result (K.clean sink.new ≡ true) }
-    ensures written { (s : Stage) → StandsAt chain.now s
+    ensures written { (s : Standing) → StandsAt chain.now s
         → OnOk result (Finishes 1 s [] (K.written sink.old) (K.written sink.new)) }
-    ensures stops { (s : Stage) → StandsAt chain.now s
+    ensures stops { (s : Standing) → StandsAt chain.now s
         → IfErr result (FinishStops 1 s [] (K.written sink.old) (K.written sink.new)) }
     ensures no_line { IfErr result IsOfReport }
     ensures later { K.faults sink.old ≤ K.faults sink.new }
@@ -55,10 +55,10 @@ pub fn finish<K: Sink>(
     line: &[u8],
 ) -> Result<(), EndStop>
     ensures clean { OnOk result (K.clean sink.new ≡ true) }
-    ensures done { (s : Stage) → StandsAt chain.old s
+    ensures done { (s : Standing) → StandsAt chain.old s
         → OnOk result (Finishes number s (last_line line.now)
         (K.written sink.old) (K.written sink.new)) }
-    ensures stops { (s : Stage) → StandsAt chain.old s
+    ensures stops { (s : Standing) → StandsAt chain.old s
         → IfErr result (FinishStops number s (last_line line.now)
         (K.written sink.old) (K.written sink.new)) }
     ensures long { IfErr result (λ stop. EndLongOnly stop line.now) }

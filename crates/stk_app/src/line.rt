@@ -1,12 +1,10 @@
-ghost use Rattle.std.specs.Prelude.{◌≡◌, ◌≤◌, ◌<◌, ◌∷◌, ◌&&◌, ◌==◌, [], Some, None, List, ℕ, Ok, Err, true, IfOk, IfErr, IfSome, OnOk, IsErrOf, length};
-ghost use Rattle.std.specs.List.{list_all};
+ghost use Rattle.std.specs.Prelude.{◌≡◌, ◌≤◌, ◌<◌, ◌∷◌, [], Some, None, List, ℕ, Ok, Err, IfOk, IfErr, IfSome, OnOk, IsErrOf, length};
 ghost use Rattle.stk_io.specs.Outside.{Rose};
 ghost use Rattle.stk_json.specs.Genesis.{genesis_of};
 ghost use Rattle.stk_json.specs.Block.{block_of};
-ghost use Rattle.stk_machine.specs.Built.{is_built};
 ghost use Rattle.stk_app.specs.LineStops.{IsOfLine};
-ghost use Rattle.stk_app.specs.Machine.{line_answer, not_read, not_applied, IsOfGenesis, IsNotStarted, genesis_answer, block_answer, is_built_block, Stage, StandsAt, AnswersTo};
-ghost use Rattle.stk_chain.specs.Chained.{StandsFor};
+ghost use Rattle.stk_app.specs.Machine.{line_answer, not_read, not_applied, IsOfGenesis, IsNotStarted, genesis_answer, block_answer, Standing, StandsAt, AnswersTo};
+ghost use Rattle.stk_modules.specs.Kept.{StandsFor};
 ghost use Rattle.stk_rules.specs.Chain.{State};
 ghost use Rattle.stk_app.specs.Parts.{IsFault, LongOnly, NotAnswered, PartStops, Took, UnlessWrite};
 
@@ -16,7 +14,7 @@ use std::alloc::Global;
 use stk_chain::{Chain, ChainFault};
 use stk_io::{Sink, SinkFault, write_all};
 use stk_json::{push_line_of_genesis, push_lines_of_block, read_block, read_genesis};
-use stk_msgs::{Block, BlockFault, Genesis, LineFault, Msg, Tx};
+use stk_msgs::{BlockFault, LineFault};
 
 /// The most bytes of a line, without its end.
 pub const LONGEST: usize = 4_194_304;
@@ -55,37 +53,6 @@ pub(crate) fn not_applied(number: u64, fault: BlockFault) -> Stop
         BlockFault::RatioLimit(over) => Stop::Ratio(number, over),
         fault => Stop::BadInput(number, InputFault::Block(fault)),
     }
-}
-
-/// Whether a message is of a kind that is built.
-fn is_built(message: &Msg) -> bool
-    ensures { result ≡ is_built message.now }
-{
-    matches!(
-        message,
-        Msg::Send(_) | Msg::CreateValidator(_) | Msg::EditValidator(_) | Msg::Delegate(_)
-    )
-}
-
-/// Whether all messages are of kinds that are built.
-fn are_built(msgs: &[Msg]) -> bool
-    ensures { result ≡ list_all is_built msgs.now }
-{
-    msgs.iter().all(|message| is_built(message))
-}
-
-/// Whether the transactions have no messages of other kinds.
-fn have_built_only(txs: &[Tx]) -> bool
-    ensures { result ≡ list_all (λ (tx : Tx). list_all is_built tx.msgs) txs.now }
-{
-    txs.iter().all(|tx| are_built(tx.msgs.as_slice()))
-}
-
-/// Whether the block has no votes, no evidence and no messages of other kinds.
-fn is_built_block(block: &Block) -> bool
-    ensures { result ≡ is_built_block block.now }
-{
-    block.votes.len() == 0 && block.evidence.len() == 0 && have_built_only(block.txs.as_slice())
 }
 
 /// What is kept from line to line for its memory alone: the scratch of a line's tape, and the text of its answer.
@@ -145,9 +112,6 @@ fn advance(
         Ok(block) => block,
         Err(fault) => return Err(not_read(number, fault)),
     };
-    if !is_built_block(&block) {
-        return Err(Stop::BadInput(number, InputFault::Unbuilt));
-    }
     let report = match chain.apply_block(alloc, &block) {
         Ok(report) => report,
         Err(fault) => return Err(not_applied(number, fault)),
@@ -159,7 +123,7 @@ fn advance(
     }
 }
 
-/// The machine's answer to a line, which leads the chain to its next stage, and whose text takes the place of the last one.
+/// The machine's answer to a line, which leads the chain on, and whose text takes the place of the last one.
 #[tactic(auto, unfolding(crate::specs::Machine::line_answer))]
 fn answer(
     alloc: Global,
@@ -168,9 +132,9 @@ fn answer(
     chain: &mut Option<Chain>,
     line: &[u8],
 ) -> Result<(), Stop>
-    ensures ok { (s : Stage) → StandsAt chain.old s
+    ensures ok { (s : Standing) → StandsAt chain.old s
         → OnOk result (AnswersTo (line_answer number s line.now) buffers.new.text.items chain.new) }
-    ensures err { (s : Stage) → StandsAt chain.old s
+    ensures err { (s : Standing) → StandsAt chain.old s
         → IfErr result (λ stop. NotAnswered stop number s line.now) }
     ensures of_line { IfErr result (λ stop. IsOfLine stop line.now) }
 {
@@ -200,10 +164,10 @@ pub fn take_line<K: Sink>(
     chain: &mut Option<Chain>,
     line: &[u8],
 ) -> Result<(), Stop>
-    ensures took { (s : Stage) → StandsAt chain.old s → OnOk result ((next : Stage)
+    ensures took { (s : Standing) → StandsAt chain.old s → OnOk result ((next : Standing)
         × Took number s line.now next (K.written sink.old) (K.written sink.new)
         × StandsAt chain.new next) }
-    ensures stops { (s : Stage) → StandsAt chain.old s
+    ensures stops { (s : Standing) → StandsAt chain.old s
         → IfErr result (PartStops number s
         (λ (more : List (List ℕ)). line.now ∷ more) (line.now ∷ [])
         (K.written sink.old) (K.written sink.new)) }

@@ -1,6 +1,6 @@
 ghost use Rattle.std.specs.Prelude.{◌≡◌, Ok, Some, IfOk, IfErr};
 ghost use Rattle.stk_app.specs.Machine.{report_of};
-ghost use Rattle.stk_chain.specs.Chained.{StandsFor};
+ghost use Rattle.stk_modules.specs.Kept.{StandsFor};
 ghost use Rattle.stk_rules.specs.Chain.{State};
 
 use crate::status::EndStop;
@@ -9,7 +9,7 @@ use stk_chain::{Chain, ChainFault};
 use stk_msgs::LineFault;
 use stk_report::{report, states_are_reported};
 
-/// The report of a chain: no rewards are pending, since none are kept yet. The only error is `NoMemory`.
+/// The report of a chain, with its pending rewards. The only error is `NoMemory`.
 #[tactic(auto, unfolding(crate::specs::Machine::report_of))]
 pub fn report_text(alloc: Global, chain: &Chain) -> Result<Vec<u8>, EndStop>
     ensures text { (p : State) → StandsFor chain.now.kept p
@@ -22,7 +22,12 @@ pub fn report_text(alloc: Global, chain: &Chain) -> Result<Vec<u8>, EndStop>
         Err(ChainFault::NoMemory) => return Err(EndStop::NoMemory),
         Err(_) => unreachable!(),
     };
-    match report(alloc, &items, &[]) {
+    let pending = match chain.pending(alloc) {
+        Ok(pending) => pending,
+        Err(ChainFault::NoMemory) => return Err(EndStop::NoMemory),
+        Err(_) => unreachable!(),
+    };
+    match report(alloc, &items, &pending) {
         Ok(text) => Ok(text),
         Err(LineFault::NoMemory) => Err(EndStop::NoMemory),
         Err(_) => unreachable!(),

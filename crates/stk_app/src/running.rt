@@ -1,11 +1,14 @@
 ghost use Rattle.std.specs.Prelude.{◌≡◌, ◌≤◌, ◌<◌, ◌^◌, ◌+◌, ◌⊎◌, ◌↔◌, [], ◌∷◌, List, ℕ, Some, None, length, map, string_bytes, true, false, IfErr, OnOk, IfOk, IfSome};
 ghost use Rattle.stk_io.specs.Outside.{Rose};
 ghost use Rattle.stk_app.specs.Lines.{last_line};
-ghost use Rattle.stk_app.specs.Machine.{longest, Stage, StandsAt};
+ghost use Rattle.stk_app.specs.Machine.{longest, Standing, StandsAt};
 ghost use Rattle.stk_app.specs.Outcome.{RunEnds, IsUntroubled, is_replay, most_bytes, UnlessReadFault, UnlessWriteFault};
 ghost use Rattle.stk_app.specs.Parts.{FinishStatus, Stands};
-ghost use Rattle.stk_machine.specs.BuiltLaws.{BuiltTransactionsEnd, BuiltMessagesNameConditions};
-ghost use Rattle.stk_app.specs.Laws.{RefusalsAreNamed, StakesAreHeld, SupplyStays};
+ghost use Rattle.stk_machine.specs.Promises.{AccountsHoldWhatIsOwed, AllTransactionsEnd, ClaimsAreBracketed, RunsAreSound, ShortfallsAreBounded, SuppliesFallByBurns};
+ghost use Rattle.stk_owed.specs.Kept.{RefusalsAreNamed, RunsAreAnswered};
+ghost use Rattle.stk_reached.specs.Going.{RunsGoFairly};
+ghost use Rattle.stk_reached.specs.Readers.{RunsTellFairly};
+ghost use Rattle.stk_app.specs.Laws.{AnswersAreReplays, LinesAreReplayed};
 
 use crate::feeding::{Progress, feed};
 use crate::finishing::finish;
@@ -14,9 +17,13 @@ use crate::status::{LimitKind, Status, status_at_end, status_of};
 use json::Scratch;
 use std::alloc::Global;
 use stk_io::{Sink, Source, read_at_most};
-use stk_machine::{
-    built_messages_name_conditions, built_transactions_end, genesis_starts,
-    staking_accounts_hold_what_is_owed, supplies_are_kept,
+use stk_machine::all_transactions_end;
+use stk_owed::runs::{
+    accounts_hold_what_is_owed, refusals_are_named, runs_are_answered, runs_are_sound,
+    supplies_fall_by_burns,
+};
+use stk_reached::runs::{
+    claims_are_bracketed, runs_go_fairly, runs_tell_fairly, shortfalls_are_bounded,
 };
 
 /// How many bytes are asked for at once.
@@ -47,7 +54,7 @@ fn end<K: Sink>(
     progress: &mut Progress,
 ) -> Status
     requires { length progress.old.line.items ≤ longest }
-    ensures status { (s : Stage) → StandsAt progress.old.chain s
+    ensures status { (s : Standing) → StandsAt progress.old.chain s
         → FinishStatus progress.old.number s (last_line progress.old.line.items)
         (K.written sink.old) (K.written sink.new) result }
     ensures busy { result ≡ Status.Usage → ⊥ }
@@ -155,7 +162,7 @@ fn is_replay(words: &[String]) -> bool
     }
 }
 
-/// Runs the command of these words; `replay` is the one command of this stage.
+/// Runs the command of these words; `replay` is the one command.
 ///
 /// The first line of the source is a genesis, each further line a block. Each line's text is written
 /// once the line was answered, and the report at the end of the input; then the sink is flushed.
@@ -190,18 +197,31 @@ pub fn run<S: Source, K: Sink>(
         → ¬ Rose (S.faults source.old) (S.faults source.new)
         → ¬ Rose (K.faults sink.old) (K.faults sink.new)
         → (result ≡ Status.Done) ⊎ (result ≡ Status.NoMemory) }
-    // What the machine keeps, at every input.
-    ensures supply { SupplyStays }
-    ensures stakes { StakesAreHeld }
-    ensures refusals { BuiltTransactionsEnd }
-    ensures conditions { BuiltMessagesNameConditions }
-    ensures named { RefusalsAreNamed }
+    // Lines that are answered are a replay, and what was written for them is what it reports.
+    ensures replayed { LinesAreReplayed }
+    ensures whole { AnswersAreReplays }
+    // What holds of each replay.
+    ensures sound { RunsAreSound }
+    ensures accounts { AccountsHoldWhatIsOwed }
+    ensures supplies { SuppliesFallByBurns }
+    ensures transactions { AllTransactionsEnd }
+    ensures refusals { RefusalsAreNamed }
+    ensures faults { RunsAreAnswered }
+    ensures rewards { ClaimsAreBracketed }
+    ensures payments { RunsGoFairly }
+    ensures told { RunsTellFairly }
+    ensures shortfalls { ShortfallsAreBounded }
 {
-    genesis_starts();
-    supplies_are_kept();
-    staking_accounts_hold_what_is_owed();
-    built_transactions_end();
-    built_messages_name_conditions();
+    runs_are_sound();
+    accounts_hold_what_is_owed();
+    supplies_fall_by_burns();
+    all_transactions_end();
+    refusals_are_named();
+    runs_are_answered();
+    claims_are_bracketed();
+    runs_go_fairly();
+    runs_tell_fairly();
+    shortfalls_are_bounded();
     if !is_replay(words) {
         return Status::Usage;
     }

@@ -13,8 +13,6 @@ pub enum InputFault {
     NotJson,
     /// The member of this number is missing or not of its form; 0: a member that has no number.
     BadShape(u16),
-    /// The line has something that is not built yet.
-    Unbuilt,
     /// The condition of this number keeps the genesis from starting a chain.
     BadGenesis(u8),
     /// The block does not follow those before it.

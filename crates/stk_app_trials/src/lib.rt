@@ -2,12 +2,8 @@
 #![tactic(auto)]
 
 #[cfg(test)]
-mod block_tests;
-#[cfg(test)]
 mod outside_tests;
 #[cfg(test)]
 mod samples;
-#[cfg(test)]
-mod stake_tests;
 #[cfg(test)]
 mod tests;

@@ -29,6 +29,8 @@ fn three_texts(alloc: Global) -> Result<Vec<Vec<u8>>, AllocError> {
         alloc,
         &[
             r#"{"height":2,"kind":"block","time":"2024-01-01T00:00:10Z"}"#,
+            SHARED_LINE,
+            POOLED_LINE,
             r#"{"height":2,"kind":"refused","msg":0,"number":1,"tx":0}"#,
         ],
     )?)?;
@@ -42,8 +44,8 @@ fn three_texts(alloc: Global) -> Result<Vec<Vec<u8>>, AllocError> {
             SUPPLY_LINE,
             PAYER_LINE,
             RECEIVER_LINE,
-            COLLECTOR_LINE,
-            POOL_LINE,
+            DISTRIBUTION_LINE,
+            TEN_POOLED_LINE,
         ],
     )?)?;
     Ok(texts)

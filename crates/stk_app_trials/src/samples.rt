@@ -8,12 +8,9 @@ pub const GENESIS_HEAD: &str =
 
 pub const GENESIS_TAIL: &str = r#"],"validators":[],"delegations":[]}"#;
 
-/// An account of 1,000 uatom, and of 9.
+/// An account of 1,000 uatom.
 pub const ONE_THOUSAND: &str =
     r#"{"address":"1111111111111111111111111111111111111111","coins":[{"denom":"uatom","amount":"1000"}]}"#;
-
-pub const NINE: &str =
-    r#"{"address":"1111111111111111111111111111111111111111","coins":[{"denom":"uatom","amount":"9"}]}"#;
 
 /// A transaction up to the amount of its fee, from there to its messages, and from them on.
 pub const TX_HEAD: &str =
@@ -23,15 +20,12 @@ pub const TX_MESSAGES: &str = r#""}],"msgs":["#;
 
 pub const TX_TAIL: &str = "]}";
 
-/// Messages of the first account to the second: 100 uatom, 991, and 60 twice.
+/// Messages of the first account to the second: 100 uatom, and 991.
 pub const SEND_100: &str =
     r#"{"kind":"send","from":"1111111111111111111111111111111111111111","to":"2222222222222222222222222222222222222222","coins":[{"denom":"uatom","amount":"100"}]}"#;
 
 pub const SEND_991: &str =
     r#"{"kind":"send","from":"1111111111111111111111111111111111111111","to":"2222222222222222222222222222222222222222","coins":[{"denom":"uatom","amount":"991"}]}"#;
-
-pub const SEND_60: &str =
-    r#"{"kind":"send","from":"1111111111111111111111111111111111111111","to":"2222222222222222222222222222222222222222","coins":[{"denom":"uatom","amount":"60"}]}"#;
 
 pub const GENESIS_LINE: &str =
     r#"{"height":0,"kind":"genesis","supply":[{"amount":"1000","denom":"uatom"}]}"#;
@@ -48,19 +42,24 @@ pub const ACCEPTED_LINE: &str = r#"{"height":1,"kind":"accepted","tx":0}"#;
 
 pub const SUPPLY_LINE: &str = r#"{"coins":[{"amount":"1000","denom":"uatom"}],"kind":"supply"}"#;
 
-pub const FULL_LINE: &str =
-    r#"{"address":"1111111111111111111111111111111111111111","coins":[{"amount":"1000","denom":"uatom"}],"kind":"account"}"#;
-
 pub const PAYER_LINE: &str =
     r#"{"address":"1111111111111111111111111111111111111111","coins":[{"amount":"890","denom":"uatom"}],"kind":"account"}"#;
 
 pub const RECEIVER_LINE: &str =
     r#"{"address":"2222222222222222222222222222222222222222","coins":[{"amount":"100","denom":"uatom"}],"kind":"account"}"#;
 
-pub const COLLECTOR_LINE: &str =
-    r#"{"address":"fee_collector","coins":[{"amount":"10","denom":"uatom"}],"kind":"account"}"#;
+/// The fee of the first block, 10, goes to the community pool where the second has no votes.
+pub const SHARED_LINE: &str =
+    r#"{"coins":[{"amount":"10","denom":"uatom"}],"from":"fee_collector","height":2,"kind":"transfer","to":"distribution"}"#;
 
-pub const POOL_LINE: &str = r#"{"coins":[],"kind":"pool"}"#;
+pub const POOLED_LINE: &str =
+    r#"{"coins":[{"amount":"10.000000000000000000","denom":"uatom"}],"height":2,"kind":"pooled"}"#;
+
+pub const DISTRIBUTION_LINE: &str =
+    r#"{"address":"distribution","coins":[{"amount":"10","denom":"uatom"}],"kind":"account"}"#;
+
+pub const TEN_POOLED_LINE: &str =
+    r#"{"coins":[{"amount":"10.000000000000000000","denom":"uatom"}],"kind":"pool"}"#;
 
 /// Adds a line, in parts.
 pub fn push_line(text: &mut Vec<u8>, parts: &[&str]) -> Result<(), AllocError> {
@@ -122,23 +121,4 @@ pub fn worked_input(alloc: Global) -> Result<Vec<u8>, AllocError> {
         &[TX_HEAD, "10", TX_MESSAGES, SEND_100, TX_TAIL],
     )?;
     Ok(text)
-}
-
-/// The output of the worked run.
-pub fn worked_output(alloc: Global) -> Result<Vec<u8>, AllocError> {
-    text(
-        alloc,
-        &[
-            GENESIS_LINE,
-            BLOCK_LINE,
-            FEE_LINE,
-            SEND_LINE,
-            ACCEPTED_LINE,
-            SUPPLY_LINE,
-            PAYER_LINE,
-            RECEIVER_LINE,
-            COLLECTOR_LINE,
-            POOL_LINE,
-        ],
-    )
 }

@@ -8,8 +8,8 @@ use std::sync::ledger::Ledger;
 use std::test::Fail;
 use stk_bank::Book;
 use stk_coins::{Coin, Coins};
-use stk_keep::{Bank, BankFault, Facts, Item, Records, Refusal, Stop};
-use stk_types::{Account, Addr, Denom, Module, Steps};
+use stk_keep::{Bank, Facts, Item, Records, Stop};
+use stk_types::{Account, Addr, Denom, Steps};
 
 fn denom(rt: &impl Abort, name: &[u8]) -> Denom {
     Denom::of(name).expect(rt, "a denomination")
@@ -119,139 +119,10 @@ fn send_most<L: Ledger>(
     Ok(send_message(rt, scene, 7, &user(rt, 9), &coins, steps))
 }
 
-/// A user sends 9 uatom to a module, over any bank.
-fn send_to_module<B: Bank, L: Ledger>(
-    rt: &(impl Abort + AllocGlobal),
-    bank: &mut B,
-    facts: &mut Facts,
-    steps: &mut Steps<L>,
-) -> Result<Result<(), BankFault>, Fail>
-    requires { IsBacked (B.holdings bank.old) }
-    ensures { OnOk result (IsBacked (B.holdings bank.new)) }
-{
-    let coins = purse(rt, 0, 9)?;
-    let pool = Account::Module(Module::NotBonded);
-    Ok(bank.send(rt.alloc(), facts, &user(rt, 9), &pool, &coins, steps))
-}
-
-/// Burns 2 uatom of a module's account, over any bank.
-fn burn_two<B: Bank, L: Ledger>(
-    rt: &(impl Abort + AllocGlobal),
-    bank: &mut B,
-    facts: &mut Facts,
-    module: Module,
-    steps: &mut Steps<L>,
-) -> Result<(), BankFault>
-    requires { IsBacked (B.holdings bank.old) }
-    ensures { IsBacked (B.holdings bank.new) }
-{
-    let coin = Coin {
-        denom: atom(rt),
-        amount: 2,
-    };
-    bank.burn(rt.alloc(), facts, module, &coin, steps)
-}
-
 /// Whether the users hold what they do after the message.
 fn is_sent<L: Ledger>(rt: &impl Abort, book: &Book, steps: &mut Steps<L>) -> bool {
     let sent = holds(book, &user(rt, 9), &atom(rt), 9, 15, steps);
     sent & holds(book, &user(rt, 7), &denom(rt, b"stake"), 0, 3, steps)
-}
-
-/// A message, and coins to a module.
-fn sends<L: Ledger>(
-    rt: &(impl Abort + AllocGlobal),
-    scene: &mut Scene,
-    steps: &mut Steps<L>,
-) -> Result<bool, Fail>
-    requires { IsBacked scene.old.book.holdings }
-    ensures { OnOk result (IsBacked scene.new.book.holdings) }
-{
-    let answer = send_most(rt, scene, steps)?;
-    let sent = is_sent(rt, &scene.book, steps);
-    let to_module = send_to_module(rt, &mut scene.book, &mut scene.facts, steps)?;
-    Ok((answer == Ok(())) & sent & (to_module == Ok(())))
-}
-
-/// Coins of a module's account burn; another has none.
-fn burns<L: Ledger>(
-    rt: &(impl Abort + AllocGlobal),
-    scene: &mut Scene,
-    steps: &mut Steps<L>,
-) -> bool
-    requires { IsBacked scene.old.book.holdings }
-{
-    let done = burn_two(
-        rt,
-        &mut scene.book,
-        &mut scene.facts,
-        Module::NotBonded,
-        steps,
-    );
-    let short = burn_two(rt, &mut scene.book, &mut scene.facts, Module::Bonded, steps);
-    let pool = Account::Module(Module::NotBonded);
-    let burnt = holds(&scene.book, &pool, &atom(rt), 7, 13, steps);
-    (done == Ok(())) & (short == Err(BankFault::Short)) & burnt
-}
-
-/// A message, then coins to a module, of which some burn, and of which another has none; three facts tell it.
-pub(crate) fn sends_and_burns<L: Ledger>(
-    rt: &(impl Abort + AllocGlobal),
-    scene: &mut Scene,
-    steps: &mut Steps<L>,
-) -> Result<bool, Fail>
-    requires { IsBacked scene.old.book.holdings }
-{
-    let sent = sends(rt, scene, steps)?;
-    let burnt = burns(rt, scene, steps);
-    Ok(sent & burnt & (scene.facts.len() == 3))
-}
-
-/// What is listed of a user's coins: so many denominations, so much stake and so many uatom.
-pub(crate) fn lists_coins<L: Ledger>(
-    rt: &(impl Abort + AllocGlobal),
-    scene: &Scene,
-    byte: u8,
-    want: (usize, u128, u128),
-    steps: &mut Steps<L>,
-) -> Result<bool, Fail>
-    requires { IsBacked scene.now.book.holdings }
-{
-    let coins = scene.book.coins_of(rt.alloc(), &user(rt, byte), steps)?;
-    let stake = coins.amount_of(&denom(rt, b"stake"));
-    Ok((coins.len() == want.0) & (stake == want.1) & (coins.amount_of(&atom(rt)) == want.2))
-}
-
-/// A message of so many uatom, from a user with 5 to a user or a module, is answered so.
-pub(crate) fn answers<L: Ledger>(
-    rt: &(impl Abort + AllocGlobal),
-    scene: &mut Scene,
-    to: Option<Module>,
-    atoms: u8,
-    want: Option<Refusal>,
-    steps: &mut Steps<L>,
-) -> Result<bool, Fail>
-    requires { IsBacked scene.old.book.holdings }
-{
-    let coins = purse(rt, 0, u128::from(atoms))?;
-    let to = receiver(rt, to);
-    let answer = send_message(rt, scene, 9, &to, &coins, steps);
-    Ok(answer == wanted(want))
-}
-
-/// A module's account, or that of a user.
-fn receiver(rt: &impl Abort, module: Option<Module>) -> Account {
-    match module {
-        Some(module) => Account::Module(module),
-        None => user(rt, 7),
-    }
-}
-
-fn wanted(want: Option<Refusal>) -> Result<(), Stop> {
-    match want {
-        Some(why) => Err(Stop::Refused(why)),
-        None => Ok(()),
-    }
 }
 
 /// A message that is undone.

@@ -2,14 +2,8 @@
 #![tactic(auto)]
 
 #[cfg(test)]
-mod admit_tests;
-#[cfg(test)]
-mod change_tests;
-#[cfg(test)]
-mod coin_tests;
+mod record_tests;
 #[cfg(test)]
 mod tests;
 #[cfg(test)]
 mod trials;
-#[cfg(test)]
-mod walk_tests;

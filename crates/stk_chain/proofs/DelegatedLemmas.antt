@@ -1,11 +1,10 @@
 -- What is delegated at the start, and how much there is of each denomination with it.
-use Rattle.std.proofs.Common.{◌≡◌, ◌∙◌, ℕ, ◌+◌, ◌-◌, ◌^◌, ◌≤◌, ◌<◌, Bool, true, false, cond, nat_lt, List, [], ◌∷◌, ◌++◌, map, drop, length, get_or, Option, Some, None, refl, sym, ap, subst, arith}
+use Rattle.std.proofs.Common.{◌≡◌, ◌∙◌, ℕ, ◌+◌, ◌^◌, ◌≤◌, ◌<◌, Bool, true, false, cond, nat_lt, List, [], ◌∷◌, ◌++◌, map, drop, Option, Some, None, refl, sym, ap, subst, arith}
 use Rattle.std.specs.Prelude.{◌==◌, sum, IsSome, MatchOption}
 use Rattle.std.specs.BTreeMap.{is_at, insert_entry}
 use Rattle.std.specs.Map.{remove_entry}
 use Rattle.std.proofs.lemmas.Bool.{true≢false}
 use Rattle.std.proofs.lemmas.Bool.Decides.{nat_tests}
-use Rattle.std.proofs.lemmas.List.Sums.{sum_by-cons}
 use Rattle.stk_types.specs.Orders.{denom_cmp}
 use Rattle.stk_coins.specs.Coins.{Money, IsMoney, amount_of, with_amount, coin_then, sorted_coins}
 use Rattle.stk_coins.proofs.Order.{money_from_rises, money-nil}
@@ -16,7 +15,6 @@ use Rattle.stk_machine.specs.Genesis.{coins_joined, supplies_with}
 use Rattle.stk_machine.specs.GenesisConditions.{delegated_coins, accounts_at_start, start_condition}
 use Rattle.stk_machine.proofs.StartLemmas.{may_start}
 use Rattle.stk_chain.specs.Supplies.{IsLow, IsHigh}
-use Rattle.stk_chain.proofs.PlaceLemmas.{next, drop_end}
 use Rattle.stk_chain.proofs.SupplyLemmas.{Ascend, joined, amount-joined, at_same, same_denom, grows, ascend-nil, ascend_accounts, low_joined, too_much}
 
 -- ---- the sum of what is delegated

@@ -10,7 +10,7 @@ use Rattle.std.proofs.lemmas.Option.{slice_get_within, get_or_from_slice_get, sl
 use Rattle.std.proofs.lemmas.Map.Text.{is_eq-slice_cmp}
 use Rattle.std.proofs.lemmas.Slice.Eq.{bytes_eq-Decides}
 use Rattle.stk_types.specs.Orders.{denom_cmp}
-use Rattle.stk_coins.specs.Coins.{Money, IsMoney, amount_of, with_amount}
+use Rattle.stk_coins.specs.Coins.{Money, amount_of, with_amount}
 use Rattle.stk_coins.proofs.Order.{above_keys, amount-above}
 use Rattle.stk_keep.proofs.EntryLemmas.{number-after, ascend-after}
 use Rattle.stk_keep.proofs.HoldingLemmas.{denom_total}

@@ -7,10 +7,10 @@ ghost use Rattle.stk_rules.specs.Withdrawals.{is_module};
 ghost use Rattle.stk_machine.specs.Genesis.{has_wrong_account};
 
 use crate::fault::ChainFault;
-use crate::repeats::has_repeat;
 use std::alloc::{AllocError, Global};
 use stk_coins::Coins;
 use stk_msgs::GenesisAccount;
+use stk_repeats::has_repeat;
 use stk_types::{Account, Copied};
 
 /// Whether an account is a module's.

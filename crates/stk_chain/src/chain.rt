@@ -1,75 +1,116 @@
-ghost use Rattle.std.specs.Prelude.{◌≡◌, ◌<◌, ◌^◌, [], None, Ok, false, IfOk, IfErr, OnOk};
-ghost use Rattle.stk_machine.specs.Blocks.{block_fault};
-ghost use Rattle.stk_machine.specs.Built.{IsBuilt, stake_over};
+ghost use Rattle.std.specs.Prelude.{◌≡◌, ◌<◌, ◌^◌, None, false, IfOk, IfErr, OnOk};
+ghost use Rattle.std.specs.List.Sorted.{IsPermutation};
+ghost use Rattle.stk_keep.specs.Items.{AreChanges};
 ghost use Rattle.stk_machine.specs.GenesisConditions.{start_condition};
-ghost use Rattle.stk_machine.specs.Items.{IsInKeyOrder};
+ghost use Rattle.stk_machine.specs.Items.{IsInKeyOrder, items_of};
+ghost use Rattle.stk_machine.specs.Report.{pending_of};
 ghost use Rattle.stk_rules.specs.Chain.{State};
-ghost use Rattle.stk_chain.specs.Answers.{IsGenesisFault, Starts, Applies, LeavesChain};
-ghost use Rattle.stk_chain.specs.Chained.{StandsFor, state_items};
+ghost use Rattle.stk_distr.specs.Rows.{AreInOrder};
+ghost use Rattle.stk_modules.specs.Kept.{StandsFor};
+ghost use Rattle.stk_modules.specs.Marks.{AreAtRest, settled_of};
+ghost use Rattle.stk_blocks.specs.Answers.{Applies};
+ghost use Rattle.stk_chain.specs.Answers.{IsGenesisFault, Starts, LeavesChain};
+ghost use Rattle.stk_chain.specs.Chained.{chained};
 
-use crate::block::{apply, fault_of};
 use crate::conditions::condition;
 use crate::fault::ChainFault;
-use crate::listing::{append_modules, supply_of};
-use crate::modules::Modules;
+use crate::letting_go::let_go;
+use crate::listing::{changes_of, items_of, settle_modules, supply_of};
+use crate::pending::pending_of;
 use crate::start::start;
 use std::alloc::Global;
 use std::marker::{Brand, Model};
 use std::sync::ledger::Blank;
+use stk_blocks::apply;
 use stk_coins::Coins;
-use stk_keep::{Facts, Item, RecordFault};
-use stk_msgs::{Block, BlockFault, BlockReport, Genesis};
+use stk_keep::{Ctx, Facts, Item};
+use stk_modules::Modules;
+use stk_msgs::{Block, BlockFault, BlockReport, Genesis, Pending};
 
-/// A chain. Contracts see what it keeps, which stands for a state of the machine, and whether memory was
-/// wanting in a block.
-#[derive(Drop)]
+/// A chain. Contracts see what it keeps and what was settled, which stand for states of the machine, and whether
+/// memory was wanting in a block.
 pub struct Chain {
     modules: Modules,
+    /// The height, time and parameters at the last settling.
+    settled: Ctx,
     spent: bool,
 }
 
+impl Drop for Chain {
+    fn drop(self) {
+        let Chain {
+            modules,
+            settled: _,
+            spent: _,
+        } = self;
+        let_go(modules);
+    }
+}
+
 impl Model for Chain {
-    ghost use Rattle.std.specs.Prelude.{◌≡◌, false};
-    ghost use Rattle.stk_chain.specs.Chained.{Chained, kept_of, AreAtRest};
+    ghost use Rattle.stk_distr.specs.Rows.{AreInOrder};
+    ghost use Rattle.stk_modules.specs.Marks.{AreAtRest, settled_of};
+    ghost use Rattle.stk_chain.specs.Chained.{Chained, chained};
 
     ghost Value = { Chained };
 
-    ghost view = { λ c. record { kept = kept_of c.modules; spent = c.spent } };
+    ghost view = { λ c. chained c.modules c.settled c.spent };
 
-    ghost invariant = { λ c. c.spent ≡ false → AreAtRest c.modules };
+    ghost invariant = { λ c. AreAtRest c.modules × AreInOrder (settled_of c.modules).shared };
+}
+
+/// The context in which modules stand.
+fn ctx_of(modules: &Modules) -> Ctx
+    ensures { result ≡ modules.now.ground.ctx }
+{
+    modules.ground.ctx
+}
+
+/// The chain of modules that were settled as they stand.
+fn settled_chain(modules: Modules) -> Chain
+    requires rest { AreAtRest modules }
+    requires order { AreInOrder (settled_of modules).shared }
+    ensures { result ≡ chained modules modules.ground.ctx false }
+{
+    let settled = ctx_of(&modules);
+    Chain {
+        modules,
+        settled,
+        spent: false,
+    }
 }
 
 impl Chain {
-    /// The chain that a genesis starts, and the facts of its start, of which there are none yet.
+    /// The chain that a genesis starts, which is settled, and the facts of its start.
     ///
     /// The errors are `BadGenesis`, exactly where a condition keeps the genesis from starting a chain, with
     /// the smallest number of such, and `NoMemory`.
     pub fn genesis(alloc: Global, genesis: &Genesis) -> Result<(Chain, Facts), ChainFault>
         ensures starts { IfOk result (λ _. start_condition genesis.now ≡ None) }
         ensures chain { IfOk result (λ first. Starts genesis.now first.1 first.0.kept) }
+        ensures settled { IfOk result (λ first. first.0.settled ≡ first.0.kept) }
         ensures unspent { IfOk result (λ first. first.0.spent ≡ false) }
-        ensures facts { IfOk result (λ first. first.1 ≡ []) }
         ensures fault { IfErr result (IsGenesisFault (start_condition genesis.now)) }
     {
         if let Some(number) = condition(alloc, genesis)? {
             return Err(ChainFault::BadGenesis(number));
         }
-        let modules = start::<Brand>(alloc, genesis, Blank::new(1))?;
-        let chain = Chain {
-            modules,
-            spent: false,
-        };
-        Ok((chain, Facts::new(alloc)))
+        let (modules, facts) = start::<Brand>(alloc, genesis, Blank::new(1))?;
+        Ok((settled_chain(modules), facts))
     }
 
     /// Applies a block, and tells what it did.
     ///
-    /// The errors are `BadHeight` with the height that was due, exactly where the block's is another;
-    /// `BadTime` with the last time, exactly where the height is right and the time is before the last or in
-    /// a year past 9899; and `NoMemory`. After the first two nothing has changed; after `NoMemory` each later
+    /// The errors, of which the first that holds is answered, are: `BadHeight` with the height that was due,
+    /// where the block's is another; `BadTime` with the last time, where the time is before the last or in a year
+    /// past 9899; then for each vote in order `UnknownVote` where no validator has its consensus address,
+    /// `RepeatedVote` where an earlier vote has it, `BadPower` where the powers up to it stand for more than
+    /// 10^18 tokens; then for each piece of evidence in order `BadEvidence` where its height is 0 or not below the
+    /// block's, its time is after the block's, or its power stands for more than 10^18 tokens; `RatioLimit` with
+    /// the operands, where a result of the block's beginning would be 10^38 units or more, or a period that it
+    /// ends is 10^18; and `NoMemory`. After all but the last nothing has changed; after `NoMemory` each later
     /// call answers `NoMemory`.
     pub fn apply_block(&mut self, alloc: Global, block: &Block) -> Result<BlockReport, BlockFault>
-        requires built { IsBuilt block.now }
         requires height { block.now.height < 2 ^ 63 }
         ensures applies { (p : State) → StandsFor self.old.kept p
             → Applies block.now p self.new.kept result }
@@ -78,27 +119,23 @@ impl Chain {
         if self.spent {
             return Err(BlockFault::NoMemory);
         }
-        if let Some(fault) = fault_of(&self.modules.ground.ctx, block) {
-            return Err(fault);
-        }
         match apply::<Brand>(alloc, &mut self.modules, block, Blank::new(1)) {
             Ok(report) => Ok(report),
-            Err(RecordFault::NoMemory) => {
+            Err(BlockFault::NoMemory) => {
                 self.spent = true;
                 Err(BlockFault::NoMemory)
             }
+            Err(fault) => Err(fault),
         }
     }
 
-    /// All that the chain keeps, as items: the last height and time, the parameters, the balances by account
-    /// and denomination, the supplies by denomination, the validators by operator and the delegations by
-    /// operator and delegator. Nothing else is kept yet; keys ascend in each of these lists. The only error is
-    /// `NoMemory`.
+    /// All that the chain keeps, as items: the last height and time, the parameters, balances and supplies,
+    /// validators and delegations, unbonding and redelegation entries, signing records, purses and the community
+    /// pool, to whom payments go, periods, starts and slash events. Keys ascend in each of these lists. The only
+    /// error is `NoMemory`.
     pub fn items(&self, alloc: Global) -> Result<Vec<Item>, ChainFault>
         ensures items { (p : State) → StandsFor self.now.kept p
-            → IfOk result (λ items. items.items ≡ state_items p) }
-        ensures alone { (p : State) → StandsFor self.now.kept p
-            → p ≡ stake_over p.mine.staked p.view }
+            → IfOk result (λ items. items.items ≡ items_of p) }
         ensures order { (p : State) → StandsFor self.now.kept p → OnOk result (IsInKeyOrder p) }
         ensures spent { IfOk result (λ _. self.now.spent ≡ false) }
         ensures fault { IfErr result (λ fault. fault ≡ ChainFault.NoMemory) }
@@ -106,16 +143,47 @@ impl Chain {
         if self.spent {
             return Err(ChainFault::NoMemory);
         }
-        let mut items = Vec::new(alloc);
-        items.push(Item::Head {
-            height: self.modules.ground.ctx.height,
-            time: self.modules.ground.ctx.time,
-        })?;
-        items.push(Item::Parameters {
-            params: self.modules.ground.ctx.params,
-        })?;
-        append_modules::<Brand>(&self.modules, &mut items, Blank::new(1))?;
-        Ok(items)
+        Ok(items_of::<Brand>(alloc, &self.modules, Blank::new(1))?)
+    }
+
+    /// The items by which the state differs from that at the last settling, each once: with true one that is new or
+    /// has another value, with false, by its key alone, one that is gone. The only error is `NoMemory`.
+    pub fn changes(&self, alloc: Global) -> Result<Vec<(Item, bool)>, ChainFault>
+        ensures changes { (p q : State) → StandsFor self.now.settled p → StandsFor self.now.kept q
+            → IfOk result (λ changes. AreChanges (items_of p) (items_of q) changes.items) }
+        ensures spent { IfOk result (λ _. self.now.spent ≡ false) }
+        ensures fault { IfErr result (λ fault. fault ≡ ChainFault.NoMemory) }
+    {
+        if self.spent {
+            return Err(ChainFault::NoMemory);
+        }
+        let last = &self.settled;
+        Ok(changes_of::<Brand>(alloc, &self.modules, last, Blank::new(1))?)
+    }
+
+    /// From now on changes are told from here. Takes no memory.
+    pub fn settle(&mut self)
+        ensures settled { self.new.settled ≡ self.old.kept }
+        ensures kept { self.new.kept ≡ self.old.kept }
+        ensures spent { self.new.spent ≡ self.old.spent }
+    {
+        settle_modules::<Brand>(&mut self.modules, Blank::new(1));
+        self.settled = self.modules.ground.ctx;
+    }
+
+    /// What a withdrawal of each delegation at the last height would be paid from, by operator, then delegator; it
+    /// changes nothing. The coins are None exactly where the computation meets the limit of decimals. The only error
+    /// is `NoMemory`.
+    pub fn pending(&self, alloc: Global) -> Result<Vec<Pending>, ChainFault>
+        ensures pending { (p : State) → StandsFor self.now.kept p
+            → IfOk result (λ list. IsPermutation (pending_of p) list.items) }
+        ensures spent { IfOk result (λ _. self.now.spent ≡ false) }
+        ensures fault { IfErr result (λ fault. fault ≡ ChainFault.NoMemory) }
+    {
+        if self.spent {
+            return Err(ChainFault::NoMemory);
+        }
+        Ok(pending_of::<Brand>(alloc, &self.modules, Blank::new(1))?)
     }
 
     /// How much there is of each denomination. The only error is `NoMemory`.

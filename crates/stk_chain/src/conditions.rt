@@ -8,12 +8,13 @@ ghost use Rattle.stk_rules.specs.Validators.{are_out_of_range};
 
 use crate::accounts::has_wrong_account;
 use crate::fault::ChainFault;
-use crate::ranges::{are_in_range, is_past_blocks};
-use crate::repeats::{are_among, has_repeat};
+use crate::ranges::are_in_range;
 use crate::supplies::{has_too_many, supplies_at_start};
 use std::alloc::{AllocError, Global};
+use stk_blocks::is_past_blocks;
 use stk_keep::Params;
 use stk_msgs::{Genesis, GenesisDelegation, GenesisValidator};
+use stk_repeats::{are_among, has_repeat};
 use stk_types::{Addr, ConsAddr};
 
 /// One, in units of 10^-18.

@@ -1,36 +1,80 @@
-//! What the modules keep, as lists.
+//! What a chain keeps, as lists: its items, what changed of them, and how much there is of each denomination.
 
 ghost use Rattle.std.specs.Prelude.{◌≡◌, ◌<◌, ◌++◌, IfOk, OnOk};
 ghost use Rattle.std.specs.List.{filter_map};
 ghost use Rattle.std.specs.Option.{option_to_list};
 ghost use Rattle.stk_bank.specs.Rows.{items_of};
-ghost use Rattle.stk_book.specs.Rows.{items_of as stake_items};
 ghost use Rattle.stk_keep.specs.Holdings.{IsBacked};
+ghost use Rattle.stk_keep.specs.Items.{AreChanges};
+ghost use Rattle.stk_distr.specs.Rows.{AreInOrder};
+ghost use Rattle.stk_modules.specs.Kept.{kept_of, parts_of};
+ghost use Rattle.stk_modules.specs.Marks.{AreAtRest, settled_of, settled_over};
+ghost use Rattle.stk_modules.specs.Rows.{items_of as module_items};
 ghost use Rattle.stk_chain.specs.Chained.{coin_in};
 
-use crate::modules::Modules;
 use std::alloc::{AllocFailed, Global};
 use std::sync::ledger::{Blank, Ledger};
 use stk_bank::Book;
 use stk_coins::{Coin, Coins};
-use stk_keep::{Item, RecordFault, Records};
+use stk_keep::{Ctx, Item, RecordFault, Records};
+use stk_modules::Modules;
 use stk_types::Steps;
 
-/// Appends the items of all modules. After an error some of them may stand there.
-pub(crate) fn append_modules<L: Ledger>(
+/// The items of modules.
+pub(crate) fn items_of<L: Ledger>(
+    alloc: Global,
     modules: &Modules,
-    items: &mut Vec<Item>,
     blank: Blank,
-) -> Result<(), RecordFault>
+) -> Result<Vec<Item>, RecordFault>
     requires name { blank.name ≡ L.name }
     requires parts { blank.parts ≡ L.parts }
     requires some { 0 < L.parts }
-    ensures { OnOk result (items.new.items ≡ items.old.items
-        ++ (items_of modules.now.ground.bank.holdings ++ stake_items modules.now.staking.staked)) }
+    ensures items { IfOk result (λ items. items.items ≡ module_items (kept_of modules.now)) }
+    ensures order { AreInOrder (kept_of modules.now).shared }
 {
     let mut steps: Steps<L> = Steps::new(blank);
-    modules.ground.bank.items_into(items, &mut steps)?;
-    modules.staking.items_into(items, &mut steps)
+    modules.ordered();
+    let mut items = Vec::new(alloc);
+    modules.items_into(&mut items, &mut steps)?;
+    Ok(items)
+}
+
+/// The items by which modules differ from what was settled over a context.
+pub(crate) fn changes_of<L: Ledger>(
+    alloc: Global,
+    modules: &Modules,
+    settled: &Ctx,
+    blank: Blank,
+) -> Result<Vec<(Item, bool)>, RecordFault>
+    requires name { blank.name ≡ L.name }
+    requires parts { blank.parts ≡ L.parts }
+    requires some { 0 < L.parts }
+    ensures changes { IfOk result (λ changes. AreChanges
+        (module_items (settled_over settled.now modules.now))
+        (module_items (kept_of modules.now)) changes.items) }
+    ensures order { AreInOrder (kept_of modules.now).shared }
+{
+    let mut steps: Steps<L> = Steps::new(blank);
+    modules.ordered();
+    let mut changes = Vec::new(alloc);
+    modules.changes_into(settled, &mut changes, &mut steps)?;
+    Ok(changes)
+}
+
+/// From now on changes of modules are told from here.
+pub(crate) fn settle_modules<L: Ledger>(modules: &mut Modules, blank: Blank)
+    requires name { blank.name ≡ L.name }
+    requires parts { blank.parts ≡ L.parts }
+    requires some { 0 < L.parts }
+    requires rest { AreAtRest modules.old }
+    ensures settled { settled_of modules.new ≡ parts_of modules.old }
+    ensures same { kept_of modules.new ≡ kept_of modules.old }
+    ensures rest { AreAtRest modules.new }
+    ensures order { AreInOrder (settled_of modules.new).shared }
+{
+    let mut steps: Steps<L> = Steps::new(blank);
+    modules.ordered();
+    modules.settle(&mut steps);
 }
 
 /// Appends the items of a bank. After an error some of them may stand there.

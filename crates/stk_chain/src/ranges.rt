@@ -1,28 +1,16 @@
-//! The ranges of parameters and times.
+//! The ranges of parameters.
 
 ghost use Rattle.std.specs.Prelude.{◌≡◌, ◌^◌, nat_le, ◌&&◌};
 ghost use Rattle.stk_machine.specs.Genesis.{is_within, are_in_range};
-ghost use Rattle.stk_keep.specs.Ground.{end_of_blocks};
 
 use stk_dec::Dec;
 use stk_keep::Params;
-use stk_types::Moment;
-
-/// The first nanosecond of the year 9900.
-const END_OF_BLOCKS: u128 = 250_246_627_200_000_000_000;
 
 /// One, in units of 10^-18.
 const ONE: u128 = 1_000_000_000_000_000_000;
 
 /// The most that is allowed of a duration in seconds.
 const MOST_SECONDS: u64 = 1_000_000_000;
-
-/// Whether the moment is in a year past 9899.
-pub(crate) fn is_past_blocks(time: Moment) -> bool
-    ensures { result ≡ nat_le end_of_blocks time }
-{
-    END_OF_BLOCKS <= time.nanos()
-}
 
 /// Whether the number is from the one to the other.
 fn is_within(least: u64, most: u64, number: u64) -> bool

@@ -1,53 +1,91 @@
-//! What a genesis starts: the accounts hold their coins, and validators and delegations stand (Cosmos SDK:
-//! `InitGenesis` of `x/bank` and `x/staking`).
+//! What a genesis starts: the accounts hold their coins, validators and delegations stand, and the bonded set is made
+//! (Cosmos SDK: `InitGenesis` of `x/bank`, `x/staking`, `x/distribution` and `x/slashing`).
 
-ghost use Rattle.std.specs.Prelude.{◌≡◌, ◌<◌, ◌∷◌, List, None, Ok, IfOk, IfErr, OnOk};
+ghost use Rattle.std.specs.Prelude.{◌≡◌, ◌<◌, ◌^◌, [], None, Ok, Err, length, IfOk, IfErr, OnOk};
 ghost use Rattle.stk_keep.specs.Holdings.{IsBacked};
-ghost use Rattle.stk_keep.specs.Staked.{validator_at, validator_by_cons};
-ghost use Rattle.stk_keep.specs.Steps.{each};
-ghost use Rattle.stk_rules.specs.Answers.{StopsForMemory};
-ghost use Rattle.stk_rules.specs.Chain.{State, staked_in};
+ghost use Rattle.stk_rules.specs.Answers.{StopsForMemory, WantsMemory};
+ghost use Rattle.stk_rules.specs.Chain.{State, chain_told, staked_in};
 ghost use Rattle.stk_bank.specs.Booked.{holding, new_book};
-ghost use Rattle.stk_book.specs.Calls.{HasRates};
-ghost use Rattle.stk_msgs.specs.declared.genesis.GenesisDelegation.{GenesisDelegation};
-ghost use Rattle.stk_machine.specs.Built.{no_hook, IsStarting};
 ghost use Rattle.stk_machine.specs.Genesis.{held_at_start};
 ghost use Rattle.stk_machine.specs.GenesisConditions.{start_condition, accounts_at_start, creation_of};
-ghost use Rattle.stk_machine.specs.GenesisState.{ground_at_start, empty_over, validator_added, delegation_added};
-ghost use Rattle.stk_chain.specs.Answers.{Starts, IsAdded};
-ghost use Rattle.stk_chain.specs.Chained.{StandsFor, kept_of, AreAtRest};
+ghost use Rattle.stk_machine.specs.GenesisState.{validator_added, delegation_added};
+ghost use Rattle.stk_machine.specs.Promises.{IsGoodGenesis};
+ghost use Rattle.stk_distr.specs.Rows.{AreInOrder};
+ghost use Rattle.stk_modules.specs.Kept.{Keeps, kept_of, parts_of, IsStakeScene};
+ghost use Rattle.stk_modules.specs.Marks.{GoOn, AreAtRest, marks_of, no_marks, settled_of};
+ghost use Rattle.stk_chain.specs.Answers.{Starts};
+ghost use Rattle.stk_chain.specs.Founding.{AreAdding, HaveStarted, IsEmpty, IsAdded, IsNextValidator, IsNextDelegation, delegations_left, set_left};
 
 use crate::accounts::holders;
 use crate::fault::ChainFault;
-use crate::modules::Modules;
+use crate::letting_go::let_go;
 use crate::supplies::delegated_coins;
 use std::alloc::Global;
+use std::mem;
 use std::sync::ledger::{Blank, Ledger};
 use stk_bank::Book;
-use stk_book::{Origin, Staking};
+use stk_blocks::update_set;
+use stk_book::Origin;
 use stk_coins::Coin;
-use stk_keep::{BankFault, CreateValidator, Ctx, Facts, Ground, HookFault, NoHooks, Stop};
+use stk_keep::{BankFault, CreateValidator, Ctx, Facts, Ground, HookFault, Stop};
+use stk_modules::Modules;
 use stk_msgs::{Genesis, GenesisDelegation, GenesisValidator};
 use stk_types::{Account, BondStatus, Denom, Module, Steps};
 
-/// The modules that a genesis starts of which no condition holds.
+/// The modules that a genesis starts of which no condition holds, settled, and the facts of its start.
 pub(crate) fn start<L: Ledger>(
     alloc: Global,
     genesis: &Genesis,
     blank: Blank,
-) -> Result<Modules, ChainFault>
+) -> Result<(Modules, Facts), ChainFault>
     requires name { blank.name ≡ L.name }
     requires parts { blank.parts ≡ L.parts }
     requires some { 0 < L.parts }
     requires starts { start_condition genesis.now ≡ None }
-    ensures started { IfOk result
-        (λ modules. Starts genesis.now modules.ground.facts (kept_of modules)) }
-    ensures rest { IfOk result AreAtRest }
+    ensures started { IfOk result (λ first. Starts genesis.now first.1 (kept_of first.0)) }
+    ensures rest { IfOk result (λ first. AreAtRest first.0) }
+    ensures settled { IfOk result (λ first. settled_of first.0 ≡ parts_of first.0) }
+    ensures order { IfOk result (λ first. AreInOrder (settled_of first.0).shared) }
     ensures fault { IfErr result (λ fault. fault ≡ ChainFault.NoMemory) }
 {
     let mut steps: Steps<L> = Steps::new(blank);
+    let mut modules = empty_modules(alloc, genesis, &mut steps)?;
+    let told = found(alloc, &mut modules, genesis, &mut steps);
+    founded(modules, told)
+}
+
+/// The modules, with what founding them told; or why that failed.
+fn founded(
+    modules: Modules,
+    told: Result<Facts, ChainFault>,
+) -> Result<(Modules, Facts), ChainFault>
+    ensures modules { IfOk result (λ first. first.0 ≡ modules) }
+    ensures facts { IfOk result (λ first. told ≡ Ok first.1) }
+    ensures fault { IfErr result (λ fault. told ≡ Err fault) }
+{
+    match told {
+        Ok(facts) => Ok((modules, facts)),
+        Err(fault) => {
+            let_go(modules);
+            Err(fault)
+        }
+    }
+}
+
+/// The modules before the first validator of a genesis that starts a chain: the accounts hold their coins.
+fn empty_modules<L: Ledger>(
+    alloc: Global,
+    genesis: &Genesis,
+    steps: &mut Steps<L>,
+) -> Result<Modules, ChainFault>
+    requires starts { start_condition genesis.now ≡ None }
+    ensures empty { IfOk result (IsEmpty genesis.now) }
+    ensures unmarked { IfOk result (λ modules. marks_of modules ≡ no_marks) }
+    ensures fault { IfErr result (λ fault. fault ≡ ChainFault.NoMemory) }
+{
+    let bank = start_book(alloc, genesis, steps)?;
     let ground = Ground {
-        bank: start_book(alloc, genesis, &mut steps)?,
+        bank,
         ctx: Ctx {
             height: 0,
             time: genesis.time,
@@ -55,14 +93,38 @@ pub(crate) fn start<L: Ledger>(
         },
         facts: Facts::new(alloc),
     };
-    let mut modules = Modules {
-        ground,
-        staking: Staking::new(alloc, genesis.params.power_reduction),
-    };
-    match modules.add_stake(alloc, genesis, &mut steps) {
-        Ok(()) => Ok(modules),
-        Err(fault) => Err(fault),
-    }
+    Ok(Modules::over(alloc, ground))
+}
+
+/// Adds what a genesis delegates, makes the bonded set, settles the modules, and takes the facts of all that.
+fn found<L: Ledger>(
+    alloc: Global,
+    modules: &mut Modules,
+    genesis: &Genesis,
+    steps: &mut Steps<L>,
+) -> Result<Facts, ChainFault>
+    requires starts { start_condition genesis.now ≡ None }
+    requires empty { IsEmpty genesis.now modules.old }
+    requires unmarked { marks_of modules.old ≡ no_marks }
+    ensures started { IfOk result (λ facts. Starts genesis.now facts (kept_of modules.new)) }
+    ensures rest { IfOk result (λ _. AreAtRest modules.new) }
+    ensures settled { IfOk result (λ _. settled_of modules.new ≡ parts_of modules.new) }
+    ensures order { IfOk result (λ _. AreInOrder (settled_of modules.new).shared) }
+    ensures fault { IfErr result (λ fault. fault ≡ ChainFault.NoMemory) }
+{
+    are_few(genesis.delegations.as_slice());
+    add_stake(alloc, modules, genesis, steps)?;
+    let facts = mem::replace(&mut modules.ground.facts, Facts::new(alloc));
+    modules.ordered();
+    modules.settle(steps);
+    Ok(facts)
+}
+
+/// It tells that there are fewer than 10^18 delegations, since each takes more than 16 bytes, and does nothing.
+fn are_few(delegations: &[GenesisDelegation])
+    ensures { length delegations.now < 10 ^ 18 }
+{
+    let _ = delegations.len();
 }
 
 /// The bank of a genesis that starts a chain: each account has its coins, and the not-bonded account what is
@@ -117,131 +179,131 @@ fn never_refused(why: Stop) -> ChainFault
     }
 }
 
-impl Modules {
-    /// Adds the validators and the delegations of a genesis that starts a chain.
-    fn add_stake<L: Ledger>(
-        &mut self,
-        alloc: Global,
-        genesis: &Genesis,
-        steps: &mut Steps<L>,
-    ) -> Result<(), ChainFault>
-        requires starts { start_condition genesis.now ≡ None }
-        requires empty { StandsFor (kept_of self.old) (empty_over (ground_at_start genesis.now)) }
-        requires rest { AreAtRest self.old }
-        ensures started { OnOk result
-            (Starts genesis.now self.new.ground.facts (kept_of self.new)) }
-        ensures rest { OnOk result (AreAtRest self.new) }
-        ensures fault { IfErr result (λ fault. fault ≡ ChainFault.NoMemory) }
-    {
-        self.add_validators(alloc, genesis, steps)?;
-        self.add_delegations(alloc, genesis, steps)
+/// The fault of a call that is not over.
+fn never_over(fault: HookFault) -> ChainFault
+    requires { WantsMemory fault }
+    ensures { result ≡ ChainFault.NoMemory }
+{
+    match fault {
+        HookFault::NoMemory => ChainFault::NoMemory,
+        HookFault::Over(_) => unreachable!(),
     }
+}
 
-    /// Adds the validators of a genesis that starts a chain, in their order.
-    fn add_validators<L: Ledger>(
-        &mut self,
-        alloc: Global,
-        genesis: &Genesis,
-        steps: &mut Steps<L>,
-    ) -> Result<(), ChainFault>
-        requires starts { start_condition genesis.now ≡ None }
-        requires empty { StandsFor (kept_of self.old) (empty_over (ground_at_start genesis.now)) }
-        requires rest { AreAtRest self.old }
-        ensures added { (p : State) → StandsFor (kept_of self.old) p
-            → OnOk result (IsAdded
-            (each (validator_added no_hook) genesis.now.validators (staked_in p))
-            (kept_of self.new)) }
-        ensures rest { OnOk result (AreAtRest self.new) }
-        ensures fault { IfErr result (λ fault. fault ≡ ChainFault.NoMemory) }
-    {
-        let validators = genesis.validators.as_slice();
-        for v in validators {
-            self.add_validator(alloc, v, steps)?;
-        }
-        Ok(())
+/// Adds the validators and the delegations of a genesis that starts a chain, and makes the bonded set.
+fn add_stake<L: Ledger>(
+    alloc: Global,
+    modules: &mut Modules,
+    genesis: &Genesis,
+    steps: &mut Steps<L>,
+) -> Result<(), ChainFault>
+    requires good { IsGoodGenesis genesis.now }
+    requires empty { IsEmpty genesis.now modules.old }
+    ensures started { OnOk result (HaveStarted genesis.now modules.new) }
+    ensures go_on { GoOn modules.old modules.new }
+    ensures fault { IfErr result (λ fault. fault ≡ ChainFault.NoMemory) }
+{
+    add_validators(alloc, modules, genesis, steps)?;
+    add_delegations(alloc, modules, genesis, steps)?;
+    match update_set(alloc, modules, steps) {
+        Ok(()) => Ok(()),
+        Err(fault) => Err(never_over(fault)),
     }
+}
 
-    /// Adds a validator of a genesis.
-    fn add_validator<L: Ledger>(
-        &mut self,
-        alloc: Global,
-        v: &GenesisValidator,
-        steps: &mut Steps<L>,
-    ) -> Result<(), ChainFault>
-        requires new { validator_at self.old.staking.staked v.now.operator ≡ None }
-        requires new_cons { validator_by_cons self.old.staking.staked v.now.cons ≡ None }
-        requires rates { HasRates (creation_of self.old.ground.ctx.params.bond_denom v.now) }
-        requires rest { AreAtRest self.old }
-        ensures added { (p : State) → StandsFor (kept_of self.old) p
-            → OnOk result (IsAdded (validator_added no_hook v.now (staked_in p))
-            (kept_of self.new)) }
-        ensures rest { OnOk result (AreAtRest self.new) }
-        ensures fault { IfErr result (λ fault. fault ≡ ChainFault.NoMemory) }
-    {
-        let m = creation_of(&self.ground.ctx.params.bond_denom, v);
-        match self
-            .staking
-            .admit(alloc, &mut self.ground, &mut NoHooks, &m, steps)
-        {
-            Ok(()) => Ok(()),
-            Err(HookFault::NoMemory) => Err(ChainFault::NoMemory),
-            Err(HookFault::Over(_)) => unreachable!(),
-        }
+/// Adds the validators of a genesis that starts a chain, in their order.
+fn add_validators<L: Ledger>(
+    alloc: Global,
+    modules: &mut Modules,
+    genesis: &Genesis,
+    steps: &mut Steps<L>,
+) -> Result<(), ChainFault>
+    requires starts { start_condition genesis.now ≡ None }
+    requires empty { IsEmpty genesis.now modules.old }
+    ensures added { OnOk result (AreAdding genesis.now genesis.now.delegations
+        (delegations_left genesis.now.delegations) modules.new) }
+    ensures go_on { GoOn modules.old modules.new }
+    ensures fault { IfErr result (λ fault. fault ≡ ChainFault.NoMemory) }
+{
+    let validators = genesis.validators.as_slice();
+    for v in validators {
+        add_validator(alloc, modules, v, steps)?;
     }
+    Ok(())
+}
 
-    /// Adds the delegations of a genesis whose validators stand, in their order.
-    fn add_delegations<L: Ledger>(
-        &mut self,
-        alloc: Global,
-        genesis: &Genesis,
-        steps: &mut Steps<L>,
-    ) -> Result<(), ChainFault>
-        requires starting { (p : State) × StandsFor (kept_of self.old) p
-            × IsStarting genesis.now.delegations (staked_in p) }
-        requires rest { AreAtRest self.old }
-        ensures added { (p : State) → StandsFor (kept_of self.old) p
-            → OnOk result (IsAdded
-            (each (delegation_added no_hook) genesis.now.delegations (staked_in p))
-            (kept_of self.new)) }
-        ensures rest { OnOk result (AreAtRest self.new) }
-        ensures fault { IfErr result (λ fault. fault ≡ ChainFault.NoMemory) }
-    {
-        let delegations = genesis.delegations.as_slice();
-        for d in delegations {
-            self.add_delegation(alloc, d, steps)?;
-        }
-        Ok(())
+/// Adds the next validator of a genesis.
+fn add_validator<L: Ledger>(
+    alloc: Global,
+    modules: &mut Modules,
+    v: &GenesisValidator,
+    steps: &mut Steps<L>,
+) -> Result<(), ChainFault>
+    requires next { IsNextValidator v.now modules.old }
+    ensures added { (p : State) → Keeps (kept_of modules.old) p → OnOk result
+        (IsAdded p.mine (validator_added chain_told v.now (staked_in p)) (kept_of modules.new)) }
+    ensures scene { OnOk result (IsStakeScene modules.new) }
+    ensures go_on { GoOn modules.old modules.new }
+    ensures fault { IfErr result (λ fault. fault ≡ ChainFault.NoMemory) }
+{
+    let m = creation_of(&modules.ground.ctx.params.bond_denom, v);
+    let admitted = modules
+        .stakes
+        .staking
+        .admit(alloc, &mut modules.ground, &mut modules.hooks, &m, steps);
+    match admitted {
+        Ok(()) => Ok(()),
+        Err(fault) => Err(never_over(fault)),
     }
+}
 
-    /// Adds the next delegation of a genesis, of coins that the not-bonded account has already.
-    fn add_delegation<L: Ledger>(
-        &mut self,
-        alloc: Global,
-        d: &GenesisDelegation,
-        steps: &mut Steps<L>,
-    ) -> Result<(), ChainFault>
-        requires next { (p : State) × (later : List GenesisDelegation)
-            × StandsFor (kept_of self.old) p × IsStarting (d.now ∷ later) (staked_in p) }
-        requires rest { AreAtRest self.old }
-        ensures added { (p : State) → StandsFor (kept_of self.old) p
-            → OnOk result (IsAdded (delegation_added no_hook d.now (staked_in p))
-            (kept_of self.new)) }
-        ensures rest { OnOk result (AreAtRest self.new) }
-        ensures fault { IfErr result (λ fault. fault ≡ ChainFault.NoMemory) }
-    {
-        let delegated = self.staking.delegate(
-            alloc,
-            &mut self.ground,
-            &mut NoHooks,
-            &d.delegator,
-            &d.validator,
-            d.amount,
-            Origin::Pool(BondStatus::Unbonded),
-            steps,
-        );
-        match delegated {
-            Ok(_) => Ok(()),
-            Err(why) => Err(never_refused(why)),
-        }
+/// Adds the delegations of a genesis whose validators stand, in their order.
+fn add_delegations<L: Ledger>(
+    alloc: Global,
+    modules: &mut Modules,
+    genesis: &Genesis,
+    steps: &mut Steps<L>,
+) -> Result<(), ChainFault>
+    requires good { IsGoodGenesis genesis.now }
+    requires adding { AreAdding genesis.now genesis.now.delegations
+        (delegations_left genesis.now.delegations) modules.old }
+    ensures added { OnOk result (AreAdding genesis.now [] set_left modules.new) }
+    ensures go_on { GoOn modules.old modules.new }
+    ensures fault { IfErr result (λ fault. fault ≡ ChainFault.NoMemory) }
+{
+    let delegations = genesis.delegations.as_slice();
+    for d in delegations {
+        add_delegation(alloc, modules, d, steps)?;
+    }
+    Ok(())
+}
+
+/// Adds the next delegation of a genesis, of coins that the not-bonded account has already.
+fn add_delegation<L: Ledger>(
+    alloc: Global,
+    modules: &mut Modules,
+    d: &GenesisDelegation,
+    steps: &mut Steps<L>,
+) -> Result<(), ChainFault>
+    requires next { IsNextDelegation d.now modules.old }
+    ensures added { (p : State) → Keeps (kept_of modules.old) p → OnOk result
+        (IsAdded p.mine (delegation_added chain_told d.now (staked_in p)) (kept_of modules.new)) }
+    ensures scene { OnOk result (IsStakeScene modules.new) }
+    ensures go_on { GoOn modules.old modules.new }
+    ensures fault { IfErr result (λ fault. fault ≡ ChainFault.NoMemory) }
+{
+    let delegated = modules.stakes.staking.delegate(
+        alloc,
+        &mut modules.ground,
+        &mut modules.hooks,
+        &d.delegator,
+        &d.validator,
+        d.amount,
+        Origin::Pool(BondStatus::Unbonded),
+        steps,
+    );
+    match delegated {
+        Ok(_) => Ok(()),
+        Err(why) => Err(never_refused(why)),
     }
 }

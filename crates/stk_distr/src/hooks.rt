@@ -1,8 +1,7 @@
 //! Distribution as hooks of staking (`x/distribution/keeper/hooks.go`).
 
-ghost use Rattle.std.specs.Prelude.{List};
 ghost use Rattle.stk_rules.specs.Distribution.{Shared};
-ghost use Rattle.stk_distr.specs.Kept.{KeptShared};
+ghost use Rattle.stk_distr.specs.Kept.{Behind, behind};
 ghost use Rattle.stk_distr.specs.Lawful.{distribution_lawful};
 ghost use Rattle.stk_distr.specs.Stands.{KeepsShared};
 ghost use Rattle.stk_distr.specs.Tells.{distribution_tells};
@@ -21,9 +20,9 @@ impl StakingHooks for Distr {
 
     ghost tells = { distribution_tells };
 
-    ghost Marks = { List KeptShared };
+    ghost Marks = { Behind };
 
-    ghost marks = { λ s. s.marks };
+    ghost marks = { behind };
 
     fn after_validator_created<B: Bank, L: Ledger>(
         &mut self,

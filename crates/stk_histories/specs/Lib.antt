@@ -4,4 +4,4 @@ pub mod HistoryRows
 pub mod LifeRows
 pub mod RandomRows
 pub mod SoundRows
-pub mod BuiltRows
+pub mod OutcomeRows

@@ -20,10 +20,9 @@ use Rattle.stk_msgs.specs.declared.report.Outcome.{Outcome}
 use Rattle.stk_msgs.specs.declared.report.Outcome.TheVariants.{Accepted, FeeUnpaid, Refused}
 use Rattle.stk_rules.specs.Chain.{State}
 use Rattle.stk_machine.specs.Blocks.{block_fault}
-use Rattle.stk_machine.specs.Built.{built_start, built_effect, built_run}
 use Rattle.stk_machine.specs.GenesisConditions.{start_condition}
-use Rattle.stk_machine.specs.GenesisState.{empty_over}
-use Rattle.stk_machine.specs.Machine.{TxStep, tx_applied_by}
+use Rattle.stk_machine.specs.GenesisState.{chain_started, empty_over}
+use Rattle.stk_machine.specs.Machine.{TxStep, run_of, tx_applied}
 
 -- ---- what the rows are about
 
@@ -97,7 +96,7 @@ first_state = state_of (held_by_ones 1000) []
 
 -- a transaction in a state in which this is held
 abbrev pub applied : Tx → Holdings → TxStep
-applied tx h = tx_applied_by built_effect tx (state_of h [])
+applied tx h = tx_applied tx (state_of h [])
 
 -- what it comes to
 abbrev pub comes_to : List Fact → Outcome → Holdings → TxStep
@@ -106,13 +105,13 @@ comes_to facts outcome h = record { report = record { facts = facts; outcome = o
 -- ---- what a genesis starts
 
 abbrev pub OneAccountStarts : Type 0
-OneAccountStarts = built_start one_account ≡ Ok (record { facts = []; state = first_state })
+OneAccountStarts = chain_started one_account ≡ Ok (record { facts = []; state = first_state })
 
 -- ---- runs
 
 -- a block of one send of 100 uatom with a fee of 10: the account keeps 890
 abbrev pub OneSend : Type 0
-OneSend = built_run (block_at 1 (new_year + 5 * 10 ^ 9) (tx_of (atoms 10) (send_to (account.User twos) (atoms 100) ∷ []) ∷ []) ∷ []) first_state ≡ record {
+OneSend = run_of (block_at 1 (new_year + 5 * 10 ^ 9) (tx_of (atoms 10) (send_to (account.User twos) (atoms 100) ∷ []) ∷ []) ∷ []) first_state ≡ record {
   reports = record {
     height = 1;
     time = new_year + 5 * 10 ^ 9;
@@ -133,7 +132,7 @@ OneSend = built_run (block_at 1 (new_year + 5 * 10 ^ 9) (tx_of (atoms 10) (send_
 
 -- a block of height 3 after one of height 1: 2 is due, and the run ends before it
 abbrev pub HeightMissed : Type 0
-HeightMissed = (built_run (block_at 1 new_year [] ∷ block_at 3 new_year [] ∷ []) first_state).fault ≡ Some (BadHeight 2)
+HeightMissed = (run_of (block_at 1 new_year [] ∷ block_at 3 new_year [] ∷ []) first_state).fault ≡ Some (BadHeight 2)
 
 -- a time one nanosecond before the last
 abbrev pub TimeBefore : Type 0

@@ -5,7 +5,7 @@ ghost use Rattle.stk_histories.specs.WholeRows.{MayStartChain, WrongBeginnings, 
 ghost use Rattle.stk_histories.specs.HistoryRows.{FeesOfThirtyBlocks, AllWithdraw};
 ghost use Rattle.stk_histories.specs.LifeRows.{GenesisIsTold, BlocksAreTold, EndIsReported};
 ghost use Rattle.stk_histories.specs.RandomRows.{RandomHistory, HoldsAfterHistory, BurnsAfterHistory};
-ghost use Rattle.stk_histories.specs.BuiltRows.{RateAboveHighest, GenesisStands, GenesisIsReported, RefusedMessages, SharesAtARate, SharesOver, FeeIsNotThere, RatesChangeDayByDay, TwoBlocksEnd, TwoBlocksAreReported};
+ghost use Rattle.stk_histories.specs.OutcomeRows.{CreationsAreRefused, RatesChangeDayByDay, TwoBlocksEnd};
 ghost use Rattle.stk_histories.specs.SoundRows.{SoundnessIsMet};
 
 /// Runs, transactions and geneses by example.
@@ -80,24 +80,9 @@ pub fn soundness_by_example()
     ensures { SoundnessIsMet }
 {}
 
-/// Two validators and three delegations of a genesis, in the machine as far as it is built: what stands, and the report.
-pub fn built_genesis_by_example()
-    ensures rate { RateAboveHighest }
-    ensures stands { GenesisStands }
-    ensures reported { GenesisIsReported }
-{}
-
-/// Messages of that machine that create a validator and delegate, accepted and refused.
-pub fn built_messages_by_example()
-    ensures refused { RefusedMessages }
-    ensures shares { SharesAtARate }
-    ensures over { SharesOver }
-    ensures fee { FeeIsNotThere }
-{}
-
-/// Runs of that machine: rates that change day by day, and blocks that create, delegate and undo.
-pub fn built_runs_by_example()
+/// Creations that are refused, rates that change day by day, and blocks that create, delegate and undo.
+pub fn outcomes_by_example()
+    ensures creations { CreationsAreRefused }
     ensures rates { RatesChangeDayByDay }
     ensures outcomes { TwoBlocksEnd }
-    ensures report { TwoBlocksAreReported }
 {}

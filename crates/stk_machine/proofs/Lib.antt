@@ -6,10 +6,6 @@ pub mod UnhookedLemmas
 pub mod StartLemmas
 pub mod EnterLemmas
 pub mod PurseLemmas
-pub mod BuiltLemmas
-pub mod PartLemmas
-pub mod HeldLemmas
-pub mod ReplayLemmas
+pub mod DueLemmas
 pub mod PointLemmas
 pub mod StakesLemmas
-pub mod ConditionLemmas

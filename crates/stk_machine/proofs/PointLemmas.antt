@@ -1,18 +1,15 @@
--- Validators and delegations stay sound as a validator is edited or delegated to.
-use Rattle.std.proofs.Common.{◌≡◌, ℕ, ◌+◌, ◌<◌, ◌==◌, false, cond, List, Some, sym, ap, subst, arith}
+-- Validators and delegations stay sound as a validator is delegated to.
+use Rattle.std.proofs.Common.{◌≡◌, ℕ, ◌+◌, ◌<◌, ◌==◌, false, cond, List, Some, ap, subst, arith}
 use Rattle.std.specs.Prelude.{unwrap_or}
 use Rattle.std.proofs.lemmas.Bool.Decides.{nat_tests}
 use Rattle.stk_keep.specs.declared.entities.Validator.{Validator}
 use Rattle.stk_keep.specs.Entries.{with, without, with_number}
 use Rattle.stk_keep.specs.Orders.{pair_cmp}
-use Rattle.stk_keep.specs.Staked.{Staked, validator_at, delegation, put_validator}
+use Rattle.stk_keep.specs.Staked.{Staked, validator_at, delegation}
 use Rattle.stk_rules.specs.Sound.{ValidatorIsSound}
-use Rattle.stk_rules.proofs.SoundLemmas.{IsSoundAt, Delegations, put_with, sound-put, sound-changed}
+use Rattle.stk_rules.proofs.SoundLemmas.{IsSoundAt, Delegations, put_with, sound-changed}
 
 module _ (height : ℕ) (w x : Validator) (s : Staked) (h : IsSoundAt height s) (f : validator_at s w.operator ≡ Some x) (c : w.cons ≡ x.cons) (ok : ValidatorIsSound height w) where
-  pub sound-set : w.shares ≡ x.shares → IsSoundAt height (put_validator w s)
-  sound-set n = sound-put height w x s h f (record { operator = sym (h.operators w.operator x f); cons = c; shares = n; sound = ok })
-
   -- it has more shares, as one delegation
   module _ (delegator : List ℕ) (issued : ℕ) (some : 0 < issued) where
     abbrev held : ℕ

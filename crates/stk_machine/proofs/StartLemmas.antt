@@ -1,4 +1,4 @@
--- A genesis of which no condition holds starts the built machine: its validators stand, and each of its delegations is added.
+-- A genesis of which no condition holds, over staking alone: its validators stand, and each of its delegations is added.
 use Rattle.std.proofs.Common.{◌≡◌, ◌∙◌, ℕ, ◌+◌, ◌*◌, ◌^◌, ◌≤◌, ◌<◌, Bool, true, false, cond, nat_lt, List, [], ◌∷◌, Option, Some, None, Result, Ok, Err, refl, sym, ap, subst, arith}
 use Rattle.std.specs.Prelude.{◌==◌, ◌/◌, ◌++◌, not, ◌||◌, ◌&&◌, nat_le, All, IsSome, is_some, map, sum, if◌then◌else◌}
 use Rattle.std.specs.Cmp.{eq_by_cmp_equiv}
@@ -32,28 +32,26 @@ use Rattle.stk_keep.specs.Ground.{IsInOrder, end_of_blocks}
 use Rattle.stk_keep.specs.Holdings.{Balances, balance_of}
 use Rattle.stk_keep.specs.NoHooks.{nothing_told}
 use Rattle.stk_keep.specs.Orders.{place_cmp, same_addr}
-use Rattle.stk_keep.specs.Staked.{Staked, validator_at, put_validator, is_bonded, is_unbonded, tokens_where, other_tokens, bonded_tokens, HoldsStake}
+use Rattle.stk_keep.specs.Staked.{Staked, validator_at, put_validator, is_bonded, is_unbonded, tokens_where, other_tokens}
 use Rattle.stk_keep.specs.Steps.{◌>>=◌, ◌>>◌, stop_if, or_stop, stopping, each}
-use Rattle.stk_keep.specs.World.{View, World}
+use Rattle.stk_keep.specs.World.{View}
 use Rattle.stk_keep.proofs.EntryLemmas.{number-after, ascend-after}
 use Rattle.stk_keep.proofs.HoldingLemmas.{place_total, balance-most}
 use Rattle.stk_msgs.specs.declared.genesis.Genesis.{Genesis}
 use Rattle.stk_msgs.specs.declared.genesis.GenesisAccount.{GenesisAccount}
 use Rattle.stk_msgs.specs.declared.genesis.GenesisDelegation.{GenesisDelegation}
 use Rattle.stk_msgs.specs.declared.genesis.GenesisValidator.{GenesisValidator}
-use Rattle.stk_rules.specs.Chain.{Hooks, staked_in, with_staked}
-use Rattle.stk_rules.specs.Distribution.{nothing_shared}
 use Rattle.stk_rules.specs.Delegating.{pool, shares_given, paid_in, delegated}
 use Rattle.stk_rules.specs.Stakes.{refusal_of_shares}
 use Rattle.stk_rules.specs.Validators.{new_validator}
 use Rattle.stk_rules.specs.Withdrawals.{is_module}
-use Rattle.stk_machine.specs.Built.{no_hook, IsStarting, built_start, stake_over}
+use Rattle.stk_machine.specs.Founding.{no_hook, IsStarting}
 use Rattle.stk_machine.specs.Genesis.{are_in_range, has_wrong_account, has_too_much, denominations_with, supplies_with, balances_with, with_coins, first_that_holds}
 use Rattle.stk_machine.specs.GenesisConditions.{creation_of, has_operator_twice, has_cons_twice, has_wrong_rate, has_no_minimum, validates, has_unknown_operator, has_pair_twice, has_empty_delegation, has_lonely_validator, delegated_coins, accounts_at_start, start_condition}
-use Rattle.stk_machine.specs.GenesisState.{ground_at_start, empty_over, validator_added, delegation_added, stake_added, without_facts}
+use Rattle.stk_machine.specs.GenesisState.{ground_at_start, validator_added, delegation_added}
 use Rattle.stk_machine.proofs.Kept.{held_backed}
 use Rattle.stk_machine.proofs.Ranges.{in_range}
-use Rattle.stk_machine.proofs.StakeLemmas.{Validators, found-put, all-put, all-found, tokens-none, none-bonded, other-counted}
+use Rattle.stk_machine.proofs.StakeLemmas.{Validators, found-put, all-put, all-found, tokens-none, other-counted}
 use Rattle.stk_rules.proofs.OrderLemmas.{addr_total, same_back}
 use Rattle.stk_rules.proofs.EntryLemmas.{ascend-put}
 use Rattle.stk_rules.proofs.TokenLemmas.{tokens-put, tokens-within, counted}
@@ -215,7 +213,7 @@ modules_hold g e m d =
     let users : AreUsers g.accounts last [] = users_then g.accounts last [] (first_false (list_any (λ a. is_module a.address) g.accounts) _ e).0 tt in
     ap (λ b. number_at place_cmp b (place_of m d)) users.is ∙ one_coin m d bond total users.left users.ascend users.held
 
-pub start_holds : (g : Genesis) → has_wrong_account g.accounts ≡ false
+start_holds : (g : Genesis) → has_wrong_account g.accounts ≡ false
     → balance_of (ground_at_start g).bank (account.Module holder.NotBonded) g.params.bond_denom ≡ sum (map (λ d. d.amount) g.delegations)
 start_holds g e =
     modules_hold g e holder.NotBonded g.params.bond_denom
@@ -484,42 +482,4 @@ one_added d rest h s v is =
         held = omega (arith, held, more, put, own, own2);
         most = omega (arith, most, more, put, own, own2);
       };
-    }
-
--- ---- all of them
-
-pub all_added : {H : Type 0} (rest : List GenesisDelegation) (h : H) (s : Staked) (v : View) → IsStarting rest (over h s v)
-    → (left : Staked) × (each (delegation_added no_hook) rest (over h s v) ≡ Ok (over h left v)) × IsStarting [] (over h left v)
-all_added [] h s v is = (s, refl, is)
-all_added (d ∷ rest) h s v is =
-    let one = one_added d rest h s v is in
-    let others = all_added rest h one.left v one.starting in
-    (others.0, ap (λ (r : Result (World Staked _) Refusal). r >>= λ w. each (delegation_added no_hook) rest w) one.gives ∙ others.1, others.2)
-
--- what the hooks of a state hold that keeps none
-abbrev pub nothing_held : Hooks
-nothing_held = (nothing_shared, [])
-
--- What a genesis starts of which no condition holds: first its validators stand, then its delegations are added, and what is left
--- is a state of validators and delegations over the ground, and no facts.
-pub record Started (g : Genesis) : Type 0 where
-  pub first : Begun g nothing_held
-  pub left : Staked
-  pub added : each (delegation_added no_hook) g.delegations (over nothing_held first.left (ground_at_start g)) ≡ Ok (over nothing_held left (ground_at_start g))
-  pub gives : built_start g ≡ Ok (record { facts = []; state = stake_over left (ground_at_start g) })
-  pub starting : IsStarting [] (staked_in (stake_over left (ground_at_start g)))
-
-pub started : (g : Genesis) → start_condition g ≡ None → Started g
-started g e =
-    let v = ground_at_start g in
-    let first : Begun g nothing_held = begun g nothing_held e in
-    let last = all_added g.delegations nothing_held first.left v first.starting in
-    let all : stake_added no_hook g (over nothing_held no_stake v) ≡ Ok (over nothing_held last.0 v)
-    = ap (λ (r : Result (World Staked Hooks) Refusal). r >>= λ u. each (delegation_added no_hook) g.delegations u) first.gives ∙ last.1 in
-    record {
-      first = first;
-      left = last.0;
-      added = last.1;
-      gives = ap (λ (r : Result (World Staked Hooks) Refusal). r >>= λ s. Ok (record { facts = (with_staked (empty_over v).mine s).view.facts; state = without_facts (with_staked (empty_over v).mine s) })) all;
-      starting = last.2;
     }

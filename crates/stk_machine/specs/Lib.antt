@@ -7,6 +7,5 @@ pub mod Machine
 pub mod Orders
 pub mod Report
 pub mod Items
-pub mod Built
+pub mod Founding
 pub mod Promises
-pub mod BuiltLaws

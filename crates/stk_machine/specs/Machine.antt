@@ -55,15 +55,12 @@ pub record TxSteps : Type 0 where
   pub state : State
 
 -- the transactions one after the other (`BaseApp.DeliverTx`)
-abbrev pub txs_applied_by : (Msg → Effect) → List Tx → State → TxSteps
-txs_applied_by effect [] w = record { reports = []; state = w }
-txs_applied_by effect (tx ∷ txs) w =
-    let one = tx_applied_by effect tx w in
-    let rest = txs_applied_by effect txs one.state in
-    record { reports = one.report ∷ rest.reports; state = rest.state }
-
 abbrev pub txs_applied : List Tx → State → TxSteps
-txs_applied txs w = txs_applied_by effect_of txs w
+txs_applied [] w = record { reports = []; state = w }
+txs_applied (tx ∷ txs) w =
+    let one = tx_applied tx w in
+    let rest = txs_applied txs one.state in
+    record { reports = one.report ∷ rest.reports; state = rest.state }
 
 -- ---- why a block may not follow
 
@@ -146,10 +143,7 @@ abbrev pub going_on : State → Result Step BlockFault → (State → Run) → R
 going_on w (Ok s) rest = record (rest s.state) { reports = s.report ∷ (rest s.state).reports }
 going_on w (Err fault) rest = record { reports = []; state = w; fault = Some fault }
 
--- the blocks one after the other by these steps, up to the first that has a fault
-abbrev pub run_by : (Block → State → Result Step BlockFault) → List Block → State → Run
-run_by next [] w = record { reports = []; state = w; fault = None }
-run_by next (b ∷ blocks) w = going_on w (next b w) (λ u. run_by next blocks u)
-
+-- the blocks one after the other, up to the first that has a fault
 abbrev pub run_of : List Block → State → Run
-run_of blocks w = run_by step blocks w
+run_of [] w = record { reports = []; state = w; fault = None }
+run_of (b ∷ blocks) w = going_on w (step b w) (λ u. run_of blocks u)

@@ -26,7 +26,7 @@ use Rattle.stk_keep.specs.Staked.{Staked, is_unbonded, delegation, put_validator
 use Rattle.stk_keep.specs.World.{View, World, call, hooked}
 use Rattle.stk_keep.specs.declared.entities.Purse.{Purse}
 use Rattle.stk_keep.specs.declared.entities.Validator.{Validator}
-use Rattle.stk_machine.specs.Built.{IsStarting, no_hook}
+use Rattle.stk_machine.specs.Founding.{IsStarting, no_hook}
 use Rattle.stk_machine.specs.GenesisConditions.{has_pair_twice}
 use Rattle.stk_machine.specs.GenesisState.{Start, chain_started, delegation_added, empty_over, ground_at_start, stake_added, validator_added, without_facts}
 use Rattle.stk_msgs.specs.declared.genesis.Genesis.{Genesis}

@@ -23,7 +23,7 @@ use Rattle.stk_keep.specs.World as hook
 use Rattle.stk_msgs.specs.declared.genesis.Genesis.{Genesis}
 use Rattle.stk_msgs.specs.declared.genesis.GenesisDelegation.{GenesisDelegation}
 use Rattle.stk_msgs.specs.declared.genesis.GenesisValidator.{GenesisValidator}
-use Rattle.stk_machine.specs.Built.{IsStarting, no_hook}
+use Rattle.stk_machine.specs.Founding.{IsStarting, no_hook}
 use Rattle.stk_machine.specs.GenesisConditions.{has_pair_twice, start_condition}
 use Rattle.stk_machine.specs.GenesisState.{delegation_added, empty_over, ground_at_start, validator_added}
 use Rattle.stk_machine.proofs.StakeLemmas.{all-found}

@@ -20,7 +20,7 @@ use Rattle.stk_msgs.specs.declared.report.BlockReport.{BlockReport}
 use Rattle.stk_msgs.specs.declared.report.TxReport.{TxReport}
 use Rattle.stk_machine.specs.Machine.{Run, Step, TxSteps, vote_checked, votes_checked, evidence_checked, block_checked, power_of_votes, stop_at, step, going_on, run_of, txs_applied}
 use Rattle.stk_machine.specs.Blocks.{block_fault}
-use Rattle.stk_machine.proofs.BuiltLemmas.{IsDue, is_due}
+use Rattle.stk_machine.proofs.DueLemmas.{IsDue, is_due}
 use Rattle.stk_keep.specs.Staked.{Staked, lists_of, validator_by_cons}
 use Rattle.stk_machine.specs.GenesisState.{without_facts}
 use Rattle.stk_machine.specs.Promises.{AreInput, TxHasCoins, facts_of}

@@ -20,7 +20,7 @@ use Rattle.stk_msgs.specs.declared.faults.BlockFault.TheVariants.{RatioLimit}
 use Rattle.stk_msgs.specs.declared.message.Msg.{Msg}
 use Rattle.stk_msgs.specs.declared.message.Msg.TheVariants as msg
 use Rattle.stk_keep.specs.declared.refusal.Refusal.{Refusal}
-use Rattle.stk_machine.proofs.BuiltLemmas.{IsDue, is_due}
+use Rattle.stk_machine.proofs.DueLemmas.{IsDue, is_due}
 use Rattle.stk_machine.proofs.PurseLemmas.{coins-amount, coins-rise}
 use Rattle.stk_machine.specs.Blocks.{block_fault}
 use Rattle.stk_machine.specs.GenesisState.{without_facts}

@@ -23,7 +23,7 @@ use Rattle.stk_msgs.specs.declared.faults.BlockFault.TheVariants.{RatioLimit}
 use Rattle.stk_msgs.specs.declared.message.Msg.{Msg}
 use Rattle.stk_msgs.specs.declared.message.Msg.TheVariants as msg
 use Rattle.stk_msgs.specs.declared.report.TxReport.{TxReport}
-use Rattle.stk_machine.proofs.BuiltLemmas.{IsDue, is_due}
+use Rattle.stk_machine.proofs.DueLemmas.{IsDue, is_due}
 use Rattle.stk_machine.specs.Blocks.{block_fault}
 use Rattle.stk_machine.specs.GenesisState.{chain_started, without_facts}
 use Rattle.stk_machine.specs.Machine.{Step, TxSteps, votes_checked, evidence_checked, block_checked, stop_at, step, tx_applied, txs_applied, reported_as}

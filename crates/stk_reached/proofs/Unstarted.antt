@@ -25,7 +25,7 @@ use Rattle.stk_msgs.specs.declared.genesis.GenesisDelegation.{GenesisDelegation}
 use Rattle.stk_msgs.specs.declared.genesis.GenesisValidator.{GenesisValidator}
 use Rattle.stk_msgs.specs.declared.message.Msg.{Msg}
 use Rattle.stk_msgs.specs.declared.message.Msg.TheVariants as msg
-use Rattle.stk_machine.proofs.BuiltLemmas.{IsDue, is_due}
+use Rattle.stk_machine.proofs.DueLemmas.{IsDue, is_due}
 use Rattle.stk_machine.specs.Blocks.{block_fault}
 use Rattle.stk_machine.specs.GenesisConditions.{creation_of}
 use Rattle.stk_machine.specs.GenesisState.{Start, chain_started, delegation_added, empty_over, ground_at_start, stake_added, validator_added, without_facts}

@@ -1,21 +1,15 @@
 -- The report of a state is that of its items.
-use Rattle.std.proofs.Common.{◌≡◌, ◌∙◌, List, [], ◌∷◌, ◌++◌, map, None, ap}
+use Rattle.std.proofs.Common.{◌≡◌, ◌∙◌, List, map, None, ap}
 use Rattle.std.specs.Map.{values_of}
-use Rattle.std.proofs.lemmas.List.Elements.{All-from_recursion}
-use Rattle.std.proofs.lemmas.List.Sorted.{IsPermutation-refl}
 use Rattle.stk_keep.specs.declared.items.Item.{Item}
-use Rattle.stk_keep.specs.declared.items.Item.TheVariants as item
-use Rattle.stk_keep.specs.Staked.{Staked}
-use Rattle.stk_keep.specs.World.{View}
 use Rattle.stk_msgs.specs.declared.report.Pending.{Pending}
 use Rattle.stk_rules.specs.Chain.{State}
 use Rattle.stk_rules.specs.Purses.{purse_of}
 use Rattle.stk_rules.specs.Sound.{IsSound}
-use Rattle.stk_machine.specs.Built.{stake_over}
-use Rattle.stk_machine.specs.Items.{IsInKeyOrder, ground_items, items_of, staked_items}
+use Rattle.stk_machine.specs.Items.{IsInKeyOrder}
 use Rattle.stk_machine.specs.Report.{accounts_in, report_of}
 use Rattle.stk_report.specs.Groups.{pending_of, report_from, validators_of, with_purses}
-use Rattle.stk_report.specs.Laws.{AreItemsOf, IsUnread, StatesAreReported}
+use Rattle.stk_report.specs.Laws.{AreItemsOf, StatesAreReported}
 use Rattle.stk_report.proofs.GroupLemmas.{balance_group, delegation_group, pending_group, pool_group, purse_group, redelegation_group, signing_group, supply_group, unbonding_group, validator_group, with_purses_is}
 
 module _ (w : State) (items : List Item) (ok : IsInKeyOrder w) (are : AreItemsOf w items) where
@@ -49,17 +43,8 @@ in_key_order w sound = record {
   purses = sound.purses.ascend;
 }
 
-staked_alone : (s : Staked) (v : View) → AreItemsOf (stake_over s v) (ground_items v ++ staked_items s)
-staked_alone s v = record {
-  missing = item.Pool [] ∷ [];
-  unread = All-from_recursion IsUnread (item.Pool [] ∷ []) (tt, tt);
-  rest = IsPermutation-refl (items_of (stake_over s v));
-}
-
 pub states_are_reported : StatesAreReported
 states_are_reported = record {
   whole = λ w items pending ok are p. reported w items ok are pending ∙ ap (λ ps. record (report_of w) { pending = ps }) (pending_group w pending p);
-  without_rewards = λ w items ok are. reported w items ok are [];
   in_order = in_key_order;
-  staked = staked_alone;
 }

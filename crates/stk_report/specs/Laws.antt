@@ -3,13 +3,10 @@ use Rattle.std.specs.Prelude.{◌≡◌, List, [], ◌++◌, map, All}
 use Rattle.std.specs.List.Sorted.{IsPermutation}
 use Rattle.stk_keep.specs.declared.items.Item.{Item}
 use Rattle.stk_keep.specs.declared.items.Item.TheVariants as item
-use Rattle.stk_keep.specs.Staked.{Staked}
-use Rattle.stk_keep.specs.World.{View}
 use Rattle.stk_msgs.specs.declared.report.Pending.{Pending}
 use Rattle.stk_rules.specs.Chain.{State}
 use Rattle.stk_rules.specs.Sound.{IsSound}
-use Rattle.stk_machine.specs.Built.{stake_over}
-use Rattle.stk_machine.specs.Items.{IsInKeyOrder, ground_items, items_of, staked_items}
+use Rattle.stk_machine.specs.Items.{IsInKeyOrder, items_of}
 use Rattle.stk_machine.specs.Report.{Report, pending_of, report_of}
 use Rattle.stk_report.specs.declared.question.Query.{Query}
 use Rattle.stk_report.specs.Groups.{report_from}
@@ -38,16 +35,11 @@ pub record AreItemsOf (w : State) (items : List Item) : Type 0 where
   pub rest : IsPermutation (items_of w) (items ++ missing)
 
 pub record StatesAreReported : Type 0 where
-  -- The items and the pending rewards of a state, each in whatever order, are reported as the machine reports the state;
+  -- The items and the pending rewards of a state, each in whatever order, are reported as the machine reports the state.
   pub whole : (w : State) (items : List Item) (pending : List Pending) → IsInKeyOrder w → AreItemsOf w items
       → IsPermutation (pending_of w) pending → report_from items pending ≡ report_of w
-  -- without pending rewards as the same report without their lines.
-  pub without_rewards : (w : State) (items : List Item) → IsInKeyOrder w → AreItemsOf w items
-      → report_from items [] ≡ record (report_of w) { pending = [] }
   -- Sound states are in order.
   pub in_order : (w : State) → IsSound w → IsInKeyOrder w
-  -- Where nothing but validators and delegations stands, their items and those of the ground are the state's.
-  pub staked : (s : Staked) (v : View) → AreItemsOf (stake_over s v) (ground_items v ++ staked_items s)
 
 -- ---- answers
 

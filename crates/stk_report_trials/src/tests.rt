@@ -1,4 +1,3 @@
-use std::alloc::Global;
 use std::process::Abort;
 use std::test::Fail;
 use stk_coins::{DecCoin, DecCoins};
@@ -218,16 +217,6 @@ fn answers(
         (None, None) => true,
         _ => false,
     })
-}
-
-#[test]
-fn the_worked_run_is_reported(rt: HostRuntime) -> Result<(), Fail> {
-    let items = run_items(&rt)?;
-    let text = report(rt.alloc(), items.as_slice(), &[])?;
-    let wanted =
-        "{\"coins\":[{\"amount\":\"1000\",\"denom\":\"uatom\"}],\"kind\":\"supply\"}\n{\"address\":\"1111111111111111111111111111111111111111\",\"coins\":[{\"amount\":\"890\",\"denom\":\"uatom\"}],\"kind\":\"account\"}\n{\"address\":\"2222222222222222222222222222222222222222\",\"coins\":[{\"amount\":\"100\",\"denom\":\"uatom\"}],\"kind\":\"account\"}\n{\"address\":\"fee_collector\",\"coins\":[{\"amount\":\"10\",\"denom\":\"uatom\"}],\"kind\":\"account\"}\n{\"coins\":[],\"kind\":\"pool\"}\n";
-    assert!(rt; text.as_slice() == wanted.as_bytes());
-    Ok(())
 }
 
 #[test]

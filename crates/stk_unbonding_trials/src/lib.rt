@@ -2,11 +2,7 @@
 #![tactic(auto)]
 
 #[cfg(test)]
-mod completing_tests;
-#[cfg(test)]
 mod record_tests;
-#[cfg(test)]
-mod rounding_tests;
 #[cfg(test)]
 mod tests;
 #[cfg(test)]

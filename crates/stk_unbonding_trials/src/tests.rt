@@ -11,10 +11,9 @@ use stk_book::Staking;
 use stk_coins::{Coin, Coins};
 use stk_dec::Dec;
 use stk_keep::{
-    Bank, CreateValidator, Ctx, Facts, Ground, Item, NoHooks, Params, Records, Refusal, Stop,
-    Unbonder, UnbondingEntry, ValidatorView,
+    CreateValidator, Ctx, Facts, Ground, Item, NoHooks, Params, Records, Stop, UnbondingEntry,
 };
-use stk_types::{Account, Addr, ConsAddr, Denom, Module, Moment, Steps};
+use stk_types::{Account, Addr, ConsAddr, Denom, Moment, Steps};
 use stk_unbonding::Unbondings;
 
 pub(crate) const ONE: u128 = 1_000_000_000_000_000_000;
@@ -264,111 +263,4 @@ pub(crate) fn are(entries: &[UnbondingEntry], want: &[(u64, u128, u128)]) -> boo
         }
     }
     true
-}
-
-/// Whether a module has so many uatom.
-pub(crate) fn pool_has<L: Ledger>(
-    rt: &impl Abort,
-    scene: &Scene,
-    module: Module,
-    amount: u128,
-    steps: &mut Steps<L>,
-) -> bool {
-    let account = Account::Module(module);
-    scene.g.bank.balance(&account, &atom(rt), steps) == amount
-}
-
-/// Whether the validator of user 1 has so many tokens.
-pub(crate) fn has_tokens<L: Ledger>(
-    rt: &impl Abort,
-    scene: &Scene,
-    tokens: u128,
-    steps: &mut Steps<L>,
-) -> bool {
-    match scene.staking.validator(&addr(rt, 1), steps) {
-        Some(v) => v.tokens == tokens,
-        None => false,
-    }
-}
-
-/// Two undelegations of one block are one entry, which completes after a second.
-pub(crate) fn merges<L: Ledger>(
-    rt: &(impl Abort + AllocGlobal),
-    scene: &mut Scene,
-    steps: &mut Steps<L>,
-) -> Result<bool, Fail>
-    requires { IsFit scene.old.unbondings.lists
-        scene.old.staking.staked (seen (λ b. b.holdings) scene.old.g) }
-{
-    undelegate(rt, scene, 5, steps)?;
-    let completes = undelegate(rt, scene, 7, steps)?;
-    let one = has_entries(rt, scene, &[(1, 12, 12)], steps)?;
-    let left = has_tokens(rt, scene, ALL - 12, steps);
-    let stays = pool_has(rt, scene, Module::NotBonded, ALL, steps);
-    Ok(one & left & stays & (completes.nanos() == 1_000_000_000))
-}
-
-/// At two entries a third is refused.
-pub(crate) fn fills<L: Ledger>(
-    rt: &(impl Abort + AllocGlobal),
-    scene: &mut Scene,
-    steps: &mut Steps<L>,
-) -> Result<bool, Fail>
-    requires { IsFit scene.old.unbondings.lists
-        scene.old.staking.staked (seen (λ b. b.holdings) scene.old.g) }
-{
-    undelegate(rt, scene, 1, steps)?;
-    goes_on(rt, scene, 2, 1);
-    undelegate(rt, scene, 1, steps)?;
-    goes_on(rt, scene, 3, 2);
-    let third = undelegate(rt, scene, 1, steps);
-    let two = has_entries(rt, scene, &[(1, 1, 1), (2, 1, 1)], steps)?;
-    Ok(two & is_refused(&third, Refusal::UnbondingsFull))
-}
-
-/// Whether a message was refused for this cause.
-pub(crate) fn is_refused<A>(answer: &Result<A, Stop>, want: Refusal) -> bool {
-    match answer {
-        Err(Stop::Refused(why)) => *why == want,
-        _ => false,
-    }
-}
-
-/// Too much is not cancelled; all of an entry is, and is delegated; then there is none.
-pub(crate) fn cancels<L: Ledger>(
-    rt: &(impl Abort + AllocGlobal),
-    scene: &mut Scene,
-    steps: &mut Steps<L>,
-) -> Result<bool, Fail>
-    requires { IsFit scene.old.unbondings.lists
-        scene.old.staking.staked (seen (λ b. b.holdings) scene.old.g) }
-{
-    goes_on(rt, scene, 7, 0);
-    undelegate(rt, scene, 950, steps)?;
-    cancel(rt, scene, 50, 7, steps)?;
-    let less = has_entries(rt, scene, &[(7, 900, 900)], steps)?;
-    cancel(rt, scene, 900, 7, steps)?;
-    let none = has_entries(rt, scene, &[], steps)?;
-    let again = cancel(rt, scene, 1, 7, steps);
-    let all = has_tokens(rt, scene, ALL, steps);
-    Ok(less & none & all & is_refused(&again, Refusal::NoEntry))
-}
-
-/// More than an entry's balance, and a mature entry, are not cancelled.
-pub(crate) fn keeps<L: Ledger>(
-    rt: &(impl Abort + AllocGlobal),
-    scene: &mut Scene,
-    amount: u128,
-    time: u128,
-    want: Refusal,
-    steps: &mut Steps<L>,
-) -> Result<bool, Fail>
-    requires fit { IsFit scene.old.unbondings.lists
-        scene.old.staking.staked (seen (λ b. b.holdings) scene.old.g) }
-    requires time { time < 10 ^ 18 }
-{
-    undelegate(rt, scene, 950, steps)?;
-    goes_on(rt, scene, 2, time);
-    let answer = cancel(rt, scene, amount, 1, steps);
-    Ok(is_refused(&answer, want))
 }

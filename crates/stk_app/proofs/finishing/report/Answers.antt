@@ -1,7 +1,7 @@
 use Rattle.std.proofs.Common.{subst}
 use Rattle.stk_app.specs.Machine.{StandsAt}
 use Rattle.stk_app.proofs.PartLemmas.{nothing_reported}
-use Rattle.stk_app.proofs.StageLemmas.{none_yet, lacking, report_failed, report_full, report_written}
+use Rattle.stk_app.proofs.AnswerLemmas.{none_yet, lacking, report_failed, report_full, report_written}
 use Rattle.stk_app.proofs.finishing.report.Goals as goal
 
 pub returns-in_default-clause-stops : goal.returns-in_default-clause-stops

@@ -2,7 +2,7 @@ use Rattle.std.proofs.Common.{Some, subst}
 use Rattle.stk_app.specs.Machine.{StandsAt}
 use Rattle.stk_app.proofs.PartLemmas.{answer_long, first_answered}
 use Rattle.stk_app.proofs.LineLemmas.{fault_stops}
-use Rattle.stk_app.proofs.StageLemmas.{first_faulted, block_answered, block_faulted}
+use Rattle.stk_app.proofs.AnswerLemmas.{first_faulted, block_answered, block_faulted}
 use Rattle.stk_app.proofs.line.answer.Goals as goal
 
 pub returns-then-line-gt-LONGEST-clause-err : goal.returns-then-line-gt-LONGEST-clause-err

@@ -1,4 +1,4 @@
-use Rattle.stk_app.proofs.StageLemmas.{begins}
+use Rattle.stk_app.proofs.AnswerLemmas.{begins}
 use Rattle.stk_app.proofs.line.begin.Goals as goal
 
 pub returns-in-Ok-push_line_of_genesis-clause-ok : goal.returns-in-Ok-push_line_of_genesis-clause-ok

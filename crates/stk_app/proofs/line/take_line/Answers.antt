@@ -1,6 +1,6 @@
 use Rattle.stk_app.proofs.LineLemmas.{long_only, no_write}
 use Rattle.stk_app.proofs.PartLemmas.{answer_stops, write_stops, full_stops}
-use Rattle.stk_app.proofs.StageLemmas.{took_on}
+use Rattle.stk_app.proofs.AnswerLemmas.{took_on}
 use Rattle.stk_app.proofs.line.take_line.Goals as goal
 
 pub returns-in-Ok-clause-took : goal.returns-in-Ok-clause-took

@@ -1,25 +1,19 @@
 use Rattle.stk_app.proofs.DriveLemmas.{untroubled_run}
-use Rattle.stk_app.proofs.NamedLemmas.{refusals_are_named}
-use Rattle.stk_app.proofs.SoundLemmas.{stakes_are_held, supply_stays}
+use Rattle.stk_app.proofs.SoundLemmas.{lines_replayed}
+use Rattle.stk_app.proofs.WholeLemmas.{answers_replayed}
 use Rattle.stk_app.proofs.running.run.Goals as goal
 
-pub returns-then-not-is_replay-clause-supply : goal.returns-then-not-is_replay-clause-supply
-returns-then-not-is_replay-clause-supply g c = supply_stays c.genesis_starts.ensures c.supplies_are_kept.ensures
+pub returns-then-not-is_replay-clause-replayed : goal.returns-then-not-is_replay-clause-replayed
+returns-then-not-is_replay-clause-replayed g c = lines_replayed
 
-pub returns-then-not-is_replay-clause-stakes : goal.returns-then-not-is_replay-clause-stakes
-returns-then-not-is_replay-clause-stakes g c = stakes_are_held c.genesis_starts.ensures c.staking_accounts_hold_what_is_owed.ensures
+pub returns-then-not-is_replay-clause-whole : goal.returns-then-not-is_replay-clause-whole
+returns-then-not-is_replay-clause-whole g c = answers_replayed lines_replayed
 
-pub returns-then-not-is_replay-clause-named : goal.returns-then-not-is_replay-clause-named
-returns-then-not-is_replay-clause-named g c = refusals_are_named c.built_transactions_end.ensures c.built_messages_name_conditions.ensures
+pub returns-clause-replayed : goal.returns-clause-replayed
+returns-clause-replayed g c = lines_replayed
 
-pub returns-clause-supply : goal.returns-clause-supply
-returns-clause-supply g c = supply_stays c.genesis_starts.ensures c.supplies_are_kept.ensures
-
-pub returns-clause-stakes : goal.returns-clause-stakes
-returns-clause-stakes g c = stakes_are_held c.genesis_starts.ensures c.staking_accounts_hold_what_is_owed.ensures
-
-pub returns-clause-named : goal.returns-clause-named
-returns-clause-named g c = refusals_are_named c.built_transactions_end.ensures c.built_messages_name_conditions.ensures
+pub returns-clause-whole : goal.returns-clause-whole
+returns-clause-whole g c = answers_replayed lines_replayed
 
 pub returns-clause-complete : goal.returns-clause-complete
 returns-clause-complete g c = λ calm words reads writes.

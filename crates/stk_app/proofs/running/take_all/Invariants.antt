@@ -1,5 +1,5 @@
 use Rattle.std.proofs.Common.{◌≤◌, ◌+◌, ◌-◌, ◌≡◌, length}
-use Rattle.stk_app.specs.Machine.{longest, Stage, StandsAt}
+use Rattle.stk_app.specs.Machine.{longest, Standing, StandsAt}
 use Rattle.stk_app.specs.Outcome.{most_bytes}
 use Rattle.stk_app.specs.Parts.{Stands}
 use Rattle.stk_app.proofs.running.take_all.Given as goal
@@ -13,7 +13,7 @@ invariant-loop-taken g l = record {
   most : l.taken ≤ most_bytes;
   number : l.progress.number ≤ 1 + l.taken;
   short : length l.progress.line.items ≤ longest;
-  at : (s : Stage) × StandsAt l.progress.chain s × Stands (g.S.Source.left l.initial.source) l.taken l.progress.number s l.progress.line.items (g.S.Source.left l.source) (g.K.Sink.written l.initial.sink) (g.K.Sink.written l.sink);
+  at : (s : Standing) × StandsAt l.progress.chain s × Stands (g.S.Source.left l.initial.source) l.taken l.progress.number s l.progress.line.items (g.S.Source.left l.source) (g.K.Sink.written l.initial.sink) (g.K.Sink.written l.sink);
   read_later : g.S.Source.faults l.initial.source ≤ g.S.Source.faults l.source;
   write_later : g.K.Sink.faults l.initial.sink ≤ g.K.Sink.faults l.sink;
   read_quiet : g.S.Source.faults l.source ≡ g.S.Source.faults l.initial.source;

@@ -1,33 +1,27 @@
-use Rattle.std.proofs.Common.{◌≡◌, ap, subst}
-use Rattle.stk_machine.specs.Built.{stake_over}
-use Rattle.stk_machine.specs.GenesisState.{ground_at_start, empty_over}
-use Rattle.stk_chain.specs.Chained.{StandsFor, kept_of, marks_of, no_marks}
-use Rattle.stk_chain.proofs.StandLemmas.{stands, stands_for}
-use Rattle.stk_chain.specs.declared.modules.Modules.{Modules}
-use Rattle.stk_chain.proofs.RestLemmas.{rests_first}
+use Rattle.stk_distr.specs.Rows.{AreInOrder}
+use Rattle.stk_modules.specs.Kept.{kept_of, parts_of}
+use Rattle.stk_modules.specs.Marks.{AreAtRest, settled_of}
+use Rattle.stk_chain.specs.Answers.{Starts}
+use Rattle.stk_chain.specs.declared.fault.ChainFault.TheVariants.{NoMemory}
+use Rattle.stk_chain.proofs.StartedLemmas.{founded_ok, founded_err}
+use Rattle.std.proofs.Common.{◌≡◌}
 use Rattle.stk_chain.proofs.start.start.Goals as goal
 
-pub add_stake-requires-clause-empty : goal.add_stake-requires-clause-empty
-add_stake-requires-clause-empty g c =
-    let genesis = c.args.genesis.now in
-    let book = c.in_ok-start_book.ensures.book in
-    let m : Modules = record {
-      ground = record { bank = c.in_ok-start_book.field-0; ctx = record { height = 0; time = genesis.time; params = genesis.params }; facts = c.new.result };
-      staking = c.new-2.result;
-    } in
-    let is : stands m ≡ empty_over (ground_at_start genesis)
-    = λ i. stake_over (c.new-2.ensures i).staked (record { bank = (book i).holdings; ctx = record { height = 0; time = genesis.time; params = genesis.params }; facts = c.new.ensures i }) in
-    subst (StandsFor (kept_of m)) is (stands_for (kept_of m))
+pub returns-clause-started : goal.returns-clause-started
+returns-clause-started g c =
+    founded_ok (λ m facts. Starts c.args.genesis.now facts (kept_of m)) c.founded.result c.found-told.result c.found-told.new.modules c.founded.ensures.modules c.founded.ensures.facts c.found-told.ensures.started
 
-pub add_stake-requires-clause-rest : goal.add_stake-requires-clause-rest
-add_stake-requires-clause-rest g c =
-    let genesis = c.args.genesis.now in
-    let book = c.in_ok-start_book.ensures.book in
-    let m : Modules = record {
-      ground = record { bank = c.in_ok-start_book.field-0; ctx = record { height = 0; time = genesis.time; params = genesis.params }; facts = c.new.result };
-      staking = c.new-2.result;
-    } in
-    let is : stands m ≡ empty_over (ground_at_start genesis)
-    = λ i. stake_over (c.new-2.ensures i).staked (record { bank = (book i).holdings; ctx = record { height = 0; time = genesis.time; params = genesis.params }; facts = c.new.ensures i }) in
-    let marks : marks_of m ≡ no_marks = λ i. record { bank = (book i).marks; staking = (c.new-2.ensures i).marks } in
-    rests_first genesis m c.requires.starts is marks (ap (λ r. r.power_reduction) c.new-2.ensures)
+pub returns-clause-rest : goal.returns-clause-rest
+returns-clause-rest g c =
+    founded_ok (λ m facts. AreAtRest m) c.founded.result c.found-told.result c.found-told.new.modules c.founded.ensures.modules c.founded.ensures.facts c.found-told.ensures.rest
+
+pub returns-clause-settled : goal.returns-clause-settled
+returns-clause-settled g c =
+    founded_ok (λ m facts. settled_of m ≡ parts_of m) c.founded.result c.found-told.result c.found-told.new.modules c.founded.ensures.modules c.founded.ensures.facts c.found-told.ensures.settled
+
+pub returns-clause-order : goal.returns-clause-order
+returns-clause-order g c =
+    founded_ok (λ m facts. AreInOrder (settled_of m).shared) c.founded.result c.found-told.result c.found-told.new.modules c.founded.ensures.modules c.founded.ensures.facts c.found-told.ensures.order
+
+pub returns-clause-fault : goal.returns-clause-fault
+returns-clause-fault g c = founded_err (λ fault. fault ≡ NoMemory) c.founded.result c.found-told.result c.founded.ensures.fault c.found-told.ensures.fault

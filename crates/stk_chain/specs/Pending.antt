@@ -1,0 +1,27 @@
+-- The pending rewards of a state, in the order of its delegations.
+use Rattle.std.specs.Prelude.{◌≡◌, ℕ, List, [], ◌∷◌, map, Some}
+use Rattle.stk_keep.specs.declared.items.Item.{Item}
+use Rattle.stk_keep.specs.declared.items.Item.TheVariants as item
+use Rattle.stk_keep.specs.Staked.{Staked, delegation, validator_at}
+use Rattle.stk_msgs.specs.declared.report.Pending.{Pending}
+use Rattle.stk_rules.specs.Chain.{State}
+use Rattle.stk_machine.specs.Report.{pending_at}
+
+-- what the withdrawal of a delegation of these shares would be paid from
+abbrev pub pending_for : State → List ℕ → List ℕ → ℕ → Pending
+pending_for p operator delegator shares =
+    record { delegator = delegator; operator = operator; coins = pending_at (validator_at p.mine.staked operator) delegator shares p }
+
+-- of all delegations, by operator, then delegator
+abbrev pub pending_in : State → List Pending
+pending_in p = map (λ e. pending_for p e.0.0 e.0.1 e.1) p.mine.staked.delegations
+
+-- of the item of a delegation
+abbrev pub pending_of_item : State → Item → List Pending
+pending_of_item p (item.Delegation operator delegator shares) = pending_for p operator delegator shares ∷ []
+pending_of_item p _ = []
+
+-- an item of a delegation is one that stands
+abbrev pub IsStanding : Staked → Item → Type 0
+IsStanding s (item.Delegation operator delegator shares) = delegation s delegator operator ≡ Some shares
+IsStanding s _ = Unit {0}

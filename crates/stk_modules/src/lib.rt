@@ -1,0 +1,12 @@
+//! The modules of a chain over one ground: the bank; validators, delegations and entries; distribution and
+//! signing records, which listen to staking. They are marked and gone back to together, and what they keep
+//! stands for states of the machine (Cosmos SDK v0.47: modules `x/bank`, `x/staking`, `x/distribution` and
+//! `x/slashing`).
+#![tactic(auto)]
+
+mod context;
+mod listing;
+mod marks;
+mod modules;
+
+pub use modules::{Hooks, Modules, Stakes};

@@ -1,0 +1,39 @@
+//! Coins that users send.
+
+ghost use Rattle.std.specs.Prelude.{OnOk};
+ghost use Rattle.stk_rules.specs.Chain.{State};
+ghost use Rattle.stk_rules.specs.Effects.{send};
+ghost use Rattle.stk_modules.specs.Kept.{StandsFor, kept_of, AreSteady};
+ghost use Rattle.stk_modules.specs.Marks.{GoOn};
+ghost use Rattle.stk_transactions.specs.Answers.{MessageEnds};
+
+use std::alloc::Global;
+use std::sync::ledger::Ledger;
+use stk_keep::Stop;
+use stk_modules::Modules;
+use stk_msgs::Send;
+use stk_types::Steps;
+
+/// Coins go from a user to an account (`x/bank`: `msgServer.Send`).
+pub(crate) fn send<L: Ledger>(
+    alloc: Global,
+    modules: &mut Modules,
+    m: &Send,
+    steps: &mut Steps<L>,
+) -> Result<(), Stop>
+    requires steady { AreSteady modules.old }
+    ensures ends { (p : State) → StandsFor (kept_of modules.old) p
+        → MessageEnds (send m.now.from m.now.to m.now.coins p) (kept_of modules.new) result }
+    ensures steady { OnOk result (AreSteady modules.new) }
+
+    // Whatever the answer.
+    ensures go_on { GoOn modules.old modules.new }
+{
+    // It tells that they are a list of coins.
+    let _ = m.coins.len();
+    let facts = &mut modules.ground.facts;
+    modules
+        .ground
+        .bank
+        .transfer(alloc, facts, &m.from, &m.to, &m.coins, steps)
+}
