@@ -1,0 +1,186 @@
+#!/usr/bin/env bash
+# Runs the recipes of `examples/recipes`: each command of `docs/RECIPES.md` with the output that stands there (what needs a
+# tool that is absent is passed over, and said); on each example of `examples`; on a run of a hundred blocks, where the
+# program is built; on output that is cut or of another program; and the auditor's program on outputs in which one line of
+# each kind of fact was changed by one unit.
+set -u
+cd "$(dirname "$0")/.."
+export PYTHONDONTWRITEBYTECODE=1
+built=crates/stakeplay/out/stakeplay
+[ -x "$built" ] && [ -z "$(find crates -name out -prune -o -type f \( -name '*.rt' -o -name '*.antt' \) -newer "$built" -print -quit)" ] || built=
+python3 - "$built" <<'PYTHON'
+import collections, contextlib, functools, io, json, pathlib, re, shutil, subprocess, sys
+
+ONE = 10 ** 18
+FACTS = "transfer burn allocated pooled period started slashed paid commission status jailed unjailed tombstoned removed".split()
+built = sys.argv[1]
+examples = pathlib.Path("examples")
+recipes = examples / "recipes"
+life = (examples / "life.out").read_bytes()
+addresses = [number + "07" * 19 for number in ("01", "02", "03", "09")]
+bad = []
+sys.path.insert(0, str(recipes))
+
+
+def ask(holds, text):
+    if not holds:
+        bad.append(text)
+
+
+def ran(words, given=b""):
+    done = subprocess.run(words, input=given, capture_output=True)
+    return done.returncode, done.stdout, done.stderr.decode()
+
+
+@functools.cache
+def compiled(script):
+    return compile((recipes / script).read_bytes(), script, "exec")
+
+
+def tried_here(words, given=b""):
+    """Runs a recipe: a script of Python within this process, since a hundred starts of one would take most of the time."""
+    if words[0] == "watch.sh":
+        return ran(["bash", str(recipes / words[0]), *words[1:]], given)
+    out, err, status = io.StringIO(), io.StringIO(), 0
+    sys.argv, sys.stdin = words, io.TextIOWrapper(io.BytesIO(given))
+    with contextlib.redirect_stdout(out), contextlib.redirect_stderr(err):
+        try:
+            exec(compiled(words[0]), {"__name__": "__main__"})
+        except SystemExit as end:
+            status = end.code or 0
+    return status, out.getvalue().encode(), err.getvalue()
+
+
+def commands(name):
+    """The recipes with their words, for an output."""
+    some = addresses[2:]
+    return [["audit.py", name], ["tax_sheet.py", some[0], name], ["validator_sheet.py", addresses[1], name],
+            ["reconcile.py", "0", "1", name, *some], ["watch.sh", name]]
+
+
+def try_all(tries):
+    """Runs recipes, each with what it is given, the status that it is to end with, and words for a fault."""
+    for words, given, wanted, what in tries:
+        status, _, err = tried_here(words, given)
+        ask(status == wanted and (status == 0 or err.strip()), f"{' '.join(words)} on {what} ended with {status}: {err}")
+    return len(tries)
+
+
+# ---- the page
+
+shown = passed = 0
+headers = {path.name: path.read_text() for path in recipes.iterdir() if path.suffix in (".py", ".sh")}
+page = pathlib.Path("docs/RECIPES.md").read_text()
+for block in re.findall(r"^```console\n(.*?)^```$", page, re.M | re.S):
+    written = block.splitlines(keepends=True)
+    more = next((n for n, line in enumerate(written) if n and not line.startswith("> ")), len(written))
+    command, wanted = "".join(line[2:] for line in written[:more]).strip(), "".join(written[more:])
+    absent = [tool for tool in ("jq", "gnuplot", "pv", "sqlite3") if re.search(rf"\b{tool} ", command) and not shutil.which(tool)]
+    if absent:
+        passed += 1
+        print(f"recipes: passed over, since {' and '.join(absent)} is absent: {command}")
+        continue
+    _, out, err = ran(["bash", "-c", command])
+    out, shown = out.decode() + err, shown + 1
+    is_front = wanted.endswith("...\n")
+    wanted = wanted.removesuffix("...\n")
+    ask(out.startswith(wanted) if is_front else out == wanted, f"{command}\n  wrote\n{out}  and the page has\n{wanted}")
+for name in headers:
+    ask(name == "lines.py" or f"examples/recipes/{name}" in page, f"the page does not lead to {name}")
+    ask(name == "lines.py" or "Who wants it:" in headers[name] and "One command:" in headers[name], f"{name} has no header")
+for words in commands(str(examples / "life.out"))[:2]:
+    front = tried_here(words)[1].decode().splitlines()[:2]
+    ask(all(line in headers[words[0]] for line in front), f"the header of {words[0]} has not the first lines of what comes out")
+
+# ---- whole outputs, and outputs that are not
+
+tries = []
+for end in sorted(examples.glob("*.end")):
+    is_whole = end.read_text().split()[0] == "0"
+    tries += [(words, b"", 0 if is_whole else 2, "an example") for words in commands(str(end.with_suffix(".out")))]
+if built:
+    given = tried_here(["long_run.py", "100"])[1]
+    status, out, err = ran([built, "-", "replay"], given)
+    ask(status == 0, f"the run of long_run.py ended with {status}: {err}")
+    tries += [(words, out, 0, "the run of long_run.py") for words in commands("-")]
+else:
+    print("recipes: the run of long_run.py is passed over, since the program is not built")
+texts = life.splitlines(keepends=True)
+whole_reports = {"a report alone": b"".join(text for text in texts if b'"height"' not in text),
+                 "an answer": b"".join(text for text in texts if b'"kind":"pending"' in text),
+                 "an output and its continuation": life + b'{"height":6,"kind":"block","time":"2024-01-22T00:00:25Z"}\n'
+                 + b"".join(text for text in texts if b'"height"' not in text)}
+broken = {"cut in a line": life[:3000], "cut between lines": b"".join(texts[:40]), "cut in its report": b"".join(texts[:-1]),
+          "without its last byte": life[:-1], "nothing": b"", "of another program": b'{"level":"info","msg":"started"}\n',
+          "no JSON": b"height 1\n", "without a block": b"".join(text for text in texts if b'"height":2,' not in text), "a list": b"[1,2]\n"}
+tries += [(words, given, 2, f"output that is {name}") for name, given in broken.items() for words in commands("-")]
+tries += [(words, given, 0, name) for name, given in whole_reports.items() for words in commands("-")
+          if words[0] != "reconcile.py" or "continuation" in name]
+tried = try_all(tries)
+answer = b"".join(text for text in texts if b'"kind":"account"' in text)
+following = whole_reports["an output and its continuation"][len(life):]
+status, out, err = tried_here(["reconcile.py", "5", "6", "-", *addresses], answer + following)
+ask(status == 0 and b"report report" in out, f"reconcile.py ended with {status} on answers and what follows: {err}")
+
+# ---- lines that were changed by one unit
+
+import audit
+
+
+def bumped(text, by):
+    units = int(text.replace(".", "")) + by
+    return None if units < 0 else f"{units // ONE}.{units % ONE:018d}" if "." in text else str(units)
+
+
+def changed(line):
+    """The line with one of its numbers one unit higher or lower, another last digit of its validator, the next status."""
+    for member, value in line.items():
+        if member in ("period", "height"):
+            yield line | {member: value + 1}
+        elif member in ("amount", "burned", "fraction", "stake"):
+            yield from (line | {member: text} for by in (1, -1) if (text := bumped(value, by)) is not None)
+        elif member in ("coins", "ratio", "reward"):
+            for place, coin in enumerate(value):
+                for by in (1, -1):
+                    coins = value[:place] + [coin | {"amount": bumped(coin["amount"], by)}] + value[place + 1:]
+                    yield line | {member: coins}
+        elif member == "validator":
+            yield line | {member: value[:-1] + ("0" if value[-1] != "0" else "1")}
+        elif member == "status":
+            yield line | {member: {"bonded": "unbonding", "unbonding": "unbonded", "unbonded": "bonded"}[value]}
+
+
+def is_found(lines, first):
+    reader = audit.Audit()
+    with contextlib.redirect_stdout(io.StringIO()), contextlib.redirect_stderr(io.StringIO()):
+        try:
+            if first:
+                reader.begin_with(first)
+            for reader.place, line in enumerate(lines, 1):
+                reader.take(line)
+        except (SystemExit, ValueError):  # it ends with status 2
+            return True
+    return reader.bad > 0
+
+
+lines = [json.loads(text) for text in texts]
+first = json.loads((examples / "life.jsonl").read_text().splitlines()[0])
+ask(not is_found(lines, None) and not is_found(lines, first), "the auditor's program finds something in the example")
+counts, alone, found = collections.Counter(), collections.Counter(), collections.Counter()
+for place, line in enumerate(lines):
+    if line["kind"] in FACTS:
+        for other in changed(line):
+            counts[line["kind"]] += 1
+            with_other = lines[:place] + [other] + lines[place + 1:]
+            alone[line["kind"]] += is_found(with_other, None)
+            is_there = is_found(with_other, first)
+            found[line["kind"]] += is_there
+            ask(is_there, f"the auditor's program does not find line {place + 1} changed to {json.dumps(other)}")
+for kind in FACTS:
+    ask(counts[kind] and alone[kind], f"no changed line of the kind {kind} was found from the output alone")
+print(f"recipes: {shown} commands of the page, {passed} passed over; {tried} runs on outputs, whole and broken; {sum(counts.values())} changed lines"
+      f" in {len(counts)} kinds of facts, {sum(found.values())} found with the first line of the input, {sum(alone.values())} from the output alone")
+for text in bad:
+    print(f"recipes: {text}")
+sys.exit(1 if bad else 0)
+PYTHON
