@@ -7,235 +7,46 @@ Each call looks first whether its condition holds, in both programs. Behind each
 period of the first validator and how many refer to its last ended one are looked at in the end. The least time of RUNS runs (5)
 counts; of the Rattle program the time of a run that only begins is taken off.
 
-Wants `rt` and `rustc`, and works in a temporary folder. The calls with their conditions and their proofs are those of
-the tests of `stk_f1`, which see its tables; so the program is the tests of a copy of that crate, with loops in their place, which
-`rt test` proves and builds."""
-import os, pathlib, re, shutil, subprocess, sys, tempfile, time
+Wants `rt` and `rustc`, and works in a temporary folder. The program in Rattle is `loops.txt`, the tests of a crate that
+stands on `stk_f1`, which `rt test` proves and builds."""
+import pathlib, shutil, subprocess, sys, tempfile, time
 
 RUNS = int(sys.argv[1]) if len(sys.argv) > 1 else 5
-TOP = pathlib.Path(__file__).resolve().parents[2]
+HERE = pathlib.Path(__file__).resolve().parent
+TOP = HERE.parents[1]
 WORK = pathlib.Path(tempfile.mkdtemp(prefix="periods-"))
-CRATES = ("stk_dec", "stk_types", "stk_coins", "stk_shares", "stk_table", "stk_keep", "stk_rules", "stk_f1")
-CALLS = ("addr", "atom", "dec", "atoms", "fresh", "init", "end", "start", "stop")
+CRATES = ("stk_dec", "stk_types", "stk_coins", "stk_shares", "stk_table", "stk_keep", "stk_rows", "stk_rules", "stk_sums", "stk_f1")
 
 INVARIANT = """
+use Rattle.std.proofs.Common.{◌≡◌, []}
+use Rattle.std.specs.Prelude.{◌×◌}
 use Rattle.stk_f1.specs.Stands.{IsKept}
-use Rattle.stk_f1.proofs.tests.NAME.Given as goal
+use Rattle.period_bench.proofs.NAME.Given as goal
 
 abbrev pub invariant-loop-VAR : goal.invariant-loop-VAR
-invariant-loop-VAR g l = IsKept l.f.kept
+invariant-loop-VAR g l = IsKept l.f.kept × (l.f.marks ≡ [])
 """
 
 # loops keep what the tables stand for
 LOOPS = {"begun": "operator", "end_round": "operator", "end_rounds": "round", "turn_round": "operator", "turn_rounds": "round"}
 
-SETTLE = """
-use Rattle.std.proofs.Common.{◌≡◌, ◌∙◌, ℕ, List, [], ◌∷◌, length, sym, ap, refl, arith}
-use Rattle.std.specs.Prelude.{zero, suc}
-use Rattle.std.specs.List.{range_with_len}
-use Rattle.stk_f1.proofs.tests.settle.Goals as goal
-
-none : {A : Type 0} (xs : List A) → length xs ≡ 0 → xs ≡ []
-none [] e = refl
-none (x ∷ xs) e = absurd (omega (arith, e))
-
-no_depth : (n : ℕ) → [] ≡ range_with_len 0 n → n ≡ 0
-no_depth zero e = refl
-no_depth (suc n) e = let f : [] ≡ 0 ∷ range_with_len 1 n = e in absurd cc
-
-none_open : {A : Type 0} (ns : List ℕ) (xs : List A) → ns ≡ range_with_len 0 (length xs) → length ns ≡ 0 → xs ≡ []
-none_open ns xs e h = none xs (no_depth (length xs) (sym (none ns h) ∙ e))
-
-pub settle-requires : goal.settle-requires
-settle-requires g c = sym (ap (λ t. t.marks) c.f.view_is) ∙ none_open c.f.inside.marks.items c.f.inside.tables.marks c.f.invariant (grind (arith, c.if-is_empty.true, c.is_empty.ensures))
-"""
-
 GHOSTS = """
-use Rattle.stk_f1.proofs.tests.NAME.Given as goal
+use Rattle.period_bench.proofs.NAME.Given as goal
 
 abbrev pub ghosts-CALL : goal.ghosts-CALL
 ghosts-CALL g a = record { name = a.blank.name; parts = a.blank.parts }
 """
 
+FRESH = """
+use Rattle.stk_f1.specs.Stands.{no_rewards}
+use Rattle.period_bench.proofs.fresh.Goals as goal
+
+pub returns-clause-kept : goal.returns-clause-kept
+returns-clause-kept g c = (no_rewards, c.new.ensures.kept)
+"""
+
 # each test calls one function with a ledger of its own
 TESTS = {"begins": "only_begun", "ends": "all_ended", "turns": "all_turned"}
-
-BENCH = """
-ghost use Rattle.std.specs.Prelude.{◌≡◌, ◌<◌, OnOk, IfOk};
-ghost use Rattle.stk_f1.specs.Kept.{new_records};
-ghost use Rattle.stk_f1.specs.Stands.{IsKept};
-
-use crate::F1;
-use std::marker::Brand;
-use std::process::Abort;
-use std::sync::ledger::{Blank, Ledger};
-use std::test::Fail;
-use stk_coins::{DecCoin, DecCoins};
-use stk_dec::Dec;
-use stk_keep::{Facts, Records};
-use stk_types::{Addr, Denom, Steps};
-
-const ONE: u128 = 1_000_000_000_000_000_000;
-
-CALLS
-pub fn operators(rt: &(impl Abort + AllocGlobal)) -> Result<Vec<Addr>, Fail> {
-    let mut operators = Vec::new(rt.alloc());
-    for byte in 1..181 {
-        operators.push(addr(rt, byte))?;
-    }
-    Ok(operators)
-}
-
-pub fn begun<L: Ledger>(
-    rt: &(impl Abort + AllocGlobal),
-    operators: &[Addr],
-    steps: &mut Steps<L>,
-) -> Result<F1, Fail>
-    ensures { IfOk result (λ f. IsKept f.kept) }
-{
-    let mut f = fresh(rt);
-    for operator in operators {
-        init(rt, &mut f, operator, steps)?;
-    }
-    Ok(f)
-}
-
-fn settle<L: Ledger>(f: &mut F1, steps: &mut Steps<L>)
-    requires { IsKept f.old.kept }
-    ensures { IsKept f.new.kept }
-{
-    if f.marks.is_empty() {
-        f.settle(steps);
-    }
-}
-
-fn end_round<L: Ledger>(
-    rt: &(impl Abort + AllocGlobal),
-    f: &mut F1,
-    operators: &[Addr],
-    round: u64,
-    steps: &mut Steps<L>,
-) -> Result<(), Fail>
-    requires { IsKept f.old.kept }
-    ensures { OnOk result (IsKept f.new.kept) }
-{
-    for operator in operators {
-        end(rt, f, operator, u128::from(round), steps)?;
-    }
-    settle(f, steps);
-    Ok(())
-}
-
-pub fn end_rounds<L: Ledger>(
-    rt: &(impl Abort + AllocGlobal),
-    f: &mut F1,
-    operators: &[Addr],
-    steps: &mut Steps<L>,
-) -> Result<(), Fail>
-    requires { IsKept f.old.kept }
-    ensures { OnOk result (IsKept f.new.kept) }
-{
-    for round in 0..5556 {
-        end_round(rt, f, operators, round, steps)?;
-    }
-    Ok(())
-}
-
-fn turn_round<L: Ledger>(
-    rt: &(impl Abort + AllocGlobal),
-    f: &mut F1,
-    who: &Addr,
-    operators: &[Addr],
-    round: u64,
-    steps: &mut Steps<L>,
-) -> Result<(), Fail>
-    requires { IsKept f.old.kept }
-    ensures { OnOk result (IsKept f.new.kept) }
-{
-    for operator in operators {
-        start(rt, f, who, operator, ONE, round, steps)?;
-        stop(rt, f, who, operator, steps)?;
-    }
-    settle(f, steps);
-    Ok(())
-}
-
-pub fn turn_rounds<L: Ledger>(
-    rt: &(impl Abort + AllocGlobal),
-    f: &mut F1,
-    operators: &[Addr],
-    steps: &mut Steps<L>,
-) -> Result<(), Fail>
-    requires { IsKept f.old.kept }
-    ensures { OnOk result (IsKept f.new.kept) }
-{
-    let who = addr(rt, 200);
-    for round in 0..5556 {
-        turn_round(rt, f, &who, operators, round, steps)?;
-    }
-    Ok(())
-}
-
-fn last<L: Ledger>(rt: &impl Abort, f: &F1, steps: &mut Steps<L>) -> (u64, u128) {
-    let operator = addr(rt, 1);
-    let period = f.tables.current(&operator, steps).unwrap_or(0);
-    let count = f.count(&operator, period.saturating_sub(1), steps);
-    (period, count.unwrap_or(0))
-}
-
-fn only_begun<L: Ledger>(rt: &(impl Abort + AllocGlobal), blank: Blank) -> Result<(u64, u128), Fail>
-    requires name { blank.name ≡ L.name }
-    requires parts { blank.parts ≡ L.parts }
-    requires some { 0 < L.parts }
-{
-    let mut steps: Steps<L> = Steps::new(blank);
-    let operators = operators(rt)?;
-    let mut f = begun(rt, &operators, &mut steps)?;
-    Ok(last(rt, &f, &mut steps))
-}
-
-fn all_ended<L: Ledger>(rt: &(impl Abort + AllocGlobal), blank: Blank) -> Result<(u64, u128), Fail>
-    requires name { blank.name ≡ L.name }
-    requires parts { blank.parts ≡ L.parts }
-    requires some { 0 < L.parts }
-{
-    let mut steps: Steps<L> = Steps::new(blank);
-    let operators = operators(rt)?;
-    let mut f = begun(rt, &operators, &mut steps)?;
-    end_rounds(rt, &mut f, &operators, &mut steps)?;
-    Ok(last(rt, &f, &mut steps))
-}
-
-fn all_turned<L: Ledger>(rt: &(impl Abort + AllocGlobal), blank: Blank) -> Result<(u64, u128), Fail>
-    requires name { blank.name ≡ L.name }
-    requires parts { blank.parts ≡ L.parts }
-    requires some { 0 < L.parts }
-{
-    let mut steps: Steps<L> = Steps::new(blank);
-    let operators = operators(rt)?;
-    let mut f = begun(rt, &operators, &mut steps)?;
-    turn_rounds(rt, &mut f, &operators, &mut steps)?;
-    Ok(last(rt, &f, &mut steps))
-}
-
-#[test]
-fn begins(rt: HostRuntime) -> Result<(), Fail> {
-    assert!(rt; only_begun::<Brand>(&rt, Blank::new(1))? == (1, 1));
-    Ok(())
-}
-
-#[test]
-fn ends(rt: HostRuntime) -> Result<(), Fail> {
-    assert!(rt; all_ended::<Brand>(&rt, Blank::new(1))? == (5557, 1));
-    Ok(())
-}
-
-#[test]
-fn turns(rt: HostRuntime) -> Result<(), Fail> {
-    assert!(rt; all_turned::<Brand>(&rt, Blank::new(1))? == (1, 1));
-    Ok(())
-}
-"""
 
 STOCK = """
 #![allow(dead_code)]
@@ -423,32 +234,24 @@ fn main() {
 """
 
 
-def function(text, name):
-    """A function of the tests, with its lines of documentation."""
-    return re.search(rf"(?:^///[^\n]*\n)*^fn {name}\b.*?^}}\n", text, re.M | re.S)[0]
-
-
 def build_rattle():
     top = WORK / "rattle"
     for name in CRATES:
         shutil.copytree(TOP / "crates" / name, top / "crates" / name, ignore=shutil.ignore_patterns("must-fail", "out"))
-    f1 = top / "crates/stk_f1"
-    tests = (f1 / "src/tests.rt").read_text()
-    calls = "\n".join(function(tests, name) for name in CALLS)
-    (f1 / "src/tests.rt").write_text(BENCH.lstrip().replace("CALLS\n", calls + "\n"))
-    for path in (f1 / "proofs/tests").iterdir():
-        if path.name not in CALLS:
-            shutil.rmtree(path)
-    proofs = {f"{name}/Invariants.antt": INVARIANT.replace("NAME", name).replace("VAR", var) for name, var in LOOPS.items()}
-    proofs["settle/Answers.antt"] = SETTLE
+    bench = top / "crates/period_bench"
+    proofs = {"fresh/Answers.antt": FRESH}
+    proofs |= {f"{name}/Invariants.antt": INVARIANT.replace("NAME", name).replace("VAR", var) for name, var in LOOPS.items()}
     proofs |= {f"{test}/Invariants.antt": GHOSTS.replace("NAME", test).replace("CALL", call) for test, call in TESTS.items()}
     for path, text in proofs.items():
-        (f1 / "proofs/tests" / path).parent.mkdir(parents=True, exist_ok=True)
-        (f1 / "proofs/tests" / path).write_text(text.lstrip())
+        (bench / "proofs" / path).parent.mkdir(parents=True, exist_ok=True)
+        (bench / "proofs" / path).write_text(text.lstrip())
+    (bench / "src").mkdir()
+    (bench / "src/lib.rt").write_text((HERE / "loops.txt").read_text())
     lines = [line for line in (TOP / "crates.txt").read_text().splitlines() if line.split(":")[0] in CRATES]
+    lines.append("period_bench: stk_dec stk_types stk_coins stk_keep stk_f1")
     (top / "crates.txt").write_text("\n".join(lines) + "\n")
-    ran = subprocess.run(["rt", "test"], cwd=f1, stdin=subprocess.DEVNULL, capture_output=True, text=True)
-    program = f1 / "out/stk_f1_tests"
+    ran = subprocess.run(["rt", "test"], cwd=bench, stdin=subprocess.DEVNULL, capture_output=True, text=True)
+    program = bench / "out/period_bench_tests"
     if not program.is_file():
         sys.exit(ran.stdout + ran.stderr)
     return str(program)
@@ -462,7 +265,7 @@ def build_stock():
 
 def seconds(program, test):
     start = time.perf_counter()
-    subprocess.run([program, f"tests::{test}"], capture_output=True, check=True)
+    subprocess.run([program, test], capture_output=True, check=True)
     return time.perf_counter() - start
 
 
