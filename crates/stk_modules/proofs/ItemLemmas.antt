@@ -30,7 +30,7 @@ use Rattle.stk_f1.specs.Rows.{is_record}
 use Rattle.stk_window.specs.Kept.{Kept}
 use Rattle.stk_window.specs.Rows as window
 use Rattle.stk_window.specs.Rows.{is_signing}
-use Rattle.stk_window.proofs.ItemLemmas.{signings_by_key, signings_of_kind}
+use Rattle.stk_window.proofs.ItemLemmas.{flag, flag_itself, signings_by_key, signings_of_kind}
 use Rattle.stk_distr.specs.Kept.{KeptShared}
 use Rattle.stk_distr.specs.Rows as distr
 use Rattle.stk_distr.specs.Rows.{is_distributed, is_payee}
@@ -206,16 +206,6 @@ of_ctx : (c : Ctx) → AreOf is_ctx (ctx_items c)
 of_ctx c = of-both is_head is_parameters (item.Head c.height c.time ∷ []) (item.Parameters c.params ∷ []) (of_one is_head (item.Head c.height c.time) refl) (of_one is_parameters (item.Parameters c.params) refl)
 
 -- ---- parameters that are one, field by field
-
-flag : (a b : Bool) → same_flag a b ≡ true → a ≡ b
-flag true true h = refl
-flag true false h = cc
-flag false true h = cc
-flag false false h = refl
-
-flag_itself : (a : Bool) → same_flag a a ≡ true
-flag_itself true = refl
-flag_itself false = refl
 
 true_false : true ≡ false → ⊥
 true_false h = cc

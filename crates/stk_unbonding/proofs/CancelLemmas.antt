@@ -1,6 +1,6 @@
 -- Cancelling: what is refused first, what follows, and what stands then.
 use Rattle.std.proofs.Common.{◌≡◌, ◌∙◌, ℕ, ◌+◌, ◌<◌, ◌≤◌, Bool, true, false, List, Option, Some, None, refl, ap, subst, arith}
-use Rattle.std.specs.Prelude.{Ok, Err, Result, ◌==◌, nat_lt, All, length, find, ⊤}
+use Rattle.std.specs.Prelude.{Ok, Err, Result, ◌==◌, nat_lt, ◌++◌, All, length, find, unwrap_or, ⊤}
 use Rattle.std.proofs.lemmas.Bool.Decides.{nat_tests}
 use Rattle.stk_coins.specs.declared.coin.Coin.{Coin}
 use Rattle.stk_types.specs.declared.status.BondStatus.TheVariants.{Unbonded}
@@ -10,18 +10,20 @@ use Rattle.stk_keep.specs.declared.entities.Validator.{Validator}
 use Rattle.stk_keep.specs.declared.faults.Stop.{Stop}
 use Rattle.stk_keep.specs.declared.faults.Stop.TheVariants as stop
 use Rattle.stk_keep.specs.declared.refusal.Refusal.{Refusal}
-use Rattle.stk_keep.specs.declared.refusal.Refusal.TheVariants.{WrongDenom, NonPositive, NoValidator, RateInvalid, Jailed, NoEntry, CancelTooMuch}
+use Rattle.stk_keep.specs.declared.refusal.Refusal.TheVariants.{WrongDenom, NonPositive, NoValidator, RateInvalid, Jailed, NoEntry, CancelTooMuch, Overflow}
 use Rattle.stk_keep.specs.Answers.{AnswersAs}
 use Rattle.stk_keep.specs.Hooks.{Tells, Stand, Lawful}
-use Rattle.stk_keep.specs.Staked.{Staked, validator_at, lists_of, bonded_tokens, other_tokens, HoldsStake}
-use Rattle.stk_keep.specs.Steps.{◌>>=◌, ◌>>◌, stop_if, or_stop}
-use Rattle.stk_keep.specs.World.{View, Hook, Told, World}
-use Rattle.stk_rules.specs.Delegating.{is_wrong, pool, delegated}
+use Rattle.stk_keep.specs.Log.{Log}
+use Rattle.stk_keep.specs.Staked.{Staked, validator_at, delegation, put_validator, lists_of, bonded_tokens, other_tokens, HoldsStake}
+use Rattle.stk_keep.specs.Steps.{◌>>=◌, ◌>>◌, stop_if, or_stop, stopping}
+use Rattle.stk_keep.specs.World.{View, Hook, Told, gives, exceeds, World, hooked, modified, over_view, over_mine}
+use Rattle.stk_rules.specs.Delegating.{Origin, is_wrong, pool, paid_in, hook_before, shares_given, delegated}
 use Rattle.stk_rules.specs.Owed.{balances_of, entry_balances}
 use Rattle.stk_rules.specs.Sound.{UnbondingIsSound}
+use Rattle.stk_rules.specs.Stakes.{put_delegation}
 use Rattle.stk_rules.specs.Unbondings.{UnbondingLists, entries_of, with_entries, can_be_cancelled, lowered, cancelled}
 use Rattle.stk_rules.proofs.SoundLemmas.{to_points}
-use Rattle.stk_book.specs.Calls.{IsSoundStake, HasOrigin, over}
+use Rattle.stk_book.specs.Calls.{IsSoundStake, HasOrigin, over, behind_log}
 use Rattle.stk_entries.specs.Answers.{AnswersBoth}
 use Rattle.stk_unbonding.specs.Calls.{AreSoundLists, IsWhole, AreWhole, HoldsEntries, cancellation}
 use Rattle.stk_entries.proofs.AnswerLemmas.{answers_no_memory}
@@ -93,6 +95,61 @@ module _ {H : Type 0} (told : H → Hook → View → Told H) (delegator operato
       by (Err due) stop.NoMemory l = tt
       by (Ok p) (stop.Refused x) l = absurd l
       by (Ok p) stop.NoMemory l = answers_no_memory (entry_lowered p) u2 s holds view
+
+-- ---- the log is only an output of delegating
+
+module _ {H : Type 0} (told : H → Hook → View → Told H) (v : Validator) (delegator : List ℕ) (amount : ℕ) (from : Origin) (log : Log) (s : Staked) (h : H) (u : View) (s2 : Staked) (holds : H → Type 0) (u2 : View) where
+  -- what answers the first answers the second
+  abbrev Behind : Result (ℕ × World Staked H) Refusal → Result (ℕ × World Staked H) Refusal → Type 0
+  Behind r r2 = (a : Result ℕ Stop) → AnswersAs r s2 holds u2 a → AnswersAs r2 s2 holds u2 a
+
+  abbrev held : Option ℕ
+  held = delegation s delegator v.operator
+
+  abbrev shares : ℕ → ℕ
+  shares issued = unwrap_or held 0 + issued
+
+  abbrev grown : ℕ → Validator
+  grown issued = record v { tokens = v.tokens + amount; shares = v.shares + issued }
+
+  abbrev placed : ℕ → View → World Staked H → World Staked H
+  placed issued view w = over_view (λ x. view) (over_mine (λ x. put_delegation delegator v.operator (shares issued) (put_validator (grown issued) x)) w)
+
+  abbrev last_at : ℕ → Told H → World Staked H → Result (ℕ × World Staked H) Refusal
+  last_at issued t w = stopping Overflow (hooked t w) >>= λ w3. Ok (issued, w3)
+
+  abbrev paid_at : ℕ → Result View Refusal → World Staked H → Result (ℕ × World Staked H) Refusal
+  paid_at issued r w = r >>= λ view. last_at issued (told w.hooks (modified (grown issued) delegator (shares issued)) view) (placed issued view w)
+
+  abbrev before_at : ℕ → Told H → World Staked H → Result (ℕ × World Staked H) Refusal
+  before_at issued t w = stopping Overflow (hooked t w) >>= λ w1. paid_at issued (paid_in from delegator v.status amount w1.view) w1
+
+  abbrev given_at : Result ℕ Refusal → World Staked H → Result (ℕ × World Staked H) Refusal
+  given_at r w = r >>= λ issued. before_at issued (told h (hook_before v delegator held) u) w
+
+  abbrev world : Staked → H → View → Log → World Staked H
+  world x h1 u1 l = record { mine = x; hooks = h1; view = u1; log = l }
+
+  last-behind : (issued : ℕ) (t : Told H) (x : Staked) (h1 : H) (u1 : View) (l l2 : Log) → Behind (last_at issued t (world x h1 u1 l)) (last_at issued t (world x h1 u1 l2))
+  last-behind issued (gives h3 u3 more) x h1 u1 l l2 (Ok n) c = c
+  last-behind issued (gives h3 u3 more) x h1 u1 l l2 (Err why) c = c
+  last-behind issued (exceeds due) x h1 u1 l l2 a c = c
+
+  paid-behind : (issued : ℕ) (r : Result View Refusal) (h1 : H) (u1 : View) (l l2 : Log) → Behind (paid_at issued r (world s h1 u1 l)) (paid_at issued r (world s h1 u1 l2))
+  paid-behind issued (Ok view) h1 u1 l l2 a c = last-behind issued (told h1 (modified (grown issued) delegator (shares issued)) view) (put_delegation delegator v.operator (shares issued) (put_validator (grown issued) s)) h1 view l l2 a c
+  paid-behind issued (Err why) h1 u1 l l2 a c = c
+
+  before-behind : (issued : ℕ) (t : Told H) → Behind (before_at issued t (over s h u)) (before_at issued t (behind_log log s h u))
+  before-behind issued (gives h1 u1 more) a c = paid-behind issued (paid_in from delegator v.status amount u1) h1 u1 more (log ++ more) a c
+  before-behind issued (exceeds due) a c = c
+
+  given-behind : (r : Result ℕ Refusal) → Behind (given_at r (over s h u)) (given_at r (behind_log log s h u))
+  given-behind (Ok issued) a c = before-behind issued (told h (hook_before v delegator held) u) a c
+  given-behind (Err why) a c = c
+
+  -- so behind any log it answers and leaves what it does behind none
+  pub delegated-behind : Behind (delegated told v delegator amount from (over s h u)) (delegated told v delegator amount from (behind_log log s h u))
+  delegated-behind = given-behind (shares_given v amount)
 
 -- what a cancellation that isn't refused tells
 pub record IsOpen (delegator operator : List ℕ) (coin : Coin) (height : ℕ) (u : UnbondingLists) (s : Staked) (view : View) (v : Validator) (e : UnbondingEntry) : Type 0 where

@@ -3,8 +3,9 @@
 ghost use Rattle.std.specs.Prelude.{◌≡◌, ℕ, true, find, IfOk, OnOk, IsErr};
 ghost use Rattle.stk_shares.specs.Shares.{has_invalid_rate};
 ghost use Rattle.stk_keep.specs.Ground.{seen};
+ghost use Rattle.stk_keep.specs.Log.{Log};
 ghost use Rattle.stk_rules.specs.Unbondings.{entries_of, with_entries, can_be_cancelled, lowered, cancelled};
-ghost use Rattle.stk_book.specs.Calls.{over};
+ghost use Rattle.stk_book.specs.Calls.{behind_log};
 ghost use Rattle.stk_book.specs.Scenes.{GoesOn};
 ghost use Rattle.stk_entries.specs.Answers.{AnswersBoth, EntriesGoOn};
 ghost use Rattle.stk_entries.specs.Kept.{behind, holding};
@@ -45,9 +46,9 @@ impl Unbondings {
         requires scene { IsUnbondingScene H.tells (H.holds hooks.old)
             (seen B.holdings g.old) staking.old.staked self.old.lists }
 
-        ensures told { (h : H.Held) → H.holds hooks.old h
+        ensures told { (h : H.Held) → H.holds hooks.old h → (log : Log)
             → AnswersBoth (cancelled H.tells.told delegator.now operator.now coin.now created
-            self.old.lists (over staking.old.staked h (seen B.holdings g.old)))
+            self.old.lists (behind_log log staking.old.staked h (seen B.holdings g.old)))
             self.new.lists staking.new.staked (H.holds hooks.new)
             (seen B.holdings g.new) result }
         ensures scene { OnOk result (IsUnbondingScene H.tells (H.holds hooks.new)

@@ -6,9 +6,10 @@ ghost use Rattle.stk_types.specs.declared.account.Module.TheVariants as holder;
 ghost use Rattle.stk_keep.specs.declared.faults.HookFault.TheVariants as hook;
 ghost use Rattle.stk_keep.specs.Ground.{seen, CanBeUndone};
 ghost use Rattle.stk_keep.specs.Holdings.{IsBacked, balance_of};
+ghost use Rattle.stk_keep.specs.Log.{Log};
 ghost use Rattle.stk_keep.specs.Staked.{is_bonded};
 ghost use Rattle.stk_rules.specs.Unbondings.{entries_of, with_entries, grown, undelegated};
-ghost use Rattle.stk_book.specs.Calls.{IsSoundStake, over};
+ghost use Rattle.stk_book.specs.Calls.{IsSoundStake, behind_log};
 ghost use Rattle.stk_book.specs.Scenes.{GoesOn};
 ghost use Rattle.stk_entries.specs.Answers.{AnswersBoth, EntriesGoOn};
 ghost use Rattle.stk_entries.specs.Kept.{behind, holding};
@@ -52,9 +53,9 @@ impl Unbondings {
             (seen B.holdings g.old) staking.old.staked self.old.lists }
         requires whole { AreWhole g.old.ctx.height self.old.lists }
 
-        ensures told { (h : H.Held) → H.holds hooks.old h
+        ensures told { (h : H.Held) → H.holds hooks.old h → (log : Log)
             → AnswersBoth (undelegated H.tells.told delegator.now operator.now coin.now
-            self.old.lists (over staking.old.staked h (seen B.holdings g.old)))
+            self.old.lists (behind_log log staking.old.staked h (seen B.holdings g.old)))
             self.new.lists staking.new.staked (H.holds hooks.new)
             (seen B.holdings g.new) result }
         ensures scene { OnOk result (IsUnbondingScene H.tells (H.holds hooks.new)

@@ -164,14 +164,9 @@ distinct-due now first (e ∷ q) s h = by (nat_le e.0.0 now) (distinct-due now f
 abbrev pub operators_of : List Validator → List (List ℕ)
 operators_of vs = map (λ v. v.operator) vs
 
--- where none is counted, none is listed
-pub none_listed : (t : Validator → Bool) (vs : List Validator) → count_where t vs ≡ 0 → operators_of (filter t vs) ≡ []
-none_listed t [] e = refl
-none_listed t (v ∷ vs) e = by (t v) e (λ f. none_listed t vs f)
-  where
-    by : (b : Bool) → cond b 1 0 + count_where t vs ≡ 0 → (count_where t vs ≡ 0 → operators_of (filter t vs) ≡ []) → operators_of (cond b (v ∷ filter t vs) (filter t vs)) ≡ []
-    by true f later = absurd (omega (arith, f))
-    by false f later = let none : count_where t vs ≡ 0 = omega (arith, f) in later none
+-- as many are listed as are counted
+pub listed_count : (t : Validator → Bool) (vs : List Validator) → length (operators_of (filter t vs)) ≡ count_where t vs
+listed_count t vs = length-map (filter t vs) (λ v. v.operator) ∙ length_count t vs
 
 module _ (test : Validator → Bool) where
   abbrev passing : Validators → List (List ℕ)
@@ -301,8 +296,7 @@ module _ (now r : ℕ) (es : Validators) (s : IsStrictlySortedBy addr_cmp (keys_
   -- no more are listed than are due
   due-few : length (due_in now queue) ≤ count_where (is_due now) (values_of es)
   due-few =
-      let all : length (passing (is_due now) es) ≡ count_where (is_due now) (values_of es) = length-map (filter (is_due now) (values_of es)) (λ v. v.operator) ∙ length_count (is_due now) (values_of es) in
-      subst (λ n. length (due_in now queue) ≤ n) all
+      subst (λ n. length (due_in now queue) ≤ n) (listed_count (is_due now) (values_of es))
       (length-le_from_is_member (eq_by_cmp_equiv addr_total) (due_in now queue) (passing (is_due now) es) apart (λ x h. listed_in (passing (is_due now) es) x (due-there x (in_list (due_in now queue) x h))))
 
   -- so the walk, of two steps for each that it lists and two more, takes no more than two for each that is due and two more

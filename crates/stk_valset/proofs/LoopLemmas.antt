@@ -11,11 +11,6 @@ use Rattle.stk_rules.specs.Amounts.{count_where}
 pub next_of : {A : Type 0} (xs : List A) (i : ℕ) (x : A) → i < length xs → x ≡ get_or xs i x → drop i xs ≡ x ∷ drop (i + 1) xs
 next_of xs i x lt is = rw (add-one) (drop-cons xs i x lt) ∙ ap (λ y. y ∷ drop (i + 1) xs) (sym is)
 
--- none in a list of none
-pub no_item : {A : Type 0} (xs : List A) (i : ℕ) → xs ≡ [] → i < length xs → ⊥
-no_item [] i e lt = omega (arith, lt)
-no_item (x ∷ xs) i e lt = absurd cc
-
 -- as many pass a test as it counts
 pub length_count : {A : Type 0} (t : A → Bool) (xs : List A) → length (filter t xs) ≡ count_where t xs
 length_count t [] = refl

@@ -1,6 +1,6 @@
 -- An unbonding validator whose time has come is unbonded, and goes where it has no shares; and how far all of them have, from
 -- each plain value that the hooks held before.
-use Rattle.std.proofs.Common.{◌≡◌, ◌∙◌, ℕ, ◌==◌, Bool, true, false, cond, List, [], ◌∷◌, ◌++◌, Some, None, refl, sym, ap, subst, arith}
+use Rattle.std.proofs.Common.{◌≡◌, ◌∙◌, ℕ, ◌+◌, ◌==◌, Bool, true, false, cond, List, [], ◌∷◌, ◌++◌, Some, None, refl, sym, ap, subst, arith}
 use Rattle.std.specs.Prelude.{◌&&◌, nat_le, if◌then◌else◌, filter, Result, Ok, Err, ⊤}
 use Rattle.std.specs.List.{AllByRecursion}
 use Rattle.std.specs.List.Sorted.{IsStrictlySortedBy}
@@ -19,6 +19,7 @@ use Rattle.stk_keep.specs.Staked.{Staked, validator_at, put_validator, lists_of}
 use Rattle.stk_keep.specs.Steps.{◌>>=◌, each}
 use Rattle.stk_keep.specs.World.{View, World, Hook, Told, gives, exceeds, removed, noted, hooked, over_view}
 use Rattle.stk_keep.proofs.HookLemmas.{stand-noted}
+use Rattle.stk_rules.specs.Amounts.{count_where}
 use Rattle.stk_rules.specs.Answers.{Leaves}
 use Rattle.stk_rules.specs.BondedSet.{HaveOwnOperators, matured}
 use Rattle.stk_rules.specs.Stakes.{is_unbonding, without_validator}
@@ -30,7 +31,7 @@ use Rattle.stk_book.proofs.GroundLemmas.{keeps-noted, keeps_then}
 use Rattle.stk_book.proofs.ListLemmas.{lists-put, lists-left}
 use Rattle.stk_book.proofs.RemoveLemmas.{ready-removed}
 use Rattle.stk_book.proofs.SoundLemmas.{sound-set, found-taken}
-use Rattle.stk_valset.specs.Sets.{AllStand, is_due}
+use Rattle.stk_valset.specs.Sets.{AllStand, goes_at, is_due}
 use Rattle.stk_valset.proofs.DueLemmas.{operators_of}
 use Rattle.stk_valset.proofs.JoinLemmas.{nothing_kept}
 use Rattle.stk_valset.proofs.JoinedLemmas.{each-stopped}
@@ -97,11 +98,24 @@ pub record NextDue {H : Type 0} (told : H → Hook → View → Told H) (now : �
   pub left : operators_of (filter (is_due now) later) ≡ more
   pub stands : (s : Staked) → AllStand s rest → (validator_at s v.operator ≡ Some v) × AllStand s later
   pub apart : HaveOwnOperators rest → AllByRecursion (λ u. same_addr v.operator u.operator ≡ false) later × HaveOwnOperators later
+  pub stays : count_where (goes_at now) rest ≡ 0 → ((v.shares == 0) ≡ false) × (count_where (goes_at now) later ≡ 0)
   pub rule : (w : World Staked H) → w.view.ctx.time ≡ now → each (matured told) rest w ≡ (matured told v w >>= λ w1. each (matured told) later w1)
 
 module _ {H : Type 0} (told : H → Hook → View → Told H) (now : ℕ) where
   heads : (a b : List ℕ) (k l : List (List ℕ)) → a ∷ k ≡ b ∷ l → (a ≡ b) × (k ≡ l)
   heads a b k l e = let one : a ≡ b = cc in let rest : k ≡ l = cc in (one, rest)
+
+  -- where none of these goes, the first has shares, where it is due
+  first_stays : (v : Validator) (vs : List Validator) → is_due now v ≡ true → count_where (goes_at now) (v ∷ vs) ≡ 0 → ((v.shares == 0) ≡ false) × (count_where (goes_at now) vs ≡ 0)
+  first_stays v vs d = by (is_due now v) (v.shares == 0) d
+    where
+      by : (due none : Bool) → due ≡ true → cond (due && none) 1 0 + count_where (goes_at now) vs ≡ 0 → (none ≡ false) × (count_where (goes_at now) vs ≡ 0)
+      by true true d e = absurd (omega (arith, e))
+      by true false d e = let rest : count_where (goes_at now) vs ≡ 0 = omega (arith, e) in (refl, rest)
+      by false none d e = absurd cc
+
+  others_stay : (v : Validator) (vs : List Validator) → count_where (goes_at now) (v ∷ vs) ≡ 0 → count_where (goes_at now) vs ≡ 0
+  others_stay v vs e = let all : cond (goes_at now v) 1 0 + count_where (goes_at now) vs ≡ 0 = e in omega (arith, all)
 
   passed_over : (v : Validator) (w : World Staked H) → w.view.ctx.time ≡ now → is_due now v ≡ false → matured told v w ≡ Ok w
   passed_over v w q d = ap (λ b. if b then matured_if v w else Ok w) (ap (λ t. is_unbonding v.status && nat_le v.unbonding_time t) q ∙ d)
@@ -117,7 +131,7 @@ module _ {H : Type 0} (told : H → Hook → View → Told H) (now : ℕ) where
       by : (b : Bool) → is_due now v ≡ b → operators_of (cond b (v ∷ filter (is_due now) vs) (filter (is_due now) vs)) ≡ o ∷ more → (operators_of (filter (is_due now) vs) ≡ o ∷ more → NextDue told now vs o more) → NextDue told now (v ∷ vs) o more
       by true d f next =
           let both = heads v.operator o (operators_of (filter (is_due now) vs)) more f in
-          record { v = v; later = vs; own = both.0; due = d; left = both.1; stands = λ s h. h; apart = λ a. a; rule = λ w q. refl }
+          record { v = v; later = vs; own = both.0; due = d; left = both.1; stands = λ s h. h; apart = λ a. a; stays = first_stays v vs d; rule = λ w q. refl }
       by false d f next =
           let n = next f in
           record {
@@ -128,6 +142,7 @@ module _ {H : Type 0} (told : H → Hook → View → Told H) (now : ℕ) where
             left = n.left;
             stands = λ s h. n.stands s h.1;
             apart = λ a. n.apart a.1;
+            stays = λ e. n.stays (others_stay v vs e);
             rule = λ w q. ap (λ r. r >>= λ w1. each (matured told) vs w1) (passed_over v w q d) ∙ n.rule w q;
           }
 
@@ -283,4 +298,5 @@ pub record AreMaturing {H : Type 0} (t : Tells H) (first holds : H → Type 0) (
   pub left : operators_of (filter (is_due now) rest) ≡ operators
   pub stand : AllStand s rest
   pub apart : HaveOwnOperators rest
+  pub stay : count_where (goes_at now) (values_of s0.validators) ≡ 0 → count_where (goes_at now) rest ≡ 0
   pub matured : (h : H) → first h → (log : Log) → HasMatured t holds h log s0 v0 (values_of s0.validators) rest s v

@@ -1,5 +1,5 @@
 -- The bonded set as the beginning of the validators in the order of power, and who is within its last place.
-use Rattle.std.specs.Prelude.{◌≡◌, ℕ, ◌&&◌, if◌then◌else◌, not, nat_le, Bool, false, List, [], ◌∷◌, Option, Some, None}
+use Rattle.std.specs.Prelude.{◌≡◌, ℕ, ◌==◌, ◌&&◌, if◌then◌else◌, not, nat_le, Bool, false, List, [], ◌∷◌, Option, Some, None}
 use Rattle.std.specs.Ordering.{is_lt}
 use Rattle.std.specs.List.{AllByRecursion}
 use Rattle.std.specs.Map.{values_of}
@@ -58,6 +58,10 @@ all_leavings_noted (x ∷ xs) v = all_leavings_noted xs (noted (fact.Changed x.o
 -- a validator is unbonding, and its time has come
 abbrev pub is_due : ℕ → Validator → Bool
 is_due now v = is_unbonding v.status && nat_le v.unbonding_time now
+
+-- its time has come, and it has no shares: so it goes
+abbrev pub goes_at : ℕ → Validator → Bool
+goes_at now v = is_due now v && (v.shares == 0)
 
 -- the operators whose time has come, among those that unbond in the order of their times
 abbrev pub due_in : ℕ → List ((ℕ × List ℕ) × Validator) → List (List ℕ)

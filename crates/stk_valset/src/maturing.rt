@@ -1,6 +1,6 @@
 //! Validators whose unbonding is mature.
 
-ghost use Rattle.std.specs.Prelude.{◌≡◌, ◌+◌, ◌*◌, ◌≤◌, true, [], Some, length, map, filter, OnOk, IfOk, IfErr};
+ghost use Rattle.std.specs.Prelude.{◌≡◌, ◌+◌, ◌*◌, ◌≤◌, ◌==◌, true, false, Some, length, map, filter, OnOk, IfOk, IfErr};
 ghost use Rattle.std.specs.Map.{values_of};
 ghost use Rattle.stk_keep.specs.declared.entities.Validator.{Validator};
 ghost use Rattle.stk_keep.specs.declared.faults.HookFault.TheVariants.{NoMemory};
@@ -15,7 +15,7 @@ ghost use Rattle.stk_book.specs.Calls.{IsSoundStake, behind_log};
 ghost use Rattle.stk_book.specs.Registered.{behind};
 ghost use Rattle.stk_book.specs.Scenes.{IsHooked, GoesOn, KeepsAccounts};
 ghost use Rattle.stk_book.specs.Places.{time_cmp, maturing_place, in_order};
-ghost use Rattle.stk_valset.specs.Sets.{is_due, due_in};
+ghost use Rattle.stk_valset.specs.Sets.{is_due, due_in, goes_at};
 
 use std::alloc::Global;
 use std::sync::ledger::Ledger;
@@ -24,7 +24,8 @@ use stk_keep::{Bank, Ground, HookFault, StakingHooks, ValidatorView};
 use stk_types::{Addr, BondStatus, Moment, Steps};
 
 /// Validators whose unbonding is mature become unbonded, by rising operator, and go where they have no shares
-/// (`UnbondAllMatureValidators`). Where none is mature, that takes at most two steps.
+/// (`UnbondAllMatureValidators`). Where all that are mature have shares, that takes at most twelve steps for
+/// each, and two more.
 ///
 /// `Over` comes exactly where a hook exceeds, which sure hooks never do.
 pub fn mature_validators<B: Bank, H: StakingHooks, L: Ledger>(
@@ -56,8 +57,9 @@ pub fn mature_validators<B: Bank, H: StakingHooks, L: Ledger>(
     ensures behind { behind staking.new ≡ behind staking.old }
     ensures spent { staking.old.spent ≡ true → staking.new.spent ≡ true }
     ensures unspent { OnOk result (staking.new.spent ≡ staking.old.spent) }
-    ensures cost { count_where (is_due g.old.ctx.time)
-        (values_of staking.old.staked.validators) ≡ 0 → steps.new ≤ steps.old + 2 }
+    ensures cost { count_where (goes_at g.old.ctx.time)
+        (values_of staking.old.staked.validators) ≡ 0 → steps.new ≤ steps.old + 2 + 12
+        * count_where (is_due g.old.ctx.time) (values_of staking.old.staked.validators) }
 {
     let due = who_matures(alloc, staking, g.ctx.time, steps)?;
     mature_all(alloc, g, hooks, staking, due.as_slice(), steps)
@@ -96,7 +98,9 @@ fn mature_all<B: Bank, H: StakingHooks, L: Ledger>(
     ensures behind { behind staking.new ≡ behind staking.old }
     ensures spent { staking.old.spent ≡ true → staking.new.spent ≡ true }
     ensures unspent { OnOk result (staking.new.spent ≡ staking.old.spent) }
-    ensures cost { due.now ≡ [] → steps.new ≡ steps.old }
+    ensures cost { count_where (goes_at g.old.ctx.time)
+        (values_of staking.old.staked.validators) ≡ 0
+        → steps.new ≤ steps.old + 10 * length due.now }
 {
     for operator in due {
         mature(alloc, g, hooks, staking, operator, steps)?;
@@ -180,6 +184,8 @@ fn mature<B: Bank, H: StakingHooks, L: Ledger>(
     // Whatever the answer.
     ensures goes_on { GoesOn B.marks B.touches H.marks
         g.old g.new hooks.old hooks.new staking.old staking.new result }
+    ensures cost { (v : Validator) → validator_at staking.old.staked operator.now ≡ Some v
+        → (v.shares == 0) ≡ false → steps.new ≤ steps.old + 10 }
 {
     let v = *staking.validator(operator, steps).unwrap();
     staking.set_status(

@@ -35,13 +35,13 @@ always-err (Err e) p = p
 
 -- ---- the tests tell whether values are one
 
-flag : (a b : Bool) → same_flag a b ≡ true → a ≡ b
+pub flag : (a b : Bool) → same_flag a b ≡ true → a ≡ b
 flag true true h = refl
 flag true false h = cc
 flag false true h = cc
 flag false false h = refl
 
-flag_itself : (a : Bool) → same_flag a a ≡ true
+pub flag_itself : (a : Bool) → same_flag a a ≡ true
 flag_itself true = refl
 flag_itself false = refl
 

@@ -1,5 +1,5 @@
 -- What the window's calls answer and leave.
-use Rattle.std.specs.Prelude.{◌≡◌, ℕ, ◌+◌, ◌-◌, ◌/◌, ◌%◌, ◌<◌, nat_lt, not, ◌&&◌, cond, Bool, false, true, List, [], ◌∷◌, length, slice_get, Option, Some, None, Result, Ok, OnOk, ⊤}
+use Rattle.std.specs.Prelude.{◌≡◌, ℕ, ◌+◌, ◌-◌, ◌/◌, ◌%◌, ◌<◌, nat_lt, not, ◌&&◌, cond, Bool, false, true, List, [], ◌∷◌, length, slice_get, Option, Some, None, Result, Ok, Err, OnOk, ⊤}
 use Rattle.stk_dec.specs.declared.over.Over.{Over}
 use Rattle.stk_dec.specs.Decimals.{trunc_of}
 use Rattle.stk_types.specs.declared.status.BondStatus.{BondStatus}
@@ -8,6 +8,8 @@ use Rattle.stk_keep.specs.declared.bank.Ground.{Ground}
 use Rattle.stk_keep.specs.declared.entities.SigningInfo.{SigningInfo}
 use Rattle.stk_keep.specs.declared.entities.Validator.{Validator}
 use Rattle.stk_keep.specs.declared.faults.HookFault.{HookFault}
+use Rattle.stk_keep.specs.declared.faults.Stop.{Stop}
+use Rattle.stk_keep.specs.declared.faults.Stop.TheVariants as stop
 use Rattle.stk_keep.specs.declared.params.Ctx.{Ctx}
 use Rattle.stk_keep.specs.declared.refusal.Refusal.{Refusal}
 use Rattle.stk_keep.specs.declared.refusal.Refusal.TheVariants.{SelfBelowMinimum, NotJailed, StillJailed, Tombstoned}
@@ -117,3 +119,9 @@ abbrev pub over_by : ℕ → SigningInfo → Result ⊤ Refusal
 over_by now info = do
   stop_if info.tombstoned Tombstoned
   stop_if (nat_lt now info.jailed_until) (StillJailed info.jailed_until)
+
+-- what holds where a message is refused
+abbrev pub OnRefusal : {A : Type 0} → Result A Stop → Type 0 → Type 0
+OnRefusal (Ok a) P = ⊤
+OnRefusal (Err (stop.Refused why)) P = P
+OnRefusal (Err stop.NoMemory) P = ⊤

@@ -7,7 +7,7 @@ ghost use Rattle.stk_rules.specs.Window.{may_leave, signing_of, unjailed};
 ghost use Rattle.stk_book.specs.Calls.{IsSoundStake};
 ghost use Rattle.stk_book.specs.Scenes.{RegisterGoesOn};
 ghost use Rattle.stk_window.specs.Stands.{AllVotes, KeepsSignings, IsKept};
-ghost use Rattle.stk_window.specs.Calls.{free_to_leave, over_by};
+ghost use Rattle.stk_window.specs.Calls.{free_to_leave, over_by, OnRefusal};
 
 use crate::window::Window;
 use std::sync::ledger::Ledger;
@@ -22,7 +22,8 @@ impl Window {
     ///
     /// It is refused as `NoValidator`, else as `NoSelfDelegation` where the operator has no delegation to it,
     /// else as `SelfBelowMinimum` where that is worth less than the least self-delegation, else as
-    /// `NotJailed`, else as `Tombstoned`, else as `StillJailed` where the time in jail is not over.
+    /// `NotJailed`, else as `Tombstoned`, else as `StillJailed` where the time in jail is not over. A refusal
+    /// leaves everything as it was.
     pub fn unjail<B: Bank, L: Ledger>(
         &mut self,
         g: &mut Ground<B>,
@@ -36,6 +37,7 @@ impl Window {
             → KeepsSignings g.old.ctx.params.signed_blocks_window self.old.kept i
             → AnswersHeld (unjailed operator.now i staking.old.staked (seen B.holdings g.old))
             staking.new.staked (seen B.holdings g.new) result }
+        ensures refused { OnRefusal result ((g.new ≡ g.old) × (staking.new ≡ staking.old)) }
         ensures same { self.new ≡ self.old }
         ensures sound { OnOk result (IsSoundStake staking.new.staked) }
 

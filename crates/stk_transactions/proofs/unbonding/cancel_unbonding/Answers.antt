@@ -1,4 +1,4 @@
-use Rattle.std.proofs.Common.{refl}
+use Rattle.std.proofs.Common.{[], refl}
 use Rattle.stk_modules.specs.declared.modules.Modules.{Modules}
 use Rattle.stk_modules.proofs.SceneLemmas.{unbonding_scene}
 use Rattle.stk_transactions.proofs.CallLemmas.{cancel_well}
@@ -13,7 +13,7 @@ returns-clause-ends g c =
     let after = c.cancel.new in
     let new : Modules = record { ground = after.g; stakes = record { staking = after.staking; unbondings = after.self; redelegations = old.stakes.redelegations }; hooks = after.hooks } in
     let m = c.args.m.now in
-    (cancel_well old new c.requires.steady m.delegator m.validator m.amount m.creation_height c.cancel.result refl c.cancel.ensures.told c.cancel.ensures.goes_on c.cancel.ensures.entries_go_on).ends
+    (cancel_well old new c.requires.steady m.delegator m.validator m.amount m.creation_height c.cancel.result refl (λ h k. c.cancel.ensures.told h k []) c.cancel.ensures.goes_on c.cancel.ensures.entries_go_on).ends
 
 pub returns-clause-steady : goal.returns-clause-steady
 returns-clause-steady g c =
@@ -21,7 +21,7 @@ returns-clause-steady g c =
     let after = c.cancel.new in
     let new : Modules = record { ground = after.g; stakes = record { staking = after.staking; unbondings = after.self; redelegations = old.stakes.redelegations }; hooks = after.hooks } in
     let m = c.args.m.now in
-    (cancel_well old new c.requires.steady m.delegator m.validator m.amount m.creation_height c.cancel.result refl c.cancel.ensures.told c.cancel.ensures.goes_on c.cancel.ensures.entries_go_on).steady
+    (cancel_well old new c.requires.steady m.delegator m.validator m.amount m.creation_height c.cancel.result refl (λ h k. c.cancel.ensures.told h k []) c.cancel.ensures.goes_on c.cancel.ensures.entries_go_on).steady
 
 pub returns-clause-go_on : goal.returns-clause-go_on
 returns-clause-go_on g c =
@@ -29,4 +29,4 @@ returns-clause-go_on g c =
     let after = c.cancel.new in
     let new : Modules = record { ground = after.g; stakes = record { staking = after.staking; unbondings = after.self; redelegations = old.stakes.redelegations }; hooks = after.hooks } in
     let m = c.args.m.now in
-    (cancel_well old new c.requires.steady m.delegator m.validator m.amount m.creation_height c.cancel.result refl c.cancel.ensures.told c.cancel.ensures.goes_on c.cancel.ensures.entries_go_on).go_on
+    (cancel_well old new c.requires.steady m.delegator m.validator m.amount m.creation_height c.cancel.result refl (λ h k. c.cancel.ensures.told h k []) c.cancel.ensures.goes_on c.cancel.ensures.entries_go_on).go_on

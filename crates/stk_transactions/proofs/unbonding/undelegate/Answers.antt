@@ -1,4 +1,4 @@
-use Rattle.std.proofs.Common.{Ok, Err, refl}
+use Rattle.std.proofs.Common.{[], Ok, Err, refl}
 use Rattle.stk_modules.specs.declared.modules.Modules.{Modules}
 use Rattle.stk_modules.proofs.SceneLemmas.{unbonding_scene, whole_kept}
 use Rattle.stk_transactions.proofs.CallLemmas.{undelegate_well}
@@ -16,7 +16,7 @@ returns-in-Ok-clause-ends g c =
     let after = c.undelegate-answer.new in
     let new : Modules = record { ground = after.g; stakes = record { staking = after.staking; unbondings = after.self; redelegations = old.stakes.redelegations }; hooks = after.hooks } in
     let m = c.args.m.now in
-    (undelegate_well old new c.requires.steady m.delegator m.validator m.amount (Ok c.in-Ok.field-0) refl c.in-Ok.ensures.told c.in-Ok.ensures.goes_on c.in-Ok.ensures.entries_go_on).ends
+    (undelegate_well old new c.requires.steady m.delegator m.validator m.amount (Ok c.in-Ok.field-0) refl (λ h k. c.in-Ok.ensures.told h k []) c.in-Ok.ensures.goes_on c.in-Ok.ensures.entries_go_on).ends
 
 pub returns-in-Ok-clause-steady : goal.returns-in-Ok-clause-steady
 returns-in-Ok-clause-steady g c =
@@ -24,7 +24,7 @@ returns-in-Ok-clause-steady g c =
     let after = c.undelegate-answer.new in
     let new : Modules = record { ground = after.g; stakes = record { staking = after.staking; unbondings = after.self; redelegations = old.stakes.redelegations }; hooks = after.hooks } in
     let m = c.args.m.now in
-    (undelegate_well old new c.requires.steady m.delegator m.validator m.amount (Ok c.in-Ok.field-0) refl c.in-Ok.ensures.told c.in-Ok.ensures.goes_on c.in-Ok.ensures.entries_go_on).steady
+    (undelegate_well old new c.requires.steady m.delegator m.validator m.amount (Ok c.in-Ok.field-0) refl (λ h k. c.in-Ok.ensures.told h k []) c.in-Ok.ensures.goes_on c.in-Ok.ensures.entries_go_on).steady
 
 pub returns-in-Ok-clause-go_on : goal.returns-in-Ok-clause-go_on
 returns-in-Ok-clause-go_on g c =
@@ -32,7 +32,7 @@ returns-in-Ok-clause-go_on g c =
     let after = c.undelegate-answer.new in
     let new : Modules = record { ground = after.g; stakes = record { staking = after.staking; unbondings = after.self; redelegations = old.stakes.redelegations }; hooks = after.hooks } in
     let m = c.args.m.now in
-    (undelegate_well old new c.requires.steady m.delegator m.validator m.amount (Ok c.in-Ok.field-0) refl c.in-Ok.ensures.told c.in-Ok.ensures.goes_on c.in-Ok.ensures.entries_go_on).go_on
+    (undelegate_well old new c.requires.steady m.delegator m.validator m.amount (Ok c.in-Ok.field-0) refl (λ h k. c.in-Ok.ensures.told h k []) c.in-Ok.ensures.goes_on c.in-Ok.ensures.entries_go_on).go_on
 
 pub returns-in-Err-clause-ends : goal.returns-in-Err-clause-ends
 returns-in-Err-clause-ends g c =
@@ -40,7 +40,7 @@ returns-in-Err-clause-ends g c =
     let after = c.undelegate-answer.new in
     let new : Modules = record { ground = after.g; stakes = record { staking = after.staking; unbondings = after.self; redelegations = old.stakes.redelegations }; hooks = after.hooks } in
     let m = c.args.m.now in
-    (undelegate_well old new c.requires.steady m.delegator m.validator m.amount (Err c.in-Err.stop) refl c.in-Err.ensures.told c.in-Err.ensures.goes_on c.in-Err.ensures.entries_go_on).ends
+    (undelegate_well old new c.requires.steady m.delegator m.validator m.amount (Err c.in-Err.stop) refl (λ h k. c.in-Err.ensures.told h k []) c.in-Err.ensures.goes_on c.in-Err.ensures.entries_go_on).ends
 
 pub returns-in-Err-clause-steady : goal.returns-in-Err-clause-steady
 returns-in-Err-clause-steady g c =
@@ -48,7 +48,7 @@ returns-in-Err-clause-steady g c =
     let after = c.undelegate-answer.new in
     let new : Modules = record { ground = after.g; stakes = record { staking = after.staking; unbondings = after.self; redelegations = old.stakes.redelegations }; hooks = after.hooks } in
     let m = c.args.m.now in
-    (undelegate_well old new c.requires.steady m.delegator m.validator m.amount (Err c.in-Err.stop) refl c.in-Err.ensures.told c.in-Err.ensures.goes_on c.in-Err.ensures.entries_go_on).steady
+    (undelegate_well old new c.requires.steady m.delegator m.validator m.amount (Err c.in-Err.stop) refl (λ h k. c.in-Err.ensures.told h k []) c.in-Err.ensures.goes_on c.in-Err.ensures.entries_go_on).steady
 
 pub returns-in-Err-clause-go_on : goal.returns-in-Err-clause-go_on
 returns-in-Err-clause-go_on g c =
@@ -56,4 +56,4 @@ returns-in-Err-clause-go_on g c =
     let after = c.undelegate-answer.new in
     let new : Modules = record { ground = after.g; stakes = record { staking = after.staking; unbondings = after.self; redelegations = old.stakes.redelegations }; hooks = after.hooks } in
     let m = c.args.m.now in
-    (undelegate_well old new c.requires.steady m.delegator m.validator m.amount (Err c.in-Err.stop) refl c.in-Err.ensures.told c.in-Err.ensures.goes_on c.in-Err.ensures.entries_go_on).go_on
+    (undelegate_well old new c.requires.steady m.delegator m.validator m.amount (Err c.in-Err.stop) refl (λ h k. c.in-Err.ensures.told h k []) c.in-Err.ensures.goes_on c.in-Err.ensures.entries_go_on).go_on

@@ -176,3 +176,11 @@ returns-clause-hooked g c =
     let lists : lists_of s2 ≡ lists_of s = ap lists_of put ∙ lists-put s (unbonded v) v at_own in
     let stand2 = subst (Stand t c.requires.hooked.stand.0 u2) (sym lists) (stand-noted t c.requires.hooked.stand.0 u c.set_status.new.facts (lists_of s) c.requires.hooked.stand.1.1) in
     record { sound = c.in_ok-set_status.ensures.sound; stand = (c.requires.hooked.stand.0, (c.requires.hooked.stand.1.0, stand2)) }
+
+pub returns-then-raw-eq0-clause-cost : goal.returns-then-raw-eq0-clause-cost
+returns-then-raw-eq0-clause-cost g c = λ x at some.
+    let found : validator_at c.args.staking.now.staked c.args.operator.now ≡ Some c.unwrap-v.result.now = sym c.validator.ensures.value ∙ ap option_copied c.unwrap-v.ensures in
+    let zero : c.unwrap-v.result.now.shares ≡ 0 = cc in
+    let none : (c.unwrap-v.result.now.shares == 0) ≡ true = grind (arith, nat_tests, zero) in
+    let clash : true ≡ false = sym none ∙ ap (λ (v : Validator). v.shares == 0) (some_same c.unwrap-v.result.now x (sym found ∙ at)) ∙ some in
+    absurd cc

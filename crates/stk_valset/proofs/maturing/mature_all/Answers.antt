@@ -1,4 +1,4 @@
-use Rattle.std.proofs.Common.{◌≡◌, ◌∙◌, ◌+◌, [], drop, refl, ap, sym, subst, rules}
+use Rattle.std.proofs.Common.{◌≡◌, ◌∙◌, ◌+◌, [], drop, refl, ap, sym, subst, arith, rules}
 use Rattle.std.specs.Prelude.{Err, IfErr}
 use Rattle.std.proofs.lemmas.List.{drop_all}
 use Rattle.std.specs.Map.{values_of}
@@ -10,7 +10,7 @@ use Rattle.stk_rules.specs.BondedSet.{matured}
 use Rattle.stk_book.specs.Calls.{behind_log}
 use Rattle.stk_keep.specs.Staked.{validator_at}
 use Rattle.stk_valset.specs.Sets.{is_due}
-use Rattle.stk_valset.proofs.LoopLemmas.{next_of, no_item, undone-none, undone-then}
+use Rattle.stk_valset.proofs.LoopLemmas.{next_of, undone-none, undone-then}
 use Rattle.stk_valset.proofs.MatureLemmas.{matured-first, matured-stopped, matured-all, next-due, matured-more, others-stand}
 use Rattle.stk_valset.proofs.StakeLemmas.{sound_ascend, sound_keyed}
 use Rattle.stk_rules.proofs.OperatorLemmas.{values_own}
@@ -28,6 +28,7 @@ loop-operator-init g c =
         left = sym c.requires.due;
         stand = all_stand s sound 0 0;
         apart = values_own s.validators (sound_ascend s sound) (sound_keyed s sound);
+        stay = λ e. e;
         matured = λ h o log. matured-first g.H.StakingHooks.tells g.met.H.StakingHooks.lawful h log s v (values_of s.validators) (g.H.StakingHooks.holds c.args.hooks.now) o;
       };
       hooked = c.requires.hooked;
@@ -36,7 +37,8 @@ loop-operator-init g c =
       marks = refl;
       behind = refl;
       spent = refl;
-      none = λ e. refl;
+      within = omega arith;
+      cost = λ e. omega arith;
     }
 
 pub mature-requires : goal.mature-requires
@@ -80,6 +82,7 @@ loop-operator-preserved g c =
     let stands = ap (validator_at s) (sym next.own) ∙ found in
     let more = c.in_ok-mature.ensures.goes_on in
     let some = h.matured c.requires.hooked.stand.0 c.requires.hooked.stand.1.0 [] in
+    let test = c.loop-operator-test.true in
     record {
       maturing = record {
         rest = next.later;
@@ -87,6 +90,7 @@ loop-operator-preserved g c =
         stand = others-stand t lawful c.requires.hooked.stand.0 [] s0 v0 (values_of s0.validators) holds holds2 now h.rest o rest s s2 u u2 some next time before.hooked.sound found (c.in_ok-mature.ensures.told some.now some.held some.log next.v stands) away.0
             (next.stands s h.stand).1;
         apart = away.1;
+        stay = λ e. (next.stays (h.stay e)).1;
         matured = λ k w log.
             let one = h.matured k w log in
             matured-more t lawful k log s0 v0 (values_of s0.validators) holds holds2 now h.rest o rest s s2 u u2 one next time before.hooked.sound found (c.in_ok-mature.ensures.told one.now one.held one.log next.v stands);
@@ -97,7 +101,11 @@ loop-operator-preserved g c =
       marks = more.hook_marks ∙ before.marks;
       behind = more.register.behind ∙ before.behind;
       spent = more.register.unspent ∙ before.spent;
-      none = λ e. absurd (no_item xs c.loop-operator.operator-index e c.loop-operator-test.true);
+      within = omega (arith, test);
+      cost = λ e.
+          let so_far = before.cost e in
+          let one = c.mature.ensures.cost next.v stands (next.stays (h.stay e)).0 in
+          omega (arith, so_far, one);
     }
 
 pub returns-in_err-mature-clause-told : goal.returns-in_err-mature-clause-told
@@ -150,4 +158,23 @@ pub returns-clause-keeps : goal.returns-clause-keeps
 returns-clause-keeps g c = λ k w stand. (c.loop-operator.invariant.maturing.matured k w []).keeps stand
 
 pub returns-in_err-mature-clause-cost : goal.returns-in_err-mature-clause-cost
-returns-in_err-mature-clause-cost g c = λ e. absurd (no_item c.args.due.now c.loop-operator.operator-index e c.loop-operator-test.true)
+returns-in_err-mature-clause-cost g c = λ e.
+    let xs = c.args.due.now in
+    let o = c.operator-item.result in
+    let rest = drop (c.loop-operator.operator-index + 1) xs in
+    let left = next_of xs c.loop-operator.operator-index o c.loop-operator-test.true c.operator-item.is in
+    let before = c.loop-operator.invariant in
+    let h = before.maturing in
+    let s = c.loop-operator.staking.staked in
+    let next = next-due g.H.StakingHooks.tells.told c.args.g.now.ctx.time h.rest o rest (h.left ∙ left) in
+    let stands = ap (validator_at s) (sym next.own) ∙ (next.stands s h.stand).0 in
+    let so_far = before.cost e in
+    let one = c.mature.ensures.cost next.v stands (next.stays (h.stay e)).0 in
+    let test = c.loop-operator-test.true in
+    omega (arith, so_far, one, test)
+
+pub returns-clause-cost : goal.returns-clause-cost
+returns-clause-cost g c = λ e.
+    let so_far = c.loop-operator.invariant.cost e in
+    let all = c.loop-operator.invariant.within in
+    omega (arith, so_far, all)

@@ -1,7 +1,10 @@
-use Rattle.std.proofs.Common.{◌≡◌, [], drop}
+use Rattle.std.proofs.Common.{◌≡◌, ◌+◌, ◌*◌, ◌≤◌, length, drop}
+use Rattle.std.specs.Map.{values_of}
 use Rattle.stk_keep.specs.Ground.{seen, CanBeUndone}
+use Rattle.stk_rules.specs.Amounts.{count_where}
 use Rattle.stk_book.specs.Registered.{behind}
 use Rattle.stk_book.specs.Scenes.{IsHooked}
+use Rattle.stk_valset.specs.Sets.{goes_at}
 use Rattle.stk_valset.proofs.MatureLemmas.{AreMaturing}
 use Rattle.stk_valset.proofs.maturing.mature_all.Given as goal
 
@@ -14,5 +17,6 @@ invariant-loop-operator g l = record {
   marks : g.H.StakingHooks.marks l.hooks ≡ g.H.StakingHooks.marks l.fn.hooks;
   behind : behind l.staking ≡ behind l.fn.staking;
   spent : l.staking.spent ≡ l.fn.staking.spent;
-  none : l.due ≡ [] → l.steps ≡ l.fn.steps;
+  within : l.operator-index ≤ length l.due;
+  cost : count_where (goes_at l.fn.g.ctx.time) (values_of l.fn.staking.staked.validators) ≡ 0 → l.steps ≤ l.fn.steps + 10 * l.operator-index;
 }

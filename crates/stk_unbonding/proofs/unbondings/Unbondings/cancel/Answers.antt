@@ -3,12 +3,14 @@ use Rattle.std.specs.Prelude.{Ok, Err, is_some}
 use Rattle.stk_keep.specs.Ground.{seen}
 use Rattle.stk_keep.specs.Steps.{◌>>=◌}
 use Rattle.stk_keep.specs.declared.faults.Stop.TheVariants as stop
+use Rattle.stk_types.specs.declared.status.BondStatus.TheVariants.{Unbonded}
+use Rattle.stk_rules.specs.Delegating.{pool}
 use Rattle.stk_rules.specs.Unbondings.{cancelled}
 use Rattle.stk_entries.proofs.AnswerLemmas.{answers_refused}
-use Rattle.stk_book.specs.Calls.{over}
+use Rattle.stk_book.specs.Calls.{behind_log}
 use Rattle.stk_entries.specs.Answers.{AnswersBoth}
 use Rattle.stk_unbonding.specs.Calls.{AreSoundLists, AreWhole, HoldsEntries}
-use Rattle.stk_unbonding.proofs.CancelLemmas.{open-given, cancelled-asked, cancelled_from, answers_lowered, answers_stopped, lowered-sound, lowered-whole, lowered-accounts, has_origin, has_stake}
+use Rattle.stk_unbonding.proofs.CancelLemmas.{delegated-behind, open-given, cancelled-asked, cancelled_from, answers_lowered, answers_stopped, lowered-sound, lowered-whole, lowered-accounts, has_origin, has_stake}
 use Rattle.stk_unbonding.proofs.unbondings.Unbondings.cancel.Goals as goal
 
 pub delegate-requires-clause-known : goal.delegate-requires-clause-known
@@ -96,7 +98,7 @@ returns-clause-scene g c =
     }
 
 pub returns-clause-told : goal.returns-clause-told
-returns-clause-told g c = λ hs h.
+returns-clause-told g c = λ hs h log.
     let delegator = c.args.delegator.now in
     let operator = c.args.operator.now in
     let coin = c.args.coin.now in
@@ -107,14 +109,15 @@ returns-clause-told g c = λ hs h.
     let e = c.in_ok-can_cancel.field-0.1 in
     let o = open-given delegator operator coin c.args.created u s v0 v e (sym c.in_ok-can_cancel.ensures) in
     let told = g.H.StakingHooks.tells.told in
-    let w = over s hs v0 in
+    let w = behind_log log s hs v0 in
     let is = cancelled-asked told delegator operator coin c.args.created u w ∙ ap (λ r. r >>= cancelled_from told delegator operator coin c.args.created u w) (sym c.in_ok-can_cancel.ensures) in
     subst (λ r. AnswersBoth r c.lower.new.self.lists c.delegate.new.self.staked (g.H.StakingHooks.holds c.delegate.new.hooks) (seen g.B.Bank.holdings c.delegate.new.g) (Ok tt)) (sym is)
     (answers_lowered told delegator operator coin c.args.created u w v e c.delegate.new.self.staked (g.H.StakingHooks.holds c.delegate.new.hooks) (seen g.B.Bank.holdings c.delegate.new.g) c.in_ok-delegate.field-0 c.lower.new.self.lists
-    (c.in_ok-delegate.ensures.told hs h v o.found) (ap (λ k. k.lists) c.in_ok-lower.ensures.ok))
+    (delegated-behind told v delegator coin.amount (pool Unbonded) log s hs v0 c.delegate.new.self.staked (g.H.StakingHooks.holds c.delegate.new.hooks) (seen g.B.Bank.holdings c.delegate.new.g) (Ok c.in_ok-delegate.field-0) (c.in_ok-delegate.ensures.told hs h v o.found))
+    (ap (λ k. k.lists) c.in_ok-lower.ensures.ok))
 
 pub returns-in_err-can_cancel-clause-told : goal.returns-in_err-can_cancel-clause-told
-returns-in_err-can_cancel-clause-told g c = λ hs h.
+returns-in_err-can_cancel-clause-told g c = λ hs h log.
     let delegator = c.args.delegator.now in
     let operator = c.args.operator.now in
     let coin = c.args.coin.now in
@@ -122,7 +125,7 @@ returns-in_err-can_cancel-clause-told g c = λ hs h.
     let s = c.args.staking.now.staked in
     let v0 = seen g.B.Bank.holdings c.args.g.now in
     let told = g.H.StakingHooks.tells.told in
-    let w = over s hs v0 in
+    let w = behind_log log s hs v0 in
     let why = c.in_err-can_cancel.field-0.0 in
     let given : c.from_residual.result ≡ Err (stop.Refused why) = search rules in
     let is = cancelled-asked told delegator operator coin c.args.created u w ∙ ap (λ r. r >>= cancelled_from told delegator operator coin c.args.created u w) (sym c.in_err-can_cancel.ensures) in
@@ -130,7 +133,7 @@ returns-in_err-can_cancel-clause-told g c = λ hs h.
     (answers_refused (cancelled told delegator operator coin c.args.created u w) u s (g.H.StakingHooks.holds c.args.hooks.now) v0 why is)
 
 pub returns-in_err-delegate-clause-told : goal.returns-in_err-delegate-clause-told
-returns-in_err-delegate-clause-told g c = λ hs h.
+returns-in_err-delegate-clause-told g c = λ hs h log.
     let delegator = c.args.delegator.now in
     let operator = c.args.operator.now in
     let coin = c.args.coin.now in
@@ -138,7 +141,7 @@ returns-in_err-delegate-clause-told g c = λ hs h.
     let s = c.args.staking.now.staked in
     let v0 = seen g.B.Bank.holdings c.args.g.now in
     let told = g.H.StakingHooks.tells.told in
-    let w = over s hs v0 in
+    let w = behind_log log s hs v0 in
     let v = c.in_ok-can_cancel.field-0.0 in
     let e = c.in_ok-can_cancel.field-0.1 in
     let o = open-given delegator operator coin c.args.created u s v0 v e (sym c.in_ok-can_cancel.ensures) in
@@ -150,4 +153,5 @@ returns-in_err-delegate-clause-told g c = λ hs h.
     let is = cancelled-asked told delegator operator coin c.args.created u w ∙ ap (λ r. r >>= cancelled_from told delegator operator coin c.args.created u w) (sym c.in_ok-can_cancel.ensures) in
     subst (AnswersBoth (cancelled told delegator operator coin c.args.created u w) u s1 holds1 v1) (sym given)
     (subst (λ r. AnswersBoth r u s1 holds1 v1 (Err why)) (sym is)
-    (answers_stopped told delegator operator coin c.args.created u w v e s1 s1 holds1 holds1 v1 v1 u why (c.in_err-delegate.ensures.told hs h v o.found)))
+    (answers_stopped told delegator operator coin c.args.created u w v e s1 s1 holds1 holds1 v1 v1 u why
+    (delegated-behind told v delegator coin.amount (pool Unbonded) log s hs v0 s1 holds1 v1 (Err why) (c.in_err-delegate.ensures.told hs h v o.found))))

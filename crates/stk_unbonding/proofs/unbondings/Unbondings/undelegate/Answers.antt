@@ -1,4 +1,4 @@
-use Rattle.std.proofs.Common.{◌≡◌, ◌∙◌, ℕ, [], ◌<◌, ◌≤◌, false, sym, ap, subst, arith, rules}
+use Rattle.std.proofs.Common.{◌≡◌, ◌∙◌, ℕ, ◌<◌, ◌≤◌, false, sym, ap, subst, arith, rules}
 use Rattle.std.specs.Prelude.{Ok, Err, length, nat_le}
 use Rattle.std.proofs.lemmas.Bool.Decides.{nat_tests}
 use Rattle.stk_keep.specs.Ground.{seen}
@@ -9,7 +9,7 @@ use Rattle.stk_keep.specs.World.{View}
 use Rattle.stk_keep.specs.declared.faults.Stop.TheVariants as stop
 use Rattle.stk_rules.specs.Unbonding.{shares_unbonded}
 use Rattle.stk_rules.specs.Unbondings.{entries_of, with_entries, grown, undelegated}
-use Rattle.stk_book.specs.Calls.{over}
+use Rattle.stk_book.specs.Calls.{behind_log}
 use Rattle.stk_entries.specs.Answers.{AnswersBoth}
 use Rattle.stk_unbonding.specs.Calls.{moved_out}
 use Rattle.stk_entries.proofs.AnswerLemmas.{answers_refused, answers_fault}
@@ -98,7 +98,7 @@ returns-clause-scene g c =
     }
 
 pub returns-clause-told : goal.returns-clause-told
-returns-clause-told g c = λ hs o.
+returns-clause-told g c = λ hs o log.
     let delegator = c.args.delegator.now in
     let operator = c.args.operator.now in
     let u = c.args.self.now.lists in
@@ -111,23 +111,23 @@ returns-clause-told g c = λ hs o.
     let a = asked-given delegator operator c.args.coin.now u s v0 v part (sym c.in_ok-asked.ensures) in
     let m : v2 ≡ moved_out (is_bonded v.status) c.in_ok-out.out v1 = c.in_ok-move_out.ensures.moved ∙ ap (λ b. moved_out b c.in_ok-out.out v1) c.is_bonded.ensures in
     let told = g.H.StakingHooks.tells.told in
-    let w = over s hs v0 in
+    let w = behind_log log s hs v0 in
     let is = undelegated-asked told delegator operator u w c.args.coin.now ∙ ap (λ r. r >>= undelegated_from told delegator operator u w) (sym c.in_ok-asked.ensures) in
     let k = c.in_ok-out.ensures.keeps c.requires.scene.hooked.stand.0 c.requires.scene.hooked.stand.1.0 c.requires.scene.hooked.stand.1.1 in
     subst (λ r. AnswersBoth r c.add.new.self.lists c.unbond.new.self.staked (g.H.StakingHooks.holds c.unbond.new.hooks) v2 (Ok c.completion-completes.result)) (sym is)
     (subst (λ n. AnswersBoth (undelegated_from told delegator operator u w (v, part)) c.add.new.self.lists c.unbond.new.self.staked (g.H.StakingHooks.holds c.unbond.new.hooks) v2 (Ok n)) (sym c.completion-completes.ensures)
-    (answers_made told delegator operator u w v part c.unbond.new.self.staked (g.H.StakingHooks.holds c.unbond.new.hooks) v1 v2 c.in_ok-out.out c.add.new.self.lists (c.in_ok-out.ensures.told hs o []) k.ctx
+    (answers_made told delegator operator u w v part c.unbond.new.self.staked (g.H.StakingHooks.holds c.unbond.new.hooks) v1 v2 c.in_ok-out.out c.add.new.self.lists (c.in_ok-out.ensures.told hs o log) k.ctx
     (ap (λ k. k.lists) c.in_ok-add.ensures.ok ∙ ap (λ n. with_entries delegator operator (grown v0.ctx.height n c.in_ok-out.out (entries_of u delegator operator)) u) c.completion-completes.ensures) m))
 
 pub returns-in_err-asked-clause-told : goal.returns-in_err-asked-clause-told
-returns-in_err-asked-clause-told g c = λ hs o.
+returns-in_err-asked-clause-told g c = λ hs o log.
     let delegator = c.args.delegator.now in
     let operator = c.args.operator.now in
     let u = c.args.self.now.lists in
     let s = c.args.staking.now.staked in
     let v0 = seen g.B.Bank.holdings c.args.g.now in
     let told = g.H.StakingHooks.tells.told in
-    let w = over s hs v0 in
+    let w = behind_log log s hs v0 in
     let why = c.in_err-asked.field-0.0 in
     let given : c.from_residual.result ≡ Err (stop.Refused why) = search rules in
     let is = undelegated-asked told delegator operator u w c.args.coin.now ∙ ap (λ r. r >>= undelegated_from told delegator operator u w) (sym c.in_err-asked.ensures) in
@@ -135,14 +135,14 @@ returns-in_err-asked-clause-told g c = λ hs o.
     (answers_refused (undelegated told delegator operator c.args.coin.now u w) u s (g.H.StakingHooks.holds c.args.hooks.now) v0 why is)
 
 pub returns-in_err-out-clause-told : goal.returns-in_err-out-clause-told
-returns-in_err-out-clause-told g c = λ hs o.
+returns-in_err-out-clause-told g c = λ hs o log.
     let delegator = c.args.delegator.now in
     let operator = c.args.operator.now in
     let u = c.args.self.now.lists in
     let s = c.args.staking.now.staked in
     let v0 = seen g.B.Bank.holdings c.args.g.now in
     let told = g.H.StakingHooks.tells.told in
-    let w = over s hs v0 in
+    let w = behind_log log s hs v0 in
     let v1 = seen g.B.Bank.holdings c.unbond.new.g in
     let s1 = c.unbond.new.self.staked in
     let holds1 = g.H.StakingHooks.holds c.unbond.new.hooks in
@@ -151,4 +151,4 @@ returns-in_err-out-clause-told g c = λ hs o.
     let is = undelegated-asked told delegator operator u w c.args.coin.now ∙ ap (λ r. r >>= undelegated_from told delegator operator u w) (sym c.in_ok-asked.ensures) in
     subst (AnswersBoth (undelegated told delegator operator c.args.coin.now u w) u s1 holds1 v1) (sym given)
     (subst (λ r. AnswersBoth r u s1 holds1 v1 (Err (stop_of_hook fault))) (sym is)
-    (answers_fault (shares_unbonded told delegator operator c.in_ok-asked.asked.1 w) (entry_made told delegator operator u w c.in_ok-asked.asked.0) s1 s1 holds1 holds1 v1 v1 u fault (c.in_err-out.ensures.told hs o [])))
+    (answers_fault (shares_unbonded told delegator operator c.in_ok-asked.asked.1 w) (entry_made told delegator operator u w c.in_ok-asked.asked.0) s1 s1 holds1 holds1 v1 v1 u fault (c.in_err-out.ensures.told hs o log)))

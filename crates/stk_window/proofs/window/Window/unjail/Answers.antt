@@ -1,10 +1,11 @@
-use Rattle.std.proofs.Common.{rules, ◌≡◌, ◌∙◌, Ok, Err, sym, ap, subst}
+use Rattle.std.proofs.Common.{rules, ◌≡◌, ◌∙◌, Ok, Err, refl, sym, ap, subst}
 use Rattle.std.specs.Prelude.{is_some}
 use Rattle.stk_keep.specs.declared.faults.Stop.TheVariants as stop
 use Rattle.stk_keep.specs.Ground.{seen}
 use Rattle.stk_rules.specs.Answers.{AnswersHeld}
 use Rattle.stk_rules.specs.Window.{unjailed}
 use Rattle.stk_keep.specs.declared.refusal.Refusal.TheVariants.{NoValidator, NoSelfDelegation}
+use Rattle.stk_window.specs.Calls.{OnRefusal}
 use Rattle.stk_window.proofs.UnjailLemmas.{cleared, done, leaves, own-few, own-some, own-tokens, refused-first, refused-then, refuses, unjail-nobody, unjail-nothing, wants}
 use Rattle.stk_window.proofs.window.Window.unjail.Goals as goal
 
@@ -50,3 +51,18 @@ returns-clause-told g c = λ i keeps.
     let is = leaves c.args.operator.now i c.args.staking.now.staked (seen g.B.Bank.holdings c.args.g.now) c.in-Some.v.now c.in-Some-shares_of.held (sym c.in-Some.ensures.value) (sym c.in-Some-shares_of.ensures) c.in_ok-is_free_to_leave.ensures (c.in_ok-may_leave.ensures.told c.args.g.now.ctx.params.signed_blocks_window i keeps) in
     let staked = c.in_ok-clear_jail.ensures.cleared ∙ cleared c.args.operator.now i c.args.staking.now.staked (seen g.B.Bank.holdings c.args.g.now) c.in-Some.v.now (sym c.in-Some.ensures.value) in
     done (unjailed c.args.operator.now i c.args.staking.now.staked (seen g.B.Bank.holdings c.args.g.now)) c.clear_jail.new.self.staked (record v { facts = c.clear_jail.new.facts }) (is ∙ sym (λ j. Ok (tt, staked j, record v { facts = c.in_ok-clear_jail.ensures.told j })))
+
+pub returns-in_err-is_free_to_leave-clause-refused : goal.returns-in_err-is_free_to_leave-clause-refused
+returns-in_err-is_free_to_leave-clause-refused g c =
+    let given : c.from_residual.result ≡ Err (stop.Refused c.in_err-is_free_to_leave.field-0.0) = search rules in
+    subst (λ r. OnRefusal r ((c.args.g.now ≡ c.args.g.now) × (c.args.staking.now ≡ c.args.staking.now))) (sym given) (refl, refl)
+
+pub returns-in_err-may_leave-clause-refused : goal.returns-in_err-may_leave-clause-refused
+returns-in_err-may_leave-clause-refused g c =
+    let given : c.from_residual-in_err-may_leave.result ≡ Err (stop.Refused c.in_err-may_leave.field-0.0) = search rules in
+    subst (λ r. OnRefusal r ((c.args.g.now ≡ c.args.g.now) × (c.args.staking.now ≡ c.args.staking.now))) (sym given) (refl, refl)
+
+pub returns-in_err-clear_jail-clause-refused : goal.returns-in_err-clear_jail-clause-refused
+returns-in_err-clear_jail-clause-refused g c =
+    let given : c.from_residual-in_err-clear_jail.result ≡ Err stop.NoMemory = search rules in
+    subst (λ r. OnRefusal r ((record c.args.g.now { facts = c.clear_jail.new.facts } ≡ c.args.g.now) × (c.clear_jail.new.self ≡ c.args.staking.now))) (sym given) tt
