@@ -1,5 +1,5 @@
 -- The state that a small genesis starts is sound.
-use Rattle.std.proofs.Common.{◌≡◌, ◌∙◌, ℕ, zero, suc, ◌+◌, ◌*◌, ◌^◌, ◌≤◌, ◌<◌, Bool, true, false, cond, nat_lt, List, [], ◌∷◌, Some, None, Ok, refl, sym, ap, subst, arith}
+use Rattle.std.proofs.Common.{◌≡◌, ◌∙◌, ℕ, zero, suc, ◌+◌, ◌*◌, ◌^◌, ◌≤◌, ◌<◌, Bool, true, false, cond, nat_lt, List, [], ◌∷◌, Some, None, refl, sym, ap, subst, arith}
 use Rattle.std.specs.Prelude.{◌==◌, nat_le, is_some, All, Contains, IsSome}
 use Rattle.std.specs.BTreeMap.{is_at}
 use Rattle.std.specs.List.Sorted.{IsStrictlySortedBy}
@@ -31,7 +31,6 @@ use Rattle.stk_rules.specs.Sound.{delegated_shares, ValidatorIsSound, StakedIsSo
 use Rattle.stk_rules.specs.Window.{Signing, signing_of}
 use Rattle.stk_machine.specs.Genesis.{held_at_start}
 use Rattle.stk_machine.specs.GenesisConditions.{accounts_at_start}
-use Rattle.stk_machine.specs.GenesisState.{chain_started}
 use Rattle.stk_histories.specs.SoundRows.{one_validator, SoundnessIsMet}
 use Rattle.stk_machine.proofs.Kept.{held_backed}
 use Rattle.stk_machine.proofs.Ranges.{in_range}

@@ -4,6 +4,7 @@ ghost use Rattle.stk_histories.specs.Worked.{OneAccountStarts, OneSend, HeightMi
 ghost use Rattle.stk_histories.specs.WholeRows.{MayStartChain, WrongBeginnings, ValidatorsTwice, WrongRates, WrongDelegations, TooMuchDelegated, FirstIsNamed, WrongPlaces, WrongVotes, WrongEvidence, VotesComeFirst, LimitsOfBeginnings, OutcomesOfMessages};
 ghost use Rattle.stk_histories.specs.HistoryRows.{FeesOfThirtyBlocks, AllWithdraw};
 ghost use Rattle.stk_histories.specs.LifeRows.{GenesisIsTold, BlocksAreTold, EndIsReported};
+ghost use Rattle.stk_histories.specs.LeavingRows.{LeavingIsTold, GoneAtOnce, HeldWhileUnbonded, GoneWithLastDelegation, BegunAnew, HeldWithoutShares, GoneAsItMatures};
 ghost use Rattle.stk_histories.specs.RandomRows.{RandomHistory, HoldsAfterHistory, BurnsAfterHistory};
 ghost use Rattle.stk_histories.specs.OutcomeRows.{CreationsAreRefused, RatesChangeDayByDay, TwoBlocksEnd};
 ghost use Rattle.stk_histories.specs.SoundRows.{SoundnessIsMet};
@@ -64,6 +65,18 @@ pub fn whole_machine_by_example()
     ensures genesis { GenesisIsTold }
     ensures blocks { BlocksAreTold }
     ensures report { EndIsReported }
+{}
+
+/// Eight blocks in which a validator is removed with all its records: never bonded, after it was
+/// mature, and as it is mature; what is created again begins anew.
+pub fn leaving_validator_by_example()
+    ensures blocks { LeavingIsTold }
+    ensures gone_at_once { GoneAtOnce }
+    ensures while_unbonded { HeldWhileUnbonded }
+    ensures gone_with_last { GoneWithLastDelegation }
+    ensures anew { BegunAnew }
+    ensures without_shares { HeldWithoutShares }
+    ensures gone_as_mature { GoneAsItMatures }
 {}
 
 /// A random history, reported as a second implementation does; after it the accounts hold what they owe, and supplies
