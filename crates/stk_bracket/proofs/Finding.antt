@@ -11,7 +11,7 @@ use Rattle.stk_bracket.proofs.Close.{fair_payments_are_close}
 use Rattle.stk_bracket.proofs.Paying.{told_joined}
 
 -- what holds of all in turn holds of each
-in_turn_at : {A : Type 0} (P : List A → A → Type 0) (before xs : List A) (x : A) (ys : List A) → AreInTurn P before (xs ++ x ∷ ys) → P (before ++ xs) x
+pub in_turn_at : {A : Type 0} (P : List A → A → Type 0) (before xs : List A) (x : A) (ys : List A) → AreInTurn P before (xs ++ x ∷ ys) → P (before ++ xs) x
 in_turn_at P before [] x ys h = subst (λ m. P m x) (sym (append-nil before)) h.0
 in_turn_at P before (y ∷ xs) x ys h = subst (λ m. P m x) (append_assoc before (y ∷ []) xs) (in_turn_at P (before ++ y ∷ []) xs x ys h.1)
 

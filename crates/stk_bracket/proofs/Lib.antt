@@ -50,6 +50,7 @@ pub mod Unfair
 pub mod Close
 pub mod Told
 pub mod Finding
+pub mod Carried
+pub mod CarriedSlashes
+pub mod CarriedSteps
 pub mod Unstarted
-pub mod UnstartedSlashes
-pub mod UnstartedSteps

@@ -1,7 +1,10 @@
 pub mod Running
 pub mod Starts
+pub mod Carrying
 pub mod Unstarted
 pub mod Ends
 pub mod Saying
 pub mod Reading
 pub mod Going
+pub mod Payees
+pub mod Moments

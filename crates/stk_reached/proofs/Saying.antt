@@ -1,7 +1,6 @@
 -- Each withdrawal that a block logs is fair by the log up to it, and it tells the payments that it logs; and so in runs.
 use Rattle.std.proofs.Common.{◌≡◌, ◌∙◌, ℕ, suc, ◌+◌, ◌^◌, ◌<◌, ◌≤◌, Bool, true, false, List, [], ◌∷◌, ◌++◌, length, map, Result, Ok, Err, refl, sym, ap, subst, arith, append-nil, append_assoc}
 use Rattle.std.specs.Prelude.{All, IfOk, Contains, if◌then◌else◌, ⊤}
-use Rattle.std.specs.List.{AllByRecursion}
 use Rattle.std.proofs.lemmas.List.Elements.{All-head, All-tail}
 use Rattle.stk_types.specs.declared.account.Account.{Account as Holder}
 use Rattle.stk_types.specs.declared.account.Account.TheVariants as account
@@ -36,13 +35,13 @@ use Rattle.stk_rules.specs.Laws.{next_block}
 use Rattle.stk_rules.specs.Purses.{pooled_told}
 use Rattle.stk_rules.specs.Sound.{IsSound}
 use Rattle.stk_owed.proofs.Burns.{total_in}
-use Rattle.stk_owed.proofs.Entries.{to_pairs}
 use Rattle.stk_owed.proofs.Following.{next_fits}
 use Rattle.stk_owed.proofs.Moves.{fee_fits}
-use Rattle.stk_owed.proofs.Points.{AreAllWhole, StateFits, StateLeft, WholeEntries, to_fits}
-use Rattle.stk_owed.proofs.Running.{AreKnown, AreDistinct, CountBelow, HaveCoins, BegunLeft, AllocatedLeft, StepFits, next_ok, first_ok, votes_are, counts_on, allocated_left, begin_fits, older_whole, block_fits}
+use Rattle.stk_owed.proofs.Points.{StateFits, StateLeft, to_fits}
+use Rattle.stk_owed.proofs.Running.{AreKnown, AreDistinct, CountBelow, HasBegun, HaveCoins, AllocatedLeft, StepFits, next_ok, first_ok, votes_are, counts_on, allocated_left, begun_fits, block_fits}
 use Rattle.stk_owed.proofs.Starting.{IsWellStarted, room, started_well}
-use Rattle.stk_owed.proofs.Steps.{from_if, on_lifted_then, on_then}
+use Rattle.stk_owed.proofs.Steps.{from_if, on_lifted_then, on_then, weaker_if}
+use Rattle.stk_owed.specs.Kept.{begun_by}
 use Rattle.stk_rules.proofs.GoingLemmas.{on_next}
 use Rattle.stk_owed.proofs.Transactions.{WholeFits, message_fits, tx_fits, whole_without, without_facts_fits}
 use Rattle.stk_owed.proofs.Voting.{EvidenceLeft, VoteLeft, evidence_fits, own_record, vote_fits}
@@ -113,7 +112,7 @@ pays_on (Err e) w x p h = tt
 
 -- ---- messages
 
-message_paid : (m : Msg) (w : State) → MessageHasCoins m → IsSound w → AreReached w → IfOk (effect_of m w) (PaysIn w)
+pub message_paid : (m : Msg) (w : State) → MessageHasCoins m → IsSound w → AreReached w → IfOk (effect_of m w) (PaysIn w)
 message_paid (msg.Send m) w c s r = paid_at (effect_of (msg.Send m) w) w r (messages_pay_fairly.sends m.from m.to m.coins c w s)
 message_paid (msg.CreateValidator m) w c s r = paid_at (effect_of (msg.CreateValidator m) w) w r (messages_pay_fairly.creates m w s)
 message_paid (msg.EditValidator m) w c s r = paid_at (effect_of (msg.EditValidator m) w) w r (messages_pay_fairly.edits m w s)
@@ -256,7 +255,7 @@ module _ (some : List (List ℕ)) (few : length some ≤ 1_000_000) where
       (λ y j. pays_on (each evidence_step evidence y) w y j.1 (evidence_paid T evidence y j.0.0 j.0.1)))
 
 -- the end of a block pays no reward
-end_paid : (w : State) → IfOk (end_block w) (PaysIn w)
+pub end_paid : (w : State) → IfOk (end_block w) (PaysIn w)
 end_paid w =
     on_then {B = State} (set_step w) (λ a. maturing_step a >>= λ b. unbondings_step b >>= λ c. redelegations_step c) (PaysIn w) (PaysIn w) (set_pays w) (λ a ka.
     on_then {B = State} (maturing_step a) (λ b. unbondings_step b >>= λ c. redelegations_step c) (PaysIn w) (PaysIn w) (pays_on (maturing_step a) w a ka (maturing_pays a)) (λ b kb.
@@ -292,11 +291,17 @@ said w height time k1 k2 begun ended reports x p =
     }
 
 module _ (some : List (List ℕ)) (few : length some ≤ 1_000_000) where
-  pub block_paid : (b : Block) (T : List ℕ → ℕ) (w : State) → All TxHasCoins b.txs → StateFits (Contains some) T w → AreReached w → w.view.ctx.height + 1 < 2 ^ 63 → IfOk (step b w) (SaysFairly w)
-  block_paid b T w coins h r space =
-      on_next (block_checked b w) _ _ (λ t e.
-      let due : IsDue b w = is_due b w (same_tt t e) in
-      let checks = next_ok (stop_at (block_fault w.view.ctx.height w.view.ctx.time b)) (votes_checked w.mine.staked w.view.ctx.params.power_reduction [] b.votes >> evidence_checked b w.view.ctx.params.power_reduction 0 b.evidence) tt (same_tt t e) in
+  -- what a block's beginning leaves and pays
+  pub record HasPaid (b : Block) (w begun : State) : Type 0 where
+    pub begun_is : HasBegun (Contains some) b w begun
+    pub reached : AreReached begun
+    pub pays : PaysIn (without_facts (next_block b.height b.time w)) begun
+
+  -- where the block may follow
+  pub begun_paid : (b : Block) (T : List ℕ → ℕ) (w : State) → StateFits (Contains some) T w → AreReached w → w.view.ctx.height + 1 < 2 ^ 63 → block_checked b w ≡ Ok tt → IfOk (begun_by b w) (HasPaid b w)
+  begun_paid b T w h r space e =
+      let due : IsDue b w = is_due b w e in
+      let checks = next_ok (stop_at (block_fault w.view.ctx.height w.view.ctx.time b)) (votes_checked w.mine.staked w.view.ctx.params.power_reduction [] b.votes >> evidence_checked b w.view.ctx.params.power_reduction 0 b.evidence) tt e in
       let first = first_ok (votes_checked w.mine.staked w.view.ctx.params.power_reduction [] b.votes) (evidence_checked b w.view.ctx.params.power_reduction 0 b.evidence) tt checks in
       let votes = votes_are w.mine.staked w.view.ctx.params.power_reduction b.votes [] first.1 in
       let w1 : State = without_facts (next_block b.height b.time w) in
@@ -308,23 +313,13 @@ module _ (some : List (List ℕ)) (few : length some ≤ 1_000_000) where
       let reached1 : AreReached w1 = λ d u found. next d u found in
       let none : NoneStartedHere w1 = none_started_in_next w b.height b.time (sound_at some few T w h) later in
       let allocated : IfOk (allocation_step b.votes w1) AreReached = allocation_reached some few there b.votes w1 fits1 reached1 none in
-      on_lifted_then RatioLimit (begin_block b.votes b.evidence w1) _ (λ x. (BegunLeft (Contains some) there w1 x × AreReached x) × PaysIn w1 x) _
-      (both_if (begin_block b.votes b.evidence w1) (λ x. BegunLeft (Contains some) there w1 x × AreReached x) (PaysIn w1)
-      (both_if (begin_block b.votes b.evidence w1) (BegunLeft (Contains some) there w1) AreReached (begin_fits (Contains some) there b.votes b.evidence w1 fits1 votes.0 votes.1 (below b.votes due.height))
+      weaker_if (begin_block b.votes b.evidence w1) (λ x. (HasBegun (Contains some) b w x × AreReached x) × PaysIn w1 x) (HasPaid b w)
+      (both_if (begin_block b.votes b.evidence w1) (λ x. HasBegun (Contains some) b w x × AreReached x) (PaysIn w1)
+      (both_if (begin_block b.votes b.evidence w1) (HasBegun (Contains some) b w) AreReached (begun_fits (Contains some) b T w h space e)
       (begin_reached some few there b.votes b.evidence w1 fits1 reached1 none votes.0 votes.1 (below b.votes due.height)))
-      (begin_paid some few there b.votes b.evidence w1 fits1 allocated votes.0 votes.1 (below b.votes due.height))) (λ begun k.
-      let whole : AreAllWhole begun = subst (λ (c : Ctx). AllByRecursion (λ p. WholeEntries c.height p.1) begun.mine.unbondings) (sym k.0.0.ctx)
-      (older_whole w.view.ctx.height b.height begun.mine.unbondings later (k.0.0.pairs w.view.ctx.height (to_pairs w.view.ctx.height w.mine.unbondings h.unbondings))) in
-      let done : TxSteps = txs_applied b.txs begun in
-      let all : WholeFits (Contains some) there w1.view.ctx begun = record { fits = k.0.0.fits; whole = whole; ctx = k.0.0.ctx } in
-      let txs : TxsSay begun done = txs_paid some few there w1.view.ctx b.txs begun coins all k.0.1 in
-      let w2 : State = without_facts done.state in
-      on_lifted_then RatioLimit (end_block w2) _ (PaysIn w2) _ (end_paid w2) (λ ended j.
-      said w b.height b.time begun.log done.state.log begun.view.facts ended.view.facts done.reports ended (record { first = k.1; more = txs.more; log_is = txs.log_is; fair = txs.fair; payments = txs.payments; sent = txs.sent; last = j }))))
+      (begin_paid some few there b.votes b.evidence w1 fits1 allocated votes.0 votes.1 (below b.votes due.height)))
+      (λ x k. record { begun_is = k.0.0; reached = k.0.1; pays = k.1 })
     where
-      same_tt : (t : ⊤) → block_checked b w ≡ Ok t → block_checked b w ≡ Ok tt
-      same_tt t e = e
-
       at_least : (a n : ℕ) → a ≡ n + 1 → n ≤ a
       at_least a n e = omega (arith, e)
 
@@ -337,6 +332,20 @@ module _ (some : List (List ℕ)) (few : length some ≤ 1_000_000) where
       below : (ts : List Vote) → b.height ≡ w.view.ctx.height + 1 → CountBelow (without_facts (next_block b.height b.time w)) ts
       below [] e = tt
       below (t ∷ ts) e = (λ s f. let own = own_record w.view.ctx.height t.cons s w.hooks.1 h.stake.window f in let counted = own.counted in omega (arith, counted, e), below ts e)
+
+  pub block_paid : (b : Block) (T : List ℕ → ℕ) (w : State) → All TxHasCoins b.txs → StateFits (Contains some) T w → AreReached w → w.view.ctx.height + 1 < 2 ^ 63 → IfOk (step b w) (SaysFairly w)
+  block_paid b T w coins h r space =
+      on_next (block_checked b w) _ _ (λ t e.
+      let w1 : State = without_facts (next_block b.height b.time w) in
+      on_lifted_then RatioLimit (begin_block b.votes b.evidence w1) _ (HasPaid b w) _ (begun_paid b T w h r space (same_tt t e)) (λ begun k.
+      let done : TxSteps = txs_applied b.txs begun in
+      let txs : TxsSay begun done = txs_paid some few (total_in w1.view) w1.view.ctx b.txs begun coins k.begun_is.fits k.reached in
+      let w2 : State = without_facts done.state in
+      on_lifted_then RatioLimit (end_block w2) _ (PaysIn w2) _ (end_paid w2) (λ ended j.
+      said w b.height b.time begun.log done.state.log begun.view.facts ended.view.facts done.reports ended (record { first = k.pays; more = txs.more; log_is = txs.log_is; fair = txs.fair; payments = txs.payments; sent = txs.sent; last = j }))))
+    where
+      same_tt : (t : ⊤) → block_checked b w ≡ Ok t → block_checked b w ≡ Ok tt
+      same_tt t e = e
 
   -- ---- runs
 

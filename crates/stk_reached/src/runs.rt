@@ -3,6 +3,8 @@
 
 ghost use Rattle.stk_reached.specs.Runs.{RunsKeepReached, GenesisIsReached, RunsAreReached, RunsRunWhereHeld, RunsLogOutstanding, BlocksSayFairly, RunsSayFairly};
 ghost use Rattle.stk_reached.specs.Going.{GenesisIsStarted, BlocksGoFairly, RunsGoFairly};
+ghost use Rattle.stk_reached.specs.Moments.{RunsLogFairly, MomentsOfRunsDoNotMatter};
+ghost use Rattle.stk_reached.specs.Payees.{PayeesAreOfTheMoment};
 ghost use Rattle.stk_reached.specs.Readers.{RunsTellFairly};
 ghost use Rattle.stk_machine.specs.Promises.{ClaimsAreBracketed, ShortfallsAreBounded};
 
@@ -88,4 +90,26 @@ pub fn blocks_go_fairly()
 #[tactic(auto, using(crate::proofs::Going::runs_go_fairly))]
 pub fn runs_go_fairly()
     ensures { RunsGoFairly }
+{}
+
+/// Each payment of a reward that a block of a run tells goes to the payee of the moment: one that a message tells to the withdraw
+/// address that the delegator has in the state before that message, one of a block's beginning to the one at the end of the block
+/// before, and one of its end to the one behind its last transaction.
+#[tactic(auto, using(crate::proofs::Payees::payees_are_of_the_moment))]
+pub fn payees_are_of_the_moment()
+    ensures { PayeesAreOfTheMoment }
+{}
+
+/// What a run logs behind its genesis is fair, each entry by the log up to it.
+#[tactic(auto, using(crate::proofs::Moments::runs_log_fairly))]
+pub fn runs_log_fairly()
+    ensures { RunsLogFairly }
+{}
+
+/// Of any two runs, rewards that run since the same start, with the same allocations to delegators and the same slashes since, have
+/// the same ideal, whatever else happened: claims at any moment, and withdrawals, whose full rewards are within the slack of one
+/// another.
+#[tactic(auto, using(crate::proofs::Moments::moments_of_runs_do_not_matter))]
+pub fn moments_of_runs_do_not_matter()
+    ensures { MomentsOfRunsDoNotMatter }
 {}

@@ -1,4 +1,4 @@
-use Rattle.stk_bracket.proofs.UnstartedSteps.{messages_keep_started, blocks_keep_started}
+use Rattle.stk_bracket.proofs.Unstarted.{messages_keep_started, blocks_keep_started}
 use Rattle.stk_bracket.proofs.running.rewards_run_from_starts.Goals as goal
 
 pub returns-clause-messages : goal.returns-clause-messages
