@@ -1,6 +1,6 @@
-//! Tests of `stk_keep`, `stk_keep_trials` and `stk_msgs`: of records, facts, lists, messages, blocks and faults, the
-//! plain values that all share, and of small values of the roles. They stand apart so that they are proved without
-//! these, and nothing waits for them.
+//! Tests of `stk_keep`, `stk_keep_trials`, `stk_msgs` and `stk_words`: of records, facts, lists, messages, blocks and
+//! faults, the plain values that all share, of small values of the roles, and of words. They stand apart so that they
+//! are proved without these, and nothing waits for them.
 #![tactic(auto)]
 
 #[cfg(test)]
@@ -15,3 +15,5 @@ mod role_tests;
 mod trial_tests;
 #[cfg(test)]
 mod values;
+#[cfg(test)]
+mod words_tests;

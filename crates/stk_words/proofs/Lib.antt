@@ -1,0 +1,3 @@
+pub mod ClapLemmas
+pub mod NumberLemmas
+pub mod RowLemmas

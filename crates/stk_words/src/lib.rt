@@ -1,0 +1,13 @@
+//! The words of the command line: which of them are a command, and what it asks for.
+#![tactic(auto)]
+
+mod fault;
+mod mode;
+mod numbers;
+mod rows;
+mod words;
+
+pub use fault::WordsFault;
+pub use mode::Mode;
+pub use rows::words_by_example;
+pub use words::read_words;

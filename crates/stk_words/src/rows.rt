@@ -1,0 +1,9 @@
+//! Worked rows, as a function that does nothing: its contract is the rows.
+
+ghost use Rattle.stk_words.specs.Rows.{Commands, NoCommands};
+
+/// Words that are a command, and words that are none.
+pub fn words_by_example()
+    ensures commands { Commands }
+    ensures none { NoCommands }
+{}
