@@ -1,0 +1,4 @@
+pub mod DrawLemmas
+pub mod LineLemmas
+pub mod OnLiterals
+mod TokenLemmas

@@ -1,0 +1,4 @@
+pub mod Drawing
+pub mod Input
+pub mod Lines
+pub mod Rows

@@ -1,0 +1,4 @@
+mod Burned
+pub mod Inputs
+mod Reported
+pub mod Room
