@@ -168,4 +168,4 @@ module _ (g : Genesis) (good : IsGoodGenesis g) (place : ℕ) (d : GenesisDelega
 pub have_joined : (g : Genesis) (place : ℕ) (old new : Modules) → drop place g.delegations ≡ [] → AddedSoFar g place old new → AreAdding g [] set_left new
 have_joined g place old new end so =
     let last : AreAdding g [] (delegations_left []) new = subst (λ l. AreAdding g l (delegations_left l) new) end so.adding in
-    record { scene = last.scene; stage = last.stage; keeps = last.keeps; starting = last.starting; none = last.none; once = last.once; leads = last.leads }
+    record { scene = last.scene; world = last.world; keeps = last.keeps; starting = last.starting; none = last.none; once = last.once; leads = last.leads }

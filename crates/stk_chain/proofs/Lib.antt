@@ -12,5 +12,6 @@ pub mod GroupLemmas
 pub mod RewardItemLemmas
 pub mod ItemLemmas
 pub mod ChainLemmas
+pub mod FairLemmas
 pub mod PendingLemmas
 pub mod AskingLemmas

@@ -18,7 +18,7 @@ use Rattle.stk_modules.specs.Marks.{AreAtRest, marks_of, no_marks}
 use Rattle.stk_modules.proofs.StandLemmas.{cleared, keeps_cleared}
 use Rattle.stk_chain.specs.Answers.{Starts}
 use Rattle.stk_chain.specs.declared.fault.ChainFault.{ChainFault}
-use Rattle.stk_chain.specs.Founding.{HaveStarted, Stage, started_with}
+use Rattle.stk_chain.specs.Founding.{HaveStarted, StakeWorld, started_with}
 use Rattle.stk_chain.proofs.FoundingLemmas.{Founded, founded}
 
 -- a genesis without a condition is good, of a list of delegations that is short enough
@@ -29,8 +29,8 @@ good_start g ds none same few = record { no_condition = none; few = subst (λ (l
 pub once_cleared : (m : Modules) (facts : List Fact) → facts ≡ [] → kept_over (parts_of m) m.ground.ctx facts ≡ cleared (kept_of m)
 once_cleared m facts none = ap (kept_over (parts_of m) m.ground.ctx) none
 
-same_stage : (a b : Stage) → ◌≡◌ {A = Result Stage Refusal} (Ok a) (Ok b) → a ≡ b
-same_stage a b e = cc
+same_world : (a b : StakeWorld) → ◌≡◌ {A = Result StakeWorld Refusal} (Ok a) (Ok b) → a ≡ b
+same_world a b e = cc
 
 -- a state that is started, after these facts were told
 abbrev started_as : State → List Fact → Result Start Refusal
@@ -38,20 +38,20 @@ started_as p facts = Ok (record { facts = facts; state = p })
 
 module _ (g : Genesis) (good : IsGoodGenesis g) (m : Modules) (h : HaveStarted g m) where
   -- what the genesis leads to is what the modules represent
-  led : Founded g h.stage
-  led = let f = founded g good in subst (Founded g) (same_stage f.0 h.stage (sym f.1.gives ∙ h.leads)) f.1
+  led : Founded g h.world
+  led = let f = founded g good in subst (Founded g) (same_world f.0 h.world (sym f.1.gives ∙ h.leads)) f.1
 
-  pub stands_started : (k : KeptState) → k ≡ cleared (kept_of m) → StandsFor k (without_facts (started_with g h.stage))
-  stands_started k e = subst (λ x. StandsFor x (without_facts (started_with g h.stage))) (sym e) (record {
-    keeps = keeps_cleared (kept_of m) (started_with g h.stage) h.keeps;
+  pub stands_started : (k : KeptState) → k ≡ cleared (kept_of m) → StandsFor k (without_facts (started_with g h.world))
+  stands_started k e = subst (λ x. StandsFor x (without_facts (started_with g h.world))) (sym e) (record {
+    keeps = keeps_cleared (kept_of m) (started_with g h.world) h.keeps;
     sound = led.sound;
-    whole = All-nil (λ (p : (List ℕ × List ℕ) × List UnbondingEntry). All (λ (e : UnbondingEntry). e.created ≡ h.stage.view.ctx.height → e.balance ≡ e.initial) p.1);
+    whole = All-nil (λ (p : (List ℕ × List ℕ) × List UnbondingEntry). All (λ (e : UnbondingEntry). e.created ≡ h.world.view.ctx.height → e.balance ≡ e.initial) p.1);
   })
 
   pub starts : (facts : List Fact) (k : KeptState) → facts ≡ m.ground.facts → k ≡ cleared (kept_of m) → Starts g facts k
   starts facts k same e = (
-    without_facts (started_with g h.stage),
-    led.started ∙ ap (started_as (without_facts (started_with g h.stage))) (ap (λ (v : View). v.facts) h.keeps.view ∙ sym same),
+    without_facts (started_with g h.world),
+    led.started ∙ ap (started_as (without_facts (started_with g h.world))) (ap (λ (v : View). v.facts) h.keeps.view ∙ sym same),
     stands_started k e,
   )
 
@@ -59,7 +59,7 @@ module _ (g : Genesis) (good : IsGoodGenesis g) (m : Modules) (h : HaveStarted g
   at_rest last same power unmarked = record {
     steady = record {
       power = power ∙ h.power ∙ ap (λ (k : KeptState). k.view.ctx.params.power_reduction) (sym same);
-      state = without_facts (started_with g h.stage);
+      state = without_facts (started_with g h.world);
       stands = stands_started (kept_of last) same;
     };
     unmarked = unmarked;

@@ -7,6 +7,7 @@ use Rattle.stk_msgs.specs.declared.genesis.Genesis.{Genesis}
 use Rattle.stk_msgs.specs.declared.report.BlockReport.{BlockReport}
 use Rattle.stk_rules.specs.Chain.{State}
 use Rattle.stk_machine.specs.GenesisState.{chain_started}
+use Rattle.stk_reached.specs.Going.{GoesFairly}
 use Rattle.stk_modules.specs.Kept.{KeptState, StandsFor}
 use Rattle.stk_chain.specs.Chained.{Chained}
 use Rattle.stk_chain.specs.declared.fault.ChainFault.{ChainFault}
@@ -29,3 +30,10 @@ abbrev pub LeavesChain : Chained → Chained → Result BlockReport BlockFault �
 LeavesChain old new (Ok report) = (old.spent ≡ false) × (new.spent ≡ false) × (new.settled ≡ old.settled)
 LeavesChain old new (Err block.NoMemory) = new.spent ≡ true
 LeavesChain old new (Err fault) = (old.spent ≡ false) × (new ≡ old)
+
+-- A block that tells this goes fairly, from a state to one that is kept then: each payment of a reward is
+-- that of a fair withdrawal, and what is left has accounts that are reached, and rewards that run only
+-- from starts and exactly where delegations stand.
+abbrev pub GoesOnFairly : State → KeptState → BlockReport → Type 0
+GoesOnFairly p k report =
+    (q : State) × StandsFor k q × GoesFairly p (record { report = report; state = q })

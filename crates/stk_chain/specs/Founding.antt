@@ -19,22 +19,22 @@ use Rattle.stk_machine.specs.GenesisState.{delegation_added, empty_over, ground_
 use Rattle.stk_modules.specs.declared.modules.Modules.{Modules}
 use Rattle.stk_modules.specs.Kept.{KeptState, Keeps, AreSet, IsStakeScene, ground_of, kept_of}
 
--- staking over the machine's hooks, half way
-abbrev pub Stage : Type 0
-Stage = World Staked Hooks
+-- staking in its world, over the machine's hooks
+abbrev pub StakeWorld : Type 0
+StakeWorld = World Staked Hooks
 
 -- ---- what is left
 
 -- the bonded set
-abbrev pub set_left : Stage → Result Stage Refusal
+abbrev pub set_left : StakeWorld → Result StakeWorld Refusal
 set_left w = stopping Overflow (set_updated chain_told w)
 
 -- these delegations, then the bonded set
-abbrev pub delegations_left : List GenesisDelegation → Stage → Result Stage Refusal
+abbrev pub delegations_left : List GenesisDelegation → StakeWorld → Result StakeWorld Refusal
 delegations_left ds w = each (delegation_added chain_told) ds w >>= set_left
 
 -- all of a genesis
-abbrev pub whole : Genesis → Result Stage Refusal
+abbrev pub whole : Genesis → Result StakeWorld Refusal
 whole g = stake_added chain_told g (staked_in (empty_over (ground_at_start g))) >>= set_left
 
 -- ---- half way
@@ -45,30 +45,30 @@ pub record IsEmpty (g : Genesis) (m : Modules) : Type 0 where
   pub keeps : Keeps (kept_of m) (empty_over (ground_at_start g))
 
 -- the state of which staking is this, at the start: no entries stand
-abbrev pub started_with : Genesis → Stage → State
+abbrev pub started_with : Genesis → StakeWorld → State
 started_with g w = with_staked (empty_over (ground_at_start g)).mine w
 
 -- Modules half way through a genesis, while these delegations are to come, of pairs that are not there yet: they represent a state from which
 -- what is left leads to what the whole genesis does.
-pub record AreAdding (g : Genesis) (ds : List GenesisDelegation) (left : Stage → Result Stage Refusal) (m : Modules) : Type 0 where
+pub record AreAdding (g : Genesis) (ds : List GenesisDelegation) (left : StakeWorld → Result StakeWorld Refusal) (m : Modules) : Type 0 where
   pub scene : IsStakeScene m
-  pub stage : Stage
-  pub keeps : Keeps (kept_of m) (started_with g stage)
-  pub starting : IsStarting ds stage
-  pub none : All (λ d. delegation stage.mine d.delegator d.validator ≡ None) ds
+  pub world : StakeWorld
+  pub keeps : Keeps (kept_of m) (started_with g world)
+  pub starting : IsStarting ds world
+  pub none : All (λ d. delegation world.mine d.delegator d.validator ≡ None) ds
   pub once : has_pair_twice ds ≡ false
-  pub leads : left stage ≡ whole g
+  pub leads : left world ≡ whole g
 
 -- Modules behind all of a genesis: they represent what it leads to.
 pub record HaveStarted (g : Genesis) (m : Modules) : Type 0 where
   pub power : AreSet m
-  pub stage : Stage
-  pub keeps : Keeps (kept_of m) (started_with g stage)
-  pub leads : whole g ≡ Ok stage
+  pub world : StakeWorld
+  pub keeps : Keeps (kept_of m) (started_with g world)
+  pub leads : whole g ≡ Ok world
 
 -- what a step of a genesis gives is represented, beside these entries
-abbrev pub IsAdded : Stakes → Result Stage Refusal → KeptState → Type 0
-IsAdded c due k = (w : Stage) × (due ≡ Ok w) × Keeps k (with_staked c w)
+abbrev pub IsAdded : Stakes → Result StakeWorld Refusal → KeptState → Type 0
+IsAdded c due k = (w : StakeWorld) × (due ≡ Ok w) × Keeps k (with_staked c w)
 
 -- A validator may be added: its operator and its consensus address are new, and its rates are rates; and that is not refused.
 pub record IsNextValidator (v : GenesisValidator) (m : Modules) : Type 0 where
@@ -78,7 +78,7 @@ pub record IsNextValidator (v : GenesisValidator) (m : Modules) : Type 0 where
   pub rates : HasRates (creation_of m.ground.ctx.params.bond_denom v)
   pub state : State
   pub keeps : Keeps (kept_of m) state
-  pub sure : (u : Stage) × (validator_added chain_told v (staked_in state) ≡ Ok u)
+  pub sure : (u : StakeWorld) × (validator_added chain_told v (staked_in state) ≡ Ok u)
 
 -- A delegation may be added: of something, to a validator that stands, of coins that the not-bonded account has besides; and that is not
 -- refused.
@@ -89,4 +89,4 @@ pub record IsNextDelegation (d : GenesisDelegation) (m : Modules) : Type 0 where
   pub origin : HasOrigin (pool Unbonded) d.amount m.stakes.staking.staked (ground_of m)
   pub state : State
   pub keeps : Keeps (kept_of m) state
-  pub sure : (u : Stage) × (delegation_added chain_told d (staked_in state) ≡ Ok u)
+  pub sure : (u : StakeWorld) × (delegation_added chain_told d (staked_in state) ≡ Ok u)

@@ -1,28 +1,31 @@
-ghost use Rattle.std.specs.Prelude.{◌≡◌, ◌<◌, ◌^◌, None, false, IfOk, IfErr, OnOk};
+ghost use Rattle.std.specs.Prelude.{◌≡◌, ◌<◌, ◌^◌, All, None, false, IfOk, IfErr, OnOk};
 ghost use Rattle.std.specs.List.Sorted.{IsPermutation};
 ghost use Rattle.stk_keep.specs.Items.{AreChanges};
 ghost use Rattle.stk_machine.specs.GenesisConditions.{start_condition};
 ghost use Rattle.stk_machine.specs.Items.{IsInKeyOrder, items_of};
+ghost use Rattle.stk_machine.specs.Promises.{TxHasCoins};
 ghost use Rattle.stk_machine.specs.Report.{pending_of};
-ghost use Rattle.stk_rules.specs.Chain.{State};
+ghost use Rattle.stk_rules.specs.Chain.{State, shared_in};
+ghost use Rattle.stk_bracket.specs.Running.{AreStarted};
+ghost use Rattle.stk_bracket.specs.States.{AreReached};
 ghost use Rattle.stk_distr.specs.Rows.{AreInOrder};
 ghost use Rattle.stk_modules.specs.Kept.{StandsFor};
 ghost use Rattle.stk_modules.specs.Marks.{AreAtRest, settled_of};
 ghost use Rattle.stk_blocks.specs.Answers.{Applies};
-ghost use Rattle.stk_chain.specs.Answers.{IsGenesisFault, Starts, LeavesChain};
+ghost use Rattle.stk_chain.specs.Answers.{IsGenesisFault, Starts, LeavesChain, GoesOnFairly};
 ghost use Rattle.stk_chain.specs.Chained.{chained};
 
 use crate::conditions::condition;
 use crate::fault::ChainFault;
 use crate::letting_go::let_go;
-use crate::listing::{changes_of, items_of, settle_modules, supply_of};
+use crate::listing::{changes_of, items_of, pool_of, settle_modules, supply_of};
 use crate::pending::pending_of;
 use crate::start::start;
 use std::alloc::Global;
 use std::marker::{Brand, Model};
 use std::sync::ledger::Blank;
 use stk_blocks::apply;
-use stk_coins::Coins;
+use stk_coins::{Coins, DecCoins};
 use stk_keep::{Ctx, Facts, Item};
 use stk_modules::Modules;
 use stk_msgs::{Block, BlockFault, BlockReport, Genesis, Pending};
@@ -115,6 +118,10 @@ impl Chain {
         ensures applies { (p : State) → StandsFor self.old.kept p
             → Applies block.now p self.new.kept result }
         ensures leaves { LeavesChain self.old self.new result }
+        // Where the chain stood for a state of reached accounts, as a genesis starts one, a block pays
+        // fairly, and leaves such a state again.
+        ensures fairly { (p : State) → StandsFor self.old.kept p → AreReached p → AreStarted p
+            → All TxHasCoins block.now.txs → IfOk result (GoesOnFairly p self.new.kept) }
     {
         if self.spent {
             return Err(BlockFault::NoMemory);
@@ -197,5 +204,18 @@ impl Chain {
             return Err(ChainFault::NoMemory);
         }
         Ok(supply_of::<Brand>(alloc, &self.modules.ground.bank, Blank::new(1))?)
+    }
+
+    /// The community pool, in units of 10^-18. The only error is `NoMemory`.
+    pub fn pool(&self) -> Result<DecCoins, ChainFault>
+        ensures coins { (p : State) → StandsFor self.now.kept p
+            → IfOk result (λ coins. coins ≡ (shared_in p).purses.pool) }
+        ensures spent { IfOk result (λ _. self.now.spent ≡ false) }
+        ensures fault { IfErr result (λ fault. fault ≡ ChainFault.NoMemory) }
+    {
+        if self.spent {
+            return Err(ChainFault::NoMemory);
+        }
+        Ok(pool_of::<Brand>(&self.modules.hooks.first, Blank::new(1))?)
     }
 }

@@ -1,4 +1,5 @@
-//! What a chain keeps, as lists: its items, what changed of them, and how much there is of each denomination.
+//! What a chain keeps, as lists: its items, what changed of them, how much there is of each denomination, and the
+//! community pool.
 
 ghost use Rattle.std.specs.Prelude.{◌≡◌, ◌<◌, ◌++◌, IfOk, OnOk};
 ghost use Rattle.std.specs.List.{filter_map};
@@ -15,10 +16,12 @@ ghost use Rattle.stk_chain.specs.Chained.{coin_in};
 use std::alloc::{AllocFailed, Global};
 use std::sync::ledger::{Blank, Ledger};
 use stk_bank::Book;
-use stk_coins::{Coin, Coins};
+use stk_coins::{Coin, Coins, DecCoins};
+use stk_distr::Distr;
 use stk_keep::{Ctx, Item, RecordFault, Records};
 use stk_modules::Modules;
-use stk_types::Steps;
+use stk_table::TableFault;
+use stk_types::{Copied, Steps};
 
 /// The items of modules.
 pub(crate) fn items_of<L: Ledger>(
@@ -143,4 +146,15 @@ pub(crate) fn supply_of<L: Ledger>(
     append_book::<L>(book, &mut items, blank)?;
     let coins = coins_in(alloc, &items)?;
     Ok(Coins::of(coins).unwrap())
+}
+
+/// A copy of the community pool.
+pub(crate) fn pool_of<L: Ledger>(distr: &Distr, blank: Blank) -> Result<DecCoins, TableFault>
+    requires name { blank.name ≡ L.name }
+    requires parts { blank.parts ≡ L.parts }
+    requires some { 0 < L.parts }
+    ensures { IfOk result (λ coins. coins ≡ distr.now.kept.purses.pool) }
+{
+    let mut steps: Steps<L> = Steps::new(blank);
+    distr.alloc.pool(&mut steps).copied()
 }
