@@ -1,5 +1,6 @@
 //! `stakeplay STORE WORDS`: replays the accounting of a chain from standard input to standard
-//! output. STORE is `-`, since no store is built yet, and WORDS is `replay`.
+//! output, or writes input that it generates. STORE is `-`, since no store is built yet, and WORDS is `replay`,
+//! `gen SEED COUNT` or `trial SEED COUNT`.
 #![tactic(auto)]
 
 ghost use Rattle.std.specs.Prelude.{◌≡◌};

@@ -9,3 +9,4 @@ pub mod WholeLemmas
 pub mod ReportLemmas
 pub mod AnswerLemmas
 pub mod LineLemmas
+pub mod ModeLemmas

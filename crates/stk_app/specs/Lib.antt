@@ -6,3 +6,4 @@ pub mod Parts
 pub mod Laws
 pub mod LineStops
 pub mod Sizes
+pub mod Modes

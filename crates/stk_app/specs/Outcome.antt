@@ -1,5 +1,5 @@
 -- What a run took and wrote, at each status.
-use Rattle.std.specs.Prelude.{◌≡◌, ℕ, ◌+◌, ◌^◌, ◌≤◌, ◌⊎◌, ◌<◌, List, [], ◌∷◌, ◌++◌, length, Bool, false, bytes_eq, codes, Option, Some, None}
+use Rattle.std.specs.Prelude.{◌≡◌, ℕ, ◌+◌, ◌^◌, ◌≤◌, ◌⊎◌, ◌<◌, List, [], ◌∷◌, ◌++◌, length, Option, Some, None}
 use Rattle.stk_app.specs.declared.status.Status.{Status}
 use Rattle.stk_app.specs.declared.status.Status.TheVariants.{Done, Usage, BadInput, Limit, ReadFault, WriteFault, NoMemory}
 use Rattle.stk_app.specs.declared.status.LimitKind.TheVariants.{Line, Input, Ratio}
@@ -7,11 +7,6 @@ use Rattle.stk_app.specs.declared.status.Stop.TheVariants as stop
 use Rattle.stk_app.specs.Lines.{whole_from, rest_from, lines_of}
 use Rattle.stk_app.specs.Machine.{longest}
 use Rattle.stk_app.specs.Runs.{Ran, ran_from, Named, Wrote, Held, Answered, Reported, Lacking}
-
--- the words of the one command
-abbrev pub is_replay : List (List ℕ) → Bool
-is_replay (word ∷ []) = bytes_eq word (codes "replay")
-is_replay _ = false
 
 -- what the machine answers to an input: the whole output, or the output up to the first fault and that fault
 abbrev pub answer_to : List ℕ → Ran

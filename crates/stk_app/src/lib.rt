@@ -4,6 +4,7 @@
 
 mod feeding;
 mod finishing;
+mod generating;
 mod line;
 mod report;
 mod running;

@@ -116,6 +116,8 @@ fn advance(
         Ok(report) => report,
         Err(fault) => return Err(not_applied(number, fault)),
     };
+    // Nobody asks what changed, so nothing is to be held of it from block to block.
+    chain.settle();
     match push_lines_of_block(alloc, &mut buffers.text, &report) {
         Ok(()) => Ok(()),
         Err(LineFault::NoMemory) => Err(Stop::NoMemory),

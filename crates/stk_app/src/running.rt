@@ -1,17 +1,22 @@
-ghost use Rattle.std.specs.Prelude.{◌≡◌, ◌≤◌, ◌<◌, ◌^◌, ◌+◌, ◌⊎◌, ◌↔◌, [], ◌∷◌, List, ℕ, Some, None, length, map, string_bytes, true, false, IfErr, OnOk, IfOk, IfSome};
+ghost use Rattle.std.specs.Prelude.{◌≡◌, ◌≤◌, ◌<◌, ◌^◌, ◌+◌, ◌⊎◌, [], ◌∷◌, List, ℕ, Some, None, length, map, string_bytes, true, IfErr, OnOk, IfOk, IfSome};
 ghost use Rattle.stk_io.specs.Outside.{Rose};
 ghost use Rattle.stk_app.specs.Lines.{last_line};
 ghost use Rattle.stk_app.specs.Machine.{longest, Standing, StandsAt};
-ghost use Rattle.stk_app.specs.Outcome.{RunEnds, IsUntroubled, is_replay, most_bytes, UnlessReadFault, UnlessWriteFault};
+ghost use Rattle.stk_words.specs.Words.{mode_of};
+ghost use Rattle.stk_app.specs.Modes.{HasFewBlocks, IsUntroubledAt, ModeEnds};
+ghost use Rattle.stk_app.specs.Outcome.{RunEnds, most_bytes, UnlessReadFault, UnlessWriteFault};
 ghost use Rattle.stk_app.specs.Parts.{FinishStatus, Stands};
 ghost use Rattle.stk_machine.specs.Promises.{AccountsHoldWhatIsOwed, AllTransactionsEnd, ClaimsAreBracketed, RunsAreSound, ShortfallsAreBounded, SuppliesFallByBurns};
 ghost use Rattle.stk_owed.specs.Kept.{RefusalsAreNamed, RunsAreAnswered};
 ghost use Rattle.stk_reached.specs.Going.{RunsGoFairly};
+ghost use Rattle.stk_reached.specs.Moments.{MomentsOfRunsDoNotMatter};
+ghost use Rattle.stk_reached.specs.Payees.{PayeesAreOfTheMoment};
 ghost use Rattle.stk_reached.specs.Readers.{RunsTellFairly};
 ghost use Rattle.stk_app.specs.Laws.{AnswersAreReplays, LinesAreReplayed};
 
 use crate::feeding::{Progress, feed};
 use crate::finishing::finish;
+use crate::generating::{write_generated, write_trial};
 use crate::line::{Buffers, LONGEST};
 use crate::status::{LimitKind, Status, status_at_end, status_of};
 use json::Scratch;
@@ -23,8 +28,10 @@ use stk_owed::runs::{
     supplies_fall_by_burns,
 };
 use stk_reached::runs::{
-    claims_are_bracketed, runs_go_fairly, runs_tell_fairly, shortfalls_are_bounded,
+    claims_are_bracketed, moments_of_runs_do_not_matter, payees_are_of_the_moment, runs_go_fairly,
+    runs_tell_fairly, shortfalls_are_bounded,
 };
+use stk_words::{Mode, WordsFault, read_words};
 
 /// How many bytes are asked for at once.
 const PIECE: usize = 4096;
@@ -152,23 +159,36 @@ fn take_all<S: Source, K: Sink>(
     }
 }
 
-/// Whether the words are the command `replay`.
-fn is_replay(words: &[String]) -> bool
-    ensures { result ≡ is_replay (map string_bytes words.now) }
+/// Carries out a command.
+fn carry_out<S: Source, K: Sink>(alloc: Global, mode: Mode, source: &mut S, sink: &mut K) -> Status
+    requires few { HasFewBlocks mode }
+    ensures ends { ModeEnds (Some mode) (S.left source.old) (S.left source.new)
+        (K.written sink.old) (K.written sink.new) result }
+    ensures busy { result ≡ Status.Usage → ⊥ }
+    ensures clean { result ≡ Status.Done → K.clean sink.new ≡ true }
+    ensures read_cause { result ≡ Status.ReadFault
+        → Rose (S.faults source.old) (S.faults source.new) }
+    ensures write_cause { result ≡ Status.WriteFault
+        → Rose (K.faults sink.old) (K.faults sink.new) }
+    ensures read_quiet { UnlessReadFault result (S.faults source.new ≡ S.faults source.old) }
+    ensures write_quiet { UnlessWriteFault result (K.faults sink.new ≡ K.faults sink.old) }
 {
-    match words {
-        [word] => word.as_str() == "replay",
-        _ => false,
+    match mode {
+        Mode::Replay => drive(alloc, source, sink),
+        Mode::Gen { seed, count } => write_generated(alloc, sink, seed, count),
+        Mode::Trial { seed, count } => write_trial(alloc, sink, seed, count),
     }
 }
 
-/// Runs the command of these words; `replay` is the one command.
+/// Runs the command of these words: `replay`, `gen SEED COUNT` or `trial SEED COUNT`.
 ///
-/// The first line of the source is a genesis, each further line a block. Each line's text is written
-/// once the line was answered, and the report at the end of the input; then the sink is flushed.
+/// Of `replay` the first line of the source is a genesis, each further line a block. Each line's text is written
+/// once the line was answered, and the report at the end of the input; then the sink is flushed. `gen` writes the
+/// generated input, and `trial` the summary of it, which a chain takes block by block; neither takes anything from
+/// the source.
 ///
 /// What each status leaves: at `Done` the whole output, flushed; at `Usage` nothing was read or
-/// written; at `BadInput` and `Limit` exactly the texts of the lines before the named one; at
+/// written; at `BadInput` and `Limit` exactly the texts of the lines before the named one, and of a trial nothing; at
 /// `ReadFault` those of all lines that were taken with their end; at `WriteFault` all texts before the
 /// one being written and a part of that, or the whole output where the flush failed; at `NoMemory` a
 /// front of the whole output. `ReadFault` and `WriteFault` come only where the count of the source's,
@@ -179,11 +199,14 @@ pub fn run<S: Source, K: Sink>(
     source: &mut S,
     sink: &mut K,
 ) -> Status
-    // What was written is what the input gives.
-    ensures ends { RunEnds (S.left source.old) (S.left source.new) (K.written sink.old)
-        (K.written sink.new) result }
+    // What was written is what the words ask for.
+    ensures ends { ModeEnds (mode_of (map string_bytes words.now)) (S.left source.old)
+        (S.left source.new) (K.written sink.old) (K.written sink.new) result }
     ensures clean { result ≡ Status.Done → K.clean sink.new ≡ true }
-    ensures usage { (result ≡ Status.Usage) ↔ (is_replay (map string_bytes words.now) ≡ false) }
+    // Usage only where the words are no command, and there nothing else but want of memory.
+    ensures usage { result ≡ Status.Usage → mode_of (map string_bytes words.now) ≡ None }
+    ensures no_command { mode_of (map string_bytes words.now) ≡ None
+        → (result ≡ Status.Usage) ⊎ (result ≡ Status.NoMemory) }
     // A fault has its cause.
     ensures read_cause { result ≡ Status.ReadFault
         → Rose (S.faults source.old) (S.faults source.new) }
@@ -192,8 +215,8 @@ pub fn run<S: Source, K: Sink>(
     ensures read_quiet { UnlessReadFault result (S.faults source.new ≡ S.faults source.old) }
     ensures write_quiet { UnlessWriteFault result (K.faults sink.new ≡ K.faults sink.old) }
     // Nothing else keeps the run from its end.
-    ensures complete { IsUntroubled (S.left source.old) (K.written sink.old)
-        → is_replay (map string_bytes words.now) ≡ true
+    ensures complete { IsUntroubledAt (mode_of (map string_bytes words.now)) (S.left source.old)
+        (K.written sink.old)
         → ¬ Rose (S.faults source.old) (S.faults source.new)
         → ¬ Rose (K.faults sink.old) (K.faults sink.new)
         → (result ≡ Status.Done) ⊎ (result ≡ Status.NoMemory) }
@@ -210,6 +233,8 @@ pub fn run<S: Source, K: Sink>(
     ensures rewards { ClaimsAreBracketed }
     ensures payments { RunsGoFairly }
     ensures told { RunsTellFairly }
+    ensures payees { PayeesAreOfTheMoment }
+    ensures moments { MomentsOfRunsDoNotMatter }
     ensures shortfalls { ShortfallsAreBounded }
 {
     runs_are_sound();
@@ -221,9 +246,12 @@ pub fn run<S: Source, K: Sink>(
     claims_are_bracketed();
     runs_go_fairly();
     runs_tell_fairly();
+    payees_are_of_the_moment();
+    moments_of_runs_do_not_matter();
     shortfalls_are_bounded();
-    if !is_replay(words) {
-        return Status::Usage;
+    match read_words(alloc, words) {
+        Ok(mode) => carry_out(alloc, mode, source, sink),
+        Err(WordsFault::Usage) => Status::Usage,
+        Err(WordsFault::NoMemory) => Status::NoMemory,
     }
-    drive(alloc, source, sink)
 }
