@@ -1,18 +1,20 @@
 #!/usr/bin/env bash
-# Runs the recipes of `examples/recipes`: each command of `docs/RECIPES.md` with the output that stands there (what needs a
-# tool that is absent is passed over, and said); on each example of `examples`; on a run of a hundred blocks, where the
-# program is built; on output that is cut or of another program; and the auditor's program on outputs in which one line of
-# each kind of fact was changed by one unit.
+# Runs the recipes of `examples/recipes`: each command of `docs/RECIPES.md` with the output that stands there (what
+# needs a tool that is absent is passed over, and said); on each example of `examples`; on a run of a hundred blocks,
+# where the program is built; on output that is cut or of another program; and the auditor's program on outputs in which
+# one line of each kind of fact was changed by one unit.
 set -u
 cd "$(dirname "$0")/.."
 export PYTHONDONTWRITEBYTECODE=1
 built=crates/stakeplay/out/stakeplay
-[ -x "$built" ] && [ -z "$(find crates -name out -prune -o -type f \( -name '*.rt' -o -name '*.antt' \) -newer "$built" -print -quit)" ] || built=
+newer() { find crates -name out -prune -o -type f \( -name '*.rt' -o -name '*.antt' \) -newer "$built" -print -quit; }
+[ -x "$built" ] && [ -z "$(newer)" ] || built=
 python3 - "$built" <<'PYTHON'
 import collections, contextlib, functools, io, json, pathlib, re, shutil, subprocess, sys
 
 ONE = 10 ** 18
-FACTS = "transfer burn allocated pooled period started slashed paid commission status jailed unjailed tombstoned removed".split()
+FACTS = ("transfer burn allocated pooled period started slashed paid commission "
+         "status jailed unjailed tombstoned removed").split()
 built = sys.argv[1]
 examples = pathlib.Path("examples")
 recipes = examples / "recipes"
@@ -38,7 +40,7 @@ def compiled(script):
 
 
 def tried_here(words, given=b""):
-    """Runs a recipe: a script of Python within this process, since a hundred starts of one would take most of the time."""
+    """Runs a recipe: a script of Python within this process, since a hundred starts of one would take most time."""
     if words[0] == "watch.sh":
         return ran(["bash", str(recipes / words[0]), *words[1:]], given)
     out, err, status = io.StringIO(), io.StringIO(), 0
@@ -62,7 +64,8 @@ def try_all(tries):
     """Runs recipes, each with what it is given, the status that it is to end with, and words for a fault."""
     for words, given, wanted, what in tries:
         status, _, err = tried_here(words, given)
-        ask(status == wanted and (status == 0 or err.strip()), f"{' '.join(words)} on {what} ended with {status}: {err}")
+        is_right = status == wanted and (status == 0 or err.strip())
+        ask(is_right, f"{' '.join(words)} on {what} ended with {status}: {err}")
     return len(tries)
 
 
@@ -75,7 +78,8 @@ for block in re.findall(r"^```console\n(.*?)^```$", page, re.M | re.S):
     written = block.splitlines(keepends=True)
     more = next((n for n, line in enumerate(written) if n and not line.startswith("> ")), len(written))
     command, wanted = "".join(line[2:] for line in written[:more]).strip(), "".join(written[more:])
-    absent = [tool for tool in ("jq", "gnuplot", "pv", "sqlite3") if re.search(rf"\b{tool} ", command) and not shutil.which(tool)]
+    tools = [tool for tool in ("jq", "gnuplot", "pv", "sqlite3") if re.search(rf"\b{tool} ", command)]
+    absent = [tool for tool in tools if not shutil.which(tool)]
     if absent:
         passed += 1
         print(f"recipes: passed over, since {' and '.join(absent)} is absent: {command}")
@@ -84,13 +88,16 @@ for block in re.findall(r"^```console\n(.*?)^```$", page, re.M | re.S):
     out, shown = out.decode() + err, shown + 1
     is_front = wanted.endswith("...\n")
     wanted = wanted.removesuffix("...\n")
-    ask(out.startswith(wanted) if is_front else out == wanted, f"{command}\n  wrote\n{out}  and the page has\n{wanted}")
+    is_right = out.startswith(wanted) if is_front else out == wanted
+    ask(is_right, f"{command}\n  wrote\n{out}  and the page has\n{wanted}")
 for name in headers:
     ask(name == "lines.py" or f"examples/recipes/{name}" in page, f"the page does not lead to {name}")
-    ask(name == "lines.py" or "Who wants it:" in headers[name] and "One command:" in headers[name], f"{name} has no header")
+    has_header = "Who wants it:" in headers[name] and "One command:" in headers[name]
+    ask(name == "lines.py" or has_header, f"{name} has no header")
 for words in commands(str(examples / "life.out"))[:2]:
     front = tried_here(words)[1].decode().splitlines()[:2]
-    ask(all(line in headers[words[0]] for line in front), f"the header of {words[0]} has not the first lines of what comes out")
+    has_front = all(line in headers[words[0]] for line in front)
+    ask(has_front, f"the header of {words[0]} has not the first lines of what comes out")
 
 # ---- whole outputs, and outputs that are not
 
@@ -110,9 +117,10 @@ whole_reports = {"a report alone": b"".join(text for text in texts if b'"height"
                  "an answer": b"".join(text for text in texts if b'"kind":"pending"' in text),
                  "an output and its continuation": life + b'{"height":6,"kind":"block","time":"2024-01-22T00:00:25Z"}\n'
                  + b"".join(text for text in texts if b'"height"' not in text)}
-broken = {"cut in a line": life[:3000], "cut between lines": b"".join(texts[:40]), "cut in its report": b"".join(texts[:-1]),
-          "without its last byte": life[:-1], "nothing": b"", "of another program": b'{"level":"info","msg":"started"}\n',
-          "no JSON": b"height 1\n", "without a block": b"".join(text for text in texts if b'"height":2,' not in text), "a list": b"[1,2]\n"}
+broken = {"cut in a line": life[:3000], "cut between lines": b"".join(texts[:40]),
+          "cut in its report": b"".join(texts[:-1]), "without its last byte": life[:-1], "nothing": b"",
+          "of another program": b'{"level":"info","msg":"started"}\n', "no JSON": b"height 1\n",
+          "without a block": b"".join(text for text in texts if b'"height":2,' not in text), "a list": b"[1,2]\n"}
 tries += [(words, given, 2, f"output that is {name}") for name, given in broken.items() for words in commands("-")]
 tries += [(words, given, 0, name) for name, given in whole_reports.items() for words in commands("-")
           if words[0] != "reconcile.py" or "continuation" in name]
@@ -133,7 +141,7 @@ def bumped(text, by):
 
 
 def changed(line):
-    """The line with one of its numbers one unit higher or lower, another last digit of its validator, the next status."""
+    """The line with one of its numbers one unit higher or lower, its validator's last digit or its status another."""
     for member, value in line.items():
         if member in ("period", "height"):
             yield line | {member: value + 1}
@@ -178,8 +186,9 @@ for place, line in enumerate(lines):
             ask(is_there, f"the auditor's program does not find line {place + 1} changed to {json.dumps(other)}")
 for kind in FACTS:
     ask(counts[kind] and alone[kind], f"no changed line of the kind {kind} was found from the output alone")
-print(f"recipes: {shown} commands of the page, {passed} passed over; {tried} runs on outputs, whole and broken; {sum(counts.values())} changed lines"
-      f" in {len(counts)} kinds of facts, {sum(found.values())} found with the first line of the input, {sum(alone.values())} from the output alone")
+print(f"recipes: {shown} commands of the page, {passed} passed over; {tried} runs on outputs, whole and broken; "
+      f"{sum(counts.values())} changed lines in {len(counts)} kinds of facts, "
+      f"{sum(found.values())} found with the first line of the input, {sum(alone.values())} from the output alone")
 for text in bad:
     print(f"recipes: {text}")
 sys.exit(1 if bad else 0)

@@ -9,9 +9,9 @@ What comes out: `WRONG line N: ..` for each disagreement, then one line, which f
 Status: 0 all adds up, 1 something does not, 2 the output is cut or of another program.
 
 It follows balances, burns, the pool, what is outstanding of each validator, and each reward by the ratios, stakes and
-slashes that were told. At a report it compares, sums shares, and asks that the module accounts hold just what the records
-owe. The facts of a genesis are not written: without the input a transfer between users is only asked to be one that they
-could pay, and a user's first stake to be a whole number.
+slashes that were told. At a report it compares, sums shares, and asks that the module accounts hold just what the
+records owe. The facts of a genesis are not written: without the input a transfer between users is only asked to be
+one that they could pay, and a user's first stake to be a whole number.
 """
 import json
 import sys
@@ -61,7 +61,8 @@ class Audit:
         self.known, self.from_start = set(), False  # whose balance at the beginning is known (ALL: of all users)
         self.begin, self.net, self.least = Counter(), defaultdict(int), defaultdict(int)
         self.supply, self.burned = None, Counter()
-        self.owes, self.owed, self.total = False, defaultdict(int), defaultdict(int)  # of a validator; of None: the pool
+        # by a validator and a denomination; by None what the pool has
+        self.owes, self.owed, self.total = False, defaultdict(int), defaultdict(int)
         self.period, self.ratio, self.starts, self.taken = {}, {}, defaultdict(dict), Counter()
         self.alive, self.slashed, self.dead, self.status, self.jail, self.gone = set(), set(), set(), {}, {}, 0
 
@@ -124,7 +125,8 @@ class Audit:
         if self.part == "report" or self.height is not None and line["height"] != self.height + 1:
             stop(f"line {self.place}: the output is cut before this block")
         self.ask(line["time"].rstrip("Z") >= self.time, "time goes back")
-        self.part, self.height, self.time, self.tx, self.told = "block", line["height"], line["time"].rstrip("Z"), 0, None
+        self.part, self.height, self.time = "block", line["height"], line["time"].rstrip("Z")
+        self.tx, self.told = 0, None
 
     def on_accepted(self, line):
         self.ask(line["tx"] == self.tx, f"the outcome of transaction {self.tx} is missing")
@@ -209,7 +211,7 @@ class Audit:
         self.ask(line["period"] == self.period.get(v), "a start that is not at the last period")
         stake = raw(line["stake"])
         if stake % ONE and self.from_start and v not in self.slashed:
-            # at one share a token; only a slash that follows a redelegation to here may take parts, in a block's beginning
+            # at one share a token; only a slash that follows a redelegation to here may take parts, as a block begins
             part = 0 < self.before - stake < ONE if self.before else self.before is None
             self.ask(self.told is None, "a stake that is not whole, where nothing was slashed")
             self.parts = (v, part)
@@ -220,7 +222,8 @@ class Audit:
         tokens = -(-burned * ONE // f) if f else 0
         parts = [min(ONE, -(-(burned * ONE * ONE // t) // ONE)) for t in (tokens, tokens - 1) if t > 0]
         self.ask(self.after == v, "a slash that ends no period")
-        self.ask(burned <= tokens and f in parts if burned else f == 0, "the fraction is not what was burned of any tokens")
+        is_part = burned <= tokens and f in parts if burned else f == 0
+        self.ask(is_part, "the fraction is not what was burned of any tokens")
         self.burning, now = burned or None, self.ratio.get(v, {})
         self.slashed.add(v)
         for start in self.starts[v].values():
@@ -240,9 +243,11 @@ class Audit:
     def on_paid(self, line):
         d, v, reward, coins = line["delegator"], line["validator"], units(line["reward"]), whole(line["coins"])
         self.ask(self.after == v, "a withdrawal that ends no period")
-        self.ask(coins == {n: a // ONE for n, a in reward.items() if a >= ONE}, "not the whole coins of the reward are paid")
+        whole_coins = {n: a // ONE for n, a in reward.items() if a >= ONE}
+        self.ask(coins == whole_coins, "not the whole coins of the reward are paid")
         self.ask((self.out or (line["to"], {})) == (line["to"], coins), "what was moved is not what is paid")
-        self.ask((self.loose or {}) == {n: a % ONE for n, a in reward.items() if a % ONE}, "the fractions do not join the pool")
+        fractions = {n: a % ONE for n, a in reward.items() if a % ONE}
+        self.ask((self.loose or {}) == fractions, "the fractions do not join the pool")
         start, now = self.starts[v].pop(d, None), self.ratio.get(v, {})
         self.before = start[1] if start else None  # the stake until here, where a line told it
         if start:
@@ -271,7 +276,8 @@ class Audit:
 
     def on_status(self, line):
         v, status = line["validator"], line["status"]
-        self.ask((self.status[v], status) in STEPS if v in self.status else status != "unbonded" or not self.from_start, "no such step")
+        may_be_first = status != "unbonded" or not self.from_start
+        self.ask((self.status[v], status) in STEPS if v in self.status else may_be_first, "no such step")
         self.status[v] = status
         self.alive.add(v)
 
@@ -292,7 +298,8 @@ class Audit:
         v = line["validator"]
         self.from_validator(v)
         self.ask(self.status.get(v, "unbonded") == "unbonded", "removed, and not unbonded")
-        self.ask(not self.owes or not any(a for (w, n), a in self.owed.items() if w == v), "something stays outstanding")
+        owed = any(a for (w, n), a in self.owed.items() if w == v)
+        self.ask(not self.owes or not owed, "something stays outstanding")
         self.ask(not self.starts.pop(v, None) or not self.kinds["period"], "a delegation is left")
         for kept in (self.period, self.ratio, self.status, self.jail):
             kept.pop(v, None)
@@ -321,17 +328,20 @@ class Audit:
         for line in rows["account"]:
             held.update({(line["address"], n): a for n, a in whole(line["coins"]).items()})
         for n in supply.keys() | {n for a, n in held}:
-            self.ask(sum(a for k, a in held.items() if k[1] == n) == supply.get(n, 0), f"the accounts do not hold the supply of {n}")
+            total = sum(a for k, a in held.items() if k[1] == n)
+            self.ask(total == supply.get(n, 0), f"the accounts do not hold the supply of {n}")
         if self.supply is not None:
             for n in supply.keys() | self.supply.keys():
-                self.ask(self.supply.get(n, 0) - self.burned[n] == supply.get(n, 0), f"the supply of {n} did not fall by the burns")
+                left = self.supply.get(n, 0) - self.burned[n]
+                self.ask(left == supply.get(n, 0), f"the supply of {n} did not fall by the burns")
         if not self.kinds["status"] and all(line["status"] == "unbonded" for line in rows["validator"]):
             for n in [n for account, n in self.begin if account == BONDED]:  # no validator ever was bonded
                 self.begin[UNBONDED, n] += self.begin.pop((BONDED, n))
         for account, n in sorted(held.keys() | self.net.keys() | self.begin.keys()):
             begin = held[account, n] - self.net[account, n]
             if account in self.known or ALL in self.known:
-                self.ask(begin == self.begin[account, n], f"{account} began with {begin} {n} by its transfers, not {self.begin[account, n]}")
+                told = self.begin[account, n]
+                self.ask(begin == told, f"{account} began with {begin} {n} by its transfers, not {told}")
             self.ask(begin + self.least[account, n] >= 0, f"{account} gave more {n} than it had")
         self.compare_validators(rows, held)
         self.begin, self.supply, self.known = held, supply, {ALL, FEES}
@@ -346,20 +356,23 @@ class Audit:
             validators[v] = line
             owed.update({(v, n): a for n, a in units(line["outstanding"]).items()})
             tokens[BONDED if line["status"] == "bonded" else UNBONDED] += int(line["tokens"])
-            self.ask(self.status.setdefault(v, line["status"]) == line["status"], f"{v} was told to be {self.status[v]}")
-            self.ask(self.jail.setdefault(v, line["jailed"]) == line["jailed"], f"{v} is jailed, or not, as no line told")
+            status, jailed = line["status"], line["jailed"]
+            self.ask(self.status.setdefault(v, status) == status, f"{v} was told to be {self.status[v]}")
+            self.ask(self.jail.setdefault(v, jailed) == jailed, f"{v} is jailed, or not, as no line told")
         self.ask(self.alive <= validators.keys(), "a validator of a line is neither reported nor removed")
         for line in rows["unbonding"]:
             tokens[UNBONDED] += int(line["balance"])
             self.ask(int(line["balance"]) <= int(line["initial"]), "an entry above its initial amount")
         for account in (BONDED, UNBONDED):
             has = [a for k, a in held.items() if k[0] == account]
-            self.ask(has == [a for a in [tokens[account]] if a], f"{account} does not hold the {tokens[account]} that it owes")
+            owes = tokens[account]
+            self.ask(has == [a for a in [owes] if a], f"{account} does not hold the {owes} that it owes")
         sums = Counter()
         for (v, n), a in owed.items():
             sums[n] += a
         for n in sums.keys() | {n for a, n in held if a == OWING}:
-            self.ask(sums[n] == ONE * held[OWING, n], f"distribution does not hold what is outstanding and the pool, of {n}")
+            holds = ONE * held[OWING, n]
+            self.ask(sums[n] == holds, f"distribution does not hold what is outstanding and the pool, of {n}")
         for who, n in (owed.keys() | self.owed.keys()) if self.owes else ():
             self.ask(owed.get((who, n), 0) == self.owed[who, n], f"{who or 'the pool'} has not what lines left of {n}")
         self.owed, self.total = defaultdict(int, owed), defaultdict(int, sums)
@@ -369,8 +382,10 @@ class Audit:
             start = self.starts[v].get(d)
             if start and rows["pending"] and v in validators:
                 all_shares, value = raw(validators[v]["shares"]), s * int(validators[v]["tokens"]) * ONE
-                self.ask(start[1] <= -(-value // all_shares) + self.slack(start, v), f"the stake of {d} at {v} is above its shares")
-                self.ask(start[1] == s or v in self.slashed or not self.from_start, f"the stake of {d} at {v} is not its shares")
+                most = -(-value // all_shares) + self.slack(start, v)
+                self.ask(start[1] <= most, f"the stake of {d} at {v} is above its shares")
+                may_differ = v in self.slashed or not self.from_start
+                self.ask(start[1] == s or may_differ, f"the stake of {d} at {v} is not its shares")
         for v in shares.keys() | validators.keys():
             line = validators.get(v, {"shares": "0.000000000000000000", "tokens": "0"})
             self.ask(shares[v] == raw(line["shares"]), f"the delegations to {v} are not its shares")
@@ -379,7 +394,8 @@ class Audit:
         for v, line in validators.items():
             marked = bool(marks.get(line["cons"]))
             self.ask(marked >= (v in self.dead), f"{v} was tombstoned, and is not")
-            self.ask(marked <= (v in self.dead) or self.gone or not self.from_start, f"{v} is tombstoned as no line told")
+            was_before = self.gone or not self.from_start
+            self.ask(marked <= (v in self.dead) or was_before, f"{v} is tombstoned as no line told")
         self.compare_pending(rows["pending"], validators)
 
     def compare_pending(self, pending, validators):
@@ -423,7 +439,8 @@ class Audit:
             self.alive.add(v)
             tokens[v] += int(d["amount"])
         by_power = sorted((-(t // line["params"]["power_reduction"]), v, t) for v, t in tokens.items())
-        bond, bonded = line["params"]["bond_denom"], sum(t for p, v, t in by_power[:line["params"]["max_validators"]] if p)
+        bond, places = line["params"]["bond_denom"], line["params"]["max_validators"]
+        bonded = sum(t for p, v, t in by_power[:places] if p)
         self.begin[BONDED, bond], self.begin[UNBONDED, bond] = bonded, tokens.total() - bonded
 
 
@@ -444,8 +461,8 @@ def main(output, first=None):
     if audit.part in ("", "block") or audit.part == "report" and (audit.height is not None or audit.group != "supply"):
         stop(f"the output is cut after line {audit.place}: the end of its report is missing")
     seen = audit.kinds
-    print(f"{audit.place} lines, {seen['block']} blocks, {seen['transfer']} transfers, {seen['burn']} burns, {seen['paid']} withdrawals"
-          f" ({seen['reward']} rewards recomputed), {seen['slashed']} slashes: "
+    print(f"{audit.place} lines, {seen['block']} blocks, {seen['transfer']} transfers, {seen['burn']} burns, "
+          f"{seen['paid']} withdrawals ({seen['reward']} rewards recomputed), {seen['slashed']} slashes: "
           + (f"{audit.bad} DISAGREE" if audit.bad else "all adds up"))
     return 1 if audit.bad else 0
 

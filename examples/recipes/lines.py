@@ -1,21 +1,23 @@
 """Reads the output lines of stakeplay for the recipes of this folder, and judges whether they are a whole output.
 
-`lines(name)` gives the lines as objects, one by one. It ends the program with status 2 and a sentence where a line is cut
-or of another program, where a block does not follow the one before, or where the end is missing. Behind a report the next
-blocks and their report may stand, and before the first line of a run or alone an answer: lines of the report's kinds.
+`lines(name)` gives the lines as objects, one by one. It ends the program with status 2 and a sentence where a line is
+cut or of another program, where a block does not follow the one before, or where the end is missing. Behind a report
+the next blocks and their report may stand, and before the first line of a run or alone an answer: lines of the
+report's kinds.
 """
 import json
 import os
 import sys
 
 ONE = 10 ** 18
-COLLECTOR, BONDED, NOT_BONDED, DISTRIBUTION = "fee_collector", "bonded_tokens_pool", "not_bonded_tokens_pool", "distribution"
-MODULES = (COLLECTOR, BONDED, NOT_BONDED, DISTRIBUTION)
+MODULES = "fee_collector", "bonded_tokens_pool", "not_bonded_tokens_pool", "distribution"
+COLLECTOR, BONDED, NOT_BONDED, DISTRIBUTION = MODULES
 
 FACTS = {
     "transfer": "coins from to", "burn": "amount denom from", "allocated": "coins validator", "pooled": "coins",
-    "period": "period ratio validator", "started": "delegator period stake validator", "slashed": "burned fraction validator",
-    "paid": "coins delegator reward to validator", "commission": "coins to validator", "status": "status validator",
+    "period": "period ratio validator", "started": "delegator period stake validator",
+    "slashed": "burned fraction validator", "paid": "coins delegator reward to validator",
+    "commission": "coins to validator", "status": "status validator",
     "jailed": "validator", "unjailed": "validator", "tombstoned": "validator", "removed": "validator",
 }
 OUTCOMES = {"accepted": "tx", "refused": "number tx"}
@@ -207,7 +209,8 @@ class Stakes:
             self.at.get(line["validator"], {}).pop(line["delegator"], None)
         elif kind == "slashed":
             kept, stakes = ONE - raw(line["fraction"]), self.at.get(line["validator"], {})
-            self.slashes = [(d, line["validator"], s - s * kept // ONE) for d, s in stakes.items()] if kept < ONE else []
+            lost = [(d, line["validator"], s - s * kept // ONE) for d, s in stakes.items()]
+            self.slashes = lost if kept < ONE else []
             self.touched = None
             for delegator, stake in stakes.items():
                 stakes[delegator] = stake * kept // ONE
@@ -225,8 +228,8 @@ class Stakes:
 
 
 class Rest:
-    """Which lines that something joins the pool belong to the end of a period or to a removal: those are taken from what is
-    outstanding of the validator of the line that follows."""
+    """Which lines that something joins the pool belong to the end of a period or to a removal: those are taken from
+    what is outstanding of the validator of the line that follows."""
 
     def __init__(self):
         self.due, self.taken = {}, {}

@@ -12,9 +12,10 @@ from datetime import datetime, timedelta
 
 VALIDATORS, DELEGATORS, AUTHORITY = 5, 20, "99" * 20
 START = datetime(2024, 1, 1)
-PARAMS = {"bond_denom": "uatom", "power_reduction": 1000000, "unbonding_time": 1000, "max_validators": 100, "max_entries": 7,
-          "min_commission_rate": "0", "community_tax": "0.02", "withdraw_addr_enabled": True, "signed_blocks_window": 20,
-          "min_signed_per_window": "0.5", "downtime_jail_duration": 60, "slash_fraction_double_sign": "0.05",
+PARAMS = {"bond_denom": "uatom", "power_reduction": 1000000, "unbonding_time": 1000, "max_validators": 100,
+          "max_entries": 7, "min_commission_rate": "0", "community_tax": "0.02", "withdraw_addr_enabled": True,
+          "signed_blocks_window": 20, "min_signed_per_window": "0.5", "downtime_jail_duration": 60,
+          "slash_fraction_double_sign": "0.05",
           "slash_fraction_downtime": "0.0001", "max_age_duration": 172800, "max_age_num_blocks": 100000,
           "authority": AUTHORITY}
 
@@ -34,8 +35,8 @@ def coin(amount):
 def genesis():
     return {"kind": "genesis", "time": START.isoformat() + "Z", "params": PARAMS,
             "accounts": [{"address": user(n), "coins": [coin(10 ** 12)]} for n in range(VALIDATORS + DELEGATORS)],
-            "validators": [{"operator": user(n), "cons": cons(n), "rate": "0.1", "max_rate": "0.2", "max_change_rate": "0.01",
-                            "min_self_delegation": "1"} for n in range(VALIDATORS)],
+            "validators": [{"operator": user(n), "cons": cons(n), "rate": "0.1", "max_rate": "0.2",
+                            "max_change_rate": "0.01", "min_self_delegation": "1"} for n in range(VALIDATORS)],
             "delegations": [{"delegator": user(n), "validator": user(n % VALIDATORS), "amount": str(10 ** 8 + n)}
                             for n in range(VALIDATORS + DELEGATORS)]}
 
@@ -48,8 +49,8 @@ def message(draw, height):
              {"kind": "delegate", "delegator": delegator, "validator": validator, "amount": coin(amount)},
              {"kind": "undelegate", "delegator": delegator, "validator": validator, "amount": coin(amount)},
              {"kind": "withdraw_reward", "delegator": delegator, "validator": validator},
-             {"kind": "begin_redelegate", "delegator": delegator, "source": validator, "target": user(height % VALIDATORS),
-              "amount": coin(amount)},
+             {"kind": "begin_redelegate", "delegator": delegator, "source": validator,
+              "target": user(height % VALIDATORS), "amount": coin(amount)},
              {"kind": "withdraw_commission", "validator": validator}]
     return kinds[draw // 4096 % len(kinds)]
 
@@ -57,7 +58,8 @@ def message(draw, height):
 def block(height, draw):
     away = height // 400 % VALIDATORS  # who misses votes in a part of each 400 blocks
     votes = [{"cons": cons(n), "power": 500, "signed": n != away or height % 400 > 30} for n in range(VALIDATORS)]
-    txs = [{"payer": user(d % 25), "fee": [coin(1000 + d % 100)], "msgs": [message(d, height)]} for d in (draw, draw >> 16)]
+    txs = [{"payer": user(d % 25), "fee": [coin(1000 + d % 100)], "msgs": [message(d, height)]}
+           for d in (draw, draw >> 16)]
     if height % 400 == 60:
         txs.append({"payer": user(away), "fee": [], "msgs": [{"kind": "unjail", "validator": user(away)}]})
     return {"kind": "block", "height": height, "time": (START + timedelta(seconds=5 * height)).isoformat() + "Z",

@@ -2,14 +2,14 @@
 """Reconciles a list of addresses between two heights: what was there, what came and went, what is there, to the unit.
 
 Who wants it: an exchange that holds coins of its customers in several accounts, and closes its books each day.
-One command:  python3 reconcile.py FROM TO run.out ADDRESS..   (after block FROM, to after block TO; `-` for standard input)
+One command:  python3 reconcile.py FROM TO run.out ADDRESS..  (after block FROM, to after block TO; `-`: standard input)
 What comes out, for the third user of the example `life.out` and the heights 1 and 5, and then `adds up`:
     address,denom,was,received,paid,unbonded,sent,fees,delegated,funded,is,burned,known
     0307070707070707070707070707070707070707,uatom,999700,0,44,380000,0,7,0,0,1379737,11250,reckoned report
-`is` = `was` + received + paid + unbonded - sent - fees - delegated - funded. `paid` is rewards and commission; `received`
-also what the community pool spent, `unbonded` what came back from staking; `burned` is what slashes took of stakes (cut to
-whole units), which are in no account. `known` says where `was` and `is` come from: `report`, where the output has one at
-that height, else `reckoned` from the report that is nearest behind it.
+`is` = `was` + received + paid + unbonded - sent - fees - delegated - funded. `paid` is rewards and commission;
+`received` also what the community pool spent, `unbonded` what came back from staking; `burned` is what slashes took
+of stakes (cut to whole units), which are in no account. `known` says where `was` and `is` come from: `report`, where
+the output has one at that height, else `reckoned` from the report that is nearest behind it.
 
 Behind a report the next blocks and their report may stand, and lines of accounts before the first block; each report is
 held against the one before it and all that moved between them.
@@ -36,7 +36,7 @@ class Books:
     def __init__(self, first, last, addresses):
         self.first, self.last, self.addresses = first, last, dict.fromkeys(addresses)
         self.height, self.waiting, self.faults = None, None, []
-        self.net, self.least = Counter(), Counter()    # by (address, denomination): since the reading began, and its least
+        self.net, self.least = Counter(), Counter()    # by (address, denomination): since the reading began; its least
         self.begin = None                              # what they held there, once a report tells it
         self.marks, self.reports, self.now = {}, set(), {}
         self.moved = defaultdict(Counter)              # between the heights: by (address, denomination), each column
@@ -109,7 +109,8 @@ class Books:
             self.marks.setdefault(self.height, Counter(self.net))
 
     def held(self):
-        return Counter({(address, denom): amount for address, coins in self.now.items() for denom, amount in coins.items()})
+        return Counter({(address, denom): amount
+                        for address, coins in self.now.items() for denom, amount in coins.items()})
 
     def compare(self):
         """A report: what it tells of the addresses is held against what moved since the one before."""
@@ -119,7 +120,8 @@ class Books:
             self.begin = Counter({key: held[key] - self.net[key] for key in keys})
         for key in sorted(keys):
             if self.begin[key] + self.net[key] != held[key]:
-                self.faults.append(f"{key[0]} has {held[key]} {key[1]} at height {self.height}, and lines leave {self.begin[key] + self.net[key]}")
+                self.faults.append(f"{key[0]} has {held[key]} {key[1]} at height {self.height}, "
+                                   f"and lines leave {self.begin[key] + self.net[key]}")
             if self.begin[key] + self.least[key] < 0:
                 self.faults.append(f"{key[0]} gave more {key[1]} than it had")
         self.reports.add(self.height)

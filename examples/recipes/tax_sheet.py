@@ -1,5 +1,5 @@
 #!/usr/bin/env python3
-"""A sheet for taxes: what one address was paid, got, gave, paid in fees and lost in slashes, with the time of the block.
+"""A sheet for taxes: what one address was paid, got, gave, paid in fees and lost in slashes, with each block's time.
 
 Who wants it: whoever declares what an address earned, and a program for taxes that reads CSV.
 One command:  python3 tax_sheet.py ADDRESS run.out            (`-` for standard input)
@@ -7,18 +7,19 @@ One command:  python3 tax_sheet.py ADDRESS run.out            (`-` for standard 
 What comes out, for the third user of the example `life.out`:
     time,height,what,in,out,aside,denom,other
     2024-01-01T00:00:05Z,1,fee,,300,,uatom,
-`in` and `out` are whole amounts that the account got and gave, so their difference is the change of its balance; `aside`
-is what did not pass through it: a reward that went to another payee, the part of a slash that its stake bore (cut to
-whole units), and at a report its balance and what is pending.
+`in` and `out` are whole amounts that the account got and gave, so their difference is the change of its balance;
+`aside` is what did not pass through it: a reward that went to another payee, the part of a slash that its stake bore
+(cut to whole units), and at a report its balance and what is pending.
 
-A refusal names nobody: it is told of the payer of its fee, so one without a fee is told only with the input beside the
-output, as is what a slash takes of a delegation of the genesis. Burns of unbonding entries name no delegator and are in no
-sheet; what is left of an entry is the row `unbonded`.
+A refusal names nobody: it is told of the payer of its fee, so one without a fee is told only with the input beside
+the output, as is what a slash takes of a delegation of the genesis. Burns of unbonding entries name no delegator and
+are in no sheet; what is left of an entry is the row `unbonded`.
 """
 import csv
 import sys
 
-from lines import COLLECTOR, DISTRIBUTION, MODULES, NOT_BONDED, ONE, Input, Stakes, lines, run, stop, units, shown, whole
+from lines import COLLECTOR, DISTRIBUTION, MODULES, NOT_BONDED, ONE, Input, Stakes
+from lines import lines, run, stop, units, shown, whole
 
 
 def word(account, is_given):
@@ -34,7 +35,7 @@ class Sheet:
     def __init__(self, address, given):
         self.address, self.given, self.out = address, given, csv.writer(sys.stdout, lineterminator="\n")
         self.time = self.height = ""
-        self.payer, self.waiting = None, {}  # who paid the fee of this transaction; coins whose reason comes a line later
+        self.payer, self.waiting = None, {}  # who paid this transaction's fee; coins whose reason comes a line later
         self.stakes = Stakes(lambda delegator, validator: delegator == address, given)
         self.out.writerow(["time", "height", "what", "in", "out", "aside", "denom", "other"])
 
@@ -45,7 +46,8 @@ class Sheet:
 
     def take(self, line):
         kind = line["kind"]
-        if self.waiting and kind != "pooled" and not (kind in ("paid", "commission") and whole(line["coins"]) == self.waiting):
+        is_reason = kind in ("paid", "commission") and whole(line["coins"]) == self.waiting
+        if self.waiting and kind != "pooled" and not is_reason:
             self.row("pool spending", "in", self.waiting)
             self.waiting = {}
         for delegator, validator, lost, denom in self.stakes.take(kind, line):

@@ -3,15 +3,15 @@
 
 Who wants it: whoever operates a validator, and those who delegate to it.
 One command:  python3 validator_sheet.py OPERATOR run.out                          (`-` for standard input)
-              python3 validator_sheet.py OPERATOR run.out run.jsonl --svg run.svg  (with the input beside it, and a picture)
+              python3 validator_sheet.py OPERATOR run.out run.jsonl --svg run.svg  (with the input, and a picture)
 What comes out, for the second operator of the example `life.out` with its input:
     time,height,status,jailed,tokens,shares,commission,outstanding,stake,allocated,paid,withdrawn,fraction,burned,power,signed,missed
     2024-01-01T00:00:05Z,1,bonded,no,,,,,2000000.000000000000000000,,,,,0,1,yes,
-`tokens`, `shares` and `missed` (of the window) stand in reports alone, so they are told where one stands: replay the input
-up to a block, and it has its own. `stake` is the sum of the stakes on which rewards are reckoned, cut at each
-slash: the tokens but for rounding. `outstanding` is reckoned from the genesis on; `commission` too, with the input beside
-the output, which has the rates. The votes (`power`, `signed`) are the input's. Several slashes of a block are added up in
-`burned`. A cell is empty where no line tells its value.
+`tokens`, `shares` and `missed` (of the window) stand in reports alone, so they are told where one stands: replay the
+input up to a block, and it has its own. `stake` is the sum of the stakes on which rewards are reckoned, cut at each
+slash: the tokens but for rounding. `outstanding` is reckoned from the genesis on; `commission` too, with the input
+beside the output, which has the rates. The votes (`power`, `signed`) are the input's. Several slashes of a block are
+added up in `burned`. A cell is empty where no line tells its value.
 Status: 0, or 1 where a report has another value than was reckoned, or 2 where the output is cut or of another program.
 """
 import csv
@@ -20,12 +20,14 @@ from collections import Counter
 
 from lines import ONE, Input, Rest, Stakes, lines, raw, run, shown, stop, units, whole
 
-COLUMNS = ("time height status jailed tokens shares commission outstanding stake allocated paid withdrawn fraction burned "
-           "power signed missed").split()
+COLUMNS = ("time height status jailed tokens shares commission outstanding stake allocated paid withdrawn fraction "
+           "burned power signed missed").split()
 
 
 def text_of(coins):
-    return None if coins is None else " ".join(shown(amount) + denom for denom, amount in sorted(coins.items()) if amount)
+    if coins is None:
+        return None
+    return " ".join(shown(amount) + denom for denom, amount in sorted(coins.items()) if amount)
 
 
 def whole_text_of(coins):
@@ -76,7 +78,8 @@ class Picture:
     def line(self, place, color):
         first, last = self.points[0][0], max(self.points[-1][0], self.points[0][0] + 1)
         most = max(point[place] for point in self.points) or 1
-        dots = " ".join(f"{60 + 880 * (p[0] - first) / (last - first):.1f},{340 - 300 * p[place] / most:.1f}" for p in self.points)
+        dots = " ".join(f"{60 + 880 * (p[0] - first) / (last - first):.1f},{340 - 300 * p[place] / most:.1f}"
+                        for p in self.points)
         return f'<polyline fill="none" stroke="{color}" stroke-width="2" points="{dots}"/>', most, first, last
 
     def write(self, name, operator):
@@ -90,7 +93,8 @@ class Picture:
                  (60, 385, "#1f77b4", f"stake, at most {shown(most_stake)}"),
                  (60, 405, "#2ca02c", f"rewards allocated, together {shown(most_rewards)} {self.denom or ''}"),
                  (700, 385, "#d62728", "slashed"), (780, 385, "#ff7f0e", "jailed")]
-        texts = "".join(f'<text x="{x}" y="{y}" fill="{color}" font-size="14">{text}</text>\n' for x, y, color, text in words)
+        texts = "".join(f'<text x="{x}" y="{y}" fill="{color}" font-size="14">{text}</text>\n'
+                        for x, y, color, text in words)
         with open(name, "w", encoding="utf-8") as file:
             file.write('<svg xmlns="http://www.w3.org/2000/svg" viewBox="0 0 1000 420" font-family="sans-serif">\n'
                        '<rect x="60" y="40" width="880" height="300" fill="none" stroke="#999"/>\n'
@@ -105,9 +109,9 @@ class Sheet:
         self.picture, self.row, self.wrong = Picture(), None, 0
         self.known = False
         self.status = self.jailed = self.outstanding = self.commission = self.rate = self.cons = None
-        self.tells = {"allocated": self.allocated, "paid": self.paid, "commission": self.withdrawn, "slashed": self.slashed,
-                      "period": self.period, "status": self.changed, "jailed": self.jail, "unjailed": self.jail,
-                      "removed": self.removed, "delegation": self.delegated}
+        self.tells = {"allocated": self.allocated, "paid": self.paid, "commission": self.withdrawn,
+                      "slashed": self.slashed, "period": self.period, "status": self.changed, "jailed": self.jail,
+                      "unjailed": self.jail, "removed": self.removed, "delegation": self.delegated}
         self.out.writerow(COLUMNS)
         for line in given.genesis["validators"] if given else ():
             if line["operator"] == operator:
@@ -155,8 +159,9 @@ class Sheet:
             return
         stake = sum(self.stakes.at.get(self.operator, {}).values()) if self.has_stakes else None
         self.picture.add(row.get("height", 0), stake, row.get("allocated", {}))
-        row |= {"status": self.status, "jailed": {True: "yes", False: "no"}.get(self.jailed), "outstanding": text_of(self.outstanding),
-                "commission": text_of(self.commission), "stake": None if stake is None else shown(stake)}
+        row |= {"status": self.status, "jailed": {True: "yes", False: "no"}.get(self.jailed),
+                "outstanding": text_of(self.outstanding), "commission": text_of(self.commission),
+                "stake": None if stake is None else shown(stake)}
         row["allocated"] = text_of(row.get("allocated", {}))
         row |= {name: whole_text_of(row.get(name, {})) for name in ("paid", "withdrawn")}
         self.out.writerow([row.get(name) for name in COLUMNS])
@@ -224,7 +229,8 @@ class Sheet:
             before, told = getattr(self, name), units(line[name])
             if before is not None and {n: a for n, a in before.items() if a} != told:
                 self.wrong += 1
-                print(f"WRONG {name} of the report: {text_of(told)}, and lines leave {text_of(before)}", file=sys.stderr)
+                print(f"WRONG {name} of the report: {text_of(told)}, and lines leave {text_of(before)}",
+                      file=sys.stderr)
             setattr(self, name, told)
         self.row = self.row or {}
         self.row |= {"tokens": line["tokens"], "shares": line["shares"]}

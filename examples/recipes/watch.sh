@@ -25,7 +25,8 @@ name="${1:--}"
     function judged(line, at, kind) {
         at = match(line, /"kind":"[a-z]+"/)
         kind = at ? substr(line, at + 8, RLENGTH - 9) : ""
-        if (!(kind in kinds) || line !~ /^\{".*\}$/) stop("line " (NR - 1) ": this is no line of the output of stakeplay")
+        if (!(kind in kinds) || line !~ /^\{".*\}$/)
+            stop("line " (NR - 1) ": this is no line of the output of stakeplay")
         if (kind == "genesis") { height = 0; is_run = 1 }
         if (kind == "block") {
             at = substr(line, 11) + 0
@@ -38,9 +39,9 @@ name="${1:--}"
         print line
     }
     BEGIN {
-        n = split("genesis block accepted refused transfer burn allocated pooled period started slashed paid commission " \
-            "status jailed unjailed tombstoned removed supply account validator delegation pending unbonding redelegation " \
-            "signing pool", names, " ")
+        n = split("genesis block accepted refused transfer burn allocated pooled period started slashed paid " \
+            "commission status jailed unjailed tombstoned removed supply account validator delegation pending " \
+            "unbonding redelegation signing pool", names, " ")
         for (i = 1; i <= n; i++) kinds[names[i]] = 1
     }
     NR > 1 { judged(held) }
@@ -49,7 +50,8 @@ name="${1:--}"
         if (!stopped) {
             if (held != ".") stop("line " NR ": the output is cut in this line")
             if (NR == 1) stop("nothing was read")
-            if (is_run && last != "pool") stop("the output is cut after line " (NR - 1) ": the end of its report is missing")
+            if (is_run && last != "pool")
+                stop("the output is cut after line " (NR - 1) ": the end of its report is missing")
             printf "watch: whole, %s%d lines\n", is_run ? "to block " height ", " : "", NR - 1 > "/dev/stderr"
         }
     }'
