@@ -3,12 +3,12 @@ ghost use Rattle.stk_coins.specs.Coins.{amount_of};
 ghost use Rattle.stk_keep.specs.Holdings.{IsBacked};
 ghost use Rattle.stk_bank.specs.Booked.{behind, new_book};
 
+use crate::letting_go::{let_go_of_book, let_go_of_facts};
 use std::process::Abort;
 use std::sync::ledger::Ledger;
-use std::test::Fail;
 use stk_bank::Book;
-use stk_coins::{Coin, Coins};
-use stk_keep::{Bank, Facts, Item, Records, Stop};
+use stk_coins::{Coin, CoinFault, Coins};
+use stk_keep::{Bank, BankFault, Facts, Item, RecordFault, Records, Stop};
 use stk_types::{Account, Addr, Denom, Steps};
 
 fn denom(rt: &impl Abort, name: &[u8]) -> Denom {
@@ -27,8 +27,8 @@ fn user(rt: &impl Abort, byte: u8) -> Account {
     Account::User(addr(rt, byte))
 }
 
-/// So much stake and so many uatom.
-fn purse(rt: &(impl Abort + AllocGlobal), stake: u128, atoms: u128) -> Result<Coins, Fail>
+/// So much stake and so many uatom, where there is memory.
+fn coins(rt: &(impl Abort + AllocGlobal), stake: u128, atoms: u128) -> Result<Coins, CoinFault>
     requires stake { stake ≤ 1000 }
     requires atoms { atoms ≤ 1000 }
     ensures { IfOk result (λ coins. (d : List ℕ) → amount_of coins d ≤ 1000) }
@@ -45,28 +45,56 @@ fn purse(rt: &(impl Abort + AllocGlobal), stake: u128, atoms: u128) -> Result<Co
     Ok(Coins::of(list)?)
 }
 
+/// So much stake and so many uatom.
+fn purse(rt: &(impl Abort + AllocGlobal), stake: u128, atoms: u128) -> Coins
+    requires stake { stake ≤ 1000 }
+    requires atoms { atoms ≤ 1000 }
+    ensures { (d : List ℕ) → amount_of result d ≤ 1000 }
+{
+    coins(rt, stake, atoms).expect(rt, "coins")
+}
+
+/// A user with 3 stake and 10 uatom, and one with 5 uatom.
+fn two_accounts<L: Ledger>(
+    rt: &(impl Abort + AllocGlobal),
+    steps: &mut Steps<L>,
+) -> Result<Book, BankFault>
+    ensures backed { IfOk result (λ book. IsBacked book.holdings) }
+    ensures marks { IfOk result (λ book. book.marks ≡ []) }
+{
+    let accounts = [
+        (user(rt, 9), purse(rt, 0, 5)),
+        (user(rt, 7), purse(rt, 3, 10)),
+    ];
+    Book::start(rt.alloc(), &accounts, steps)
+}
+
 /// A book of two accounts, one that holds nothing, and the facts so far.
-#[derive(Drop)]
 pub(crate) struct Scene {
     book: Book,
     empty: Book,
     facts: Facts,
 }
 
-/// A user with 3 stake and 10 uatom, and one with 5 uatom.
+impl Drop for Scene {
+    fn drop(self) {
+        let Scene { book, empty, facts } = self;
+        let_go_of_book(book);
+        let_go_of_book(empty);
+        let_go_of_facts(facts);
+    }
+}
+
+/// A book of two accounts, and no facts yet.
 pub(crate) fn opened<L: Ledger>(
     rt: &(impl Abort + AllocGlobal),
     steps: &mut Steps<L>,
-) -> Result<Scene, Fail>
+) -> Result<Scene, BankFault>
     ensures backed { IfOk result (λ scene. IsBacked scene.book.holdings) }
     ensures marks { IfOk result (λ scene. scene.book.marks ≡ []) }
     ensures empty { IfOk result (λ scene. scene.empty ≡ new_book) }
 {
-    let accounts = [
-        (user(rt, 9), purse(rt, 0, 5)?),
-        (user(rt, 7), purse(rt, 3, 10)?),
-    ];
-    let book = Book::start(rt.alloc(), &accounts, steps)?;
+    let book = two_accounts(rt, steps)?;
     Ok(Scene {
         book,
         empty: Book::new(rt.alloc()),
@@ -110,13 +138,13 @@ fn send_most<L: Ledger>(
     rt: &(impl Abort + AllocGlobal),
     scene: &mut Scene,
     steps: &mut Steps<L>,
-) -> Result<Result<(), Stop>, Fail>
+) -> Result<(), Stop>
     requires { IsBacked scene.old.book.holdings }
-    ensures backed { OnOk result (IsBacked scene.new.book.holdings) }
-    ensures behind { OnOk result (behind scene.new.book ≡ behind scene.old.book) }
+    ensures backed { IsBacked scene.new.book.holdings }
+    ensures behind { behind scene.new.book ≡ behind scene.old.book }
 {
-    let coins = purse(rt, 3, 4)?;
-    Ok(send_message(rt, scene, 7, &user(rt, 9), &coins, steps))
+    let coins = purse(rt, 3, 4);
+    send_message(rt, scene, 7, &user(rt, 9), &coins, steps)
 }
 
 /// Whether the users hold what they do after the message.
@@ -130,12 +158,12 @@ fn message_gone_back<L: Ledger>(
     rt: &(impl Abort + AllocGlobal),
     scene: &mut Scene,
     steps: &mut Steps<L>,
-) -> Result<bool, Fail>
+) -> Result<bool, BankFault>
     requires { IsBacked scene.old.book.holdings }
     ensures { OnOk result (scene.new.book.holdings ≡ scene.old.book.holdings) }
 {
     scene.book.mark(rt.alloc(), steps)?;
-    let answer = send_most(rt, scene, steps)?;
+    let answer = send_most(rt, scene, steps);
     scene.book.back(steps);
     Ok(answer == Ok(()))
 }
@@ -145,11 +173,11 @@ fn message_kept<L: Ledger>(
     rt: &(impl Abort + AllocGlobal),
     scene: &mut Scene,
     steps: &mut Steps<L>,
-) -> Result<bool, Fail>
+) -> Result<bool, BankFault>
     requires { IsBacked scene.old.book.holdings }
 {
     scene.book.mark(rt.alloc(), steps)?;
-    let answer = send_most(rt, scene, steps)?;
+    let answer = send_most(rt, scene, steps);
     scene.book.forget(steps);
     Ok(answer == Ok(()))
 }
@@ -159,7 +187,7 @@ pub(crate) fn goes_back<L: Ledger>(
     rt: &(impl Abort + AllocGlobal),
     scene: &mut Scene,
     steps: &mut Steps<L>,
-) -> Result<bool, Fail>
+) -> Result<bool, BankFault>
     requires { IsBacked scene.old.book.holdings }
 {
     let undone = message_gone_back(rt, scene, steps)?;
@@ -192,7 +220,7 @@ fn load_two<L: Ledger>(
     rt: &(impl Abort + AllocGlobal),
     book: &mut Book,
     steps: &mut Steps<L>,
-) -> Result<(), Fail>
+) -> Result<(), RecordFault>
     requires { book.old ≡ new_book }
 {
     let denom = atom(rt);
@@ -212,7 +240,7 @@ fn items_of<L: Ledger>(
     rt: &(impl Abort + AllocGlobal),
     book: &Book,
     steps: &mut Steps<L>,
-) -> Result<Vec<Item>, Fail> {
+) -> Result<Vec<Item>, RecordFault> {
     let mut items = Vec::new(rt.alloc());
     book.items_into(&mut items, steps)?;
     Ok(items)
@@ -223,7 +251,7 @@ fn changes_of<L: Ledger>(
     rt: &(impl Abort + AllocGlobal),
     book: &Book,
     steps: &mut Steps<L>,
-) -> Result<Vec<(Item, bool)>, Fail> {
+) -> Result<Vec<(Item, bool)>, RecordFault> {
     let mut changes = Vec::new(rt.alloc());
     book.changes_into(&mut changes, steps)?;
     Ok(changes)
@@ -234,7 +262,7 @@ fn lists_two<L: Ledger>(
     rt: &(impl Abort + AllocGlobal),
     book: &Book,
     steps: &mut Steps<L>,
-) -> Result<bool, Fail> {
+) -> Result<bool, BankFault> {
     let items = items_of(rt, book, steps)?;
     let balance = is_balance(items.get(0), &user(rt, 7), 10);
     Ok((items.len() == 2) & balance & is_supply(items.get(1), 10))
@@ -246,7 +274,7 @@ fn tells<L: Ledger>(
     book: &Book,
     count: usize,
     steps: &mut Steps<L>,
-) -> Result<bool, Fail> {
+) -> Result<bool, BankFault> {
     let changes = changes_of(rt, book, steps)?;
     Ok(changes.len() == count)
 }
@@ -256,7 +284,7 @@ pub(crate) fn loads<L: Ledger>(
     rt: &(impl Abort + AllocGlobal),
     scene: &mut Scene,
     steps: &mut Steps<L>,
-) -> Result<bool, Fail>
+) -> Result<bool, BankFault>
     requires { scene.old.empty ≡ new_book }
 {
     load_two(rt, &mut scene.empty, steps)?;
@@ -270,7 +298,7 @@ fn tells_message<L: Ledger>(
     rt: &(impl Abort + AllocGlobal),
     book: &Book,
     steps: &mut Steps<L>,
-) -> Result<bool, Fail> {
+) -> Result<bool, BankFault> {
     let changes = changes_of(rt, book, steps)?;
     Ok((changes.len() == 4) & are_of_message(rt, &changes))
 }
@@ -290,13 +318,13 @@ pub(crate) fn tells_changes<L: Ledger>(
     rt: &(impl Abort + AllocGlobal),
     scene: &mut Scene,
     steps: &mut Steps<L>,
-) -> Result<bool, Fail>
+) -> Result<bool, BankFault>
     requires backed { IsBacked scene.old.book.holdings }
     requires marks { scene.old.book.marks ≡ [] }
 {
     let first = tells(rt, &scene.book, 5, steps)?;
     scene.book.settle(steps);
-    let answer = send_most(rt, scene, steps)?;
+    let answer = send_most(rt, scene, steps);
     let later = tells_message(rt, &scene.book, steps)?;
     Ok(first & (answer == Ok(())) & later)
 }

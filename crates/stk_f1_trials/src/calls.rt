@@ -7,10 +7,9 @@ ghost use Rattle.stk_f1.specs.Stands.{IsKept};
 use crate::plain::{ONE, dec, is_free};
 use std::process::Abort;
 use std::sync::ledger::Ledger;
-use std::test::Fail;
 use stk_coins::{DecCoin, DecCoins};
 use stk_f1::F1;
-use stk_keep::Facts;
+use stk_keep::{Facts, Stop};
 use stk_types::{Addr, Denom, Steps};
 
 pub(crate) fn addr(rt: &impl Abort, byte: u8) -> Addr {
@@ -22,13 +21,14 @@ fn atom(rt: &impl Abort) -> Denom {
 }
 
 /// So many units of uatom, each 10^-18.
-fn atoms(rt: &(impl Abort + AllocGlobal), raw: u128) -> Result<DecCoins, Fail> {
-    let mut list = Vec::new(rt.alloc());
-    list.push(DecCoin {
+fn atoms(rt: &(impl Abort + AllocGlobal), raw: u128) -> DecCoins {
+    let coin = DecCoin {
         denom: atom(rt),
         amount: dec(rt, raw),
-    })?;
-    Ok(DecCoins::of(list)?)
+    };
+    let mut list = Vec::new(rt.alloc());
+    list.push(coin).expect(rt, "memory");
+    DecCoins::of(list).expect(rt, "coins")
 }
 
 pub(crate) fn init<L: Ledger>(
@@ -36,7 +36,7 @@ pub(crate) fn init<L: Ledger>(
     f: &mut F1,
     operator: &Addr,
     steps: &mut Steps<L>,
-) -> Result<bool, Fail>
+) -> Result<bool, Stop>
     requires { IsKept f.old.kept }
     ensures { OnOk result (IsKept f.new.kept) }
 {
@@ -54,7 +54,7 @@ fn end_with<L: Ledger>(
     operator: &Addr,
     increment: &DecCoins,
     steps: &mut Steps<L>,
-) -> Result<bool, Fail>
+) -> Result<bool, Stop>
     requires { IsKept f.old.kept }
     ensures { OnOk result (IsKept f.new.kept) }
 {
@@ -73,11 +73,11 @@ pub(crate) fn end<L: Ledger>(
     operator: &Addr,
     increment: u128,
     steps: &mut Steps<L>,
-) -> Result<bool, Fail>
+) -> Result<bool, Stop>
     requires { IsKept f.old.kept }
     ensures { OnOk result (IsKept f.new.kept) }
 {
-    let increment = atoms(rt, increment)?;
+    let increment = atoms(rt, increment);
     end_with(rt, f, facts, operator, &increment, steps)
 }
 
@@ -90,7 +90,7 @@ pub(crate) fn start<L: Ledger>(
     stake: u128,
     height: u64,
     steps: &mut Steps<L>,
-) -> Result<bool, Fail>
+) -> Result<bool, Stop>
     requires { IsKept f.old.kept }
     ensures { OnOk result (IsKept f.new.kept) }
 {
@@ -108,7 +108,7 @@ pub(crate) fn stop<L: Ledger>(
     who: &Addr,
     operator: &Addr,
     steps: &mut Steps<L>,
-) -> Result<bool, Fail>
+) -> Result<bool, Stop>
     requires { IsKept f.old.kept }
     ensures { OnOk result (IsKept f.new.kept) }
 {
@@ -127,7 +127,7 @@ fn is_free_at<L: Ledger>(
     height: u64,
     period: u64,
     steps: &mut Steps<L>,
-) -> Result<bool, Fail>
+) -> Result<bool, Stop>
     ensures free { IfOk result (λ free. free ≡ true
         → All (λ e. e.period ≢ period) (events_of f.now.kept operator.now)) }
     ensures heights { IfOk result (λ free. free ≡ true
@@ -145,7 +145,7 @@ pub(crate) fn slash<L: Ledger>(
     height: u64,
     fraction: u128,
     steps: &mut Steps<L>,
-) -> Result<bool, Fail>
+) -> Result<bool, Stop>
     requires { IsKept f.old.kept }
     ensures { OnOk result (IsKept f.new.kept) }
 {
@@ -168,7 +168,7 @@ pub(crate) fn clear<L: Ledger>(
     f: &mut F1,
     operator: &Addr,
     steps: &mut Steps<L>,
-) -> Result<bool, Fail>
+) -> Result<bool, Stop>
     requires { IsKept f.old.kept }
     ensures { OnOk result (IsKept f.new.kept) }
 {
@@ -188,7 +188,7 @@ pub(crate) fn reward<L: Ledger>(
     height: u64,
     value: u128,
     steps: &mut Steps<L>,
-) -> Result<Option<u128>, Fail>
+) -> Result<Option<u128>, Stop>
     requires { IsKept f.now.kept }
 {
     let value = dec(rt, value);
@@ -214,7 +214,7 @@ fn reward_with<L: Ledger>(
     height: u64,
     value: u128,
     steps: &mut Steps<L>,
-) -> Result<Option<u128>, Fail>
+) -> Result<Option<u128>, Stop>
     requires { IsKept f.now.kept }
 {
     let value = dec(rt, value);
@@ -235,9 +235,9 @@ pub(crate) fn reward_after<L: Ledger>(
     height: u64,
     value: u128,
     steps: &mut Steps<L>,
-) -> Result<Option<u128>, Fail>
+) -> Result<Option<u128>, Stop>
     requires { IsKept f.now.kept }
 {
-    let increment = atoms(rt, increment)?;
+    let increment = atoms(rt, increment);
     reward_with(rt, f, who, operator, &increment, height, value, steps)
 }

@@ -4,6 +4,8 @@
 #[cfg(test)]
 mod calls;
 #[cfg(test)]
+mod letting_go;
+#[cfg(test)]
 mod plain;
 #[cfg(test)]
 mod tests;

@@ -5,9 +5,8 @@ ghost use Rattle.std.specs.List.{list_all};
 ghost use Rattle.stk_keep.specs.declared.entities.SlashEvent.{SlashEvent};
 
 use std::process::Abort;
-use std::test::Fail;
 use stk_dec::Dec;
-use stk_keep::{SlashEvent, StartingInfo};
+use stk_keep::{SlashEvent, StartingInfo, Stop};
 
 pub(crate) const ONE: u128 = 1_000_000_000_000_000_000;
 
@@ -64,14 +63,14 @@ pub(crate) struct Plain {
 }
 
 impl Plain {
-    pub(crate) fn new(rt: &(impl Abort + AllocGlobal)) -> Result<Plain, Fail> {
+    pub(crate) fn new(rt: &(impl Abort + AllocGlobal)) -> Plain {
         let mut ratios = Vec::new(rt.alloc());
-        ratios.push(0)?;
-        Ok(Plain {
+        ratios.push(0).expect(rt, "memory");
+        Plain {
             ratios,
             starts: Vec::new(rt.alloc()),
             events: Vec::new(rt.alloc()),
-        })
+        }
     }
 
     pub(crate) fn last(&self) -> u64 {
@@ -85,7 +84,7 @@ impl Plain {
         }
     }
 
-    pub(crate) fn end(&mut self, increment: u128) -> Result<(), Fail> {
+    pub(crate) fn end(&mut self, increment: u128) -> Result<(), Stop> {
         let next = self.ratio(self.last()).saturating_add(increment);
         self.ratios.push(next)?;
         Ok(())
@@ -102,7 +101,7 @@ impl Plain {
     }
 
     /// A delegation that has started stops, and any other starts; whether it had.
-    pub(crate) fn turn(&mut self, rt: &impl Abort, dice: Dice) -> Result<bool, Fail> {
+    pub(crate) fn turn(&mut self, rt: &impl Abort, dice: Dice) -> Result<bool, Stop> {
         let had = self.start_of(dice.who).is_some();
         let info = StartingInfo {
             period: self.last(),
@@ -115,7 +114,7 @@ impl Plain {
     }
 
     /// A slash, where the last period has none; whether there is one.
-    pub(crate) fn strike(&mut self, rt: &impl Abort, dice: Dice) -> Result<bool, Fail> {
+    pub(crate) fn strike(&mut self, rt: &impl Abort, dice: Dice) -> Result<bool, Stop> {
         let event = SlashEvent {
             height: dice.height,
             period: self.last(),

@@ -1,21 +1,29 @@
-ghost use Rattle.std.specs.Prelude.{◌≡◌, OnOk, IfOk};
+ghost use Rattle.std.specs.Prelude.{◌≡◌, OnOk};
 ghost use Rattle.stk_f1.specs.Stands.{IsKept};
 
 use crate::calls::{addr, clear, end, init, reward, reward_after, slash, start, stop};
+use crate::letting_go::{let_go_of_facts, let_go_of_plain, let_go_of_rewards};
 use crate::plain::{Dice, ONE, Plain, next_seed, thrown};
 use std::process::Abort;
 use std::sync::ledger::Ledger;
-use std::test::Fail;
 use stk_f1::F1;
-use stk_keep::Facts;
+use stk_keep::{Facts, Stop};
 use stk_types::{Addr, Steps};
 
 /// Records, the facts so far, and a program that keeps everything of one validator.
-#[derive(Drop)]
 pub(crate) struct Scene {
     f: F1,
     facts: Facts,
     plain: Plain,
+}
+
+impl Drop for Scene {
+    fn drop(self) {
+        let Scene { f, facts, plain } = self;
+        let_go_of_rewards(f);
+        let_go_of_facts(facts);
+        let_go_of_plain(plain);
+    }
 }
 
 /// No records, which stand for no rewards.
@@ -25,15 +33,14 @@ fn fresh(rt: &impl AllocGlobal) -> F1
     F1::new(rt.alloc())
 }
 
-pub(crate) fn opened(rt: &(impl Abort + AllocGlobal)) -> Result<Scene, Fail>
-    ensures { IfOk result (λ scene. IsKept scene.f.kept) }
+pub(crate) fn opened(rt: &(impl Abort + AllocGlobal)) -> Scene
+    ensures { IsKept result.f.kept }
 {
-    let plain = Plain::new(rt)?;
-    Ok(Scene {
+    Scene {
         f: fresh(rt),
         facts: Facts::new(rt.alloc()),
-        plain,
-    })
+        plain: Plain::new(rt),
+    }
 }
 
 // ---- the counts of references, call by call
@@ -80,7 +87,7 @@ fn carry_out<L: Ledger>(
     operator: &Addr,
     call: Call,
     steps: &mut Steps<L>,
-) -> Result<bool, Fail>
+) -> Result<bool, Stop>
     requires { IsKept f.old.kept }
     ensures { OnOk result (IsKept f.new.kept) }
 {
@@ -101,7 +108,7 @@ pub(crate) fn counts<L: Ledger>(
     rt: &(impl Abort + AllocGlobal),
     scene: &mut Scene,
     steps: &mut Steps<L>,
-) -> Result<bool, Fail>
+) -> Result<bool, Stop>
     requires { IsKept scene.old.f.kept }
 {
     let operator = addr(rt, 1);
@@ -142,7 +149,7 @@ fn reward_agrees<L: Ledger>(
     operator: &Addr,
     dice: Dice,
     steps: &mut Steps<L>,
-) -> Result<bool, Fail>
+) -> Result<bool, Stop>
     requires { IsKept scene.old.f.kept }
     ensures { OnOk result (IsKept scene.new.f.kept) }
 {
@@ -179,7 +186,7 @@ fn turned<L: Ledger>(
     operator: &Addr,
     dice: Dice,
     steps: &mut Steps<L>,
-) -> Result<bool, Fail>
+) -> Result<bool, Stop>
     requires { IsKept scene.old.f.kept }
     ensures { OnOk result (IsKept scene.new.f.kept) }
 {
@@ -206,7 +213,7 @@ fn struck<L: Ledger>(
     operator: &Addr,
     dice: Dice,
     steps: &mut Steps<L>,
-) -> Result<bool, Fail>
+) -> Result<bool, Stop>
     requires { IsKept scene.old.f.kept }
     ensures { OnOk result (IsKept scene.new.f.kept) }
 {
@@ -229,7 +236,7 @@ fn called<L: Ledger>(
     operator: &Addr,
     dice: Dice,
     steps: &mut Steps<L>,
-) -> Result<bool, Fail>
+) -> Result<bool, Stop>
     requires { IsKept scene.old.f.kept }
     ensures { OnOk result (IsKept scene.new.f.kept) }
 {
@@ -249,7 +256,7 @@ fn turn<L: Ledger>(
     operator: &Addr,
     dice: Dice,
     steps: &mut Steps<L>,
-) -> Result<bool, Fail>
+) -> Result<bool, Stop>
     requires { IsKept scene.old.f.kept }
     ensures { OnOk result (IsKept scene.new.f.kept) }
 {
@@ -263,7 +270,7 @@ pub(crate) fn agrees<L: Ledger>(
     scene: &mut Scene,
     seed: u64,
     steps: &mut Steps<L>,
-) -> Result<bool, Fail>
+) -> Result<bool, Stop>
     requires { IsKept scene.old.f.kept }
 {
     let operator = addr(rt, 1);

@@ -4,7 +4,6 @@ use crate::decimal_cases::CASES;
 use crate::decimals::dec;
 use std::process::Abort;
 use std::str::SplitWhitespace;
-use std::test::Fail;
 use stk_dec::{Dec, Over, OverKind, mul_div};
 
 /// A case: a call with raw operands and its answer, which exact arithmetic outside the program gave.
@@ -72,24 +71,24 @@ fn read<'a>(rt: &impl Abort, line: &'a str) -> Case<'a> {
 fn answer(rt: &impl Abort, case: &Case<'_>) -> Result<u128, Over> {
     let (a, b, c) = (case.a, case.b, case.c);
     let answer = match case.call {
-        "Add" => dec(rt, a).add(dec(rt, b))?,
-        "OfWhole" => Dec::of_whole(a)?,
-        "MulEven" => dec(rt, a).mul_even(dec(rt, b))?,
-        "MulCut" => dec(rt, a).mul_cut(dec(rt, b))?,
-        "QuoEven" => dec(rt, a).quo_even(positive(rt, b))?,
-        "QuoCut" => dec(rt, a).quo_cut(positive(rt, b))?,
-        "QuoUp" => dec(rt, a).quo_up(positive(rt, b))?,
+        "Add" => dec(rt, a).add(dec(rt, b)),
+        "OfWhole" => Dec::of_whole(a),
+        "MulEven" => dec(rt, a).mul_even(dec(rt, b)),
+        "MulCut" => dec(rt, a).mul_cut(dec(rt, b)),
+        "QuoEven" => dec(rt, a).quo_even(positive(rt, b)),
+        "QuoCut" => dec(rt, a).quo_cut(positive(rt, b)),
+        "QuoUp" => dec(rt, a).quo_up(positive(rt, b)),
         "MulIntQuoEven" => {
             assert!(rt; b <= 100_000_000_000_000_000_000);
-            dec(rt, a).mul_int_quo_even(b, positive(rt, c))?
+            dec(rt, a).mul_int_quo_even(b, positive(rt, c))
         }
         "MulIntQuoCut" => {
             assert!(rt; b <= 100_000_000_000_000_000_000);
-            dec(rt, a).mul_int_quo_cut(b, positive(rt, c))?
+            dec(rt, a).mul_int_quo_cut(b, positive(rt, c))
         }
         "MulIntQuoInt" => {
             let m = positive(rt, c).raw();
-            dec(rt, a).mul_int_quo_int(b, m)?
+            dec(rt, a).mul_int_quo_int(b, m)
         }
         "Trunc" => return Ok(dec(rt, a).trunc()),
         call => {
@@ -97,7 +96,7 @@ fn answer(rt: &impl Abort, case: &Case<'_>) -> Result<u128, Over> {
             return Ok(dec(rt, a).round_int());
         }
     };
-    Ok(answer.raw())
+    Ok(answer?.raw())
 }
 
 #[test]
@@ -124,7 +123,7 @@ fn quotients_with_their_rest(rt: HostRuntime) {
 }
 
 #[test]
-fn texts_are_read_and_written(rt: HostRuntime) -> Result<(), Fail> {
+fn texts_are_read_and_written(rt: HostRuntime) {
     for (text, raw) in [
         (b"0".as_slice(), Some(0)),
         (b"00000000000000000012.5", Some(12_500_000_000_000_000_000)),
@@ -161,5 +160,4 @@ fn texts_are_read_and_written(rt: HostRuntime) -> Result<(), Fail> {
         let length = dec(&rt, raw).write_into(&mut out);
         assert_eq!(rt; &out[..length], text);
     }
-    Ok(())
 }

@@ -1,10 +1,10 @@
 ghost use Rattle.std.specs.Prelude.{◌≡◌, ◌<◌};
 
 use std::collections::{BTreeMap, HashMap};
+use std::fmt::Display;
 use std::marker::Brand;
 use std::process::Abort;
 use std::sync::ledger::{Blank, Ledger};
-use std::test::Fail;
 use stk_types::{
     Account, Addr, BondStatus, ConsAddr, Copied, Denom, Module, Moment, Steps, TableFault,
     TextFault, address_digits, print_account, print_cons, print_moment, read_account, read_addr,
@@ -17,18 +17,22 @@ const BYTES: [u8; 20] = [
     0, 17, 34, 51, 68, 85, 102, 119, 136, 153, 170, 187, 204, 221, 238, 255, 1, 35, 69, 103,
 ];
 
+fn printed(rt: &(impl Abort + AllocGlobal), account: &Account) -> String {
+    print_account(rt.alloc(), account).expect(rt, "memory")
+}
+
 #[test]
-fn an_address_is_read_and_printed(rt: HostRuntime) -> Result<(), Fail> {
-    let addr = read_addr(ADDRESS)?;
+fn an_address_is_read_and_printed(rt: HostRuntime) {
+    let addr = read_addr(ADDRESS).expect(&rt, "an address");
     assert!(rt; addr.bytes() == BYTES);
     assert!(rt; address_digits(&addr.bytes()).as_slice() == ADDRESS.as_bytes());
-    let account = read_account(ADDRESS)?;
+    let account = read_account(ADDRESS).expect(&rt, "an account");
     assert!(rt; account == Account::User(addr));
-    assert_eq!(rt; print_account(rt.alloc(), &account)?.as_str(), ADDRESS);
-    let cons = read_cons(ADDRESS)?;
+    assert_eq!(rt; printed(&rt, &account).as_str(), ADDRESS);
+    let cons = read_cons(ADDRESS).expect(&rt, "an address");
     assert!(rt; cons == ConsAddr::of(BYTES));
-    assert_eq!(rt; print_cons(rt.alloc(), &cons)?.as_str(), ADDRESS);
-    Ok(())
+    let text = print_cons(rt.alloc(), &cons).expect(&rt, "memory");
+    assert_eq!(rt; text.as_str(), ADDRESS);
 }
 
 #[test]
@@ -43,21 +47,17 @@ fn a_capital_digit_or_another_length_is_no_address(rt: HostRuntime) {
 }
 
 #[test]
-fn a_module_has_an_address_and_is_printed_by_name(rt: HostRuntime) -> Result<(), Fail> {
+fn a_module_has_an_address_and_is_printed_by_name(rt: HostRuntime) {
     let text = "0000000000000000000000000000000000000003";
-    let account = read_account(text)?;
+    let account = read_account(text).expect(&rt, "an account");
     assert!(rt; account == Account::Module(Module::NotBonded));
     assert!(rt; read_addr(text) == Err(TextFault::BadAddress));
     assert!(rt; Addr::of(account.bytes()).is_none());
-    assert_eq!(rt;
-        print_account(rt.alloc(), &account)?.as_str(),
-        "not_bonded_tokens_pool"
-    );
-    Ok(())
+    assert_eq!(rt; printed(&rt, &account).as_str(), "not_bonded_tokens_pool");
 }
 
 #[test]
-fn a_denomination_has_3_to_128_bytes(rt: HostRuntime) -> Result<(), Fail> {
+fn a_denomination_has_3_to_128_bytes(rt: HostRuntime) {
     let mut bytes = [b'a'; 129];
     bytes[2] = b'/';
     assert!(rt; Denom::of(&bytes[..2]).is_none());
@@ -65,9 +65,9 @@ fn a_denomination_has_3_to_128_bytes(rt: HostRuntime) -> Result<(), Fail> {
     assert!(rt; Denom::of(&bytes[..128]).is_some());
     assert!(rt; Denom::of(&bytes).is_none());
     assert!(rt; read_denom("1atom") == Err(TextFault::BadDenom));
-    let denom = read_denom("ibc/27394FB092D2ECCD56123C74F36E4C1F926001CE")?;
-    assert!(rt; denom.bytes() == b"ibc/27394FB092D2ECCD56123C74F36E4C1F926001CE".as_slice());
-    Ok(())
+    let text = "ibc/27394FB092D2ECCD56123C74F36E4C1F926001CE";
+    let denom = read_denom(text).expect(&rt, "a denomination");
+    assert!(rt; denom.bytes() == text.as_bytes());
 }
 
 // That the text is read as so many nanoseconds, which Python's `datetime` gives.
@@ -97,44 +97,61 @@ fn moments_are_read(rt: HostRuntime) {
     assert!(rt; read_moment("2024-02-29T12:00:00") == Err(TextFault::BadMoment));
 }
 
+fn is_printed(rt: &(impl Abort + AllocGlobal), nanos: u128, want: &str) {
+    let moment = Moment::of(nanos).expect(rt, "before the year 10000");
+    let text = print_moment(rt.alloc(), moment).expect(rt, "memory");
+    assert_eq!(rt; text.as_str(), want);
+}
+
 #[test]
-fn moments_are_printed(rt: HostRuntime) -> Result<(), Fail> {
-    let leap = Moment::of(1_709_208_000_500_000_000).ok_or("none")?;
-    assert_eq!(rt;
-        print_moment(rt.alloc(), leap)?.as_str(),
-        "2024-02-29T12:00:00.5Z"
-    );
-    let year = Moment::of(1_735_689_599_000_000_000).ok_or("none")?;
-    assert_eq!(rt;
-        print_moment(rt.alloc(), year)?.as_str(),
-        "2024-12-31T23:59:59Z"
-    );
+fn moments_are_printed(rt: HostRuntime) {
+    is_printed(&rt, 1_709_208_000_500_000_000, "2024-02-29T12:00:00.5Z");
+    is_printed(&rt, 1_735_689_599_000_000_000, "2024-12-31T23:59:59Z");
     assert!(rt; Moment::of(253_402_300_800_000_000_000).is_none());
-    Ok(())
+}
+
+fn user() -> Account {
+    Account::of(BYTES)
+}
+
+fn pool() -> Account {
+    Account::Module(Module::Bonded)
+}
+
+fn put(
+    rt: &impl Abort,
+    amounts: &mut BTreeMap<(Account, Account), u64>,
+    pair: (Account, Account),
+    amount: u64,
+) {
+    let put: Result<_, _> = amounts.insert(pair, amount);
+    assert!(rt; put.ok() == Some(None));
 }
 
 #[test]
-fn accounts_and_pairs_are_keys(rt: HostRuntime) -> Result<(), Fail> {
-    let user = Account::of(BYTES);
-    let pool = Account::Module(Module::Bonded);
+fn accounts_and_pairs_are_keys(rt: HostRuntime) {
     let mut amounts: BTreeMap<(Account, Account), u64> = BTreeMap::new(rt.alloc());
-    amounts.insert((pool, user), 2)?;
-    amounts.insert((user, pool), 1)?;
-    assert_eq!(rt; amounts.get(&(user, pool)).copied(), Some(1));
+    put(&rt, &mut amounts, (pool(), user()), 2);
+    put(&rt, &mut amounts, (user(), pool()), 1);
+    assert_eq!(rt; amounts.get(&(user(), pool())).copied(), Some(1));
     assert_eq!(rt; amounts.first_key_value().map(|(_, n)| *n), Some(1));
-    let mut counts: HashMap<Denom, u64> = HashMap::new(rt.alloc());
-    counts.insert(read_denom("uatom")?, 7)?;
-    assert_eq!(rt; counts.get(&read_denom("uatom")?).copied(), Some(7));
-    Ok(())
 }
 
 #[test]
-fn copies_are_equal(rt: HostRuntime) -> Result<(), Fail> {
+fn denominations_are_keys(rt: HostRuntime) {
+    let denom = read_denom("uatom").expect(&rt, "a denomination");
+    let mut counts: HashMap<Denom, u64> = HashMap::new(rt.alloc());
+    let put: Result<_, _> = counts.insert(denom, 7);
+    assert!(rt; put.ok() == Some(None));
+    assert_eq!(rt; counts.get(&denom).copied(), Some(7));
+}
+
+#[test]
+fn copies_are_equal(rt: HostRuntime) {
     let pair = (7u128, Module::Distribution);
-    assert!(rt; pair.copied()? == pair);
+    assert!(rt; pair.copied() == Ok(pair));
     let triple = (true, BondStatus::Unbonding, 3u8);
-    assert!(rt; triple.copied()? == triple);
-    Ok(())
+    assert!(rt; triple.copied() == Ok(triple));
 }
 
 fn ticks_twice<L: Ledger>(blank: Blank)
@@ -152,28 +169,17 @@ fn a_caller_that_counts_nothing_starts_from_a_blank() {
     ticks_twice::<Brand>(Blank::new(1));
 }
 
+fn is_shown(rt: &(impl Abort + AllocGlobal), fault: impl Display + Drop, want: &str) {
+    let text = format!(in rt.alloc(); "{fault}").expect(rt, "memory");
+    assert_eq!(rt; text.as_str(), want);
+}
+
 #[test]
-fn the_text_of_a_fault_is_its_name(rt: HostRuntime) -> Result<(), Fail> {
-    let alloc = rt.alloc();
-    assert_eq!(rt;
-        format!(in alloc; "{}", TextFault::BadAddress)?.as_str(),
-        "BadAddress"
-    );
-    assert_eq!(rt;
-        format!(in alloc; "{}", TextFault::BadMoment)?.as_str(),
-        "BadMoment"
-    );
-    assert_eq!(rt;
-        format!(in alloc; "{}", TextFault::BadDenom)?.as_str(),
-        "BadDenom"
-    );
-    assert_eq!(rt;
-        format!(in alloc; "{}", TextFault::NoMemory)?.as_str(),
-        "NoMemory"
-    );
-    assert_eq!(rt;
-        format!(in alloc; "{} {}", TableFault::NoMemory, TableFault::Spent)?.as_str(),
-        "NoMemory Spent"
-    );
-    Ok(())
+fn the_text_of_a_fault_is_its_name(rt: HostRuntime) {
+    is_shown(&rt, TextFault::BadAddress, "BadAddress");
+    is_shown(&rt, TextFault::BadMoment, "BadMoment");
+    is_shown(&rt, TextFault::BadDenom, "BadDenom");
+    is_shown(&rt, TextFault::NoMemory, "NoMemory");
+    is_shown(&rt, TableFault::NoMemory, "NoMemory");
+    is_shown(&rt, TableFault::Spent, "Spent");
 }

@@ -1,13 +1,12 @@
-use std::test::Fail;
 use stk_io::{
     Failed, MemSink, MemSource, Sink, SinkFault, Source, SureSink, SureSource, read_at_most,
     write_all,
 };
 
 #[test]
-fn a_source_in_memory_fails_at_the_listed_calls(rt: HostRuntime) -> Result<(), Fail> {
-    let bytes = Vec::from_slice(rt.alloc(), b"abcde")?;
-    let failing = Vec::from_slice(rt.alloc(), &[1, 3])?;
+fn a_source_in_memory_fails_at_the_listed_calls(rt: HostRuntime) {
+    let bytes = Vec::from_slice(rt.alloc(), b"abcde").expect(&rt, "memory");
+    let failing = Vec::from_slice(rt.alloc(), &[1, 3]).expect(&rt, "memory");
     let mut source = MemSource::new(bytes, 2, failing);
     let mut buffer = [0; 4];
     assert_eq!(rt; source.read(&mut buffer), Ok(2));
@@ -19,12 +18,11 @@ fn a_source_in_memory_fails_at_the_listed_calls(rt: HostRuntime) -> Result<(), F
     assert_eq!(rt; source.read(&mut buffer), Ok(1));
     assert!(rt; buffer == *b"ed\0\0");
     assert_eq!(rt; source.read(&mut buffer), Ok(0));
-    Ok(())
 }
 
 #[test]
-fn a_sink_in_memory_fails_at_the_listed_calls(rt: HostRuntime) -> Result<(), Fail> {
-    let failing = Vec::from_slice(rt.alloc(), &[1, 3])?;
+fn a_sink_in_memory_fails_at_the_listed_calls(rt: HostRuntime) {
+    let failing = Vec::from_slice(rt.alloc(), &[1, 3]).expect(&rt, "memory");
     let mut sink = MemSink::new(rt.alloc(), failing);
     assert_eq!(rt; write_all(&mut sink, b"ab"), Ok(()));
     assert_eq!(rt; write_all(&mut sink, b"cd"), Err(SinkFault::Failed));
@@ -32,12 +30,12 @@ fn a_sink_in_memory_fails_at_the_listed_calls(rt: HostRuntime) -> Result<(), Fai
     assert_eq!(rt; sink.flush(), Err(Failed));
     assert_eq!(rt; sink.flush(), Ok(()));
     assert!(rt; sink.bytes() == b"abef".as_slice());
-    Ok(())
 }
 
 #[test]
-fn sure_forms_give_and_take_all(rt: HostRuntime) -> Result<(), Fail> {
-    let mut source = SureSource::new(Vec::from_slice(rt.alloc(), b"abcd")?, 3);
+fn sure_forms_give_and_take_all(rt: HostRuntime) {
+    let bytes = Vec::from_slice(rt.alloc(), b"abcd").expect(&rt, "memory");
+    let mut source = SureSource::new(bytes, 3);
     let mut sink = SureSink::new(rt.alloc());
     let mut buffer = [0; 4];
     assert_eq!(rt; read_at_most(&mut source, &mut buffer, 2), Ok(2));
@@ -49,5 +47,4 @@ fn sure_forms_give_and_take_all(rt: HostRuntime) -> Result<(), Fail> {
     assert_eq!(rt; write_all(&mut sink, b"c"), Ok(()));
     assert_eq!(rt; sink.flush(), Ok(()));
     assert!(rt; sink.bytes() == b"abc".as_slice());
-    Ok(())
 }

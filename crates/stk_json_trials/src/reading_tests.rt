@@ -1,6 +1,6 @@
 use json::Scratch;
 use std::alloc::{AllocError, Global};
-use std::test::Fail;
+use std::process::Abort;
 use stk_json::{read_block, read_genesis};
 use stk_msgs::{Block, LineFault, Msg};
 
@@ -33,23 +33,26 @@ fn block_has(alloc: Global, old: &str, new: &str, fault: Option<LineFault>) -> b
     }
 }
 
-fn read_genesis_with(alloc: Global, old: &str, new: &str) -> Result<(), LineFault> {
-    let line = replaced(alloc, GENESIS, old, new)?;
-    read_genesis(alloc, &mut Scratch::new(alloc), line.as_bytes())?;
-    Ok(())
+fn fault_of_genesis(alloc: Global, line: &[u8]) -> Option<LineFault> {
+    match read_genesis(alloc, &mut Scratch::new(alloc), line) {
+        Ok(_) => None,
+        Err(fault) => Some(fault),
+    }
 }
 
 /// Whether the genesis line, so changed, has this fault of form.
 fn genesis_is_bad(alloc: Global, old: &str, new: &str, number: u16) -> bool {
-    read_genesis_with(alloc, old, new) == Err(LineFault::BadShape(number))
+    match replaced(alloc, GENESIS, old, new) {
+        Ok(line) => fault_of_genesis(alloc, line.as_bytes()) == Some(LineFault::BadShape(number)),
+        Err(_) => false,
+    }
 }
 
 #[test]
-fn lines_that_are_no_block_have_their_fault(rt: HostRuntime) -> Result<(), Fail> {
-    let alloc = rt.alloc();
-    let brackets_128 = nested(alloc, 128)?;
-    let brackets_127 = nested(alloc, 127)?;
-    let spaces = vec![in alloc; b' '; 4_194_304]?;
+fn lines_that_are_no_block_have_their_fault(rt: HostRuntime) {
+    let brackets_128 = nested(&rt, 128);
+    let brackets_127 = nested(&rt, 127);
+    let spaces = vec![in rt.alloc(); b' '; 4_194_304].expect(&rt, "memory");
     let lines = [
         (b"".as_slice(), LineFault::NotJson),
         (b"\xff".as_slice(), LineFault::NotJson),
@@ -66,42 +69,38 @@ fn lines_that_are_no_block_have_their_fault(rt: HostRuntime) -> Result<(), Fail>
         (spaces.as_slice(), LineFault::NotJson),
     ];
     for (line, fault) in lines {
-        assert!(rt; fault_of_block(alloc, line) == Some(fault));
+        assert!(rt; fault_of_block(rt.alloc(), line) == Some(fault));
     }
-    Ok(())
 }
 
 /// So many lists within one another.
-fn nested(alloc: Global, depth: usize) -> Result<Vec<u8>, AllocError> {
-    let mut line = vec![in alloc; b'['; depth]?;
+fn nested(rt: &(impl Abort + AllocGlobal), depth: usize) -> Vec<u8> {
+    let mut line = vec![in rt.alloc(); b'['; depth].expect(rt, "memory");
     for _ in 0..depth {
-        line.push(b']')?;
+        line.push(b']').expect(rt, "memory");
     }
-    Ok(line)
+    line
 }
 
 /// The block line with a member in front that no reader asks for: so many lists within one another.
-fn block_with_lists(alloc: Global, depth: usize) -> Result<Vec<u8>, AllocError> {
-    let lists = nested(alloc, depth)?;
+fn block_with_lists(rt: &(impl Abort + AllocGlobal), depth: usize) -> Vec<u8> {
+    let lists = nested(rt, depth);
     let rest = BLOCK.as_bytes();
-    let mut line = Vec::new(alloc);
-    line.extend_from_slice(b"{\"memo\":")?;
-    line.extend_from_slice(&lists)?;
-    line.push(b',')?;
-    line.extend_from_slice(&rest[1..])?;
-    Ok(line)
+    let mut line = Vec::new(rt.alloc());
+    for part in [b"{\"memo\":".as_slice(), &lists, b",", &rest[1..]] {
+        line.extend_from_slice(part).expect(rt, "memory");
+    }
+    line
 }
 
 /// A member that is not read has its part of the depth that a line may have: 127 lists within one another are
 /// one too many inside an object.
 #[test]
-fn lists_in_a_member_that_is_not_read_count(rt: HostRuntime) -> Result<(), Fail> {
-    let alloc = rt.alloc();
-    let deepest = block_with_lists(alloc, 126)?;
-    let too_deep = block_with_lists(alloc, 127)?;
-    assert!(rt; fault_of_block(alloc, &deepest) == Some(LineFault::BadShape(0)));
-    assert!(rt; fault_of_block(alloc, &too_deep) == Some(LineFault::NotJson));
-    Ok(())
+fn lists_in_a_member_that_is_not_read_count(rt: HostRuntime) {
+    for (depth, fault) in [(126, LineFault::BadShape(0)), (127, LineFault::NotJson)] {
+        let line = block_with_lists(&rt, depth);
+        assert!(rt; fault_of_block(rt.alloc(), &line) == Some(fault));
+    }
 }
 
 #[test]
@@ -231,13 +230,12 @@ fn members_of_a_genesis_have_their_numbers(rt: HostRuntime) {
 
 /// Each pair replaces a text of the block line by one that makes it no JSON.
 #[test]
-fn lines_that_are_not_json_are_named(rt: HostRuntime) -> Result<(), Fail> {
-    let alloc = rt.alloc();
-    let mut digits_400 = String::from_str(alloc, ":")?;
-    for _ in 0..400 {
-        digits_400.push('9')?;
-    }
-    digits_400.push(',')?;
+fn lines_that_are_not_json_are_named(rt: HostRuntime) {
+    let nines = "99999999999999999999999999999999999999999999999999";
+    let digits_400 = format!(in rt.alloc();
+        ":{nines}{nines}{nines}{nines}{nines}{nines}{nines}{nines},"
+    );
+    let digits_400 = digits_400.expect(&rt, "memory");
     let no_json = [
         ("{\"kind\"", "{kind"),
         (":1,", ":01,"),
@@ -250,11 +248,10 @@ fn lines_that_are_not_json_are_named(rt: HostRuntime) -> Result<(), Fail> {
     ];
     for (old, new) in no_json {
         assert!(rt;
-            block_has(alloc, old, new, Some(LineFault::NotJson)),
+            block_has(rt.alloc(), old, new, Some(LineFault::NotJson)),
             "{new}"
         );
     }
-    Ok(())
 }
 
 /// Each pair replaces a text of the block line by one that is of the form.
@@ -300,28 +297,28 @@ fn kind_of(block: &Block) -> &'static str {
     }
 }
 
-/// A block with one message of this kind and these members, in which `@` stands for an address, `#` for a
-/// coin.
-fn block_of(alloc: Global, kind: &str, members: &str) -> Result<Block, LineFault> {
-    let mut line = String::from_str(
-        alloc,
-        "{\"kind\":\"block\",\"height\":1,\"time\":\"2024-01-01T00:00:05Z\",\"votes\":[],\"evidence\":[],\"txs\":[{\"payer\":\"1111111111111111111111111111111111111111\",\"fee\":[],\"msgs\":[{\"kind\":\"",
-    )?;
-    line.push_str(kind)?;
-    line.push_str("\"")?;
+/// The line of a block with one message of this kind and these members, in which `@` stands for an address, `#`
+/// for a coin.
+fn line_of(rt: &(impl Abort + AllocGlobal), kind: &str, members: &str) -> String {
+    let head =
+        "{\"kind\":\"block\",\"height\":1,\"time\":\"2024-01-01T00:00:05Z\",\"votes\":[],\"evidence\":[],\"txs\":[{\"payer\":\"1111111111111111111111111111111111111111\",\"fee\":[],\"msgs\":[{\"kind\":\"";
+    let line = format!(in rt.alloc(); "{head}{kind}\"");
+    let mut line = line.expect(rt, "memory");
     for c in members.chars() {
-        match c {
-            '@' => line.push_str("\"1111111111111111111111111111111111111111\"")?,
-            '#' => line.push_str("{\"denom\":\"uatom\",\"amount\":\"100\"}")?,
-            other => line.push(other)?,
-        }
+        let pushed = match c {
+            '@' => line.push_str("\"1111111111111111111111111111111111111111\""),
+            '#' => line.push_str("{\"denom\":\"uatom\",\"amount\":\"100\"}"),
+            other => line.push(other),
+        };
+        pushed.expect(rt, "memory");
     }
-    line.push_str("}]}]}")?;
-    read_block(alloc, &mut Scratch::new(alloc), line.as_bytes())
+    line.push_str("}]}]}").expect(rt, "memory");
+    line
 }
 
-fn reads_as_its_kind(alloc: Global, kind: &str, members: &str) -> bool {
-    match block_of(alloc, kind, members) {
+fn reads_as_its_kind(rt: &(impl Abort + AllocGlobal), kind: &str, members: &str) -> bool {
+    let line = line_of(rt, kind, members);
+    match read_block(rt.alloc(), &mut Scratch::new(rt.alloc()), line.as_bytes()) {
         Ok(block) => kind_of(&block) == kind,
         Err(_) => false,
     }
@@ -365,15 +362,13 @@ fn each_kind_of_message_is_read(rt: HostRuntime) {
         ),
     ];
     for (kind, members) in messages {
-        assert!(rt; reads_as_its_kind(rt.alloc(), kind, members), "{kind}");
+        assert!(rt; reads_as_its_kind(&rt, kind, members), "{kind}");
     }
 }
 
-fn message_is_bad(alloc: Global, kind: &str, members: &str, number: u16) -> bool {
-    match block_of(alloc, kind, members) {
-        Ok(_) => false,
-        Err(fault) => fault == LineFault::BadShape(number),
-    }
+fn message_is_bad(rt: &(impl Abort + AllocGlobal), kind: &str, members: &str, number: u16) -> bool {
+    let line = line_of(rt, kind, members);
+    fault_of_block(rt.alloc(), line.as_bytes()) == Some(LineFault::BadShape(number))
 }
 
 #[test]
@@ -452,7 +447,7 @@ fn members_of_messages_have_their_numbers(rt: HostRuntime) {
     ];
     for (kind, members, number) in no_forms {
         assert!(rt;
-            message_is_bad(rt.alloc(), kind, members, number),
+            message_is_bad(&rt, kind, members, number),
             "{kind}{members}"
         );
     }
@@ -467,38 +462,47 @@ fn amount_sent(block: &Block, place: usize) -> Option<u128> {
 }
 
 #[test]
-fn the_values_of_a_block_are_read(rt: HostRuntime) -> Result<(), Fail> {
-    let block = read_block(rt.alloc(), &mut Scratch::new(rt.alloc()), BLOCK.as_bytes())?;
-    assert_eq!(rt; block.height, 1);
-    assert_eq!(rt; block.time.nanos(), 1_704_067_205_000_000_000);
-    let vote = block.votes.at(0).ok_or("no vote")?;
-    assert_eq!(rt; vote.power, 10);
-    let evidence = block.evidence.at(0).ok_or("no evidence")?;
-    assert_eq!(rt; evidence.height, 3);
-    let tx = block.txs.at(0).ok_or("no transaction")?;
-    assert_eq!(rt; tx.payer.bytes(), [0xaa; 20]);
-    assert_eq!(rt; amount_sent(&block, 0), Some(100));
-    assert_eq!(rt; amount_sent(&block, 1), Some(7));
-    assert_eq!(rt; amount_sent(&block, 2), None);
-    Ok(())
+fn the_values_of_a_block_are_read(rt: HostRuntime) {
+    let block = read_block(rt.alloc(), &mut Scratch::new(rt.alloc()), BLOCK.as_bytes());
+    let block = block.expect(&rt, "a block");
+    assert_eq!(rt;
+        (block.height, block.time.nanos()),
+        (1, 1_704_067_205_000_000_000)
+    );
+    assert!(rt; block.votes.at(0).is_some_and(|vote| vote.power == 10));
+    assert!(rt;
+        block
+            .evidence
+            .at(0)
+            .is_some_and(|evidence| evidence.height == 3)
+    );
+    assert!(rt;
+        block
+            .txs
+            .at(0)
+            .is_some_and(|tx| tx.payer.bytes() == [0xaa; 20])
+    );
+    for (place, amount) in [(0, Some(100)), (1, Some(7)), (2, None)] {
+        assert_eq!(rt; amount_sent(&block, place), amount);
+    }
 }
 
 #[test]
-fn the_values_of_a_genesis_are_read(rt: HostRuntime) -> Result<(), Fail> {
+fn the_values_of_a_genesis_are_read(rt: HostRuntime) {
     let genesis = read_genesis(
         rt.alloc(),
         &mut Scratch::new(rt.alloc()),
         GENESIS.as_bytes(),
-    )?;
+    );
+    let genesis = genesis.expect(&rt, "a genesis");
     assert_eq!(rt; genesis.time.nanos(), 1_704_067_200_000_000_000);
     assert_eq!(rt; genesis.params.max_age_num_blocks, 100_000);
     assert_eq!(rt; genesis.params.community_tax.raw(), 20_000_000_000_000_000);
-    let account = genesis.accounts.at(0).ok_or("no account")?;
+    let account = genesis.accounts.at(0).expect(&rt, "an account");
     assert_eq!(rt; account.coins.len(), 2);
-    assert_eq!(rt; account.coins.at(0).ok_or("no coin")?.amount, 1000);
-    let validator = genesis.validators.at(0).ok_or("no validator")?;
+    assert!(rt; account.coins.at(0).is_some_and(|coin| coin.amount == 1000));
+    let validator = genesis.validators.at(0).expect(&rt, "a validator");
     assert_eq!(rt; validator.max_change_rate.raw(), 10_000_000_000_000_000);
-    let delegation = genesis.delegations.at(0).ok_or("no delegation")?;
+    let delegation = genesis.delegations.at(0).expect(&rt, "a delegation");
     assert_eq!(rt; delegation.amount, 77);
-    Ok(())
 }

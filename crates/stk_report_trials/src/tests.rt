@@ -1,5 +1,4 @@
 use std::process::Abort;
-use std::test::Fail;
 use stk_coins::{DecCoin, DecCoins};
 use stk_dec::Dec;
 use stk_keep::{
@@ -64,29 +63,41 @@ fn balance(rt: &impl Abort, account: Account, name: &str, amount: u128) -> Item 
 }
 
 /// So many units of 10^-18 of `uatom`.
-fn part(rt: &(impl Abort + AllocGlobal), raw: u128) -> Result<DecCoins, Fail> {
+fn part(rt: &(impl Abort + AllocGlobal), raw: u128) -> DecCoins {
     let coin = DecCoin {
         denom: Denom::of(b"uatom".as_slice()).expect(rt, "a denomination"),
         amount: dec(rt, raw),
     };
-    Ok(DecCoins::of(vec![in rt.alloc(); coin]?)?)
+    let list = vec![in rt.alloc(); coin].expect(rt, "memory");
+    DecCoins::of(list).expect(rt, "coins")
+}
+
+/// Adds an item.
+fn put(rt: &impl Abort, items: &mut Vec<Item>, item: Item) {
+    match items.push(item) {
+        Ok(()) => (),
+        Err(_) => panic!(rt; "no memory"),
+    }
 }
 
 /// What the worked run leaves, in the order of rows, where modules stand before users.
-fn run_items(rt: &(impl Abort + AllocGlobal)) -> Result<Vec<Item>, Fail> {
+fn run_items(rt: &(impl Abort + AllocGlobal)) -> Vec<Item> {
+    let denom = Denom::of(b"uatom".as_slice()).expect(rt, "a denomination");
+    let supply = Item::Supply {
+        denom,
+        amount: 1000,
+    };
+    let pool = Item::Pool {
+        coins: DecCoins::new(rt.alloc()),
+    };
     let collector = Account::Module(Module::FeeCollector);
     let mut items = Vec::new(rt.alloc());
-    items.push(balance(rt, collector, "uatom", 10))?;
-    items.push(balance(rt, user(rt, 0x11), "uatom", 890))?;
-    items.push(balance(rt, user(rt, 0x22), "uatom", 100))?;
-    items.push(Item::Supply {
-        denom: Denom::of(b"uatom".as_slice()).expect(rt, "a denomination"),
-        amount: 1000,
-    })?;
-    items.push(Item::Pool {
-        coins: DecCoins::new(rt.alloc()),
-    })?;
-    Ok(items)
+    put(rt, &mut items, balance(rt, collector, "uatom", 10));
+    put(rt, &mut items, balance(rt, user(rt, 0x11), "uatom", 890));
+    put(rt, &mut items, balance(rt, user(rt, 0x22), "uatom", 100));
+    put(rt, &mut items, supply);
+    put(rt, &mut items, pool);
+    items
 }
 
 fn validator(rt: &impl Abort) -> Validator {
@@ -117,7 +128,7 @@ fn delegation(rt: &impl Abort, delegator: u8, shares: u128) -> Item {
     }
 }
 
-fn unbonding(rt: &(impl Abort + AllocGlobal)) -> Result<Item, Fail> {
+fn unbonding(rt: &(impl Abort + AllocGlobal)) -> Item {
     let first = UnbondingEntry {
         created: 7,
         completes: time(rt),
@@ -130,50 +141,49 @@ fn unbonding(rt: &(impl Abort + AllocGlobal)) -> Result<Item, Fail> {
         initial: 12,
         balance: 0,
     };
-    Ok(Item::Unbonding {
+    let entries = vec![in rt.alloc(); first, second].expect(rt, "memory");
+    Item::Unbonding {
         delegator: addr(rt, 0x11),
         operator: addr(rt, 0x33),
-        entries: Listed::of(vec![in rt.alloc(); first, second]?),
-    })
+        entries: Listed::of(entries),
+    }
 }
 
-fn redelegation(rt: &(impl Abort + AllocGlobal)) -> Result<Item, Fail> {
+fn redelegation(rt: &(impl Abort + AllocGlobal)) -> Item {
     let entry = RedelegationEntry {
         created: 8,
         completes: time(rt),
         initial: 5,
         shares_dst: dec(rt, 5_000_000_000_000_000_000),
     };
-    Ok(Item::Redelegation {
+    let entries = vec![in rt.alloc(); entry].expect(rt, "memory");
+    Item::Redelegation {
         delegator: addr(rt, 0x11),
         source: addr(rt, 0x22),
         target: addr(rt, 0x33),
-        entries: Listed::of(vec![in rt.alloc(); entry]?),
-    })
+        entries: Listed::of(entries),
+    }
 }
 
-/// An item of each kind that has a line, and not in the order of the report.
-fn items(rt: &(impl Abort + AllocGlobal)) -> Result<Vec<Item>, Fail> {
-    let mut items = Vec::new(rt.alloc());
-    items.push(Item::Pool {
-        coins: part(rt, 250_000_000_000_000_000)?,
-    })?;
-    items.push(delegation(rt, 0x22, 50_000_000_000_000_000_000))?;
-    items.push(delegation(rt, 0x11, 100_000_000_000_000_000_000))?;
-    items.push(Item::Purse {
+fn pool(rt: &(impl Abort + AllocGlobal)) -> Item {
+    Item::Pool {
+        coins: part(rt, 250_000_000_000_000_000),
+    }
+}
+
+fn purse(rt: &(impl Abort + AllocGlobal)) -> Item {
+    Item::Purse {
         operator: addr(rt, 0x33),
         purse: Purse {
-            outstanding: part(rt, 1_500_000_000_000_000_000)?,
-            commission: part(rt, 500_000_000_000_000_000)?,
-            current: part(rt, 1)?,
+            outstanding: part(rt, 1_500_000_000_000_000_000),
+            commission: part(rt, 500_000_000_000_000_000),
+            current: part(rt, 1),
         },
-    })?;
-    items.push(Item::Validator {
-        validator: validator(rt),
-    })?;
-    items.push(redelegation(rt)?)?;
-    items.push(unbonding(rt)?)?;
-    items.push(Item::Signing {
+    }
+}
+
+fn signing(rt: &(impl Abort + AllocGlobal)) -> Item {
+    Item::Signing {
         cons: ConsAddr::of([0x22; 20]),
         info: SigningInfo {
             start: 1,
@@ -183,24 +193,52 @@ fn items(rt: &(impl Abort + AllocGlobal)) -> Result<Vec<Item>, Fail> {
             tombstoned: true,
         },
         ring: Listed::new(rt.alloc()),
-    })?;
-    items.push(balance(rt, user(rt, 0x11), "uatom", 890))?;
-    items.push(balance(rt, user(rt, 0x11), "stake", 5))?;
-    Ok(items)
+    }
 }
 
-fn pending(rt: &(impl Abort + AllocGlobal)) -> Result<Vec<Pending>, Fail> {
-    let second = Pending {
-        delegator: addr(rt, 0x22),
-        operator: addr(rt, 0x33),
-        coins: Some(part(rt, 250_000_000_000_000_000)?),
+/// An item of each kind that has a line, and not in the order of the report.
+fn items(rt: &(impl Abort + AllocGlobal)) -> Vec<Item> {
+    let validator = Item::Validator {
+        validator: validator(rt),
     };
-    let first = Pending {
-        delegator: addr(rt, 0x11),
+    let mut items = Vec::new(rt.alloc());
+    put(rt, &mut items, pool(rt));
+    put(
+        rt,
+        &mut items,
+        delegation(rt, 0x22, 50_000_000_000_000_000_000),
+    );
+    put(
+        rt,
+        &mut items,
+        delegation(rt, 0x11, 100_000_000_000_000_000_000),
+    );
+    put(rt, &mut items, purse(rt));
+    put(rt, &mut items, validator);
+    put(rt, &mut items, redelegation(rt));
+    put(rt, &mut items, unbonding(rt));
+    put(rt, &mut items, signing(rt));
+    put(rt, &mut items, balance(rt, user(rt, 0x11), "uatom", 890));
+    put(rt, &mut items, balance(rt, user(rt, 0x11), "stake", 5));
+    items
+}
+
+/// What is pending for a delegator, or nothing that fits.
+fn pending_of(rt: &impl Abort, delegator: u8, coins: Option<DecCoins>) -> Pending {
+    Pending {
+        delegator: addr(rt, delegator),
         operator: addr(rt, 0x33),
-        coins: None,
-    };
-    Ok(vec![in rt.alloc(); second, first]?)
+        coins,
+    }
+}
+
+fn pending(rt: &(impl Abort + AllocGlobal)) -> Vec<Pending> {
+    let mut pending = Vec::new(rt.alloc());
+    let second = pending.push(pending_of(rt, 0x22, Some(part(rt, 250_000_000_000_000_000))));
+    assert!(rt; second.is_ok());
+    let first = pending.push(pending_of(rt, 0x11, None));
+    assert!(rt; first.is_ok());
+    pending
 }
 
 /// Whether the answer to a question about the items is this text.
@@ -210,69 +248,72 @@ fn answers(
     pending: &[Pending],
     what: Query,
     wanted: Option<&str>,
-) -> Result<bool, Fail> {
-    let answer = query(rt.alloc(), items, pending, &what)?;
-    Ok(match (answer, wanted) {
+) -> bool {
+    let answer = query(rt.alloc(), items, pending, &what).expect(rt, "memory");
+    match (answer, wanted) {
         (Some(text), Some(wanted)) => text.as_slice() == wanted.as_bytes(),
         (None, None) => true,
         _ => false,
-    })
+    }
 }
 
 #[test]
-fn each_kind_has_its_lines_in_order(rt: HostRuntime) -> Result<(), Fail> {
-    let items = items(&rt)?;
-    let pending = pending(&rt)?;
-    let text = report(rt.alloc(), items.as_slice(), pending.as_slice())?;
+fn each_kind_has_its_lines_in_order(rt: HostRuntime) {
+    let items = items(&rt);
+    let pending = pending(&rt);
+    let text = report(rt.alloc(), items.as_slice(), pending.as_slice());
     let wanted = format!(in rt.alloc();
         "{{\"coins\":[],\"kind\":\"supply\"}}\n{ONES_LINE}{VALIDATOR_LINE}{ONES_DELEGATION}{TWOS_DELEGATION}{ONES_PENDING}{TWOS_PENDING}{UNBONDINGS}{REDELEGATION}{SIGNING}{POOL}"
-    )?;
-    assert!(rt; text.as_slice() == wanted.as_bytes());
-    Ok(())
+    );
+    let wanted = wanted.expect(&rt, "memory");
+    assert!(rt; text.expect(&rt, "memory").as_slice() == wanted.as_bytes());
 }
 
 #[test]
-fn a_question_is_answered_by_the_lines_of_its_address(rt: HostRuntime) -> Result<(), Fail> {
-    let items = items(&rt)?;
-    let pending = pending(&rt)?;
-    let (i, p) = (items.as_slice(), pending.as_slice());
-    let ones = user(&rt, 0x11);
-    let twos = user(&rt, 0x22);
-    let threes = user(&rt, 0x33);
-    assert!(rt; answers(&rt, i, p, Query::Account(ones), Some(ONES_LINE))?);
-    assert!(rt; answers(&rt, i, p, Query::Account(twos), None)?);
-    assert!(rt; answers(&rt, i, p, Query::Validator(threes), Some(VALIDATOR_LINE))?);
-    assert!(rt; answers(&rt, i, p, Query::Validator(ones), None)?);
-    assert!(rt; answers(&rt, i, p, Query::Delegations(twos), Some(TWOS_DELEGATION))?);
-    assert!(rt; answers(&rt, i, p, Query::Delegations(threes), None)?);
-    assert!(rt; answers(&rt, i, p, Query::Rewards(ones), Some(ONES_PENDING))?);
-    assert!(rt; answers(&rt, i, p, Query::Rewards(threes), None)?);
-    assert!(rt; answers(&rt, i, p, Query::Unbondings(ones), Some(UNBONDINGS))?);
-    assert!(rt; answers(&rt, i, p, Query::Unbondings(twos), None)?);
-    assert!(rt; answers(&rt, i, p, Query::Redelegations(ones), Some(REDELEGATION))?);
-    assert!(rt; answers(&rt, i, p, Query::Redelegations(twos), None)?);
-    let cons = ConsAddr::of([0x22; 20]);
-    assert!(rt; answers(&rt, i, p, Query::Signing(cons), Some(SIGNING))?);
-    let other = ConsAddr::of([0x11; 20]);
-    assert!(rt; answers(&rt, i, p, Query::Signing(other), None)?);
-    Ok(())
+fn a_question_is_answered_by_the_lines_of_its_address(rt: HostRuntime) {
+    let items = items(&rt);
+    let pending = pending(&rt);
+    for (what, wanted) in [
+        (Query::Account(user(&rt, 0x11)), Some(ONES_LINE)),
+        (Query::Account(user(&rt, 0x22)), None),
+        (Query::Validator(user(&rt, 0x33)), Some(VALIDATOR_LINE)),
+        (Query::Validator(user(&rt, 0x11)), None),
+        (Query::Delegations(user(&rt, 0x22)), Some(TWOS_DELEGATION)),
+        (Query::Delegations(user(&rt, 0x33)), None),
+        (Query::Rewards(user(&rt, 0x11)), Some(ONES_PENDING)),
+        (Query::Rewards(user(&rt, 0x33)), None),
+        (Query::Unbondings(user(&rt, 0x11)), Some(UNBONDINGS)),
+        (Query::Unbondings(user(&rt, 0x22)), None),
+        (Query::Redelegations(user(&rt, 0x11)), Some(REDELEGATION)),
+        (Query::Redelegations(user(&rt, 0x22)), None),
+        (Query::Signing(ConsAddr::of([0x22; 20])), Some(SIGNING)),
+        (Query::Signing(ConsAddr::of([0x11; 20])), None),
+    ] {
+        assert!(rt; answers(&rt, &items, &pending, what, wanted));
+    }
 }
 
 #[test]
-fn a_question_about_all_has_an_answer_without_lines(rt: HostRuntime) -> Result<(), Fail> {
-    let items = run_items(&rt)?;
-    let i = items.as_slice();
+fn a_question_about_all_has_an_answer_without_lines(rt: HostRuntime) {
+    let items = run_items(&rt);
     let supply = "{\"coins\":[{\"amount\":\"1000\",\"denom\":\"uatom\"}],\"kind\":\"supply\"}\n";
-    assert!(rt; answers(&rt, i, &[], Query::Supply, Some(supply))?);
     let pool = "{\"coins\":[],\"kind\":\"pool\"}\n";
-    assert!(rt; answers(&rt, i, &[], Query::Pool, Some(pool))?);
-    assert!(rt; answers(&rt, i, &[], Query::Validators, Some(""))?);
-    let collector = Account::Module(Module::FeeCollector);
     let line =
         "{\"address\":\"fee_collector\",\"coins\":[{\"amount\":\"10\",\"denom\":\"uatom\"}],\"kind\":\"account\"}\n";
-    assert!(rt; answers(&rt, i, &[], Query::Account(collector), Some(line))?);
-    let nobody = Account::Module(Module::Bonded);
-    assert!(rt; answers(&rt, i, &[], Query::Account(nobody), None)?);
-    assert!(rt; answers(&rt, i, &[], Query::Delegations(collector), None)?);
-    Ok(())
+    for (what, wanted) in [
+        (Query::Supply, Some(supply)),
+        (Query::Pool, Some(pool)),
+        (Query::Validators, Some("")),
+        (
+            Query::Account(Account::Module(Module::FeeCollector)),
+            Some(line),
+        ),
+        (Query::Account(Account::Module(Module::Bonded)), None),
+        (
+            Query::Delegations(Account::Module(Module::FeeCollector)),
+            None,
+        ),
+    ] {
+        assert!(rt; answers(&rt, &items, &[], what, wanted));
+    }
 }

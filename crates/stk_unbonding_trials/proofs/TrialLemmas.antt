@@ -1,9 +1,11 @@
 -- What the calls of tests need where nothing stands yet.
-use Rattle.std.proofs.Common.{◌≡◌, ℕ, ◌^◌, ◌<◌, ◌≤◌, List, [], subst, sym, arith}
-use Rattle.std.specs.Prelude.{All, length, Result, Ok, Err, OnOk}
+use Rattle.std.proofs.Common.{◌≡◌, ℕ, ◌^◌, ◌<◌, ◌≤◌, List, [], ◌∷◌, ap, subst, sym, arith}
+use Rattle.std.specs.Prelude.{All, Contains, length, Result, Ok, Err, OnOk}
 use Rattle.std.proofs.lemmas.List.Elements.{All-nil}
 use Rattle.std.specs.List.Sorted.{IsStrictlySortedBy}
 use Rattle.stk_keep.specs.declared.entities.UnbondingEntry.{UnbondingEntry}
+use Rattle.stk_keep.specs.declared.items.Item.{Item}
+use Rattle.stk_keep.specs.Items.{HasRoom}
 use Rattle.stk_keep.specs.Ground.{AreInRange, IsInOrder, end_of_blocks}
 use Rattle.stk_keep.specs.Holdings.{IsBacked}
 use Rattle.stk_keep.specs.NoHooks.{nothing_told}
@@ -14,6 +16,7 @@ use Rattle.stk_rules.specs.Unbondings.{UnbondingLists}
 use Rattle.stk_rules.proofs.SoundLemmas.{none_sound, from_points}
 use Rattle.stk_book.specs.Registered.{no_stake}
 use Rattle.stk_book.specs.Calls.{IsSoundStake}
+use Rattle.stk_unbonding.specs.Rows.{items_of}
 use Rattle.stk_unbonding.specs.Calls.{AreSoundLists, IsWhole, AreWhole}
 use Rattle.stk_unbonding.specs.Scenes.{IsUnbondingScene}
 use Rattle.stk_unbonding_trials.specs.Trials.{IsFit, IsKept}
@@ -92,3 +95,13 @@ fit-empty u s v e f params time height bank =
 -- where no entry stands the accounts hold what is owed to validators
 pub stake-of_fit : (u : UnbondingLists) (s : Staked) (v : View) → IsFit u s v → HoldsStake v (bonded_tokens s) (other_tokens s)
 stake-of_fit u s v f = record { in_bonded = f.kept.accounts.in_bonded; in_not_bonded = let a = f.kept.accounts.in_not_bonded in omega (arith, a) }
+
+-- ---- items that are loaded
+
+-- where no entries stand there is room
+pub room-first : (lists : UnbondingLists) (new : Item) → lists ≡ [] → HasRoom (items_of lists) new
+room-first lists new e = λ i has same. absurd (none (items_of lists) i (ap items_of e) has)
+  where
+    none : (xs : List Item) (i : Item) → xs ≡ [] → Contains xs i → ⊥
+    none [] i e h = let less = h.1 in absurd (omega (arith, less))
+    none (x ∷ xs) i e h = cc

@@ -7,8 +7,7 @@ ghost use Rattle.stk_unbonding_trials.specs.Trials.{IsFit};
 use crate::tests::{Scene, are, cancel, goes_on, has_entries, undelegate};
 use std::process::Abort;
 use std::sync::ledger::Ledger;
-use std::test::Fail;
-use stk_keep::{Item, Records};
+use stk_keep::{Item, RecordFault, Records, Stop};
 use stk_types::Steps;
 use stk_unbonding::Unbondings;
 
@@ -17,12 +16,13 @@ fn made<L: Ledger>(
     rt: &(impl Abort + AllocGlobal),
     scene: &mut Scene,
     steps: &mut Steps<L>,
-) -> Result<(), Fail>
+) -> Result<(), Stop>
     requires { IsFit scene.old.unbondings.lists
         scene.old.staking.staked (seen (λ b. b.holdings) scene.old.g) }
     ensures fit { OnOk result (IsFit scene.new.unbondings.lists
         scene.new.staking.staked (seen (λ b. b.holdings) scene.new.g)) }
     ensures marks { OnOk result (scene.new.unbondings.marks ≡ scene.old.unbondings.marks) }
+    ensures loaded { OnOk result (scene.new.loaded ≡ scene.old.loaded) }
 {
     undelegate(rt, scene, 5, steps)?;
     goes_on(rt, scene, 2, 1);
@@ -35,14 +35,14 @@ pub(crate) fn goes_back<L: Ledger>(
     rt: &(impl Abort + AllocGlobal),
     scene: &mut Scene,
     steps: &mut Steps<L>,
-) -> Result<bool, Fail>
+) -> Result<bool, Stop>
     requires { IsFit scene.old.unbondings.lists
         scene.old.staking.staked (seen (λ b. b.holdings) scene.old.g) }
 {
     scene.unbondings.mark(rt.alloc(), steps)?;
     made(rt, scene, steps)?;
     scene.unbondings.back(steps);
-    has_entries(rt, scene, &[], steps)
+    Ok(has_entries(rt, scene, &[], steps)?)
 }
 
 /// Forgetting a mark leaves them.
@@ -50,31 +50,45 @@ pub(crate) fn keeps_made<L: Ledger>(
     rt: &(impl Abort + AllocGlobal),
     scene: &mut Scene,
     steps: &mut Steps<L>,
-) -> Result<bool, Fail>
+) -> Result<bool, Stop>
     requires { IsFit scene.old.unbondings.lists
         scene.old.staking.staked (seen (λ b. b.holdings) scene.old.g) }
 {
     scene.unbondings.mark(rt.alloc(), steps)?;
     made(rt, scene, steps)?;
     scene.unbondings.forget(steps);
-    has_entries(rt, scene, &[(1, 5, 5), (2, 7, 7)], steps)
+    Ok(has_entries(rt, scene, &[(1, 5, 5), (2, 7, 7)], steps)?)
 }
 
-/// Entries with these among the items, settled.
-fn loaded<L: Ledger>(
-    rt: &(impl Abort + AllocGlobal),
-    items: &[Item],
+/// Adds an item where no entries stand.
+fn load_one<L: Ledger>(
+    rt: &impl AllocGlobal,
+    unbondings: &mut Unbondings,
+    item: &Item,
     steps: &mut Steps<L>,
-) -> Result<Unbondings, Fail> {
-    let mut unbondings = Unbondings::new(rt.alloc());
+) -> Result<bool, RecordFault>
+    requires { unbondings.old.lists ≡ [] }
+    ensures { unbondings.new.marks ≡ unbondings.old.marks }
+{
+    unbondings.load(rt.alloc(), item, steps)
+}
+
+/// Loads the first item of other entries where none stand.
+fn load_from<L: Ledger>(
+    rt: &impl AllocGlobal,
+    unbondings: &mut Unbondings,
+    from: &Unbondings,
+    steps: &mut Steps<L>,
+) -> Result<bool, RecordFault>
+    requires { unbondings.old.lists ≡ [] }
+    ensures { unbondings.new.marks ≡ unbondings.old.marks }
+{
+    let mut items = Vec::new(rt.alloc());
+    from.items_into(&mut items, steps)?;
     match items.get(0) {
-        Some(entries @ Item::Unbonding { .. }) => {
-            unbondings.load(rt.alloc(), entries, steps)?;
-        }
-        _ => (),
+        Some(item) => load_one(rt, unbondings, item, steps),
+        None => Ok(false),
     }
-    unbondings.settle(steps);
-    Ok(unbondings)
 }
 
 /// Whether the one item is of two entries.
@@ -87,42 +101,54 @@ fn are_two(items: &[Item]) -> bool {
     }
 }
 
-/// Whether two entries are listed, which are no change.
+/// Whether two entries are listed.
 fn lists_two<L: Ledger>(
-    rt: &(impl Abort + AllocGlobal),
+    rt: &impl AllocGlobal,
     unbondings: &Unbondings,
     steps: &mut Steps<L>,
-) -> Result<bool, Fail> {
+) -> Result<bool, RecordFault> {
     let mut items = Vec::new(rt.alloc());
     unbondings.items_into(&mut items, steps)?;
-    let mut changes = Vec::new(rt.alloc());
-    unbondings.changes_into(&mut changes, steps)?;
-    Ok(are_two(&items) & changes.is_empty())
+    Ok(are_two(&items))
 }
 
-/// Items that are loaded and listed again.
+/// Whether no change is told.
+fn tells_nothing<L: Ledger>(
+    rt: &impl AllocGlobal,
+    unbondings: &Unbondings,
+    steps: &mut Steps<L>,
+) -> Result<bool, RecordFault> {
+    let mut changes = Vec::new(rt.alloc());
+    unbondings.changes_into(&mut changes, steps)?;
+    Ok(changes.is_empty())
+}
+
+/// Items that are loaded and listed again, which are no changes.
 pub(crate) fn loads<L: Ledger>(
     rt: &(impl Abort + AllocGlobal),
     scene: &mut Scene,
     steps: &mut Steps<L>,
-) -> Result<bool, Fail>
-    requires { IsFit scene.old.unbondings.lists
+) -> Result<bool, Stop>
+    requires fit { IsFit scene.old.unbondings.lists
         scene.old.staking.staked (seen (λ b. b.holdings) scene.old.g) }
+    requires nothing { scene.old.loaded.lists ≡ [] }
+    requires unmarked { scene.old.loaded.marks ≡ [] }
 {
     made(rt, scene, steps)?;
-    let mut items = Vec::new(rt.alloc());
-    scene.unbondings.items_into(&mut items, steps)?;
-    let unbondings = loaded(rt, &items, steps)?;
-    lists_two(rt, &unbondings, steps)
+    let added = load_from(rt, &mut scene.loaded, &scene.unbondings, steps)?;
+    scene.loaded.settle(steps);
+    let listed = lists_two(rt, &scene.loaded, steps)?;
+    let settled = tells_nothing(rt, &scene.loaded, steps)?;
+    Ok(added & listed & settled)
 }
 
 /// Whether the changes since the last settling are one, which is new or gone.
 fn tells_one<L: Ledger>(
-    rt: &(impl Abort + AllocGlobal),
+    rt: &impl AllocGlobal,
     scene: &Scene,
     new: bool,
     steps: &mut Steps<L>,
-) -> Result<bool, Fail> {
+) -> Result<bool, RecordFault> {
     let mut changes = Vec::new(rt.alloc());
     scene.unbondings.changes_into(&mut changes, steps)?;
     match changes.get(0) {
@@ -138,7 +164,7 @@ pub(crate) fn tells_changes<L: Ledger>(
     rt: &(impl Abort + AllocGlobal),
     scene: &mut Scene,
     steps: &mut Steps<L>,
-) -> Result<bool, Fail>
+) -> Result<bool, Stop>
     requires fit { IsFit scene.old.unbondings.lists
         scene.old.staking.staked (seen (λ b. b.holdings) scene.old.g) }
     requires marks { scene.old.unbondings.marks ≡ [] }

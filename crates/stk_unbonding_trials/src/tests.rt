@@ -1,17 +1,19 @@
 ghost use Rattle.std.specs.Prelude.{◌≡◌, ℕ, List, [], ◌<◌, ◌≤◌, ◌^◌, OnOk, IfOk};
 ghost use Rattle.stk_coins.specs.Coins.{amount_of};
 ghost use Rattle.stk_keep.specs.Ground.{seen, AreInRange};
+ghost use Rattle.stk_keep.specs.Holdings.{IsBacked};
 ghost use Rattle.stk_unbonding_trials.specs.Trials.{IsFit, IsKept};
 
+use crate::letting_go::{let_go_of_ground, let_go_of_staking, let_go_of_unbondings};
 use std::process::Abort;
 use std::sync::ledger::Ledger;
-use std::test::Fail;
 use stk_bank::Book;
 use stk_book::Staking;
-use stk_coins::{Coin, Coins};
+use stk_coins::{Coin, CoinFault, Coins};
 use stk_dec::Dec;
 use stk_keep::{
-    CreateValidator, Ctx, Facts, Ground, Item, NoHooks, Params, Records, Stop, UnbondingEntry,
+    BankFault, CreateValidator, Ctx, Facts, Ground, Item, NoHooks, Params, RecordFault, Records,
+    Stop, UnbondingEntry,
 };
 use stk_types::{Account, Addr, ConsAddr, Denom, Moment, Steps};
 use stk_unbonding::Unbondings;
@@ -72,8 +74,8 @@ fn params(rt: &impl Abort) -> Params
     }
 }
 
-/// So many uatom.
-fn purse(rt: &(impl Abort + AllocGlobal), amount: u128) -> Result<Coins, Fail>
+/// So many uatom, where there is memory.
+fn coins(rt: &(impl Abort + AllocGlobal), amount: u128) -> Result<Coins, CoinFault>
     requires { amount ≤ 10 ^ 12 }
     ensures { IfOk result (λ coins. (d : List ℕ) → amount_of coins d ≤ 10 ^ 12) }
 {
@@ -85,27 +87,64 @@ fn purse(rt: &(impl Abort + AllocGlobal), amount: u128) -> Result<Coins, Fail>
     Ok(Coins::of(list)?)
 }
 
-/// Entries, staking, and the ground that both act on.
-#[derive(Drop)]
+/// So many uatom.
+fn purse(rt: &(impl Abort + AllocGlobal), amount: u128) -> Coins
+    requires { amount ≤ 10 ^ 12 }
+    ensures { (d : List ℕ) → amount_of result d ≤ 10 ^ 12 }
+{
+    coins(rt, amount).expect(rt, "coins")
+}
+
+/// User 1 has all coins.
+fn bank<L: Ledger>(rt: &(impl Abort + AllocGlobal), steps: &mut Steps<L>) -> Result<Book, BankFault>
+    ensures { IfOk result (λ bank. IsBacked bank.holdings) }
+{
+    let accounts = [(Account::User(addr(rt, 1)), purse(rt, ALL))];
+    Book::start(rt.alloc(), &accounts, steps)
+}
+
+/// Entries, ones that are loaded from their items, staking, and the ground that both act on.
 pub(crate) struct Scene {
     pub(crate) unbondings: Unbondings,
+    pub(crate) loaded: Unbondings,
     pub(crate) staking: Staking,
     pub(crate) g: Ground<Book>,
 }
 
+impl Drop for Scene {
+    fn drop(self) {
+        let Scene {
+            unbondings,
+            loaded,
+            staking,
+            g,
+        } = self;
+        let_go_of_unbondings(unbondings);
+        let_go_of_unbondings(loaded);
+        let_go_of_staking(staking);
+        let_go_of_ground(g);
+    }
+}
+
 /// User 1 has all coins, at height 1, at the beginning of time.
-fn empty<L: Ledger>(rt: &(impl Abort + AllocGlobal), steps: &mut Steps<L>) -> Result<Scene, Fail>
+fn empty<L: Ledger>(
+    rt: &(impl Abort + AllocGlobal),
+    steps: &mut Steps<L>,
+) -> Result<Scene, BankFault>
     ensures fit { IfOk result (λ scene. IsFit scene.unbondings.lists
         scene.staking.staked (seen (λ b. b.holdings) scene.g)) }
     ensures lists { IfOk result (λ scene. scene.unbondings.lists ≡ []) }
     ensures marks { IfOk result (λ scene. scene.unbondings.marks ≡ []) }
+    ensures nothing { IfOk result (λ scene. scene.loaded.lists ≡ []) }
+    ensures unmarked { IfOk result (λ scene. scene.loaded.marks ≡ []) }
 {
-    let accounts = [(Account::User(addr(rt, 1)), purse(rt, ALL)?)];
-    let bank = Book::start(rt.alloc(), &accounts, steps)?;
+    let bank = bank(rt, steps)?;
     let staking = Staking::new(rt.alloc(), 1_000_000);
     let unbondings = Unbondings::new(rt.alloc());
+    let loaded = Unbondings::new(rt.alloc());
     Ok(Scene {
         unbondings,
+        loaded,
         staking,
         g: Ground {
             bank,
@@ -124,13 +163,14 @@ fn create<L: Ledger>(
     rt: &(impl Abort + AllocGlobal),
     scene: &mut Scene,
     steps: &mut Steps<L>,
-) -> Result<(), Fail>
+) -> Result<(), Stop>
     requires fit { IsFit scene.old.unbondings.lists
         scene.old.staking.staked (seen (λ b. b.holdings) scene.old.g) }
     requires lists { scene.old.unbondings.lists ≡ [] }
     ensures fit { OnOk result (IsFit scene.new.unbondings.lists
         scene.new.staking.staked (seen (λ b. b.holdings) scene.new.g)) }
     ensures marks { scene.new.unbondings.marks ≡ scene.old.unbondings.marks }
+    ensures loaded { scene.new.loaded ≡ scene.old.loaded }
 {
     let m = message(rt);
     scene
@@ -143,10 +183,12 @@ fn create<L: Ledger>(
 pub(crate) fn opened<L: Ledger>(
     rt: &(impl Abort + AllocGlobal),
     steps: &mut Steps<L>,
-) -> Result<Scene, Fail>
+) -> Result<Scene, Stop>
     ensures fit { IfOk result (λ scene. IsFit scene.unbondings.lists
         scene.staking.staked (seen (λ b. b.holdings) scene.g)) }
     ensures marks { IfOk result (λ scene. scene.unbondings.marks ≡ []) }
+    ensures nothing { IfOk result (λ scene. scene.loaded.lists ≡ []) }
+    ensures unmarked { IfOk result (λ scene. scene.loaded.marks ≡ []) }
 {
     let mut scene = empty(rt, steps)?;
     create(rt, &mut scene, steps)?;
@@ -175,6 +217,7 @@ pub(crate) fn goes_on(rt: &impl Abort, scene: &mut Scene, height: u64, time: u12
     ensures fit { IsFit scene.new.unbondings.lists
         scene.new.staking.staked (seen (λ b. b.holdings) scene.new.g) }
     ensures marks { scene.new.unbondings.marks ≡ scene.old.unbondings.marks }
+    ensures loaded { scene.new.loaded ≡ scene.old.loaded }
 {
     scene.g.ctx.height = height;
     scene.g.ctx.time = moment(rt, time);
@@ -191,6 +234,7 @@ pub(crate) fn undelegate<L: Ledger>(
     ensures fit { OnOk result (IsFit scene.new.unbondings.lists
         scene.new.staking.staked (seen (λ b. b.holdings) scene.new.g)) }
     ensures marks { scene.new.unbondings.marks ≡ scene.old.unbondings.marks }
+    ensures loaded { scene.new.loaded ≡ scene.old.loaded }
 {
     let user = addr(rt, 1);
     let coin = coin(rt, amount);
@@ -236,11 +280,11 @@ pub(crate) fn cancel<L: Ledger>(
 
 /// Whether the entries of user 1 are these: the height, the initial amount and the balance of each.
 pub(crate) fn has_entries<L: Ledger>(
-    rt: &(impl Abort + AllocGlobal),
+    rt: &impl AllocGlobal,
     scene: &Scene,
     want: &[(u64, u128, u128)],
     steps: &mut Steps<L>,
-) -> Result<bool, Fail> {
+) -> Result<bool, RecordFault> {
     let mut items = Vec::new(rt.alloc());
     scene.unbondings.items_into(&mut items, steps)?;
     match items.get(0) {
