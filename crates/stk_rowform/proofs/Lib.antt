@@ -1,0 +1,15 @@
+pub mod CoinLemmas
+pub mod CoinReads
+pub mod FieldLemmas
+pub mod ItemLemmas
+pub mod KeyLemmas
+pub mod LoopLemmas
+pub mod NumberLemmas
+pub mod OrderLemmas
+pub mod PlaceLemmas
+pub mod ReadsLemmas
+pub mod RecordLemmas
+pub mod RingReads
+pub mod RowsOnLiterals
+pub mod ValueLemmas
+pub mod WholeLemmas

@@ -1,0 +1,27 @@
+//! Rows of a store, one for each item of the state.
+//!
+//! [`encode`] gives the row of an item and [`decode`] the item of a row; items and rows are one to one. A
+//! key is one byte that tells the kind of the item, and the fields of its key. A value is the other
+//! fields. Numbers have a fixed length, heights and periods 8 bytes, amounts, decimals (their units of
+//! 10^-18), counts and moments (their nanoseconds) 16, the length of a list 4, with the highest byte
+//! first. So the rows of one kind are in the order of their keys, as they stand in a store.
+//!
+//! The Cosmos SDK keeps its state in other rows; these are this project's own.
+#![tactic(auto)]
+
+mod coins;
+mod fault;
+mod fields;
+mod front;
+mod items;
+mod kind;
+pub mod laws;
+mod lists;
+mod places;
+mod rows;
+mod values;
+pub mod worked;
+mod writing;
+
+pub use fault::RowFault;
+pub use rows::{decode, encode, key_of, read_back};
