@@ -1,0 +1,14 @@
+pub mod Texts
+pub mod Maps
+pub mod Finding
+pub mod Held
+pub mod Editing
+pub mod Removing
+pub mod Putting
+pub mod Inside
+pub mod Making
+pub mod Listing
+pub mod Ending
+pub mod Asking
+pub mod Telling
+pub mod Numbers

@@ -1,0 +1,4 @@
+pub mod Members
+pub mod Through
+pub mod Reached
+pub mod Loops

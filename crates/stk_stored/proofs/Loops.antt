@@ -1,0 +1,41 @@
+-- Rows read, and changes written, one after the other.
+use Rattle.std.proofs.Common.{◌≡◌, ◌≢◌, ◌∙◌, ℕ, zero, suc, ◌+◌, ◌<◌, List, [], ◌∷◌, ◌++◌, length, get_or, take, map, All, Result, Err, sym, ap, ap₂, arith}
+use Rattle.std.specs.Prelude.{IsErrOf}
+use Rattle.std.specs.List.{AllByRecursion}
+use Rattle.std.proofs.lemmas.List.{map_more, map_push}
+use Rattle.std.proofs.lemmas.List.Elements.{recursion_from_All}
+use Rattle.stk_io.specs.declared.keeper.Row.{Row}
+use Rattle.stk_io.specs.Rows.{pair_of}
+use Rattle.stk_keep.specs.declared.items.Item.{Item}
+use Rattle.stk_rowform.specs.declared.fault.RowFault.{RowFault}
+use Rattle.stk_rowform.specs.Rows.{row_of}
+use Rattle.stk_rowform.specs.Spelled.{HasRow}
+
+-- one more of a list that goes beside another
+pub one_more : {A B C : Type 0} (f : A → C) (g : B → C) (xs more : List A) (x : A) (ys : List B) (i : ℕ) (y : B) → i < length ys → y ≡ get_or ys i y → map f xs ≡ map g (take i ys) → f x ≡ g y → more ≡ xs ++ x ∷ []
+    → map f more ≡ map g (take (i + 1) ys)
+one_more {A} {B} {C} f g xs more x ys i y lt is so_far same pushed =
+    ap (map f) pushed
+    ∙ map_push f xs x
+    ∙ ap₂ (λ (zs : List C) (z : C). zs ++ z ∷ []) so_far (same ∙ ap g is)
+    ∙ sym (map_more g ys i y lt)
+
+-- where a row is that of no item, the rows are those of no items
+none_has : (rows : List Row) (i : ℕ) (row : Row) → i < length rows → row ≡ get_or rows i row → ((item : Item) → HasRow item → row_of item ≡ pair_of row → ⊥) → (items : List Item) → AllByRecursion HasRow items → map row_of items ≡ map pair_of rows → ⊥
+none_has [] i row lt is none items all e = absurd (omega (arith, lt))
+none_has (r ∷ rs) i row lt is none [] all e = cc
+none_has (r ∷ rs) zero row lt is none (x ∷ xs) all e = let first : row_of x ≡ pair_of r = cc in none x all.0 (first ∙ ap pair_of (sym is))
+none_has (r ∷ rs) (suc i) row lt is none (x ∷ xs) all e = let others : map row_of xs ≡ map pair_of rs = cc in none_has rs i row (omega (arith, lt)) is none xs all.1 others
+
+pub no_items : (rows : List Row) (i : ℕ) (row : Row) → i < length rows → row ≡ get_or rows i row → ((item : Item) → HasRow item → row_of item ≢ pair_of row) → (items : List Item) → All HasRow items → map row_of items ≢ map pair_of rows
+no_items rows i row lt is none items all = none_has rows i row lt is none items (recursion_from_All HasRow items all)
+
+abbrev failed : (U : Type 0) → RowFault → Result U RowFault
+failed U x = Err x
+
+-- the same fault of another answer
+pub same_fault : {T U : Type 0} (e f : RowFault) → IsErrOf {T = T} (Err e) f → IsErrOf {T = U} (Err e) f
+same_fault {T} {U} e f bad = ap (failed U) (is e f bad)
+  where
+    is : (e f : RowFault) → IsErrOf {T = T} (Err e) f → e ≡ f
+    is e f h = cc

@@ -1,0 +1,63 @@
+//! Lists of rows and of changes, one by one.
+
+ghost use Rattle.std.specs.Prelude.{◌≡◌, ◌≢◌, List, map, All, IfOk, IfErr, IsErrOf};
+ghost use Rattle.stk_io.specs.Rows.{pair_of};
+ghost use Rattle.stk_keep.specs.declared.items.Item.{Item};
+ghost use Rattle.stk_rowform.specs.Rows.{row_of};
+ghost use Rattle.stk_rowform.specs.Spelled.{HasRow, IsWritable};
+ghost use Rattle.stk_stored.specs.Stored.{CanBeWritten, change_seen, item_change};
+
+use std::alloc::Global;
+use stk_io::{Change, Row};
+use stk_keep::Item;
+use stk_rowform::{RowFault, decode, encode, key_of};
+
+/// The items of rows, in their order.
+///
+/// # Errors
+/// `BadRow`, exactly where a row is that of no item, and `NoMemory`.
+pub fn items_of(alloc: Global, rows: &[Row]) -> Result<Vec<Item>, RowFault>
+    ensures rows { IfOk result (λ items. map row_of items.items ≡ map pair_of rows.now) }
+    ensures found { IfOk result (λ items. All HasRow items.items) }
+    // Rows that are refused are those of no items.
+    ensures only { IsErrOf result RowFault.BadRow → (items : List Item)
+        → All HasRow items → map row_of items ≢ map pair_of rows.now }
+{
+    let mut items = Vec::new(alloc);
+    for row in rows {
+        let item = decode(alloc, row)?;
+        items.push(item)?;
+    }
+    Ok(items)
+}
+
+/// The change of a row for that of an item, which stands, or is gone.
+fn change_of(alloc: Global, change: &(Item, bool)) -> Result<Change, RowFault>
+    requires { CanBeWritten change.now }
+    ensures change { IfOk result (λ made. change_seen made ≡ item_change change.now) }
+    ensures fault { IfErr result (λ fault. fault ≡ RowFault.NoMemory) }
+{
+    if change.1 {
+        Ok(Change::Put(encode(alloc, &change.0)?))
+    } else {
+        Ok(Change::Remove(key_of(alloc, &change.0)?))
+    }
+}
+
+/// The changes of rows for those of items, each with whether it stands.
+///
+/// # Errors
+/// `NoMemory` alone.
+pub fn changes_of(alloc: Global, changes: &[(Item, bool)]) -> Result<Vec<Change>, RowFault>
+    requires { All CanBeWritten changes.now }
+    ensures changes { IfOk result
+        (λ made. map change_seen made.items ≡ map item_change changes.now) }
+    ensures fault { IfErr result (λ fault. fault ≡ RowFault.NoMemory) }
+{
+    let mut made = Vec::new(alloc);
+    for change in changes {
+        let row = change_of(alloc, change)?;
+        made.push(row)?;
+    }
+    Ok(made)
+}
