@@ -1,0 +1,5 @@
+pub mod GatherLemmas
+pub mod KeyLemmas
+pub mod ListedLemmas
+pub mod OnceLaws
+pub mod OrderLemmas

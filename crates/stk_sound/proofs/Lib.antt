@@ -1,0 +1,5 @@
+pub mod AccountLemmas
+pub mod BackingLemmas
+pub mod CountLemmas
+pub mod KeyLemmas
+pub mod TallyLemmas

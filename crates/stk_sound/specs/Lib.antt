@@ -1,0 +1,10 @@
+pub mod Accounts
+pub mod Entries
+pub mod Events
+pub mod Histories
+pub mod Ranges
+pub mod Shares
+pub mod Signing
+pub mod Sound
+pub mod Standing
+pub mod Tally
