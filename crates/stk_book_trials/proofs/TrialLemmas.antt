@@ -46,7 +46,8 @@ fit-opened s v e params time height bank = subst (λ x. IsFit x v) (sym e) (reco
 
 -- ---- items that are loaded
 
-none-contained : (xs : List Item) (i : Item) → xs ≡ [] → Contains xs i → ⊥
+-- nothing stands among no items
+pub none-contained : (xs : List Item) (i : Item) → xs ≡ [] → Contains xs i → ⊥
 none-contained [] i e h = let less = h.1 in absurd (omega (arith, less))
 none-contained (x ∷ xs) i e h = cc
 

@@ -2,6 +2,8 @@
 #![tactic(auto)]
 
 #[cfg(test)]
+mod letting_go;
+#[cfg(test)]
 mod record_tests;
 #[cfg(test)]
 mod tests;

@@ -1,17 +1,21 @@
 //! The order of validators, and staking as records: marks, items and changes.
 
-ghost use Rattle.std.specs.Prelude.{◌≡◌, ◌<◌, [], OnOk};
+ghost use Rattle.std.specs.Prelude.{◌≡◌, ℕ, List, [], OnOk};
+ghost use Rattle.stk_keep.specs.declared.items.Item.TheVariants as item;
 ghost use Rattle.stk_keep.specs.Ground.{seen, IsInOrder};
+ghost use Rattle.stk_keep.specs.Items.{HasRoom};
 ghost use Rattle.stk_book.specs.Calls.{IsSoundStake};
+ghost use Rattle.stk_book.specs.Registered.{no_stake};
+ghost use Rattle.stk_book.specs.Rows.{items_of};
 ghost use Rattle.stk_book_trials.specs.Trials.{IsFit};
 
 use crate::tests::{ONE, Scene, addr, create, has, message};
 use std::process::Abort;
 use std::sync::ledger::Ledger;
-use std::test::Fail;
 use stk_book::Staking;
-use stk_keep::{Item, NoHooks, Records, Unbonder, ValidatorView};
-use stk_types::{ConsAddr, Steps};
+use stk_dec::Dec;
+use stk_keep::{Item, NoHooks, RecordFault, Records, Stop, Unbonder, Validator, ValidatorView};
+use stk_types::{Addr, ConsAddr, Steps};
 
 // ---- calls with their conditions: each answers false, and changes nothing, where one isn't met
 
@@ -20,7 +24,7 @@ fn unbond_first<L: Ledger>(
     rt: &(impl Abort + AllocGlobal),
     scene: &mut Scene,
     steps: &mut Steps<L>,
-) -> Result<bool, Fail>
+) -> Result<bool, Stop>
     requires sound { IsSoundStake scene.old.staking.staked }
     requires order { IsInOrder (seen (λ b. b.holdings) scene.old.g) }
     ensures sound { OnOk result (IsSoundStake scene.new.staking.staked) }
@@ -48,15 +52,15 @@ fn made<L: Ledger>(
     rt: &(impl Abort + AllocGlobal),
     scene: &mut Scene,
     steps: &mut Steps<L>,
-) -> Result<(), Fail>
+) -> Result<(), Stop>
     requires fit { IsFit scene.old.staking.staked (seen (λ b. b.holdings) scene.old.g) }
     requires marks { scene.old.staking.marks ≡ [] }
     ensures fit { OnOk result
         (IsFit scene.new.staking.staked (seen (λ b. b.holdings) scene.new.g)) }
     ensures marks { OnOk result (scene.new.staking.marks ≡ []) }
+    ensures loaded { scene.new.loaded ≡ scene.old.loaded }
 {
-    create(rt, scene, &message(rt, 1, 1, 1, 100), steps)?;
-    Ok(())
+    create(rt, scene, &message(rt, 1, 1, 1, 100), steps)
 }
 
 /// Whether the validator of a user follows that of another, or is the first, or none is.
@@ -83,7 +87,7 @@ pub(crate) fn lists_in_order<L: Ledger>(
     rt: &(impl Abort + AllocGlobal),
     scene: &mut Scene,
     steps: &mut Steps<L>,
-) -> Result<bool, Fail>
+) -> Result<bool, Stop>
     requires { IsFit scene.old.staking.staked (seen (λ b. b.holdings) scene.old.g) }
 {
     create(rt, scene, &message(rt, 2, 2, 1, 5), steps)?;
@@ -101,7 +105,7 @@ pub(crate) fn goes_back<L: Ledger>(
     rt: &(impl Abort + AllocGlobal),
     scene: &mut Scene,
     steps: &mut Steps<L>,
-) -> Result<bool, Fail>
+) -> Result<bool, Stop>
     requires { IsFit scene.old.staking.staked (seen (λ b. b.holdings) scene.old.g) }
 {
     scene.staking.mark(rt.alloc(), steps)?;
@@ -115,7 +119,7 @@ pub(crate) fn keeps<L: Ledger>(
     rt: &(impl Abort + AllocGlobal),
     scene: &mut Scene,
     steps: &mut Steps<L>,
-) -> Result<bool, Fail>
+) -> Result<bool, Stop>
     requires { IsFit scene.old.staking.staked (seen (λ b. b.holdings) scene.old.g) }
 {
     scene.staking.mark(rt.alloc(), steps)?;
@@ -124,28 +128,55 @@ pub(crate) fn keeps<L: Ledger>(
     Ok(has(rt, scene, 1, 100, 100 * ONE, steps))
 }
 
-/// The items of staking once a validator is created.
-fn items<L: Ledger>(
-    rt: &(impl Abort + AllocGlobal),
-    scene: &mut Scene,
+/// Adds a validator to staking where nothing stands.
+fn load_validator<L: Ledger>(
+    rt: &impl AllocGlobal,
+    staking: &mut Staking,
+    validator: &Validator,
     steps: &mut Steps<L>,
-) -> Result<Vec<Item>, Fail>
-    requires fit { IsFit scene.old.staking.staked (seen (λ b. b.holdings) scene.old.g) }
-    requires marks { scene.old.staking.marks ≡ [] }
+) -> Result<bool, RecordFault>
+    requires { staking.old.staked ≡ no_stake }
+    ensures room { OnOk result ((operator delegator : List ℕ) (shares : ℕ) → HasRoom
+        (items_of staking.new.staked) (item.Delegation operator delegator shares)) }
+    ensures marks { staking.new.marks ≡ staking.old.marks }
 {
-    made(rt, scene, steps)?;
-    let mut items = Vec::new(rt.alloc());
-    scene.staking.items_into(&mut items, steps)?;
-    Ok(items)
+    let first = Item::Validator {
+        validator: *validator,
+    };
+    staking.load(rt.alloc(), &first, steps)
 }
 
-/// Staking with the validator and the delegation among these items, settled.
-fn loaded<L: Ledger>(
-    rt: &(impl Abort + AllocGlobal),
+/// Adds a delegation to staking that has none of its key.
+fn load_delegation<L: Ledger>(
+    rt: &impl AllocGlobal,
+    staking: &mut Staking,
+    operator: &Addr,
+    delegator: &Addr,
+    shares: Dec,
+    steps: &mut Steps<L>,
+) -> Result<bool, RecordFault>
+    requires { HasRoom (items_of staking.old.staked)
+        (item.Delegation operator.now delegator.now shares) }
+    ensures { staking.new.marks ≡ staking.old.marks }
+{
+    let second = Item::Delegation {
+        operator: *operator,
+        delegator: *delegator,
+        shares,
+    };
+    staking.load(rt.alloc(), &second, steps)
+}
+
+/// Adds the validator and the delegation among these items to staking where nothing stands.
+fn load_two<L: Ledger>(
+    rt: &impl AllocGlobal,
+    staking: &mut Staking,
     items: &[Item],
     steps: &mut Steps<L>,
-) -> Result<Staking, Fail> {
-    let mut staking = Staking::new(rt.alloc(), 1_000_000);
+) -> Result<bool, RecordFault>
+    requires { staking.old.staked ≡ no_stake }
+    ensures { staking.new.marks ≡ staking.old.marks }
+{
     match (items.get(0), items.get(1)) {
         (
             Some(Item::Validator { validator }),
@@ -157,21 +188,26 @@ fn loaded<L: Ledger>(
                 },
             ),
         ) => {
-            let first = Item::Validator {
-                validator: *validator,
-            };
-            let second = Item::Delegation {
-                operator: *operator,
-                delegator: *delegator,
-                shares: *shares,
-            };
-            staking.load(rt.alloc(), &first, steps)?;
-            staking.load(rt.alloc(), &second, steps)?;
+            load_validator(rt, staking, validator, steps)?;
+            load_delegation(rt, staking, operator, delegator, *shares, steps)
         }
-        _ => (),
+        _ => Ok(false),
     }
-    staking.settle(steps);
-    Ok(staking)
+}
+
+/// Loads staking where nothing stands from the items of another.
+fn load_from<L: Ledger>(
+    rt: &impl AllocGlobal,
+    staking: &mut Staking,
+    from: &Staking,
+    steps: &mut Steps<L>,
+) -> Result<bool, RecordFault>
+    requires { staking.old.staked ≡ no_stake }
+    ensures { staking.new.marks ≡ staking.old.marks }
+{
+    let mut items = Vec::new(rt.alloc());
+    from.items_into(&mut items, steps)?;
+    load_two(rt, staking, &items, steps)
 }
 
 /// Whether these are the validator of user 1 with 100 tokens, and its own delegation of 100 shares.
@@ -196,33 +232,50 @@ fn are_of_first(rt: &impl Abort, items: &[Item]) -> bool {
     (items.len() == 2) & (validator & delegation)
 }
 
-/// Whether staking lists the items of user 1, which are no changes, and finds its consensus address.
+/// Whether staking lists the items of user 1.
 fn lists_first<L: Ledger>(
     rt: &(impl Abort + AllocGlobal),
     staking: &Staking,
     steps: &mut Steps<L>,
-) -> Result<bool, Fail> {
-    let mut again = Vec::new(rt.alloc());
-    staking.items_into(&mut again, steps)?;
-    let mut changes = Vec::new(rt.alloc());
-    staking.changes_into(&mut changes, steps)?;
-    let found = staking.by_cons(&ConsAddr::of([1; 20]), steps).is_some();
-    Ok(are_of_first(rt, &again) & (found & changes.is_empty()))
+) -> Result<bool, RecordFault> {
+    let mut items = Vec::new(rt.alloc());
+    staking.items_into(&mut items, steps)?;
+    Ok(are_of_first(rt, &items))
 }
 
-/// Items that are loaded and listed again.
+/// Whether staking tells no change.
+fn tells_nothing<L: Ledger>(
+    rt: &impl AllocGlobal,
+    staking: &Staking,
+    steps: &mut Steps<L>,
+) -> Result<bool, RecordFault> {
+    let mut changes = Vec::new(rt.alloc());
+    staking.changes_into(&mut changes, steps)?;
+    Ok(changes.is_empty())
+}
+
+/// Items that are loaded and listed again, which are no changes, and by which a consensus address is found.
 pub(crate) fn loads<L: Ledger>(
     rt: &(impl Abort + AllocGlobal),
     scene: &mut Scene,
     steps: &mut Steps<L>,
-) -> Result<bool, Fail>
+) -> Result<bool, Stop>
     requires fit { IsFit scene.old.staking.staked (seen (λ b. b.holdings) scene.old.g) }
     requires marks { scene.old.staking.marks ≡ [] }
+    requires nothing { scene.old.loaded.staked ≡ no_stake }
+    requires unmarked { scene.old.loaded.marks ≡ [] }
 {
-    let first = items(rt, scene, steps)?;
-    let staking = loaded(rt, &first, steps)?;
-    let listed = lists_first(rt, &staking, steps);
-    Ok(are_of_first(rt, &first) & listed?)
+    made(rt, scene, steps)?;
+    let first = lists_first(rt, &scene.staking, steps)?;
+    let both = load_from(rt, &mut scene.loaded, &scene.staking, steps)?;
+    scene.loaded.settle(steps);
+    let again = lists_first(rt, &scene.loaded, steps)?;
+    let settled = tells_nothing(rt, &scene.loaded, steps)?;
+    let found = scene
+        .loaded
+        .by_cons(&ConsAddr::of([1; 20]), steps)
+        .is_some();
+    Ok(first & both & again & settled & found)
 }
 
 /// The changes since the last settling are all new, or all gone.
@@ -236,7 +289,7 @@ fn tells_two<L: Ledger>(
     scene: &Scene,
     new: bool,
     steps: &mut Steps<L>,
-) -> Result<bool, Fail> {
+) -> Result<bool, RecordFault> {
     let mut changes = Vec::new(rt.alloc());
     scene.staking.changes_into(&mut changes, steps)?;
     Ok(are_all(&changes, new))
@@ -247,7 +300,7 @@ pub(crate) fn tells_changes<L: Ledger>(
     rt: &(impl Abort + AllocGlobal),
     scene: &mut Scene,
     steps: &mut Steps<L>,
-) -> Result<bool, Fail>
+) -> Result<bool, Stop>
     requires fit { IsFit scene.old.staking.staked (seen (λ b. b.holdings) scene.old.g) }
     requires marks { scene.old.staking.marks ≡ [] }
 {

@@ -1,17 +1,20 @@
 ghost use Rattle.std.specs.Prelude.{◌≡◌, ℕ, List, [], ◌<◌, ◌≤◌, ◌^◌, OnOk, IfOk};
 ghost use Rattle.stk_coins.specs.Coins.{amount_of};
 ghost use Rattle.stk_keep.specs.Ground.{seen, AreInRange};
-ghost use Rattle.stk_book.specs.Registered.{behind};
+ghost use Rattle.stk_keep.specs.Holdings.{IsBacked};
+ghost use Rattle.stk_book.specs.Registered.{behind, no_stake};
 ghost use Rattle.stk_book_trials.specs.Trials.{IsFit};
 
+use crate::letting_go::{let_go_of_ground, let_go_of_staking};
 use std::process::Abort;
 use std::sync::ledger::Ledger;
-use std::test::Fail;
 use stk_bank::Book;
 use stk_book::Staking;
-use stk_coins::{Coin, Coins};
+use stk_coins::{Coin, CoinFault, Coins};
 use stk_dec::Dec;
-use stk_keep::{CreateValidator, Ctx, Facts, Ground, NoHooks, Params, Stop, ValidatorView};
+use stk_keep::{
+    BankFault, CreateValidator, Ctx, Facts, Ground, NoHooks, Params, Stop, ValidatorView,
+};
 use stk_types::{Account, Addr, ConsAddr, Denom, Moment, Steps};
 
 pub(crate) const ONE: u128 = 1_000_000_000_000_000_000;
@@ -63,8 +66,8 @@ fn params(rt: &impl Abort) -> Params
     }
 }
 
-/// So many uatom.
-fn purse(rt: &(impl Abort + AllocGlobal), amount: u128) -> Result<Coins, Fail>
+/// So many uatom, where there is memory.
+fn coins(rt: &(impl Abort + AllocGlobal), amount: u128) -> Result<Coins, CoinFault>
     requires { amount ≤ 10 ^ 12 }
     ensures { IfOk result (λ coins. (d : List ℕ) → amount_of coins d ≤ 10 ^ 12) }
 {
@@ -76,29 +79,58 @@ fn purse(rt: &(impl Abort + AllocGlobal), amount: u128) -> Result<Coins, Fail>
     Ok(Coins::of(list)?)
 }
 
-/// Staking and the ground that it acts on.
-#[derive(Drop)]
+/// So many uatom.
+fn purse(rt: &(impl Abort + AllocGlobal), amount: u128) -> Coins
+    requires { amount ≤ 10 ^ 12 }
+    ensures { (d : List ℕ) → amount_of result d ≤ 10 ^ 12 }
+{
+    coins(rt, amount).expect(rt, "coins")
+}
+
+/// User 1 has 1,000 uatom, and user 2 has 10^12.
+fn bank<L: Ledger>(rt: &(impl Abort + AllocGlobal), steps: &mut Steps<L>) -> Result<Book, BankFault>
+    ensures { IfOk result (λ bank. IsBacked bank.holdings) }
+{
+    let accounts = [
+        (Account::User(addr(rt, 1)), purse(rt, 1_000)),
+        (Account::User(addr(rt, 2)), purse(rt, 1_000_000_000_000)),
+    ];
+    Book::start(rt.alloc(), &accounts, steps)
+}
+
+/// Staking, one that is loaded from its items, and the ground that staking acts on.
 pub(crate) struct Scene {
     pub(crate) staking: Staking,
+    pub(crate) loaded: Staking,
     pub(crate) g: Ground<Book>,
+}
+
+impl Drop for Scene {
+    fn drop(self) {
+        let Scene { staking, loaded, g } = self;
+        let_go_of_staking(staking);
+        let_go_of_staking(loaded);
+        let_go_of_ground(g);
+    }
 }
 
 /// No validators; users 1 and 2 have 1,000 and 10^12 uatom, at the beginning of time.
 pub(crate) fn opened<L: Ledger>(
     rt: &(impl Abort + AllocGlobal),
     steps: &mut Steps<L>,
-) -> Result<Scene, Fail>
+) -> Result<Scene, BankFault>
     ensures marks { IfOk result (λ scene. scene.staking.marks ≡ []) }
     ensures fit { IfOk result
         (λ scene. IsFit scene.staking.staked (seen (λ b. b.holdings) scene.g)) }
+    ensures nothing { IfOk result (λ scene. scene.loaded.staked ≡ no_stake) }
+    ensures unmarked { IfOk result (λ scene. scene.loaded.marks ≡ []) }
 {
-    let accounts = [
-        (Account::User(addr(rt, 1)), purse(rt, 1_000)?),
-        (Account::User(addr(rt, 2)), purse(rt, 1_000_000_000_000)?),
-    ];
-    let bank = Book::start(rt.alloc(), &accounts, steps)?;
+    let bank = bank(rt, steps)?;
+    let staking = Staking::new(rt.alloc(), 1_000_000);
+    let loaded = Staking::new(rt.alloc(), 1_000_000);
     Ok(Scene {
-        staking: Staking::new(rt.alloc(), 1_000_000),
+        staking,
+        loaded,
         g: Ground {
             bank,
             ctx: Ctx {
@@ -146,6 +178,7 @@ pub(crate) fn create<L: Ledger>(
     ensures fit { OnOk result
         (IsFit scene.new.staking.staked (seen (λ b. b.holdings) scene.new.g)) }
     ensures behind { behind scene.new.staking ≡ behind scene.old.staking }
+    ensures loaded { scene.new.loaded ≡ scene.old.loaded }
 {
     scene
         .staking

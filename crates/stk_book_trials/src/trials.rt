@@ -1,5 +1,6 @@
 ghost use Rattle.std.specs.Prelude.{◌≡◌, ◌<◌, []};
 ghost use Rattle.stk_keep.specs.Ground.{seen};
+ghost use Rattle.stk_book.specs.Registered.{no_stake};
 ghost use Rattle.stk_book_trials.specs.Trials.{IsFit};
 
 use crate::record_tests::{goes_back, keeps, lists_in_order, loads, tells_changes};
@@ -7,7 +8,7 @@ use crate::tests::{Scene, opened};
 use std::marker::Brand;
 use std::process::Abort;
 use std::sync::ledger::{Blank, Ledger};
-use std::test::Fail;
+use stk_keep::Stop;
 use stk_types::Steps;
 
 /// What is tried, each over a ground of its own.
@@ -25,9 +26,11 @@ fn passes<L: Ledger>(
     scene: &mut Scene,
     trial: Trial,
     steps: &mut Steps<L>,
-) -> Result<bool, Fail>
+) -> Result<bool, Stop>
     requires fit { IsFit scene.old.staking.staked (seen (λ b. b.holdings) scene.old.g) }
     requires marks { scene.old.staking.marks ≡ [] }
+    requires nothing { scene.old.loaded.staked ≡ no_stake }
+    requires unmarked { scene.old.loaded.marks ≡ [] }
 {
     match trial {
         Trial::ListsInOrder => lists_in_order(rt, scene, steps),
@@ -38,12 +41,12 @@ fn passes<L: Ledger>(
     }
 }
 
-// The one owner of a scene, with one way out behind it: each way out proves the letting go of all tables.
+/// Whether a trial passes. It is the one owner of a scene, with one way out behind it.
 fn tried<L: Ledger>(
     rt: &(impl Abort + AllocGlobal),
     trial: Trial,
     blank: Blank,
-) -> Result<bool, Fail>
+) -> Result<bool, Stop>
     requires name { blank.name ≡ L.name }
     requires parts { blank.parts ≡ L.parts }
     requires some { 0 < L.parts }
@@ -54,7 +57,7 @@ fn tried<L: Ledger>(
 }
 
 #[test]
-fn staking_keeps_and_lists_its_records(rt: HostRuntime) -> Result<(), Fail> {
+fn staking_keeps_and_lists_its_records(rt: HostRuntime) {
     for trial in [
         Trial::ListsInOrder,
         Trial::GoesBack,
@@ -62,7 +65,9 @@ fn staking_keeps_and_lists_its_records(rt: HostRuntime) -> Result<(), Fail> {
         Trial::Loads,
         Trial::TellsChanges,
     ] {
-        assert!(rt; tried::<Brand>(&rt, trial, Blank::new(1))?, "{trial:?}");
+        assert!(rt;
+            tried::<Brand>(&rt, trial, Blank::new(1)) == Ok(true),
+            "{trial:?}"
+        );
     }
-    Ok(())
 }

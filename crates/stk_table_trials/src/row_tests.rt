@@ -1,13 +1,12 @@
-ghost use Rattle.std.specs.Prelude.{◌≡◌, [], ◌<◌, IfOk};
+ghost use Rattle.std.specs.Prelude.{◌≡◌, ◌<◌};
 
 use crate::row_kinds::{PeriodKind, SupplyKind};
-use std::alloc::Global;
 use std::marker::Brand;
+use std::process::Abort;
 use std::sync::ledger::{Blank, Ledger};
-use std::test::Fail;
-use stk_keep::{Item, RecordFault};
+use stk_keep::Item;
 use stk_rows::{Both, Kinds, One};
-use stk_table::{Table, TableFault};
+use stk_table::Table;
 use stk_types::{Addr, Denom, Steps};
 
 /// The items and the changes of two tables.
@@ -15,67 +14,68 @@ type Listed = (Vec<Item>, Vec<(Item, bool)>);
 
 /// A settled table of one period, which is taken out behind the settling.
 fn periods<L: Ledger>(
-    alloc: Global,
+    rt: &(impl Abort + AllocGlobal),
     operator: &Addr,
     steps: &mut Steps<L>,
-) -> Result<Table<Addr, u64>, TableFault> {
-    let mut table: Table<Addr, u64> = Table::new(alloc);
-    table.put(operator, 3, steps)?;
+) -> Table<Addr, u64> {
+    let mut table: Table<Addr, u64> = Table::new(rt.alloc());
+    table.put(operator, 3, steps).expect(rt, "memory");
     table.settle();
-    table.remove(operator, steps)?;
-    Ok(table)
+    table.remove(operator, steps).expect(rt, "memory");
+    table
 }
 
 /// A settled table of two supplies, of which the first rises behind the settling.
 fn supplies<L: Ledger>(
-    alloc: Global,
+    rt: &(impl Abort + AllocGlobal),
     first: &Denom,
     second: &Denom,
     steps: &mut Steps<L>,
-) -> Result<Table<Denom, u128>, TableFault> {
-    let mut table: Table<Denom, u128> = Table::new(alloc);
-    table.put(first, 8, steps)?;
-    table.put(second, 5, steps)?;
+) -> Table<Denom, u128> {
+    let mut table: Table<Denom, u128> = Table::new(rt.alloc());
+    table.put(first, 8, steps).expect(rt, "memory");
+    table.put(second, 5, steps).expect(rt, "memory");
     table.settle();
-    table.put(first, 9, steps)?;
-    Ok(table)
+    table.put(first, 9, steps).expect(rt, "memory");
+    table
 }
 
 /// What two tables list, kind by kind.
 fn listed<L: Ledger>(
-    alloc: Global,
+    rt: &(impl Abort + AllocGlobal),
     periods: &Table<Addr, u64>,
     supplies: &Table<Denom, u128>,
     steps: &mut Steps<L>,
-) -> Result<Listed, RecordFault> {
+) -> Listed {
     let kinds = Both {
         first: One::<PeriodKind> { table: periods },
         second: One::<SupplyKind> { table: supplies },
     };
     kinds.known();
-    let mut items = Vec::new(alloc);
-    kinds.items_into(&mut items, steps)?;
-    let mut changes = Vec::new(alloc);
-    kinds.changes_into(alloc, &mut changes, steps)?;
-    Ok((items, changes))
+    let mut items = Vec::new(rt.alloc());
+    kinds.items_into(&mut items, steps).expect(rt, "items");
+    let mut changes = Vec::new(rt.alloc());
+    let told = kinds.changes_into(rt.alloc(), &mut changes, steps);
+    told.expect(rt, "changes");
+    (items, changes)
 }
 
 /// What is listed of a period that is gone, a supply that rose and one that stayed.
 fn listed_after<L: Ledger>(
-    alloc: Global,
+    rt: &(impl Abort + AllocGlobal),
     operator: &Addr,
     first: &Denom,
     second: &Denom,
     blank: Blank,
-) -> Result<Listed, RecordFault>
+) -> Listed
     requires name { blank.name ≡ L.name }
     requires parts { blank.parts ≡ L.parts }
     requires some { 0 < L.parts }
 {
     let mut steps: Steps<L> = Steps::new(blank);
-    let gone = periods(alloc, operator, &mut steps)?;
-    let risen = supplies(alloc, first, second, &mut steps)?;
-    listed(alloc, &gone, &risen, &mut steps)
+    let gone = periods(rt, operator, &mut steps);
+    let risen = supplies(rt, first, second, &mut steps);
+    listed(rt, &gone, &risen, &mut steps)
 }
 
 /// Whether an item is the supply of so much.
@@ -97,20 +97,13 @@ fn is_gone(change: Option<&(Item, bool)>) -> bool {
 }
 
 #[test]
-fn records_of_two_kinds_are_listed(rt: HostRuntime) -> Result<(), Fail> {
+fn records_of_two_kinds_are_listed(rt: HostRuntime) {
     let operator = Addr::of([7; 20]).expect(&rt, "no module's address");
     let first = Denom::of(b"uatom").expect(&rt, "a denomination");
     let second = Denom::of(b"uosmo").expect(&rt, "a denomination");
-    let (items, changes) = listed_after::<Brand>(
-        rt.alloc(),
-        &operator,
-        &first,
-        &second,
-        Blank::new(1),
-    )?;
+    let (items, changes) = listed_after::<Brand>(&rt, &operator, &first, &second, Blank::new(1));
     assert!(rt; items.len() == 2);
     assert!(rt; is_supply(items.get(0), 9) && is_supply(items.get(1), 5));
     assert!(rt; changes.len() == 2);
     assert!(rt; is_gone(changes.get(0)) && is_risen(changes.get(1), 9));
-    Ok(())
 }

@@ -3,4 +3,4 @@ use Rattle.stk_book_trials.proofs.TrialLemmas.{fit-opened}
 use Rattle.stk_book_trials.proofs.tests.opened.Goals as goal
 
 pub returns-clause-fit : goal.returns-clause-fit
-returns-clause-fit g c = fit-opened c.new.result.staked _ (ap (λ r. r.staked) c.new.ensures) c.params.ensures c.moment.ensures refl c.in_ok-bank.ensures.backed
+returns-clause-fit g c = fit-opened c.new-staking.result.staked _ (ap (λ r. r.staked) c.new-staking.ensures) c.params.ensures c.moment.ensures refl c.in_ok-bank.ensures

@@ -7,5 +7,5 @@ known-requires g c = record { told = ((λ k v m. tt, λ k v m. tt), (λ k v m. t
 pub items_into-requires : goal.items_into-requires
 items_into-requires g c = record { told = ((λ k v m. tt, λ k v m. tt), (λ k v m. tt, λ k v m. tt), kinds-apart) }
 
-pub changes_into-requires : goal.changes_into-requires
-changes_into-requires g c = record { told = ((λ k v m. tt, λ k v m. tt), (λ k v m. tt, λ k v m. tt), kinds-apart) }
+pub changes_into-told-requires : goal.changes_into-told-requires
+changes_into-told-requires g c = record { told = ((λ k v m. tt, λ k v m. tt), (λ k v m. tt, λ k v m. tt), kinds-apart) }
