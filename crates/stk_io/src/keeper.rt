@@ -87,7 +87,8 @@ pub trait Keeper {
     /// Whether it takes these changes.
     ghost takes: { Self → List Change → Type 0 };
 
-    /// All rows, in ascending order of the keys. Whatever it answers, the rows stay.
+    /// All rows, in ascending order of the keys. Whatever it answers, the rows stay. After Ok they are
+    /// still told.
     ///
     /// # Errors
     /// `Failed`, only where the count of faults rose, and `NoMemory`.
@@ -96,6 +97,8 @@ pub trait Keeper {
             IfSome (rows self.new) (λ pairs. map pair_of list.items ≡ pairs)) }
         ensures ascending { IfSome (rows self.new) Rises }
         ensures same { Makes (λ pairs. pairs) (rows self.old) (rows self.new) }
+        ensures told { OnOk result (is_honest self.new
+            → IsSome (rows self.old) → IsSome (rows self.new)) }
         ensures settled { LeavesRows (may_leave self.new) (rows self.new) }
         ensures honest { is_honest self.new → is_honest self.old }
         ensures stop { is_honest self.new

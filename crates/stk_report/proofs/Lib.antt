@@ -12,3 +12,4 @@ pub mod StateLemmas
 pub mod AskedLemmas
 pub mod AnswerGroupLemmas
 pub mod AnswerLemmas
+pub mod AskingLemmas

@@ -1,3 +1,4 @@
+pub mod Asking
 pub mod Lines
 pub mod Telling
 pub mod Groups

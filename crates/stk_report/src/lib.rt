@@ -16,7 +16,7 @@ mod telling;
 mod worked;
 
 pub use answering::query;
-pub use laws::{answers_are_lines, states_are_reported};
+pub use laws::{answers_are_lines, states_are_asked, states_are_reported};
 pub use question::Query;
 pub use reporting::report;
 pub use worked::reports_by_example;

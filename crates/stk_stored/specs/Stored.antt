@@ -22,9 +22,17 @@ change_seen (change.Remove key) = (key.items, None)
 abbrev pub item_change : Item × Bool → List ℕ × Option (List ℕ)
 item_change c = (key_bytes c.0, if c.1 then Some (value_bytes c.0) else None)
 
--- an item that is to stand has a row
+-- the same of an item that stands
+abbrev pub item_put : Item → List ℕ × Option (List ℕ)
+item_put i = (key_bytes i, Some (value_bytes i))
+
+-- an item that is to stand can be written
 abbrev pub CanBeWritten : Item × Bool → Type 0
 CanBeWritten c = c.1 ≡ true → IsWritable c.0
+
+-- and then has a row
+abbrev pub HasRowIfPut : Item × Bool → Type 0
+HasRowIfPut c = c.1 ≡ true → HasRow c.0
 
 -- Items of which each has a row, and none the key of another.
 pub record AreStored (items : List Item) : Type 0 where

@@ -5,7 +5,7 @@ ghost use Rattle.stk_io.specs.Rows.{pair_of};
 ghost use Rattle.stk_keep.specs.declared.items.Item.{Item};
 ghost use Rattle.stk_rowform.specs.Rows.{row_of};
 ghost use Rattle.stk_rowform.specs.Spelled.{HasRow, IsWritable};
-ghost use Rattle.stk_stored.specs.Stored.{CanBeWritten, change_seen, item_change};
+ghost use Rattle.stk_stored.specs.Stored.{CanBeWritten, HasRowIfPut, change_seen, item_change, item_put};
 
 use std::alloc::Global;
 use stk_io::{Change, Row};
@@ -35,6 +35,7 @@ pub fn items_of(alloc: Global, rows: &[Row]) -> Result<Vec<Item>, RowFault>
 fn change_of(alloc: Global, change: &(Item, bool)) -> Result<Change, RowFault>
     requires { CanBeWritten change.now }
     ensures change { IfOk result (λ made. change_seen made ≡ item_change change.now) }
+    ensures has { IfOk result (λ _. HasRowIfPut change.now) }
     ensures fault { IfErr result (λ fault. fault ≡ RowFault.NoMemory) }
 {
     if change.1 {
@@ -52,12 +53,32 @@ pub fn changes_of(alloc: Global, changes: &[(Item, bool)]) -> Result<Vec<Change>
     requires { All CanBeWritten changes.now }
     ensures changes { IfOk result
         (λ made. map change_seen made.items ≡ map item_change changes.now) }
+    // Each item that stands has a row.
+    ensures have_rows { IfOk result (λ _. All HasRowIfPut changes.now) }
     ensures fault { IfErr result (λ fault. fault ≡ RowFault.NoMemory) }
 {
     let mut made = Vec::new(alloc);
     for change in changes {
         let row = change_of(alloc, change)?;
         made.push(row)?;
+    }
+    Ok(made)
+}
+
+/// The changes of rows that put each of these items.
+///
+/// # Errors
+/// `NoMemory` alone.
+pub fn puts_of(alloc: Global, items: &[Item]) -> Result<Vec<Change>, RowFault>
+    requires { All IsWritable items.now }
+    ensures changes { IfOk result (λ made. map change_seen made.items ≡ map item_put items.now) }
+    ensures have_rows { IfOk result (λ _. All HasRow items.now) }
+    ensures fault { IfErr result (λ fault. fault ≡ RowFault.NoMemory) }
+{
+    let mut made = Vec::new(alloc);
+    for item in items {
+        let row = encode(alloc, item)?;
+        made.push(Change::Put(row))?;
     }
     Ok(made)
 }
