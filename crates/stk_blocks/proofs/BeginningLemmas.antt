@@ -8,7 +8,7 @@ use Rattle.stk_keep.specs.World.{View}
 use Rattle.stk_msgs.specs.declared.block.Block.{Block}
 use Rattle.stk_rules.specs.Chain.{State, allocation_step, begin_block, evidence_step, vote_step}
 use Rattle.stk_modules.specs.declared.modules.Modules.{Modules}
-use Rattle.stk_modules.specs.Kept.{KeptState, StandsFor, kept_of}
+use Rattle.stk_modules.specs.Kept.{KeptState, StandsWhole, kept_of}
 use Rattle.stk_modules.specs.Marks.{GoOn}
 use Rattle.stk_blocks.specs.Answers.{Leads}
 use Rattle.stk_blocks.specs.Begun.{AreBegun, HasBegun, MayAllocate, MayBeBrought, MayBegin}
@@ -26,23 +26,23 @@ may_allocate b m s = record { power = s.power; state = s.state; begun = opens b 
 
 module _ (b : Block) (k0 k1 : KeptState) where
   pub allocation_stops : (why : HookFault) → ((p : State) → AreBegun b.votes k0 p → Leads (AreBegun b.votes) (allocation_step b.votes p) k1 (Err why))
-      → (p : State) → HasBegun b k0 p → Leads StandsFor (begin_block b.votes b.evidence p) k1 (Err why)
+      → (p : State) → HasBegun b k0 p → Leads StandsWhole (begin_block b.votes b.evidence p) k1 (Err why)
   allocation_stops why one p h =
-      stop_leads (AreBegun b.votes) (AreBegun b.votes) StandsFor (allocation_step b.votes) (λ w1. each vote_step b.votes w1 >>= λ w2. each evidence_step b.evidence w2) k0 k1 k1 why one p (opens b k0 p h)
+      stop_leads (AreBegun b.votes) (AreBegun b.votes) StandsWhole (allocation_step b.votes) (λ w1. each vote_step b.votes w1 >>= λ w2. each evidence_step b.evidence w2) k0 k1 k1 why one p (opens b k0 p h)
 
   module _ (k2 : KeptState) where
     pub votes_stop : (why : HookFault) → ((p : State) → AreBegun b.votes k0 p → Leads (AreBegun b.votes) (allocation_step b.votes p) k1 (Ok tt))
         → ((p : State) → AreBegun b.votes k1 p → Leads (AreBegun []) (each vote_step b.votes p) k2 (Err why))
-        → (p : State) → HasBegun b k0 p → Leads StandsFor (begin_block b.votes b.evidence p) k2 (Err why)
+        → (p : State) → HasBegun b k0 p → Leads StandsWhole (begin_block b.votes b.evidence p) k2 (Err why)
     votes_stop why one two p h =
-        then_leads (AreBegun b.votes) (AreBegun b.votes) StandsFor (allocation_step b.votes) (λ w1. each vote_step b.votes w1 >>= λ w2. each evidence_step b.evidence w2) k0 k1 k2 (Err why) one
-        (stop_leads (AreBegun b.votes) (AreBegun []) StandsFor (each vote_step b.votes) (λ w2. each evidence_step b.evidence w2) k1 k2 k2 why two) p (opens b k0 p h)
+        then_leads (AreBegun b.votes) (AreBegun b.votes) StandsWhole (allocation_step b.votes) (λ w1. each vote_step b.votes w1 >>= λ w2. each evidence_step b.evidence w2) k0 k1 k2 (Err why) one
+        (stop_leads (AreBegun b.votes) (AreBegun []) StandsWhole (each vote_step b.votes) (λ w2. each evidence_step b.evidence w2) k1 k2 k2 why two) p (opens b k0 p h)
 
     pub begin_leads : (k3 : KeptState) (answer : Result ⊤ HookFault) → ((p : State) → AreBegun b.votes k0 p → Leads (AreBegun b.votes) (allocation_step b.votes p) k1 (Ok tt))
         → ((p : State) → AreBegun b.votes k1 p → Leads (AreBegun []) (each vote_step b.votes p) k2 (Ok tt))
         → ((p : State) → AreBegun [] k2 p → Leads (AreBegun []) (each evidence_step b.evidence p) k3 answer)
-        → (p : State) → HasBegun b k0 p → Leads StandsFor (begin_block b.votes b.evidence p) k3 answer
+        → (p : State) → HasBegun b k0 p → Leads StandsWhole (begin_block b.votes b.evidence p) k3 answer
     begin_leads k3 answer one two three p h =
-        then_leads (AreBegun b.votes) (AreBegun b.votes) StandsFor (allocation_step b.votes) (λ w1. each vote_step b.votes w1 >>= λ w2. each evidence_step b.evidence w2) k0 k1 k3 answer one
-        (then_leads (AreBegun b.votes) (AreBegun []) StandsFor (each vote_step b.votes) (λ w2. each evidence_step b.evidence w2) k1 k2 k3 answer two
-        (λ q s. weaker_leads (AreBegun []) StandsFor (each evidence_step b.evidence q) k3 answer (begun_stands k3) (three q s))) p (opens b k0 p h)
+        then_leads (AreBegun b.votes) (AreBegun b.votes) StandsWhole (allocation_step b.votes) (λ w1. each vote_step b.votes w1 >>= λ w2. each evidence_step b.evidence w2) k0 k1 k3 answer one
+        (then_leads (AreBegun b.votes) (AreBegun []) StandsWhole (each vote_step b.votes) (λ w2. each evidence_step b.evidence w2) k1 k2 k3 answer two
+        (λ q s. weaker_leads (AreBegun []) StandsWhole (each evidence_step b.evidence q) k3 answer (begun_stands k3) (three q s))) p (opens b k0 p h)

@@ -18,8 +18,8 @@ use Rattle.stk_rules.specs.Chain.{State, begin_block, end_block}
 use Rattle.stk_rules.specs.Laws.{next_block}
 use Rattle.stk_machine.specs.GenesisState.{without_facts}
 use Rattle.stk_machine.specs.Machine.{Step, block_checked, step, txs_applied}
-use Rattle.stk_modules.specs.Kept.{KeptState, Keeps, StandsFor}
-use Rattle.stk_modules.proofs.StandLemmas.{cleared, stands_cleared}
+use Rattle.stk_modules.specs.Kept.{KeptState, Keeps, StandsFor, StandsWhole}
+use Rattle.stk_modules.proofs.StandLemmas.{cleared, stands_for, stands_same, whole_cleared}
 use Rattle.stk_blocks.specs.Answers.{AnswersStep, Applies, FaultsAs, Leads, fault_of_hook, fault_of_record, parts_stepped}
 use Rattle.stk_blocks.specs.Begun.{HasBegun}
 
@@ -68,7 +68,7 @@ module _ (b : Block) (p begun : State) (begins : begin_block b.votes b.evidence 
 
   -- and it ends: what was told at the beginning, by the transactions and at the end is the report
   pub parts_end : (begins_with ends_with : List Fact) (reports : List TxReport) (ended : State) (k left : KeptState) → begins_with ≡ begun.view.facts → reports ≡ (txs_applied b.txs begun).reports
-      → end_block (without_facts (txs_applied b.txs begun).state) ≡ Ok ended → StandsFor k ended → ends_with ≡ k.view.facts → left ≡ cleared k
+      → end_block (without_facts (txs_applied b.txs begun).state) ≡ Ok ended → StandsWhole k ended → ends_with ≡ k.view.facts → left ≡ cleared k
       → AnswersStep (parts_stepped b p) left (Ok (record { height = b.height; time = b.time; begun = begins_with; txs = reports; ended = ends_with }))
   parts_end begins_with ends_with reports ended k left first told ends s last same = (
     without_facts ended,
@@ -81,7 +81,7 @@ module _ (b : Block) (p begun : State) (begins : begin_block b.votes b.evidence 
           report = record { height = b.height; time = b.time; begun = sym first i; txs = sym told i; ended = (ap (λ (v : View). v.facts) s.keeps.view ∙ sym last) i };
           state = without_facts ended;
         })),
-    subst (λ x. StandsFor x (without_facts ended)) (sym same) (stands_cleared k ended s),
+    stands_same (cleared k) left (without_facts ended) same (stands_for (cleared k) (without_facts ended) (whole_cleared k ended s)),
   )
 
 -- ---- the block

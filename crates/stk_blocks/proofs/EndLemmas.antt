@@ -32,7 +32,7 @@ use Rattle.stk_owed.proofs.Steps.{weaker_if}
 use Rattle.stk_window.specs.Stands.{KeepsSignings, Signings}
 use Rattle.stk_distr.specs.Stands.{KeepsShared}
 use Rattle.stk_modules.specs.declared.modules.Modules.{Modules}
-use Rattle.stk_modules.specs.Kept.{KeptState, Keeps, StandsFor, AreSteady, ground_of, hooks_hold, hooks_tell, kept_of}
+use Rattle.stk_modules.specs.Kept.{KeptState, Keeps, StandsWhole, AreSteady, ground_of, hooks_hold, hooks_tell, kept_of}
 use Rattle.stk_modules.specs.Marks.{GoOn}
 use Rattle.stk_modules.proofs.CarryLemmas.{carried, carried_ok, matured_all_carried, set_carried}
 use Rattle.stk_modules.proofs.HookLemmas.{held_as, leaves_on, logged_again, told_as, told_itself, unlogged}
@@ -49,24 +49,24 @@ module _ (f : State → Result State Over) where
       (λ due k. record { sound = from_fits due s.few.some (total_in p.view) s.few.few k.fits; whole = from_whole due (k.whole (to_whole p whole)); ctx = k.ctx })
 
   -- a step that leaves what represents the state that is due leaves what stands for it
-  pub step_leads : (p : State) (k2 : KeptState) (answer : Result ⊤ HookFault) → IfOk (f p) (IsNext p) → Leads Keeps (f p) k2 answer → Leads StandsFor (f p) k2 answer
+  pub step_leads : (p : State) (k2 : KeptState) (answer : Result ⊤ HookFault) → IfOk (f p) (IsNext p) → Leads Keeps (f p) k2 answer → Leads StandsWhole (f p) k2 answer
   step_leads p k2 answer n h = by (f p) answer n h
     where
-      by : (r : Result State Over) (a : Result ⊤ HookFault) → IfOk r (IsNext p) → Leads Keeps r k2 a → Leads StandsFor r k2 a
+      by : (r : Result State Over) (a : Result ⊤ HookFault) → IfOk r (IsNext p) → Leads Keeps r k2 a → Leads StandsWhole r k2 a
       by (Ok due) (Ok a) n h = record { keeps = h; sound = n.sound; whole = n.whole }
       by (Ok due) (Err fault) n h = h
       by (Err over) (Ok a) n h = h
       by (Err over) (Err fault) n h = h
 
   -- after a step the modules are steady again
-  pub steady_on : (old new : Modules) (answer : Result ⊤ HookFault) → AreSteady old → GoOn old new → ((p : State) → StandsFor (kept_of old) p → Leads StandsFor (f p) (kept_of new) answer) → OnOk answer (AreSteady new)
+  pub steady_on : (old new : Modules) (answer : Result ⊤ HookFault) → AreSteady old → GoOn old new → ((p : State) → StandsWhole (kept_of old) p → Leads StandsWhole (f p) (kept_of new) answer) → OnOk answer (AreSteady new)
   steady_on old new (Ok a) s on ends = let d = led (f s.state) (ends s.state s.stands) in record {
     power = ap (λ b. b.staking.power_reduction) on.behind ∙ s.power ∙ ap (λ (c : Ctx). c.params.power_reduction) (sym on.ctx);
     state = d.0;
     stands = d.1;
   }
     where
-      led : (r : Result State Over) → Leads StandsFor r (kept_of new) (Ok a) → (due : State) × StandsFor (kept_of new) due
+      led : (r : Result State Over) → Leads StandsWhole r (kept_of new) (Ok a) → (due : State) × StandsWhole (kept_of new) due
       led (Ok due) h = (due, h)
       led (Err over) h = absurd h
   steady_on old new (Err fault) s on ends = tt

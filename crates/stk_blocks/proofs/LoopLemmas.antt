@@ -11,7 +11,7 @@ use Rattle.stk_keep.specs.Steps.{◌>>=◌, each}
 use Rattle.stk_msgs.specs.declared.block.Block.{Block}
 use Rattle.stk_rules.specs.Chain.{State, begin_block, evidence_step, vote_step}
 use Rattle.stk_modules.specs.declared.modules.Modules.{Modules}
-use Rattle.stk_modules.specs.Kept.{KeptState, StandsFor, AreSet, AreSteady, kept_of}
+use Rattle.stk_modules.specs.Kept.{KeptState, StandsWhole, AreSet, AreSteady, kept_of}
 use Rattle.stk_modules.specs.Marks.{GoOn}
 use Rattle.stk_modules.proofs.MarkLemmas.{stay_on, then_on}
 use Rattle.stk_transactions.proofs.MessageLemmas.{next}
@@ -35,9 +35,9 @@ may_vote votes old new (Err over) (Err fault) on power h = tt
 
 -- after a beginning that was carried out the modules are steady
 pub steady_begun : (b : Block) (old new : Modules) (answer : Result ⊤ HookFault) → MayBegin b old → GoOn old new
-    → ((p : State) → HasBegun b (kept_of old) p → Leads StandsFor (begin_block b.votes b.evidence p) (kept_of new) answer) → OnOk answer (AreSteady new)
+    → ((p : State) → HasBegun b (kept_of old) p → Leads StandsWhole (begin_block b.votes b.evidence p) (kept_of new) answer) → OnOk answer (AreSteady new)
 steady_begun b old new (Ok a) may on leads =
-    let d = part_done (begin_block b.votes b.evidence may.state) (kept_of new) StandsFor (leads may.state may.begun) in
+    let d = part_done (begin_block b.votes b.evidence may.state) (kept_of new) StandsWhole (leads may.state may.begun) in
     record { power = still_set old new on may.power; state = d.0; stands = d.2 }
 steady_begun b old new (Err fault) may on leads = tt
 

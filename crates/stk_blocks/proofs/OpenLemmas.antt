@@ -26,7 +26,7 @@ use Rattle.stk_owed.proofs.Entries.{to_pairs}
 use Rattle.stk_owed.proofs.Following.{next_block_keeps_soundness}
 use Rattle.stk_owed.proofs.Running.{AreDistinct, first_ok, next_ok, older_whole, votes_are}
 use Rattle.stk_owed.proofs.Voting.{own_record}
-use Rattle.stk_modules.specs.Kept.{KeptState, StandsFor}
+use Rattle.stk_modules.specs.Kept.{KeptState, StandsWhole}
 use Rattle.stk_modules.proofs.StandLemmas.{sound_cleared}
 use Rattle.stk_transactions.proofs.EndLemmas.{from_whole}
 use Rattle.stk_blocks.specs.Begun.{AreApart, AreBegun, AreCast, HasBegun, MayBeBrought}
@@ -197,7 +197,7 @@ module _ (b : Block) (k : KeptState) (p : State) (h : HasBegun b k p) where
 -- ---- behind the beginning
 
 -- once votes and evidence are through, entries of this height, of which there are none yet, have lost nothing
-pub begun_stands : (k : KeptState) (p : State) → AreBegun [] k p → StandsFor k p
+pub begun_stands : (k : KeptState) (p : State) → AreBegun [] k p → StandsWhole k p
 begun_stands k p b = record {
   keeps = b.keeps;
   sound = b.sound;

@@ -3,7 +3,7 @@
 ghost use Rattle.std.specs.Prelude.{[], OnOk};
 ghost use Rattle.stk_keep.specs.Steps.{each};
 ghost use Rattle.stk_rules.specs.Chain.{State, allocation_step, vote_step, evidence_step, begin_block};
-ghost use Rattle.stk_modules.specs.Kept.{StandsFor, kept_of, AreSteady};
+ghost use Rattle.stk_modules.specs.Kept.{StandsWhole, kept_of, AreSteady};
 ghost use Rattle.stk_modules.specs.Marks.{GoOn};
 ghost use Rattle.stk_blocks.specs.Answers.{Leads};
 ghost use Rattle.stk_blocks.specs.Begun.{AreBegun, HasBegun, MayBegin, MayAllocate, MayVote, MayAccuse};
@@ -28,7 +28,7 @@ pub(crate) fn begin<L: Ledger>(
 ) -> Result<(), HookFault>
     requires begins { MayBegin block.now modules.old }
     ensures leads { (p : State) → HasBegun block.now (kept_of modules.old) p
-        → Leads StandsFor (begin_block block.now.votes block.now.evidence p)
+        → Leads StandsWhole (begin_block block.now.votes block.now.evidence p)
         (kept_of modules.new) result }
     ensures steady { OnOk result (AreSteady modules.new) }
 

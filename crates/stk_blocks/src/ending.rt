@@ -2,7 +2,7 @@
 
 ghost use Rattle.std.specs.Prelude.{OnOk};
 ghost use Rattle.stk_rules.specs.Chain.{State, set_step, maturing_step, unbondings_step, redelegations_step, end_block};
-ghost use Rattle.stk_modules.specs.Kept.{Keeps, StandsFor, kept_of, AreSteady, IsStakeScene};
+ghost use Rattle.stk_modules.specs.Kept.{Keeps, StandsWhole, kept_of, AreSteady, IsStakeScene};
 ghost use Rattle.stk_modules.specs.Marks.{GoOn};
 ghost use Rattle.stk_blocks.specs.Answers.{Leads};
 
@@ -20,8 +20,8 @@ pub(crate) fn end<L: Ledger>(
     steps: &mut Steps<L>,
 ) -> Result<(), HookFault>
     requires steady { AreSteady modules.old }
-    ensures leads { (p : State) → StandsFor (kept_of modules.old) p
-        → Leads StandsFor (end_block p) (kept_of modules.new) result }
+    ensures leads { (p : State) → StandsWhole (kept_of modules.old) p
+        → Leads StandsWhole (end_block p) (kept_of modules.new) result }
     ensures steady { OnOk result (AreSteady modules.new) }
 
     // Whatever the answer.
@@ -62,8 +62,8 @@ fn make_set<L: Ledger>(
     steps: &mut Steps<L>,
 ) -> Result<(), HookFault>
     requires steady { AreSteady modules.old }
-    ensures leads { (p : State) → StandsFor (kept_of modules.old) p
-        → Leads StandsFor (set_step p) (kept_of modules.new) result }
+    ensures leads { (p : State) → StandsWhole (kept_of modules.old) p
+        → Leads StandsWhole (set_step p) (kept_of modules.new) result }
     ensures steady { OnOk result (AreSteady modules.new) }
 
     // Whatever the answer.
@@ -79,8 +79,8 @@ fn mature<L: Ledger>(
     steps: &mut Steps<L>,
 ) -> Result<(), HookFault>
     requires steady { AreSteady modules.old }
-    ensures leads { (p : State) → StandsFor (kept_of modules.old) p
-        → Leads StandsFor (maturing_step p) (kept_of modules.new) result }
+    ensures leads { (p : State) → StandsWhole (kept_of modules.old) p
+        → Leads StandsWhole (maturing_step p) (kept_of modules.new) result }
     ensures steady { OnOk result (AreSteady modules.new) }
 
     // Whatever the answer.
@@ -102,8 +102,8 @@ fn pay_unbondings<L: Ledger>(
     steps: &mut Steps<L>,
 ) -> Result<(), HookFault>
     requires steady { AreSteady modules.old }
-    ensures leads { (p : State) → StandsFor (kept_of modules.old) p
-        → Leads StandsFor (unbondings_step p) (kept_of modules.new) result }
+    ensures leads { (p : State) → StandsWhole (kept_of modules.old) p
+        → Leads StandsWhole (unbondings_step p) (kept_of modules.new) result }
     ensures steady { OnOk result (AreSteady modules.new) }
 
     // Whatever the answer.
@@ -122,8 +122,8 @@ fn end_redelegations<L: Ledger>(
     steps: &mut Steps<L>,
 ) -> Result<(), HookFault>
     requires steady { AreSteady modules.old }
-    ensures leads { (p : State) → StandsFor (kept_of modules.old) p
-        → Leads StandsFor (redelegations_step p) (kept_of modules.new) result }
+    ensures leads { (p : State) → StandsWhole (kept_of modules.old) p
+        → Leads StandsWhole (redelegations_step p) (kept_of modules.new) result }
     ensures steady { OnOk result (AreSteady modules.new) }
 
     // Whatever the answer.

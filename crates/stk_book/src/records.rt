@@ -1,11 +1,12 @@
 //! Validators and delegations as items of the state.
 
-ghost use Rattle.std.specs.Prelude.{◌≡◌, ◌≢◌, ◌++◌, ◌∷◌, [], true, length, IfOk, IsErr, OnOk, OnErr};
+ghost use Rattle.std.specs.Prelude.{◌≡◌, ◌≢◌, ◌++◌, ◌∷◌, [], true, false, length, IfOk, IsErr, OnOk, OnErr};
 ghost use Rattle.stk_table.specs.Tabled.{with_mark};
+ghost use Rattle.stk_keep.specs.Items.{HasRoom, IsAdded};
 ghost use Rattle.stk_keep.specs.Staked.{Staked};
 ghost use Rattle.stk_rows.specs.Rows.{AreFit};
 ghost use Rattle.stk_book.specs.Listed as listed;
-ghost use Rattle.stk_book.specs.Registered.{AreInOrder};
+ghost use Rattle.stk_book.specs.Registered.{AreInOrder, AreKeyed};
 ghost use Rattle.stk_book.specs.Rows.{items_of, is_stake, FitsOperator};
 
 use crate::items::{DelegationKind, ValidatorKind};
@@ -105,7 +106,19 @@ impl Records for Staking {
         _alloc: Global,
         item: &Item,
         steps: &mut Steps<L>,
-    ) -> Result<bool, RecordFault> {
+    ) -> Result<bool, RecordFault>
+        requires room { HasRoom (items_of self.old.staked) item.now }
+        ensures kind { IfOk result (λ added. added ≡ is_stake item.now) }
+        ensures added { is_stake item.now ≡ true → OnOk result
+            (IsAdded (items_of self.old.staked) item.now (items_of self.new.staked)) }
+        ensures other { is_stake item.now ≡ false → self.new.staked ≡ self.old.staked }
+        ensures marks { self.new.marks ≡ self.old.marks }
+        ensures settled { self.new.settled ≡ self.old.settled }
+        ensures spent { self.old.spent ≡ true → IsErr result }
+        ensures spent_ok { OnOk result (self.new.spent ≡ self.old.spent) }
+        ensures spent_err { OnErr result (self.new.spent ≡ true) }
+        ensures power { self.new.power_reduction ≡ self.old.power_reduction }
+    {
         if self.spent {
             return Err(RecordFault::NoMemory);
         }
@@ -140,6 +153,13 @@ impl Records for Staking {
 type StakeKinds<'a> = Both<One<'a, ValidatorKind>, One<'a, DelegationKind>>;
 
 impl Staking {
+    /// It tells that validators stand under their operators, and does nothing.
+    pub fn keyed(&self)
+        ensures { AreKeyed self.now.staked.validators }
+    {
+        let _ = &self.validators;
+    }
+
     /// Validators and delegations, to be listed.
     fn kinds(&self) -> StakeKinds<'_>
         ensures held { record {

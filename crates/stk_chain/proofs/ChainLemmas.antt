@@ -11,8 +11,8 @@ use Rattle.stk_rules.specs.Chain.{State}
 use Rattle.stk_distr.specs.Rows as distr
 use Rattle.stk_machine.specs.Items.{IsInKeyOrder, items_of}
 use Rattle.stk_modules.specs.declared.modules.Modules.{Modules}
-use Rattle.stk_modules.specs.Kept.{AreSteady, KeptState, Parts, StandsFor, kept_of, kept_over, parts_of}
-use Rattle.stk_modules.specs.Marks.{settled_of, settled_over}
+use Rattle.stk_modules.specs.Kept.{KeptState, Parts, StandsFor, kept_of, kept_over, parts_of}
+use Rattle.stk_modules.specs.Marks.{AreAtRest, settled_of, settled_over}
 use Rattle.stk_modules.specs.Rows.{items_of as module_items}
 use Rattle.stk_chain.specs.Answers.{LeavesChain}
 use Rattle.stk_chain.specs.Chained.{chained}
@@ -47,8 +47,8 @@ leaves_same old new c fault other k s = by fault other
     by (block.RatioLimit over) n = (refl, same)
     by block.NoMemory n = absurd (n refl)
 
--- the bank of modules that are steady is in order
-pub backed : (m : Modules) → AreSteady m → IsBacked m.ground.bank.holdings
+-- the bank of modules at rest is in order
+pub backed : (m : Modules) → AreAtRest m → IsBacked m.ground.bank.holdings
 backed m s = subst (λ (v : View). IsBacked v.bank) s.stands.keeps.view s.stands.sound.ground.bank
 
 -- keys ascend in a state for which something stands

@@ -14,4 +14,5 @@ pub mod ItemLemmas
 pub mod ChainLemmas
 pub mod FairLemmas
 pub mod PendingLemmas
+pub mod OwnLemmas
 pub mod AskingLemmas

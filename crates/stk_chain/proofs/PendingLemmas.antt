@@ -28,7 +28,8 @@ use Rattle.stk_book.specs.Rows.{items_of}
 use Rattle.stk_machine.specs.Orders.{entries_with}
 use Rattle.stk_machine.specs.Report.{Delegations, by_delegator, pending_at, pending_of}
 use Rattle.stk_modules.specs.declared.modules.Modules.{Modules}
-use Rattle.stk_modules.specs.Kept.{AreSteady, StandsFor, kept_of}
+use Rattle.stk_modules.specs.Kept.{StandsFor, kept_of}
+use Rattle.stk_modules.specs.Marks.{AreAtRest}
 use Rattle.stk_chain.specs.Pending.{IsStanding, pending_for, pending_in, pending_of_item}
 
 -- ---- entries that are put in order
@@ -137,11 +138,11 @@ all_stand s o =
     (All-map (IsStanding s) (λ e. item.Validator e.1) s.validators (validators_stand s s.validators))
     (All-map (IsStanding s) (λ e. item.Delegation e.0.0 e.0.1 e.1) s.delegations (to_all pair_cmp pair_total (λ e. delegation s e.0.1 e.0.0 ≡ Some e.1) s.delegations o (λ k n h. h)))
 
--- so is the one at a place of those of modules that are steady
-pub one_stands : (m : Modules) → AreSteady m → (items : List Item) (i : ℕ) (x : Item) → items ≡ items_of m.stakes.staking.staked → i < length items → x ≡ get_or items i x → IsStanding m.stakes.staking.staked x
-one_stands m steady items i x e lt is =
+-- so is the one at a place of those of modules at rest
+pub one_stands : (m : Modules) → AreAtRest m → (items : List Item) (i : ℕ) (x : Item) → items ≡ items_of m.stakes.staking.staked → i < length items → x ≡ get_or items i x → IsStanding m.stakes.staking.staked x
+one_stands m rest items i x e lt is =
     let s : Staked = m.stakes.staking.staked in
-    let ascend : IsStrictlySortedBy pair_cmp (keys_of s.delegations) = subst (λ (k : Stakes). IsStrictlySortedBy pair_cmp (keys_of k.staked.delegations)) steady.stands.keeps.stakes steady.stands.sound.staked.delegations_ascend in
+    let ascend : IsStrictlySortedBy pair_cmp (keys_of s.delegations) = subst (λ (k : Stakes). IsStrictlySortedBy pair_cmp (keys_of k.staked.delegations)) rest.stands.keeps.stakes rest.stands.sound.staked.delegations_ascend in
     subst (IsStanding s) (sym is) (All-get_or (IsStanding s) items i x lt (subst (All (IsStanding s)) (sym e) (all_stand s ascend)))
 
 -- one more item gives its pending reward

@@ -1,8 +1,6 @@
 -- Modules behind all of a genesis: what they keep without the facts that they told.
-use Rattle.std.proofs.Common.{◌≡◌, ◌∙◌, ℕ, ◌^◌, ◌<◌, List, [], length, None, Result, Ok, Err, sym, ap, subst}
-use Rattle.std.specs.Prelude.{All, IfOk, IfErr}
-use Rattle.std.proofs.lemmas.List.Elements.{All-nil}
-use Rattle.stk_keep.specs.declared.entities.UnbondingEntry.{UnbondingEntry}
+use Rattle.std.proofs.Common.{◌≡◌, ◌∙◌, ◌^◌, ◌<◌, List, [], length, None, Result, Ok, Err, sym, ap, subst}
+use Rattle.std.specs.Prelude.{IfOk, IfErr}
 use Rattle.stk_keep.specs.declared.facts.Fact.{Fact}
 use Rattle.stk_keep.specs.declared.refusal.Refusal.{Refusal}
 use Rattle.stk_keep.specs.World.{View}
@@ -45,7 +43,6 @@ module _ (g : Genesis) (good : IsGoodGenesis g) (m : Modules) (h : HaveStarted g
   stands_started k e = subst (λ x. StandsFor x (without_facts (started_with g h.world))) (sym e) (record {
     keeps = keeps_cleared (kept_of m) (started_with g h.world) h.keeps;
     sound = led.sound;
-    whole = All-nil (λ (p : (List ℕ × List ℕ) × List UnbondingEntry). All (λ (e : UnbondingEntry). e.created ≡ h.world.view.ctx.height → e.balance ≡ e.initial) p.1);
   })
 
   pub starts : (facts : List Fact) (k : KeptState) → facts ≡ m.ground.facts → k ≡ cleared (kept_of m) → Starts g facts k
@@ -57,11 +54,9 @@ module _ (g : Genesis) (good : IsGoodGenesis g) (m : Modules) (h : HaveStarted g
 
   pub at_rest : (last : Modules) → kept_of last ≡ cleared (kept_of m) → last.stakes.staking.power_reduction ≡ m.stakes.staking.power_reduction → marks_of last ≡ no_marks → AreAtRest last
   at_rest last same power unmarked = record {
-    steady = record {
-      power = power ∙ h.power ∙ ap (λ (k : KeptState). k.view.ctx.params.power_reduction) (sym same);
-      state = without_facts (started_with g h.world);
-      stands = stands_started (kept_of last) same;
-    };
+    power = power ∙ h.power ∙ ap (λ (k : KeptState). k.view.ctx.params.power_reduction) (sym same);
+    state = without_facts (started_with g h.world);
+    stands = stands_started (kept_of last) same;
     unmarked = unmarked;
     no_facts = ap (λ (k : KeptState). k.view.facts) same;
   }

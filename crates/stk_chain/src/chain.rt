@@ -14,12 +14,12 @@ ghost use Rattle.stk_modules.specs.Marks.{AreAtRest, settled_of};
 ghost use Rattle.stk_blocks.specs.Answers.{Applies};
 ghost use Rattle.stk_chain.specs.Answers.{IsGenesisFault, Starts, LeavesChain, GoesOnFairly};
 ghost use Rattle.stk_chain.specs.Chained.{chained};
+ghost use Rattle.stk_chain.specs.Pending.{ArePendingTo};
 
 use crate::conditions::condition;
 use crate::fault::ChainFault;
-use crate::letting_go::let_go;
 use crate::listing::{changes_of, items_of, pool_of, settle_modules, supply_of};
-use crate::pending::pending_of;
+use crate::pending::{pending_of, pending_to};
 use crate::start::start;
 use std::alloc::Global;
 use std::marker::{Brand, Model};
@@ -27,8 +27,9 @@ use std::sync::ledger::Blank;
 use stk_blocks::apply;
 use stk_coins::{Coins, DecCoins};
 use stk_keep::{Ctx, Facts, Item};
-use stk_modules::Modules;
+use stk_modules::{Modules, let_go};
 use stk_msgs::{Block, BlockFault, BlockReport, Genesis, Pending};
+use stk_types::Addr;
 
 /// A chain. Contracts see what it keeps and what was settled, which stand for states of the machine, and whether
 /// memory was wanting in a block.
@@ -69,21 +70,21 @@ fn ctx_of(modules: &Modules) -> Ctx
     modules.ground.ctx
 }
 
-/// The chain of modules that were settled as they stand.
-fn settled_chain(modules: Modules) -> Chain
-    requires rest { AreAtRest modules }
-    requires order { AreInOrder (settled_of modules).shared }
-    ensures { result ≡ chained modules modules.ground.ctx false }
-{
-    let settled = ctx_of(&modules);
-    Chain {
-        modules,
-        settled,
-        spent: false,
-    }
-}
-
 impl Chain {
+    /// The chain of modules that were settled as they stand.
+    pub fn over(modules: Modules) -> Chain
+        requires rest { AreAtRest modules }
+        requires order { AreInOrder (settled_of modules).shared }
+        ensures { result ≡ chained modules modules.ground.ctx false }
+    {
+        let settled = ctx_of(&modules);
+        Chain {
+            modules,
+            settled,
+            spent: false,
+        }
+    }
+
     /// The chain that a genesis starts, which is settled, and the facts of its start.
     ///
     /// The errors are `BadGenesis`, exactly where a condition keeps the genesis from starting a chain, with
@@ -99,7 +100,7 @@ impl Chain {
             return Err(ChainFault::BadGenesis(number));
         }
         let (modules, facts) = start::<Brand>(alloc, genesis, Blank::new(1))?;
-        Ok((settled_chain(modules), facts))
+        Ok((Chain::over(modules), facts))
     }
 
     /// Applies a block, and tells what it did.
@@ -191,6 +192,20 @@ impl Chain {
             return Err(ChainFault::NoMemory);
         }
         Ok(pending_of::<Brand>(alloc, &self.modules, Blank::new(1))?)
+    }
+
+    /// What a withdrawal of each delegation of this delegator at the last height would be paid from, by operator; it
+    /// changes nothing. The only error is `NoMemory`.
+    pub fn pending_to(&self, alloc: Global, who: &Addr) -> Result<Vec<Pending>, ChainFault>
+        ensures pending { (p : State) → StandsFor self.now.kept p
+            → IfOk result (λ list. ArePendingTo p who.now list.items) }
+        ensures spent { IfOk result (λ _. self.now.spent ≡ false) }
+        ensures fault { IfErr result (λ fault. fault ≡ ChainFault.NoMemory) }
+    {
+        if self.spent {
+            return Err(ChainFault::NoMemory);
+        }
+        Ok(pending_to::<Brand>(alloc, &self.modules, who, Blank::new(1))?)
     }
 
     /// How much there is of each denomination. The only error is `NoMemory`.

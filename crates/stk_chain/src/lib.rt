@@ -10,7 +10,6 @@ mod accounts;
 mod chain;
 mod conditions;
 mod fault;
-mod letting_go;
 mod listing;
 mod pending;
 mod ranges;

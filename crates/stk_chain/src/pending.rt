@@ -1,6 +1,6 @@
 //! What each delegation's withdrawal would be paid from.
 
-ghost use Rattle.std.specs.Prelude.{◌≡◌, ◌<◌, ◌++◌, Some, Result, Err, IfOk, OnOk};
+ghost use Rattle.std.specs.Prelude.{◌≡◌, ◌<◌, ◌++◌, filter, Some, Result, Err, IfOk, OnOk};
 ghost use Rattle.stk_dec.specs.declared.over.Over.{Over};
 ghost use Rattle.stk_coins.specs.Coins.{Money};
 ghost use Rattle.stk_keep.specs.Staked.{delegation};
@@ -9,9 +9,10 @@ ghost use Rattle.stk_f1.specs.Answers.{Gives};
 ghost use Rattle.stk_machine.specs.Report.{unless_over};
 ghost use Rattle.stk_modules.specs.Kept.{StandsFor, kept_of, stakes_kept};
 ghost use Rattle.stk_modules.specs.Marks.{AreAtRest};
-ghost use Rattle.stk_chain.specs.Pending.{pending_in, pending_of_item, pending_for, IsStanding};
+ghost use Rattle.stk_chain.specs.Pending.{is_delegation_of, is_pending_to, own_of_item, pending_in, pending_of_item, pending_for, IsStanding};
 
 use std::alloc::Global;
+use std::cmp::Ordering;
 use std::sync::ledger::{Blank, Ledger};
 use stk_coins::DecCoins;
 use stk_dec::Dec;
@@ -41,6 +42,60 @@ pub(crate) fn pending_of<L: Ledger>(
         append_pending(alloc, modules, &mut list, item, &mut steps)?;
     }
     Ok(list)
+}
+
+/// The pending rewards of one delegator, by operator. The only error is `NoMemory`.
+pub(crate) fn pending_to<L: Ledger>(
+    alloc: Global,
+    modules: &Modules,
+    who: &Addr,
+    blank: Blank,
+) -> Result<Vec<Pending>, RecordFault>
+    requires name { blank.name ≡ L.name }
+    requires parts { blank.parts ≡ L.parts }
+    requires some { 0 < L.parts }
+    requires rest { AreAtRest modules.now }
+    ensures { (p : State) → StandsFor (kept_of modules.now) p
+        → IfOk result (λ list. list.items ≡ filter (is_pending_to who.now) (pending_in p)) }
+{
+    let mut steps: Steps<L> = Steps::new(blank);
+    let mut items = Vec::new(alloc);
+    modules.stakes.staking.items_into(&mut items, &mut steps)?;
+    let mut list = Vec::new(alloc);
+    for item in &items {
+        append_own(alloc, modules, who, &mut list, item, &mut steps)?;
+    }
+    Ok(list)
+}
+
+/// Whether an item is a delegation of this delegator.
+fn is_delegation_of(who: &Addr, item: &Item) -> bool
+    ensures { result ≡ is_delegation_of who.now item.now }
+{
+    match item {
+        Item::Delegation { delegator, .. } => who.cmp(delegator) == Ordering::Equal,
+        _ => false,
+    }
+}
+
+/// Appends the pending reward of a delegation of this delegator; another item changes nothing.
+fn append_own<L: Ledger>(
+    alloc: Global,
+    modules: &Modules,
+    who: &Addr,
+    list: &mut Vec<Pending>,
+    item: &Item,
+    steps: &mut Steps<L>,
+) -> Result<(), RecordFault>
+    requires rest { AreAtRest modules.now }
+    requires standing { IsStanding (stakes_kept modules.now.stakes).staked item.now }
+    ensures { (p : State) → StandsFor (kept_of modules.now) p
+        → OnOk result (list.new.items ≡ list.old.items ++ own_of_item p who.now item.now) }
+{
+    if !is_delegation_of(who, item) {
+        return Ok(());
+    }
+    append_pending(alloc, modules, list, item, steps)
 }
 
 /// Appends the pending reward of a delegation; another item changes nothing.

@@ -18,7 +18,6 @@ ghost use Rattle.stk_chain.specs.Founding.{AreAdding, HaveStarted, IsEmpty, IsAd
 
 use crate::accounts::holders;
 use crate::fault::ChainFault;
-use crate::letting_go::let_go;
 use crate::supplies::delegated_coins;
 use std::alloc::Global;
 use std::mem;
@@ -28,7 +27,7 @@ use stk_blocks::update_set;
 use stk_book::Origin;
 use stk_coins::Coin;
 use stk_keep::{BankFault, CreateValidator, Ctx, Facts, Ground, HookFault, Stop};
-use stk_modules::Modules;
+use stk_modules::{Modules, let_go};
 use stk_msgs::{Genesis, GenesisDelegation, GenesisValidator};
 use stk_types::{Account, BondStatus, Denom, Module, Steps};
 

@@ -4,11 +4,18 @@ use Rattle.stk_keep.specs.World.{View}
 use Rattle.stk_rules.specs.Chain.{State}
 use Rattle.stk_rules.specs.Sound.{IsSound}
 use Rattle.stk_machine.specs.GenesisState.{without_facts}
-use Rattle.stk_modules.specs.Kept.{KeptState, Keeps, StandsFor}
+use Rattle.stk_modules.specs.Kept.{KeptState, Keeps, StandsFor, StandsWhole}
 
 -- the same kept, the same states
 pub stands_same : (k k2 : KeptState) (p : State) → k2 ≡ k → StandsFor k p → StandsFor k2 p
 stands_same k k2 p e s = subst (λ x. StandsFor x p) (sym e) s
+
+pub whole_same : (k k2 : KeptState) (p : State) → k2 ≡ k → StandsWhole k p → StandsWhole k2 p
+whole_same k k2 p e s = subst (λ x. StandsWhole x p) (sym e) s
+
+-- what stands whole stands
+pub stands_for : (k : KeptState) (p : State) → StandsWhole k p → StandsFor k p
+stands_for k p s = record { keeps = s.keeps; sound = s.sound }
 
 -- ---- without facts
 
@@ -41,9 +48,9 @@ keeps_cleared k p s = record {
   view = λ i. record { bank = (s.view i).bank; ctx = (s.view i).ctx; facts = [] };
 }
 
-pub stands_cleared : (k : KeptState) (p : State) → StandsFor k p → StandsFor (cleared k) (without_facts p)
-stands_cleared k p s = record { keeps = keeps_cleared k p s.keeps; sound = sound_cleared p s.sound; whole = s.whole }
+pub whole_cleared : (k : KeptState) (p : State) → StandsWhole k p → StandsWhole (cleared k) (without_facts p)
+whole_cleared k p s = record { keeps = keeps_cleared k p s.keeps; sound = sound_cleared p s.sound; whole = s.whole }
 
 -- a state without facts begins as itself
-pub begins_so : (k : KeptState) (p : State) → k.view.facts ≡ [] → StandsFor k p → without_facts p ≡ p
+pub begins_so : (k : KeptState) (p : State) → k.view.facts ≡ [] → StandsWhole k p → without_facts p ≡ p
 begins_so k p none s = λ i. record { mine = p.mine; hooks = p.hooks; view = record { bank = p.view.bank; ctx = p.view.ctx; facts = (sym none ∙ sym (ap (λ (u : View). u.facts) s.keeps.view)) i }; log = p.log }

@@ -89,9 +89,14 @@ pub record Keeps (k : KeptState) (p : State) : Type 0 where
   pub signings : KeepsSignings k.view.ctx.params.signed_blocks_window k.signings (window_in p)
   pub view : p.view ≡ k.view
 
--- It stands for a state of the machine: it represents it, the state is sound, and entries that were made at its height lost
--- nothing to a slash.
+-- It stands for a state of the machine: it represents it, and the state is sound.
 pub record StandsFor (k : KeptState) (p : State) : Type 0 where
+  pub keeps : Keeps k p
+  pub sound : IsSound p
+
+-- Within a block it stands whole for one: entries that were made at its height lost nothing to a slash, since all slashes of a block
+-- come before its first entry. No row of a state tells so; the next block, at its own height, has no entry yet.
+pub record StandsWhole (k : KeptState) (p : State) : Type 0 where
   pub keeps : Keeps k p
   pub sound : IsSound p
   pub whole : AreWhole p
@@ -102,11 +107,12 @@ pub record StandsFor (k : KeptState) (p : State) : Type 0 where
 abbrev pub AreSet : Modules → Type 0
 AreSet m = m.stakes.staking.power_reduction ≡ m.ground.ctx.params.power_reduction
 
--- What holds of modules between two steps that are carried out whole or not at all: they stand for some state of the machine.
+-- What holds of modules between two steps of a block that are carried out whole or not at all: they stand whole for some state of the
+-- machine.
 pub record AreSteady (m : Modules) : Type 0 where
   pub power : AreSet m
   pub state : State
-  pub stands : StandsFor (kept_of m) state
+  pub stands : StandsWhole (kept_of m) state
 
 -- what the hooks hold, and what they tell: distribution, then the signing records on what that leaves
 abbrev pub hooks_hold : HooksSeen → Shared × Signings → Type 0

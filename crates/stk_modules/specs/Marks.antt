@@ -6,7 +6,7 @@ use Rattle.stk_keep.specs.declared.facts.Fact.{Fact}
 use Rattle.stk_keep.specs.declared.params.Ctx.{Ctx}
 use Rattle.stk_keep.specs.Holdings.{Holdings}
 use Rattle.stk_keep.specs.Staked.{Staked}
-use Rattle.stk_rules.specs.Chain.{Stakes}
+use Rattle.stk_rules.specs.Chain.{State, Stakes}
 use Rattle.stk_rules.specs.Redelegations.{RedelegationLists}
 use Rattle.stk_rules.specs.Unbondings.{UnbondingLists}
 use Rattle.stk_bank.specs.Booked as bank
@@ -16,7 +16,7 @@ use Rattle.stk_window.specs.Kept as window
 use Rattle.stk_distr.specs.Kept as distr
 use Rattle.stk_distr.specs.Kept.{KeptShared}
 use Rattle.stk_modules.specs.declared.modules.Modules.{Modules}
-use Rattle.stk_modules.specs.Kept.{StakesSeen, HooksSeen, Parts, KeptState, AreSteady, kept_over}
+use Rattle.stk_modules.specs.Kept.{StakesSeen, HooksSeen, Parts, KeptState, StandsFor, AreSet, kept_of, kept_over}
 
 -- ---- marks
 
@@ -147,8 +147,10 @@ pub record GoOn (old new : Modules) : Type 0 where
 
 -- ---- between two blocks
 
--- Modules between two blocks: they are steady, no mark is open, and no fact is left.
+-- Modules between two blocks: they stand for some state of the machine, no mark is open, and no fact is left.
 pub record AreAtRest (m : Modules) : Type 0 where
-  pub steady : AreSteady m
+  pub power : AreSet m
+  pub state : State
+  pub stands : StandsFor (kept_of m) state
   pub unmarked : marks_of m ≡ no_marks
   pub no_facts : m.ground.facts ≡ []

@@ -5,8 +5,10 @@
 #![tactic(auto)]
 
 mod context;
+mod letting_go;
 mod listing;
 mod marks;
 mod modules;
 
+pub use letting_go::let_go;
 pub use modules::{Hooks, Modules, Stakes};

@@ -35,7 +35,7 @@ use Rattle.stk_distr.specs.Calls.{CarriesOutOrRefuses, PoolsOrRefuses, SetsOrRef
 use Rattle.stk_distr.specs.Kept.{SharedGoesOn}
 use Rattle.stk_distr.specs.Stands.{KeepsShared}
 use Rattle.stk_modules.specs.declared.modules.Modules.{Modules}
-use Rattle.stk_modules.specs.Kept.{StandsFor, AreSteady, ground_of, hooks_hold, hooks_tell, kept_of, stakes_kept}
+use Rattle.stk_modules.specs.Kept.{StandsWhole, AreSteady, ground_of, hooks_hold, hooks_tell, kept_of, stakes_kept}
 use Rattle.stk_modules.specs.Marks.{GoOn}
 use Rattle.stk_modules.proofs.HookLemmas.{held_as}
 use Rattle.stk_transactions.specs.Answers.{MessageEnds, delegation_asked}
@@ -45,11 +45,11 @@ use Rattle.stk_transactions.proofs.HeldLemmas.{commission_ends, edit_ends, fund_
 
 -- a message ends as it should, and modules go on
 pub record EndsWell (f : Effect) (old new : Modules) (answer : Result ⊤ Stop) : Type 0 where
-  pub ends : (p : State) → StandsFor (kept_of old) p → MessageEnds (f p) (kept_of new) answer
+  pub ends : (p : State) → StandsWhole (kept_of old) p → MessageEnds (f p) (kept_of new) answer
   pub steady : OnOk answer (AreSteady new)
   pub go_on : GoOn old new
 
-ends_well : (f : Effect) (old new : Modules) (answer : Result ⊤ Stop) → AreSteady old → GoOn old new → ((p : State) → StandsFor (kept_of old) p → MessageEnds (f p) (kept_of new) answer) → EndsWell f old new answer
+ends_well : (f : Effect) (old new : Modules) (answer : Result ⊤ Stop) → AreSteady old → GoOn old new → ((p : State) → StandsWhole (kept_of old) p → MessageEnds (f p) (kept_of new) answer) → EndsWell f old new answer
 ends_well f old new answer s on ends = record { ends = ends; steady = steady_after f old new answer s on ends; go_on = on }
 
 module _ (old new : Modules) (steady : AreSteady old) where

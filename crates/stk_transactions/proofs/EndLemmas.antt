@@ -34,7 +34,7 @@ use Rattle.stk_owed.proofs.Steps.{weaker_if}
 use Rattle.stk_owed.proofs.Transactions.{message_fits}
 use Rattle.stk_window.specs.Stands.{Signings}
 use Rattle.stk_modules.specs.declared.modules.Modules.{Modules}
-use Rattle.stk_modules.specs.Kept.{KeptState, Keeps, StandsFor, AreSteady, ground_of, hooks_hold, hooks_tell, kept_of}
+use Rattle.stk_modules.specs.Kept.{KeptState, Keeps, StandsWhole, AreSteady, ground_of, hooks_hold, hooks_tell, kept_of}
 use Rattle.stk_modules.specs.Marks.{GoOn}
 use Rattle.stk_modules.proofs.CarryLemmas.{cancelled_carried, carried, carried_by, carried_ok, carried_with, created_carried, delegated_by_carried, redelegated_carried, undelegated_carried}
 use Rattle.stk_modules.proofs.HookLemmas.{answers_on, held_as, logged_again, told_as, told_itself, unlogged}
@@ -63,7 +63,7 @@ sound_next m p coins s whole =
     (λ due k. record { sound = from_fits due s.few.some T s.few.few k.fits; whole = from_whole due (k.whole (to_whole p whole)); ctx = k.ctx })
 
 -- a message that leaves what represents the state that is due leaves what stands for it
-pub message_ends : (m : Msg) (k k2 : KeptState) (p : State) (answer : Result ⊤ Stop) → MessageHasCoins m → StandsFor k p
+pub message_ends : (m : Msg) (k k2 : KeptState) (p : State) (answer : Result ⊤ Stop) → MessageHasCoins m → StandsWhole k p
     → AsRuled (effect_of m p) answer (λ due a. Keeps k2 due) StopsForMemory RefusesAs → MessageEnds (effect_of m p) k2 answer
 message_ends m k k2 p answer coins s h = by (effect_of m p) answer h (sound_next m p coins s.sound s.whole)
   where
@@ -74,7 +74,7 @@ message_ends m k k2 p answer coins s h = by (effect_of m p) answer h (sound_next
     by (Err why) (Err fault) h n = h
 
 -- after a message that was carried out the modules are steady again
-pub steady_after : (f : Effect) (old new : Modules) (answer : Result ⊤ Stop) → AreSteady old → GoOn old new → ((p : State) → StandsFor (kept_of old) p → MessageEnds (f p) (kept_of new) answer)
+pub steady_after : (f : Effect) (old new : Modules) (answer : Result ⊤ Stop) → AreSteady old → GoOn old new → ((p : State) → StandsWhole (kept_of old) p → MessageEnds (f p) (kept_of new) answer)
     → OnOk answer (AreSteady new)
 steady_after f old new (Ok a) s on ends =
     let d = done (f s.state) (kept_of new) (ends s.state s.stands) in
@@ -215,7 +215,7 @@ drops_nothing : (answer : Result ⊤ Stop) → dropped answer ≡ answer
 drops_nothing (Ok a) = refl
 drops_nothing (Err fault) = refl
 
-module _ (old new : Modules) (p : State) (s : StandsFor (kept_of old) p) (ctx : new.ground.ctx ≡ old.ground.ctx) where
+module _ (old new : Modules) (p : State) (s : StandsWhole (kept_of old) p) (ctx : new.ground.ctx ≡ old.ground.ctx) where
   -- where the call had an answer, it is dropped
   undropped : (m : Msg) → MessageHasCoins m → (answer : Result ⊤ Stop) → AsRuled (effect_of m p) (dropped answer) (λ due a. Keeps (kept_of new) due) StopsForMemory RefusesAs → MessageEnds (effect_of m p) (kept_of new) answer
   undropped m coins answer h =

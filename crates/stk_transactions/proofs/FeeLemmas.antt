@@ -19,9 +19,9 @@ use Rattle.stk_owed.proofs.Moves.{fee_fits}
 use Rattle.stk_owed.proofs.Points.{StateLeft, from_fits, to_fits}
 use Rattle.stk_owed.proofs.Steps.{from_if, weaker_if}
 use Rattle.stk_modules.specs.declared.modules.Modules.{Modules}
-use Rattle.stk_modules.specs.Kept.{KeptState, Keeps, StandsFor, AreSteady, kept_of}
+use Rattle.stk_modules.specs.Kept.{KeptState, Keeps, StandsWhole, AreSteady, kept_of}
 use Rattle.stk_modules.specs.Marks.{GoOn}
-use Rattle.stk_modules.proofs.StandLemmas.{stands_same}
+use Rattle.stk_modules.proofs.StandLemmas.{whole_same}
 use Rattle.stk_transactions.proofs.EndLemmas.{IsNext, from_whole}
 
 fee_next : (payer : List ℕ) (fee : Money) (p : State) → IsMoney fee → IsSound p → AreWhole p → IfOk (fee_paid payer fee p) (IsNext p)
@@ -32,18 +32,18 @@ fee_next payer fee p money s whole =
     (λ due k. record { sound = from_fits due s.few.some T s.few.few k.fits; whole = from_whole due (k.whole (to_whole p whole)); ctx = k.ctx })
 
 -- what represents the state after a fee stands for it
-pub fee_stands : (payer : List ℕ) (fee : Money) (p : State) (k k2 : KeptState) → IsMoney fee → StandsFor k p → (due : State) × (fee_paid payer fee p ≡ Ok due) × Keeps k2 due → (due : State) × (fee_paid payer fee p ≡ Ok due) × StandsFor k2 due
+pub fee_stands : (payer : List ℕ) (fee : Money) (p : State) (k k2 : KeptState) → IsMoney fee → StandsWhole k p → (due : State) × (fee_paid payer fee p ≡ Ok due) × Keeps k2 due → (due : State) × (fee_paid payer fee p ≡ Ok due) × StandsWhole k2 due
 fee_stands payer fee p k k2 money s d =
     let n = from_if (IsNext p) (fee_paid payer fee p) d.0 d.1 (fee_next payer fee p money s.sound s.whole) in
     (d.0, d.1, record { keeps = d.2; sound = n.sound; whole = n.whole })
 
 -- a payer who is short
-pub fee_short : (payer : List ℕ) (fee : Money) (k : KeptState) (p : State) → StandsFor k p → is_short k.view.bank (account.User payer) fee ≡ true → fee_paid payer fee p ≡ Err FeeUnpaid
+pub fee_short : (payer : List ℕ) (fee : Money) (k : KeptState) (p : State) → StandsWhole k p → is_short k.view.bank (account.User payer) fee ≡ true → fee_paid payer fee p ≡ Err FeeUnpaid
 fee_short payer fee k p s e =
     ap (λ b. stop_if b FeeUnpaid >> Ok (over_view (sent (account.User payer) (account.Module holder.FeeCollector) fee) p)) (ap (λ (u : View). is_short u.bank (account.User payer) fee) s.keeps.view ∙ e)
 
 -- modules that stand for another state go on steady
-pub steady_then : (old new : Modules) → AreSteady old → GoOn old new → (due : State) → StandsFor (kept_of new) due → AreSteady new
+pub steady_then : (old new : Modules) → AreSteady old → GoOn old new → (due : State) → StandsWhole (kept_of new) due → AreSteady new
 steady_then old new s on due stands = record {
   power = ap (λ b. b.staking.power_reduction) on.behind ∙ s.power ∙ ap (λ (c : Ctx). c.params.power_reduction) (sym on.ctx);
   state = due;
@@ -52,8 +52,8 @@ steady_then old new s on due stands = record {
 
 -- modules that keep what they kept stay steady
 pub steady_same : (old new : Modules) → AreSteady old → GoOn old new → kept_of new ≡ kept_of old → AreSteady new
-steady_same old new s on same = steady_then old new s on s.state (stands_same (kept_of old) (kept_of new) s.state same s.stands)
+steady_same old new s on same = steady_then old new s on s.state (whole_same (kept_of old) (kept_of new) s.state same s.stands)
 
 -- the same behind a fee that was paid
-pub fee_steady : (payer : List ℕ) (fee : Money) (old new : Modules) → AreSteady old → GoOn old new → ((p : State) → StandsFor (kept_of old) p → (due : State) × (fee_paid payer fee p ≡ Ok due) × StandsFor (kept_of new) due) → AreSteady new
+pub fee_steady : (payer : List ℕ) (fee : Money) (old new : Modules) → AreSteady old → GoOn old new → ((p : State) → StandsWhole (kept_of old) p → (due : State) × (fee_paid payer fee p ≡ Ok due) × StandsWhole (kept_of new) due) → AreSteady new
 fee_steady payer fee old new s on paid = let d = paid s.state s.stands in steady_then old new s on d.0 d.2

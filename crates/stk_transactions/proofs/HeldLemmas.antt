@@ -33,7 +33,7 @@ use Rattle.stk_window.specs.Stands.{KeepsSignings}
 use Rattle.stk_distr.specs.Calls.{CarriesOutOrRefuses, SetsOrRefuses}
 use Rattle.stk_distr.specs.Stands.{KeepsShared}
 use Rattle.stk_modules.specs.declared.modules.Modules.{Modules}
-use Rattle.stk_modules.specs.Kept.{Keeps, StandsFor, ground_of, kept_of, stakes_kept}
+use Rattle.stk_modules.specs.Kept.{Keeps, StandsWhole, ground_of, kept_of, stakes_kept}
 use Rattle.stk_transactions.specs.Answers.{MessageEnds, delegation_asked}
 use Rattle.stk_transactions.proofs.EndLemmas.{dropped, message_ends}
 
@@ -68,7 +68,7 @@ asked_refuses s who operator d v why e = by (validator_at s operator) (delegatio
 
 -- ---- messages over modules
 
-module _ (old new : Modules) (p : State) (s : StandsFor (kept_of old) p) (ctx : new.ground.ctx ≡ old.ground.ctx) where
+module _ (old new : Modules) (p : State) (s : StandsWhole (kept_of old) p) (ctx : new.ground.ctx ≡ old.ground.ctx) where
   -- the window's number stayed
   same_signings : new.hooks.second.kept ≡ old.hooks.second.kept → KeepsSignings new.ground.ctx.params.signed_blocks_window new.hooks.second.kept (window_in p)
   same_signings e =

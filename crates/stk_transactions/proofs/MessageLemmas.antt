@@ -8,7 +8,7 @@ use Rattle.stk_msgs.specs.declared.message.Msg.{Msg}
 use Rattle.stk_rules.specs.Effects.{effects_of}
 use Rattle.stk_machine.specs.Messages.{effect_of}
 use Rattle.stk_modules.specs.declared.modules.Modules.{Modules}
-use Rattle.stk_modules.specs.Kept.{KeptState, StandsFor, kept_of, AreSteady}
+use Rattle.stk_modules.specs.Kept.{KeptState, StandsWhole, kept_of, AreSteady}
 use Rattle.stk_modules.specs.Marks.{GoOn}
 use Rattle.stk_modules.proofs.MarkLemmas.{stay_on, then_on}
 use Rattle.stk_transactions.specs.Answers.{MessageEnds, MessagesEnd}
@@ -37,7 +37,7 @@ append_nil (x ∷ xs) = ap (λ l. x ∷ l) (append_nil xs)
 -- ---- messages
 
 -- a message that was carried out leaves what stands for the state that is due
-pub done : (r : Result State Refusal) (k : KeptState) → MessageEnds r k (Ok tt) → (due : State) × (r ≡ Ok due) × StandsFor k due
+pub done : (r : Result State Refusal) (k : KeptState) → MessageEnds r k (Ok tt) → (due : State) × (r ≡ Ok due) × StandsWhole k due
 done (Ok due) k e = (due, refl, e)
 done (Err why) k e = absurd e
 
@@ -51,8 +51,8 @@ refused (Err due) k why e = ap (λ x. Err x) (sym e)
 pub record SoFar (messages : List Msg) (place : ℕ) (old new : Modules) : Type 0 where
   pub steady : AreSteady new
   pub go_on : GoOn old new
-  pub rest : (p : State) → StandsFor (kept_of old) p
-      → (q : State) × StandsFor (kept_of new) q × (effects_of place (map effect_of (drop place messages)) q ≡ effects_of 0 (map effect_of messages) p)
+  pub rest : (p : State) → StandsWhole (kept_of old) p
+      → (q : State) × StandsWhole (kept_of new) q × (effects_of place (map effect_of (drop place messages)) q ≡ effects_of 0 (map effect_of messages) p)
 
 -- before the first of them
 pub none_yet : (messages : List Msg) (m : Modules) → AreSteady m → SoFar messages 0 m m
@@ -60,14 +60,14 @@ none_yet messages m s = record { steady = s; go_on = stay_on m; rest = λ p k. (
 
 module _ (messages : List Msg) (place : ℕ) (message : Msg) (old new : Modules) (lt : place < length messages) (is : message ≡ get_or messages place message) (so : SoFar messages place old new) where
   -- what the messages from here on come to, by what this one comes to
-  here : (p : State) (k : StandsFor (kept_of old) p) (r : Result State Refusal) → effect_of message (so.rest p k).0 ≡ r
+  here : (p : State) (k : StandsWhole (kept_of old) p) (r : Result State Refusal) → effect_of message (so.rest p k).0 ≡ r
       → (stopping (λ why. (place, why)) r >>= λ u. effects_of (place + 1) (map effect_of (drop (place + 1) messages)) u) ≡ effects_of 0 (map effect_of messages) p
   here p k r e =
       sym (ap (λ (x : Result State Refusal). stopping (λ why. (place, why)) x >>= λ u. effects_of (place + 1) (map effect_of (drop (place + 1) messages)) u) e)
       ∙ sym (ap (λ (l : List Msg). effects_of place (map effect_of l) (so.rest p k).0) (next messages place message lt is))
       ∙ (so.rest p k).2
 
-  pub one_more : (last : Modules) → ((p : State) → StandsFor (kept_of new) p → MessageEnds (effect_of message p) (kept_of last) (Ok tt))
+  pub one_more : (last : Modules) → ((p : State) → StandsWhole (kept_of new) p → MessageEnds (effect_of message p) (kept_of last) (Ok tt))
       → AreSteady last → GoOn new last → SoFar messages (place + 1) old last
   one_more last ends s g = record {
     steady = s;
@@ -78,15 +78,15 @@ module _ (messages : List Msg) (place : ℕ) (message : Msg) (old new : Modules)
         (d.0, d.2, here p k (Ok d.0) d.1);
   }
 
-  pub one_refused : (last : Modules) (why : Refusal) → ((p : State) → StandsFor (kept_of new) p → MessageEnds (effect_of message p) (kept_of last) (Err (stop.Refused why)))
-      → (p : State) → StandsFor (kept_of old) p → MessagesEnd (effects_of 0 (map effect_of messages) p) (Some (place, why)) (kept_of last)
+  pub one_refused : (last : Modules) (why : Refusal) → ((p : State) → StandsWhole (kept_of new) p → MessageEnds (effect_of message p) (kept_of last) (Err (stop.Refused why)))
+      → (p : State) → StandsWhole (kept_of old) p → MessagesEnd (effects_of 0 (map effect_of messages) p) (Some (place, why)) (kept_of last)
   one_refused last why ends p k =
       let q = so.rest p k in
       subst (λ r. MessagesEnd r (Some (place, why)) (kept_of last)) (here p k (Err why) (refused (effect_of message q.0) (kept_of last) why (ends q.0 q.1))) refl
 
 -- none was refused
 pub all_done : (messages : List Msg) (place : ℕ) (old new : Modules) → drop place messages ≡ [] → SoFar messages place old new
-    → (p : State) → StandsFor (kept_of old) p → MessagesEnd (effects_of 0 (map effect_of messages) p) None (kept_of new)
+    → (p : State) → StandsWhole (kept_of old) p → MessagesEnd (effects_of 0 (map effect_of messages) p) None (kept_of new)
 all_done messages place old new e so p k =
     let q = so.rest p k in
     subst (λ r. MessagesEnd r None (kept_of new)) (sym (ap (λ (l : List Msg). effects_of place (map effect_of l) q.0) e) ∙ q.2) q.1

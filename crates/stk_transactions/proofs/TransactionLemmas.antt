@@ -13,10 +13,10 @@ use Rattle.stk_machine.specs.Messages.{effect_of}
 use Rattle.stk_machine.specs.GenesisState.{without_facts}
 use Rattle.stk_machine.specs.Machine.{TxSteps, reported_as, tx_applied, txs_applied}
 use Rattle.stk_modules.specs.declared.modules.Modules.{Modules}
-use Rattle.stk_modules.specs.Kept.{KeptState, StandsFor, kept_of, kept_over, parts_of, AreSteady}
+use Rattle.stk_modules.specs.Kept.{KeptState, StandsWhole, kept_of, kept_over, parts_of, AreSteady}
 use Rattle.stk_modules.specs.Marks.{Follow, GoOn, behind_of, marks_of, opened}
 use Rattle.stk_modules.proofs.MarkLemmas.{marks_behind, restored}
-use Rattle.stk_modules.proofs.StandLemmas.{begins_so, stands_cleared, stands_same}
+use Rattle.stk_modules.proofs.StandLemmas.{begins_so, whole_cleared, whole_same}
 use Rattle.stk_modules.proofs.StandLemmas.{cleared as without_told}
 use Rattle.stk_transactions.specs.Answers.{MessagesEnd, EndsAs}
 use Rattle.stk_transactions.proofs.MessageLemmas.{next, append_nil}
@@ -24,9 +24,9 @@ use Rattle.stk_transactions.proofs.MessageLemmas.{next, append_nil}
 -- ---- one transaction
 
 -- messages of which one was refused, where what is kept is as before them
-pub refused_ends : (p : State) (r : Result State (ℕ × Refusal)) (left k old : KeptState) (place : ℕ) (why : Refusal) → MessagesEnd r (Some (place, why)) left → k ≡ old → StandsFor old p → EndsAs (stands_or_fee p r) (Refused place why) k
+pub refused_ends : (p : State) (r : Result State (ℕ × Refusal)) (left k old : KeptState) (place : ℕ) (why : Refusal) → MessagesEnd r (Some (place, why)) left → k ≡ old → StandsWhole old p → EndsAs (stands_or_fee p r) (Refused place why) k
 refused_ends p (Ok due) left k old place why e same s = absurd e
-refused_ends p (Err due) left k old place why e same s = (ap (λ (d : ℕ × Refusal). Refused d.0 d.1) e, stands_same old k p same s)
+refused_ends p (Err due) left k old place why e same s = (ap (λ (d : ℕ × Refusal). Refused d.0 d.1) e, whole_same old k p same s)
 
 -- a transaction whose fee was paid ends as its messages
 pub paid_ends : (effects : List Effect) (p due : State) (r : Result State Refusal) (outcome : Outcome) (k : KeptState) → r ≡ Ok due → EndsAs (stands_or_fee due (effects_of 0 effects due)) outcome k → EndsAs (after_fee effects p r) outcome k
@@ -40,18 +40,18 @@ all_paid_ends effects p due r (Err fault) k e s = tt
 
 -- messages of which none was refused
 pub accepted_ends : (p : State) (r : Result State (ℕ × Refusal)) (left k : KeptState) → MessagesEnd r None left → k ≡ left → EndsAs (stands_or_fee p r) Accepted k
-accepted_ends p (Ok due) left k e same = (refl, stands_same left k due same e)
+accepted_ends p (Ok due) left k e same = (refl, whole_same left k due same e)
 accepted_ends p (Err due) left k e same = absurd e
 
 -- the state after a transaction, without its facts
-pub left_stands : (tx : Tx) (k k2 k3 : KeptState) (p : State) (outcome : Outcome) → k.view.facts ≡ [] → StandsFor k p → EndsAs (transaction_applied tx.payer tx.fee (map effect_of tx.msgs) p) outcome k2
-    → k3 ≡ without_told k2 → StandsFor k3 (without_facts (tx_applied tx p).state)
+pub left_stands : (tx : Tx) (k k2 k3 : KeptState) (p : State) (outcome : Outcome) → k.view.facts ≡ [] → StandsWhole k p → EndsAs (transaction_applied tx.payer tx.fee (map effect_of tx.msgs) p) outcome k2
+    → k3 ≡ without_told k2 → StandsWhole k3 (without_facts (tx_applied tx p).state)
 left_stands tx k k2 k3 p outcome none s e same =
-    subst (λ (w : State). StandsFor k3 (without_facts (reported_as (transaction_applied tx.payer tx.fee (map effect_of tx.msgs) w)).state)) (sym (begins_so k p none s))
-    (stands_same (without_told k2) k3 (without_facts (transaction_applied tx.payer tx.fee (map effect_of tx.msgs) p).1) same (stands_cleared k2 (transaction_applied tx.payer tx.fee (map effect_of tx.msgs) p).1 e.1))
+    subst (λ (w : State). StandsWhole k3 (without_facts (reported_as (transaction_applied tx.payer tx.fee (map effect_of tx.msgs) w)).state)) (sym (begins_so k p none s))
+    (whole_same (without_told k2) k3 (without_facts (transaction_applied tx.payer tx.fee (map effect_of tx.msgs) p).1) same (whole_cleared k2 (transaction_applied tx.payer tx.fee (map effect_of tx.msgs) p).1 e.1))
 
 -- the report of a transaction
-pub reported : (tx : Tx) (k k2 : KeptState) (p : State) (outcome : Outcome) → k.view.facts ≡ [] → StandsFor k p → EndsAs (transaction_applied tx.payer tx.fee (map effect_of tx.msgs) p) outcome k2
+pub reported : (tx : Tx) (k k2 : KeptState) (p : State) (outcome : Outcome) → k.view.facts ≡ [] → StandsWhole k p → EndsAs (transaction_applied tx.payer tx.fee (map effect_of tx.msgs) p) outcome k2
     → record { facts = k2.view.facts; outcome = outcome } ≡ (tx_applied tx p).report
 reported tx k k2 p outcome none s e =
     (λ i. record { facts = (sym (e.1.keeps.view) i).facts; outcome = e.0 i })
@@ -100,12 +100,12 @@ pub record AppliedSoFar (txs : List Tx) (place : ℕ) (old new : Modules) (repor
   pub none : new.ground.facts ≡ []
   pub same_ctx : new.ground.ctx ≡ old.ground.ctx
   pub same_behind : behind_of new ≡ behind_of old
-  pub rest : (p : State) → StandsFor (kept_of old) p
-      → (q : State) × StandsFor (kept_of new) q × (before reports (cleared (txs_applied (drop place txs) q)) ≡ cleared (txs_applied txs p))
+  pub rest : (p : State) → StandsWhole (kept_of old) p
+      → (q : State) × StandsWhole (kept_of new) q × (before reports (cleared (txs_applied (drop place txs) q)) ≡ cleared (txs_applied txs p))
 
 pub applied_next : (txs : List Tx) (place : ℕ) (tx : Tx) (old new last : Modules) (reports reports2 : List TxReport) (report : TxReport) → place < length txs → tx ≡ get_or txs place tx
-    → AppliedSoFar txs place old new reports → ((q : State) → StandsFor (kept_of new) q → report ≡ (tx_applied tx q).report)
-    → ((q : State) → StandsFor (kept_of new) q → StandsFor (kept_of last) (without_facts (tx_applied tx q).state))
+    → AppliedSoFar txs place old new reports → ((q : State) → StandsWhole (kept_of new) q → report ≡ (tx_applied tx q).report)
+    → ((q : State) → StandsWhole (kept_of new) q → StandsWhole (kept_of last) (without_facts (tx_applied tx q).state))
     → reports2 ≡ reports ++ report ∷ [] → AreSteady last → last.ground.facts ≡ [] → last.ground.ctx ≡ new.ground.ctx → behind_of last ≡ behind_of new
     → AppliedSoFar txs (place + 1) old last reports2
 applied_next txs place tx old new last reports reports2 report lt is so told left more s n c k = record {
@@ -132,13 +132,13 @@ applied_next txs place tx old new last reports reports2 report lt is so told lef
 
 -- all transactions were applied
 module _ (txs : List Tx) (place : ℕ) (old new : Modules) (reports : List TxReport) (end : drop place txs ≡ []) (so : AppliedSoFar txs place old new reports) where
-  all_told : (p : State) (stood : StandsFor (kept_of old) p) → record { reports = reports ++ []; state = without_facts (so.rest p stood).0 } ≡ cleared (txs_applied txs p)
+  all_told : (p : State) (stood : StandsWhole (kept_of old) p) → record { reports = reports ++ []; state = without_facts (so.rest p stood).0 } ≡ cleared (txs_applied txs p)
   all_told p stood = sym (ap (λ (l : List Tx). before reports (cleared (txs_applied l (so.rest p stood).0))) end) ∙ (so.rest p stood).2
 
-  pub all_reported : (p : State) → StandsFor (kept_of old) p → reports ≡ (txs_applied txs p).reports
+  pub all_reported : (p : State) → StandsWhole (kept_of old) p → reports ≡ (txs_applied txs p).reports
   all_reported p stood = sym (append_nil reports) ∙ ap (λ (x : TxSteps). x.reports) (all_told p stood)
 
-  pub all_applied : (p : State) → StandsFor (kept_of old) p → StandsFor (kept_of new) (without_facts (txs_applied txs p).state)
+  pub all_applied : (p : State) → StandsWhole (kept_of old) p → StandsWhole (kept_of new) (without_facts (txs_applied txs p).state)
   all_applied p stood =
       let r = so.rest p stood in
-      subst (λ (w : State). StandsFor (kept_of new) w) (sym (begins_so (kept_of new) r.0 so.none r.1) ∙ ap (λ (x : TxSteps). x.state) (all_told p stood)) r.1
+      subst (λ (w : State). StandsWhole (kept_of new) w) (sym (begins_so (kept_of new) r.0 so.none r.1) ∙ ap (λ (x : TxSteps). x.state) (all_told p stood)) r.1

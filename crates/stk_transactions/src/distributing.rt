@@ -3,7 +3,7 @@
 ghost use Rattle.std.specs.Prelude.{◌≡◌, OnOk};
 ghost use Rattle.stk_rules.specs.Chain.{State};
 ghost use Rattle.stk_rules.specs.Effects.{withdraw_reward, withdraw_commission, set_withdraw_address, fund_community_pool, community_pool_spend};
-ghost use Rattle.stk_modules.specs.Kept.{StandsFor, kept_of, stakes_kept, AreSteady};
+ghost use Rattle.stk_modules.specs.Kept.{StandsWhole, kept_of, stakes_kept, AreSteady};
 ghost use Rattle.stk_modules.specs.Marks.{GoOn};
 ghost use Rattle.stk_transactions.specs.Answers.{MessageEnds, delegation_asked};
 
@@ -25,7 +25,7 @@ pub(crate) fn withdraw_reward<L: Ledger>(
     steps: &mut Steps<L>,
 ) -> Result<(), Stop>
     requires steady { AreSteady modules.old }
-    ensures ends { (p : State) → StandsFor (kept_of modules.old) p → MessageEnds
+    ensures ends { (p : State) → StandsWhole (kept_of modules.old) p → MessageEnds
         (withdraw_reward m.now.delegator m.now.validator p)
         (kept_of modules.new) result }
     ensures steady { OnOk result (AreSteady modules.new) }
@@ -72,7 +72,7 @@ pub(crate) fn withdraw_commission<L: Ledger>(
     steps: &mut Steps<L>,
 ) -> Result<(), Stop>
     requires steady { AreSteady modules.old }
-    ensures ends { (p : State) → StandsFor (kept_of modules.old) p
+    ensures ends { (p : State) → StandsWhole (kept_of modules.old) p
         → MessageEnds (withdraw_commission m.now.validator p) (kept_of modules.new) result }
     ensures steady { OnOk result (AreSteady modules.new) }
 
@@ -93,7 +93,7 @@ pub(crate) fn set_withdraw_address<L: Ledger>(
     steps: &mut Steps<L>,
 ) -> Result<(), Stop>
     requires steady { AreSteady modules.old }
-    ensures ends { (p : State) → StandsFor (kept_of modules.old) p → MessageEnds
+    ensures ends { (p : State) → StandsWhole (kept_of modules.old) p → MessageEnds
         (set_withdraw_address m.now.delegator m.now.withdraw p)
         (kept_of modules.new) result }
     ensures steady { OnOk result (AreSteady modules.new) }
@@ -117,7 +117,7 @@ pub(crate) fn fund_community_pool<L: Ledger>(
     steps: &mut Steps<L>,
 ) -> Result<(), Stop>
     requires steady { AreSteady modules.old }
-    ensures ends { (p : State) → StandsFor (kept_of modules.old) p → MessageEnds
+    ensures ends { (p : State) → StandsWhole (kept_of modules.old) p → MessageEnds
         (fund_community_pool m.now.depositor m.now.coins p)
         (kept_of modules.new) result }
     ensures steady { OnOk result (AreSteady modules.new) }
@@ -141,7 +141,7 @@ pub(crate) fn community_pool_spend<L: Ledger>(
     steps: &mut Steps<L>,
 ) -> Result<(), Stop>
     requires steady { AreSteady modules.old }
-    ensures ends { (p : State) → StandsFor (kept_of modules.old) p → MessageEnds
+    ensures ends { (p : State) → StandsWhole (kept_of modules.old) p → MessageEnds
         (community_pool_spend m.now.authority m.now.recipient m.now.coins p)
         (kept_of modules.new) result }
     ensures steady { OnOk result (AreSteady modules.new) }

@@ -3,7 +3,7 @@
 ghost use Rattle.std.specs.Prelude.{OnOk};
 ghost use Rattle.stk_rules.specs.Chain.{State};
 ghost use Rattle.stk_machine.specs.Messages.{effect_of};
-ghost use Rattle.stk_modules.specs.Kept.{StandsFor, kept_of, AreSteady};
+ghost use Rattle.stk_modules.specs.Kept.{StandsWhole, kept_of, AreSteady};
 ghost use Rattle.stk_modules.specs.Marks.{GoOn};
 ghost use Rattle.stk_transactions.specs.Answers.{MessageEnds};
 
@@ -30,7 +30,7 @@ pub fn apply_message<L: Ledger>(
     steps: &mut Steps<L>,
 ) -> Result<(), Stop>
     requires steady { AreSteady modules.old }
-    ensures ends { (p : State) → StandsFor (kept_of modules.old) p
+    ensures ends { (p : State) → StandsWhole (kept_of modules.old) p
         → MessageEnds (effect_of message.now p) (kept_of modules.new) result }
     ensures steady { OnOk result (AreSteady modules.new) }
 

@@ -3,7 +3,7 @@
 ghost use Rattle.std.specs.Prelude.{OnOk};
 ghost use Rattle.stk_rules.specs.Chain.{State};
 ghost use Rattle.stk_rules.specs.Effects.{send};
-ghost use Rattle.stk_modules.specs.Kept.{StandsFor, kept_of, AreSteady};
+ghost use Rattle.stk_modules.specs.Kept.{StandsWhole, kept_of, AreSteady};
 ghost use Rattle.stk_modules.specs.Marks.{GoOn};
 ghost use Rattle.stk_transactions.specs.Answers.{MessageEnds};
 
@@ -22,7 +22,7 @@ pub(crate) fn send<L: Ledger>(
     steps: &mut Steps<L>,
 ) -> Result<(), Stop>
     requires steady { AreSteady modules.old }
-    ensures ends { (p : State) → StandsFor (kept_of modules.old) p
+    ensures ends { (p : State) → StandsWhole (kept_of modules.old) p
         → MessageEnds (send m.now.from m.now.to m.now.coins p) (kept_of modules.new) result }
     ensures steady { OnOk result (AreSteady modules.new) }
 

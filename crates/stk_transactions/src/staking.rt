@@ -3,7 +3,7 @@
 ghost use Rattle.std.specs.Prelude.{OnOk};
 ghost use Rattle.stk_rules.specs.Chain.{State};
 ghost use Rattle.stk_rules.specs.Effects.{create_validator, edit_validator, delegate, unjail};
-ghost use Rattle.stk_modules.specs.Kept.{StandsFor, kept_of, AreSteady};
+ghost use Rattle.stk_modules.specs.Kept.{StandsWhole, kept_of, AreSteady};
 ghost use Rattle.stk_modules.specs.Marks.{GoOn};
 ghost use Rattle.stk_transactions.specs.Answers.{MessageEnds};
 
@@ -22,7 +22,7 @@ pub(crate) fn create_validator<L: Ledger>(
     steps: &mut Steps<L>,
 ) -> Result<(), Stop>
     requires steady { AreSteady modules.old }
-    ensures ends { (p : State) → StandsFor (kept_of modules.old) p
+    ensures ends { (p : State) → StandsWhole (kept_of modules.old) p
         → MessageEnds (create_validator m.now p) (kept_of modules.new) result }
     ensures steady { OnOk result (AreSteady modules.new) }
 
@@ -42,7 +42,7 @@ pub(crate) fn edit_validator<L: Ledger>(
     steps: &mut Steps<L>,
 ) -> Result<(), Stop>
     requires steady { AreSteady modules.old }
-    ensures ends { (p : State) → StandsFor (kept_of modules.old) p
+    ensures ends { (p : State) → StandsWhole (kept_of modules.old) p
         → MessageEnds (edit_validator m.now p) (kept_of modules.new) result }
     ensures steady { OnOk result (AreSteady modules.new) }
 
@@ -63,7 +63,7 @@ pub(crate) fn delegate<L: Ledger>(
     steps: &mut Steps<L>,
 ) -> Result<(), Stop>
     requires steady { AreSteady modules.old }
-    ensures ends { (p : State) → StandsFor (kept_of modules.old) p → MessageEnds
+    ensures ends { (p : State) → StandsWhole (kept_of modules.old) p → MessageEnds
         (delegate m.now.delegator m.now.validator m.now.amount p)
         (kept_of modules.new) result }
     ensures steady { OnOk result (AreSteady modules.new) }
@@ -93,7 +93,7 @@ pub(crate) fn unjail<L: Ledger>(
     steps: &mut Steps<L>,
 ) -> Result<(), Stop>
     requires steady { AreSteady modules.old }
-    ensures ends { (p : State) → StandsFor (kept_of modules.old) p
+    ensures ends { (p : State) → StandsWhole (kept_of modules.old) p
         → MessageEnds (unjail m.now.validator p) (kept_of modules.new) result }
     ensures steady { OnOk result (AreSteady modules.new) }
 

@@ -7,7 +7,7 @@ ghost use Rattle.stk_machine.specs.Machine.{tx_applied, txs_applied};
 ghost use Rattle.stk_machine.specs.Messages.{effect_of};
 ghost use Rattle.stk_rules.specs.Chain.{State};
 ghost use Rattle.stk_rules.specs.Effects.{fee_paid, effects_of, stands_or_fee, transaction_applied};
-ghost use Rattle.stk_modules.specs.Kept.{StandsFor, kept_of, AreSteady};
+ghost use Rattle.stk_modules.specs.Kept.{StandsWhole, kept_of, AreSteady};
 ghost use Rattle.stk_modules.specs.Marks.{behind_of, GoOn};
 ghost use Rattle.stk_transactions.specs.Answers.{MessagesEnd, EndsAs};
 
@@ -29,11 +29,11 @@ fn pay_fee<L: Ledger>(
     steps: &mut Steps<L>,
 ) -> Result<bool, RecordFault>
     requires steady { AreSteady modules.old }
-    ensures paid { (p : State) → StandsFor (kept_of modules.old) p
+    ensures paid { (p : State) → StandsWhole (kept_of modules.old) p
         → IfOk result (λ paid. paid ≡ true
         → (due : State) × (fee_paid tx.now.payer tx.now.fee p ≡ Ok due)
-        × StandsFor (kept_of modules.new) due) }
-    ensures unpaid { (p : State) → StandsFor (kept_of modules.old) p
+        × StandsWhole (kept_of modules.new) due) }
+    ensures unpaid { (p : State) → StandsWhole (kept_of modules.old) p
         → IfOk result (λ paid. paid ≡ false
         → fee_paid tx.now.payer tx.now.fee p ≡ Err refused.FeeUnpaid) }
     ensures unchanged { IfOk result
@@ -68,7 +68,7 @@ fn apply_messages<L: Ledger>(
     steps: &mut Steps<L>,
 ) -> Result<Option<(usize, Refusal)>, RecordFault>
     requires steady { AreSteady modules.old }
-    ensures ends { (p : State) → StandsFor (kept_of modules.old) p → IfOk result
+    ensures ends { (p : State) → StandsWhole (kept_of modules.old) p → IfOk result
         (λ stop. MessagesEnd (effects_of 0 (map effect_of messages.now) p) stop
         (kept_of modules.new)) }
     ensures steady { IfOk result (λ stop. stop ≡ None → AreSteady modules.new) }
@@ -94,7 +94,7 @@ fn all_or_none<L: Ledger>(
     steps: &mut Steps<L>,
 ) -> Result<Outcome, RecordFault>
     requires steady { AreSteady modules.old }
-    ensures ended { (p : State) → StandsFor (kept_of modules.old) p → IfOk result
+    ensures ended { (p : State) → StandsWhole (kept_of modules.old) p → IfOk result
         (λ outcome. EndsAs (stands_or_fee p (effects_of 0 (map effect_of messages.now) p)) outcome
         (kept_of modules.new)) }
     ensures steady { OnOk result (AreSteady modules.new) }
@@ -130,7 +130,7 @@ fn pay_and_apply<L: Ledger>(
     steps: &mut Steps<L>,
 ) -> Result<Outcome, RecordFault>
     requires steady { AreSteady modules.old }
-    ensures ended { (p : State) → StandsFor (kept_of modules.old) p → IfOk result
+    ensures ended { (p : State) → StandsWhole (kept_of modules.old) p → IfOk result
         (λ outcome. EndsAs
         (transaction_applied tx.now.payer tx.now.fee (map effect_of tx.now.msgs) p)
         outcome (kept_of modules.new)) }
@@ -156,10 +156,10 @@ fn apply_transaction<L: Ledger>(
 ) -> Result<TxReport, RecordFault>
     requires steady { AreSteady modules.old }
     requires none { modules.old.ground.facts ≡ [] }
-    ensures report { (p : State) → StandsFor (kept_of modules.old) p
+    ensures report { (p : State) → StandsWhole (kept_of modules.old) p
         → IfOk result (λ report. report ≡ (tx_applied tx.now p).report) }
-    ensures state { (p : State) → StandsFor (kept_of modules.old) p
-        → OnOk result (StandsFor (kept_of modules.new)
+    ensures state { (p : State) → StandsWhole (kept_of modules.old) p
+        → OnOk result (StandsWhole (kept_of modules.new)
         (without_facts (tx_applied tx.now p).state)) }
     ensures steady { OnOk result (AreSteady modules.new) }
     ensures ctx { OnOk result (modules.new.ground.ctx ≡ modules.old.ground.ctx) }
@@ -183,10 +183,10 @@ pub fn apply_transactions<L: Ledger>(
 ) -> Result<Vec<TxReport>, RecordFault>
     requires steady { AreSteady modules.old }
     requires none { modules.old.ground.facts ≡ [] }
-    ensures reports { (p : State) → StandsFor (kept_of modules.old) p
+    ensures reports { (p : State) → StandsWhole (kept_of modules.old) p
         → IfOk result (λ reports. reports.items ≡ (txs_applied txs.now p).reports) }
-    ensures state { (p : State) → StandsFor (kept_of modules.old) p → OnOk result
-        (StandsFor (kept_of modules.new) (without_facts (txs_applied txs.now p).state)) }
+    ensures state { (p : State) → StandsWhole (kept_of modules.old) p → OnOk result
+        (StandsWhole (kept_of modules.new) (without_facts (txs_applied txs.now p).state)) }
     ensures steady { OnOk result (AreSteady modules.new) }
     ensures ctx { OnOk result (modules.new.ground.ctx ≡ modules.old.ground.ctx) }
     ensures none { OnOk result (modules.new.ground.facts ≡ []) }

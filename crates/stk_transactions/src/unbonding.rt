@@ -3,7 +3,7 @@
 ghost use Rattle.std.specs.Prelude.{OnOk};
 ghost use Rattle.stk_rules.specs.Chain.{State};
 ghost use Rattle.stk_rules.specs.Effects.{undelegate, begin_redelegate, cancel_unbonding};
-ghost use Rattle.stk_modules.specs.Kept.{StandsFor, kept_of, AreSteady};
+ghost use Rattle.stk_modules.specs.Kept.{StandsWhole, kept_of, AreSteady};
 ghost use Rattle.stk_modules.specs.Marks.{GoOn};
 ghost use Rattle.stk_transactions.specs.Answers.{MessageEnds};
 
@@ -22,7 +22,7 @@ pub(crate) fn undelegate<L: Ledger>(
     steps: &mut Steps<L>,
 ) -> Result<(), Stop>
     requires steady { AreSteady modules.old }
-    ensures ends { (p : State) → StandsFor (kept_of modules.old) p → MessageEnds
+    ensures ends { (p : State) → StandsWhole (kept_of modules.old) p → MessageEnds
         (undelegate m.now.delegator m.now.validator m.now.amount p)
         (kept_of modules.new) result }
     ensures steady { OnOk result (AreSteady modules.new) }
@@ -54,7 +54,7 @@ pub(crate) fn begin_redelegate<L: Ledger>(
     steps: &mut Steps<L>,
 ) -> Result<(), Stop>
     requires steady { AreSteady modules.old }
-    ensures ends { (p : State) → StandsFor (kept_of modules.old) p → MessageEnds
+    ensures ends { (p : State) → StandsWhole (kept_of modules.old) p → MessageEnds
         (begin_redelegate m.now.delegator m.now.source m.now.target m.now.amount p)
         (kept_of modules.new) result }
     ensures steady { OnOk result (AreSteady modules.new) }
@@ -83,7 +83,7 @@ pub(crate) fn cancel_unbonding<L: Ledger>(
     steps: &mut Steps<L>,
 ) -> Result<(), Stop>
     requires steady { AreSteady modules.old }
-    ensures ends { (p : State) → StandsFor (kept_of modules.old) p → MessageEnds
+    ensures ends { (p : State) → StandsWhole (kept_of modules.old) p → MessageEnds
         (cancel_unbonding m.now.delegator m.now.validator m.now.amount m.now.creation_height p)
         (kept_of modules.new) result }
     ensures steady { OnOk result (AreSteady modules.new) }

@@ -10,13 +10,13 @@ use Rattle.stk_blocks.proofs.BlockLemmas.{applies_parts, faults, has_begun, open
 use Rattle.stk_blocks.proofs.block.apply.Goals as goal
 
 pub check_block-requires-clause-height : goal.check_block-requires-clause-height
-check_block-requires-clause-height g c = let s = c.requires.rest.steady.stands in subst (λ (v : View). v.ctx.height < 2 ^ 63) s.keeps.view s.sound.ground.height
+check_block-requires-clause-height g c = let s = c.requires.rest.stands in subst (λ (v : View). v.ctx.height < 2 ^ 63) s.keeps.view s.sound.ground.height
 
 pub check_block-requires-clause-some : goal.check_block-requires-clause-some
-check_block-requires-clause-some g c = let s = c.requires.rest.steady.stands in subst (λ (v : View). 1 ≤ v.ctx.params.power_reduction) s.keeps.view s.sound.ground.params.power_reduction
+check_block-requires-clause-some g c = let s = c.requires.rest.stands in subst (λ (v : View). 1 ≤ v.ctx.params.power_reduction) s.keeps.view s.sound.ground.params.power_reduction
 
 pub check_block-requires-clause-reduction : goal.check_block-requires-clause-reduction
-check_block-requires-clause-reduction g c = let s = c.requires.rest.steady.stands in subst (λ (v : View). v.ctx.params.power_reduction ≤ 10 ^ 18) s.keeps.view s.sound.ground.params.power_reduction_most
+check_block-requires-clause-reduction g c = let s = c.requires.rest.stands in subst (λ (v : View). v.ctx.params.power_reduction ≤ 10 ^ 18) s.keeps.view s.sound.ground.params.power_reduction_most
 
 pub returns-in_err-check_block-clause-applies : goal.returns-in_err-check_block-clause-applies
 returns-in_err-check_block-clause-applies g c = λ p s.
@@ -36,7 +36,7 @@ apply_parts-requires-clause-begins g c =
     let marked : Modules = c.mark.new.self in
     let b = c.args.block.now in
     let begun : Modules = record { ground = record { bank = marked.ground.bank; ctx = record { height = b.height; time = b.time; params = old.ground.ctx.params }; facts = marked.ground.facts }; stakes = marked.stakes; hooks = marked.hooks } in
-    begins b old begun c.requires.rest (begun_kept b old marked c.requires.rest c.mark.ensures.same) (c.in_ok-check_block.ensures.checked c.requires.rest.steady.state c.requires.rest.steady.stands) c.requires.height c.mark.ensures.power
+    begins b old begun c.requires.rest (begun_kept b old marked c.requires.rest c.mark.ensures.same) (c.in_ok-check_block.ensures.checked c.requires.rest.state c.requires.rest.stands) c.requires.height c.mark.ensures.power
 
 pub apply_parts-requires-clause-none : goal.apply_parts-requires-clause-none
 apply_parts-requires-clause-none g c = ap (λ (k : KeptState). k.view.facts) c.mark.ensures.same ∙ c.requires.rest.no_facts

@@ -4,7 +4,7 @@ use Rattle.stk_rules.specs.Chain.{State}
 use Rattle.stk_machine.specs.GenesisState.{without_facts}
 use Rattle.stk_machine.specs.Machine.{txs_applied}
 use Rattle.stk_modules.specs.declared.modules.Modules.{Modules}
-use Rattle.stk_modules.specs.Kept.{StandsFor, kept_of}
+use Rattle.stk_modules.specs.Kept.{StandsWhole, kept_of}
 use Rattle.stk_blocks.specs.Answers.{AnswersStep, parts_stepped}
 use Rattle.stk_blocks.proofs.ApplyLemmas.{IsTaken, end_stopped, parts_done, taken_behind, taken_steady}
 use Rattle.stk_blocks.proofs.BlockLemmas.{begin_stops, record_stops}
@@ -13,7 +13,7 @@ use Rattle.stk_blocks.proofs.block.apply_parts.Goals as goal
 pub returns-in-Err-clause-steps : goal.returns-in-Err-clause-steps
 returns-in-Err-clause-steps g c = λ p h.
     subst (λ f. AnswersStep (parts_stepped c.args.block.now p) (kept_of c.begin.new.modules) (Err f)) (sym c.fault_of_hook.ensures)
-    (begin_stops c.args.block.now p (kept_of c.begin.new.modules) (kept_of c.begin.new.modules) StandsFor c.in-Err.fault (c.in-Err.ensures.leads p h))
+    (begin_stops c.args.block.now p (kept_of c.begin.new.modules) (kept_of c.begin.new.modules) StandsWhole c.in-Err.fault (c.in-Err.ensures.leads p h))
 
 pub apply_transactions-requires-clause-steady : goal.apply_transactions-requires-clause-steady
 apply_transactions-requires-clause-steady g c =
@@ -40,7 +40,7 @@ returns-in-Err-end-clause-steps g c = λ p h.
     let applied : Modules = c.apply_transactions.new.modules in
     let t = c.told-begun.ensures in
     let taken : IsTaken begun told = record { none = t.none; bank = t.bank; ctx = t.ctx; stakes = t.stakes; hooks = t.hooks } in
-    let applies = subst (λ (l : List Tx). (q : State) → StandsFor (kept_of told) q → StandsFor (kept_of applied) (without_facts (txs_applied l q).state)) c.as_slice.ensures c.in-Ok.ensures.state in
+    let applies = subst (λ (l : List Tx). (q : State) → StandsWhole (kept_of told) q → StandsWhole (kept_of applied) (without_facts (txs_applied l q).state)) c.as_slice.ensures c.in-Ok.ensures.state in
     subst (λ f. AnswersStep (parts_stepped b p) (kept_of c.end.new.modules) (Err f)) (sym c.fault_of_hook-in-Err-end.ensures)
     (end_stopped b c.args.modules.now begun told applied c.in_default.ensures.leads taken applies c.end.new.modules (kept_of c.end.new.modules) c.in-Err-end.fault c.in-Err-end.ensures.leads p h)
 
@@ -62,7 +62,7 @@ returns-clause-steps g c = λ p h.
     let u = c.told-ended.ensures in
     let taken : IsTaken begun told = record { none = t.none; bank = t.bank; ctx = t.ctx; stakes = t.stakes; hooks = t.hooks } in
     let out : IsTaken ended last = record { none = u.none; bank = u.bank; ctx = u.ctx; stakes = u.stakes; hooks = u.hooks } in
-    let applies = subst (λ (l : List Tx). (q : State) → StandsFor (kept_of told) q → StandsFor (kept_of applied) (without_facts (txs_applied l q).state)) c.as_slice.ensures c.in-Ok.ensures.state in
+    let applies = subst (λ (l : List Tx). (q : State) → StandsWhole (kept_of told) q → StandsWhole (kept_of applied) (without_facts (txs_applied l q).state)) c.as_slice.ensures c.in-Ok.ensures.state in
     parts_done b c.args.modules.now begun told applied c.in_default.ensures.leads taken applies ended last c.in_default-end.ensures.leads out c.told-begun.result c.told-ended.result c.of.result t.facts
     (λ q s. c.of.ensures ∙ subst (λ (l : List Tx). c.in-Ok.txs.items ≡ (txs_applied l q).reports) c.as_slice.ensures (c.in-Ok.ensures.reports q s)) u.facts p h
 

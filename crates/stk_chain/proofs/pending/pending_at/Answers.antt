@@ -13,14 +13,14 @@ use Rattle.stk_chain.proofs.pending.pending_at.Goals as goal
 pub unwrap-requires : goal.unwrap-requires
 unwrap-requires g c =
     let m = c.args.modules.now in
-    let s = c.requires.rest.steady in
+    let s = c.requires.rest in
     let stands : IsSome (validator_at m.stakes.staking.staked c.args.operator.now) = is_known (kept_of m) s.state s.stands c.args.delegator.now c.args.operator.now c.args.shares c.requires.standing in
     sym (is_some-map (λ x. x.now) c.validator.result) ∙ ap is_some c.validator.ensures.value ∙ stands
 
 pub pending-requires-clause-started : goal.pending-requires-clause-started
 pending-requires-clause-started g c =
     let m = c.args.modules.now in
-    let s = c.requires.rest.steady in
+    let s = c.requires.rest in
     let v = c.unwrap.result.now in
     let found : validator_at m.stakes.staking.staked c.args.operator.now ≡ Some v = sym c.validator.ensures.value ∙ ap option_copied c.unwrap.ensures in
     is_started (kept_of m) s.state s.stands c.args.delegator.now c.args.operator.now c.args.shares c.requires.standing v found
@@ -28,7 +28,7 @@ pending-requires-clause-started g c =
 pub pending-requires-clause-shares : goal.pending-requires-clause-shares
 pending-requires-clause-shares g c =
     let m = c.args.modules.now in
-    let s = c.requires.rest.steady in
+    let s = c.requires.rest in
     let v = c.unwrap.result.now in
     let found : validator_at m.stakes.staking.staked c.args.operator.now ≡ Some v = sym c.validator.ensures.value ∙ ap option_copied c.unwrap.ensures in
     has_shares (kept_of m) s.state s.stands c.args.delegator.now c.args.operator.now c.args.shares c.requires.standing v found

@@ -9,10 +9,9 @@ loop-item-init g c = λ p s. c.new-list.ensures.items
 
 pub append_pending-requires-clause-standing : goal.append_pending-requires-clause-standing
 append_pending-requires-clause-standing g c =
-    let steady = c.requires.rest.steady in
     let staked = c.args.modules.now.stakes.staking.staked in
     let items : c.deref-item-items.result.now ≡ items_of staked = ◌∙◌ {A = List Item} c.deref-item-items.ensures.value (◌∙◌ {A = List Item} c.in_ok-items_into.ensures.items (ap (λ (l : List Item). l ++ items_of staked) c.new-items.ensures.items)) in
-    one_stands c.args.modules.now steady c.deref-item-items.result.now c.loop-item.item-index c.item-item.result items c.loop-item-test.true c.item-item.is
+    one_stands c.args.modules.now c.requires.rest c.deref-item-items.result.now c.loop-item.item-index c.item-item.result items c.loop-item-test.true c.item-item.is
 
 pub loop-item-preserved : goal.loop-item-preserved
 loop-item-preserved g c = λ p s.

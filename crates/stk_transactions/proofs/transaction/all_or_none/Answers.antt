@@ -3,7 +3,7 @@ use Rattle.stk_machine.specs.Messages.{effect_of}
 use Rattle.stk_rules.specs.Effects.{effects_of}
 use Rattle.stk_transactions.specs.Answers.{MessagesEnd}
 use Rattle.stk_modules.specs.Kept.{kept_of, kept_over, parts_of}
-use Rattle.stk_modules.proofs.StandLemmas.{stands_same}
+use Rattle.stk_modules.proofs.StandLemmas.{whole_same}
 use Rattle.stk_transactions.proofs.TransactionLemmas.{accepted_ends, undone, refused_ends}
 use Rattle.stk_transactions.proofs.transaction.all_or_none.Goals as goal
 
@@ -17,7 +17,7 @@ returns-in-Ok-Some-clause-ended g c = λ p s.
     let r = effects_of 0 (map effect_of c.args.messages.now) p in
     let left = kept_of c.apply_messages.new.modules in
     refused_ends p r left (kept_over (parts_of back) back.ground.ctx c.cut.new.self) (kept_of old) place why
-    (subst (λ o. MessagesEnd r o left) is (c.in-Ok-Some.ensures.ends p (stands_same (kept_of old) (kept_of c.mark.new.self) p c.mark.ensures.same s)))
+    (subst (λ o. MessagesEnd r o left) is (c.in-Ok-Some.ensures.ends p (whole_same (kept_of old) (kept_of c.mark.new.self) p c.mark.ensures.same s)))
     (undone old c.mark.new.self c.apply_messages.new.modules back c.len-told.result c.cut.new.self c.mark.ensures.same c.in_ok-mark.ensures.opened c.apply_messages.ensures.go_on c.back.ensures.back
     c.back.ensures.ctx c.back.ensures.facts c.len-told.ensures c.cut.ensures)
     s
@@ -29,4 +29,4 @@ returns-in-Ok-None-clause-ended g c = λ p s.
     let r = effects_of 0 (map effect_of c.args.messages.now) p in
     let left = kept_of c.apply_messages.new.modules in
     accepted_ends p r left (kept_of c.forget.new.self)
-    (subst (λ o. MessagesEnd r o left) is (c.in-Ok-None.ensures.ends p (stands_same (kept_of old) (kept_of c.mark.new.self) p c.mark.ensures.same s))) c.forget.ensures.same
+    (subst (λ o. MessagesEnd r o left) is (c.in-Ok-None.ensures.ends p (whole_same (kept_of old) (kept_of c.mark.new.self) p c.mark.ensures.same s))) c.forget.ensures.same

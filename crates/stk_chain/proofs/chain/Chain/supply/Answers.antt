@@ -6,7 +6,7 @@ use Rattle.stk_chain.proofs.ChainLemmas.{backed}
 use Rattle.stk_chain.proofs.chain.Chain.supply.Goals as goal
 
 pub supply_of-requires-clause-backed : goal.supply_of-requires-clause-backed
-supply_of-requires-clause-backed c = backed c.self.inside.modules c.self.invariant.0.steady
+supply_of-requires-clause-backed c = backed c.self.inside.modules c.self.invariant.0
 
 pub returns-clause-coins : goal.returns-clause-coins
 returns-clause-coins c = λ p s.

@@ -1,18 +1,18 @@
-//! Letting go of a chain, one module after the other. What a module holds in its tables is let go of record by record,
-//! so each does it in a function of its own.
+//! Letting go of modules, one after the other. What a module holds in its tables is let go of record by record, so each
+//! does it in a function of its own.
 
+use crate::modules::{Hooks, Modules, Stakes};
 use stk_bank::Book;
 use stk_book::Staking;
 use stk_distr::Distr;
 use stk_keep::{Ground, HookPair};
-use stk_modules::{Hooks, Modules, Stakes};
 use stk_redelegate::Redelegations;
 use stk_slash::Core;
 use stk_unbonding::Unbondings;
 use stk_window::Window;
 
-/// Lets go of all modules.
-pub(crate) fn let_go(modules: Modules) {
+/// Lets go of all modules: a function that owns them does it here, and proves nothing of what they hold.
+pub fn let_go(modules: Modules) {
     let Modules {
         ground,
         stakes,
