@@ -1,0 +1,4 @@
+pub mod HoldLemmas
+pub mod FillLemmas
+pub mod LoadedLemmas
+pub mod NewLemmas
