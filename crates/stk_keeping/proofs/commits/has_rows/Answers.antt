@@ -1,0 +1,13 @@
+use Rattle.std.proofs.Common.{◌≡◌, ◌<◌, length, rules}
+use Rattle.stk_keeping.proofs.Committing.{no_rows, some_rows}
+use Rattle.stk_keeping.proofs.commits.has_rows.Goals as goal
+
+pub returns-then-is_empty-clause-none : goal.returns-then-is_empty-clause-none
+returns-then-is_empty-clause-none g c =
+    let none : length c.in-Ok.rows.items ≡ 0 = search rules in
+    λ e. no_rows c.in-Ok.rows.items _ c.in-Ok.ensures.rows none
+
+pub returns-in-Ok-clause-some : goal.returns-in-Ok-clause-some
+returns-in-Ok-clause-some g c =
+    let some : 0 < length c.in-Ok.rows.items = search rules in
+    λ e. some_rows c.in-Ok.rows.items _ c.in-Ok.ensures.rows some
