@@ -15,6 +15,11 @@ fi
     echo 'stakeplay.sh: the program is not built, or a source is newer: the interpreter runs the sources, which is slow'
     echo 'stakeplay.sh: and proves nothing. To build the program: (cd crates/stakeplay && rt run)'
 } >&2
+# a store is named from where this was called
+case "${1:-}" in
+'' | -* | /*) ;;
+*) set -- "$PWD/$1" "${@:2}" ;;
+esac
 cd "$here/crates/stakeplay" || exit 70
 log="$(mktemp)"
 trap 'rm -f "$log"' EXIT

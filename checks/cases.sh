@@ -2,18 +2,15 @@
 # Runs the program on each case and compares what it writes and how it ends: the cases of cases/, and the examples, which are
 # cases with a page of their own. `checks/cases.sh FOLDER` runs those of one folder. A case is NAME.jsonl (the input),
 # NAME.out (what is written) and NAME.end (the status, and the line on standard error, if there is one).
-# Where the gate built the program and no source has changed since, that program runs; else the kit's interpreter runs the
-# sources once for all cases, proving nothing.
+# Where the gate built the program and no source has changed since, that program runs (or the one that the variable STAKEPLAY
+# names); else the kit's interpreter runs the sources once for all cases, proving nothing.
 set -u
 cd "$(dirname "$0")/.."
 folders=("$@")
 [ $# -gt 0 ] || folders=(cases examples)
-built=crates/stakeplay/out/stakeplay
-if [ -x "$built" ] && [ -z "$(find crates -name out -prune -o -type f \( -name '*.rt' -o -name '*.antt' \) -newer "$built" -print -quit)" ]; then
-    way=built
-else
-    way=sources
-fi
+. checks/program.bash
+way="${built:+built}"
+way="${way:-sources}"
 status=0
 for folder in "${folders[@]}"; do
     run="$(mktemp -d)"
@@ -22,7 +19,7 @@ for folder in "${folders[@]}"; do
         cp "$folder"/*.jsonl "$run/cases/"
         (cd crates/stakeplay && rt try --cases "$run/cases" -- - replay) >"$run/out" 2>"$run/err"
     fi
-    python3 - "$folder" "$run" "$way" "$PWD/$built" <<'PYTHON' || status=1
+    python3 - "$folder" "$run" "$way" "$built" <<'PYTHON' || status=1
 import pathlib, re, subprocess, sys
 
 folder, run, way, program = pathlib.Path(sys.argv[1]), pathlib.Path(sys.argv[2]), sys.argv[3], sys.argv[4]

@@ -6,11 +6,9 @@
 set -u
 cd "$(dirname "$0")/.."
 export PYTHONDONTWRITEBYTECODE=1
-built=crates/stakeplay/out/stakeplay
-newer() { find crates -name out -prune -o -type f \( -name '*.rt' -o -name '*.antt' \) -newer "$built" -print -quit; }
-[ -x "$built" ] && [ -z "$(newer)" ] || built=
+. checks/program.bash
 python3 - "$built" <<'PYTHON'
-import collections, contextlib, functools, io, json, pathlib, re, shutil, subprocess, sys
+import collections, contextlib, functools, io, json, pathlib, subprocess, sys, tempfile
 
 ONE = 10 ** 18
 FACTS = ("transfer burn allocated pooled period started slashed paid commission "
@@ -21,7 +19,9 @@ recipes = examples / "recipes"
 life = (examples / "life.out").read_bytes()
 addresses = [number + "07" * 19 for number in ("01", "02", "03", "09")]
 bad = []
-sys.path.insert(0, str(recipes))
+sys.path[:0] = ["checks", str(recipes)]
+
+import console
 
 
 def ask(holds, text):
@@ -53,11 +53,11 @@ def tried_here(words, given=b""):
     return status, out.getvalue().encode(), err.getvalue()
 
 
-def commands(name):
-    """The recipes with their words, for an output."""
+def commands(name, first="0", last="1"):
+    """The recipes with their words, for an output that reaches from one height to another."""
     some = addresses[2:]
     return [["audit.py", name], ["tax_sheet.py", some[0], name], ["validator_sheet.py", addresses[1], name],
-            ["reconcile.py", "0", "1", name, *some], ["watch.sh", name]]
+            ["reconcile.py", first, last, name, *some], ["watch.sh", name]]
 
 
 def try_all(tries):
@@ -74,22 +74,15 @@ def try_all(tries):
 shown = passed = 0
 headers = {path.name: path.read_text() for path in recipes.iterdir() if path.suffix in (".py", ".sh")}
 page = pathlib.Path("docs/RECIPES.md").read_text()
-for block in re.findall(r"^```console\n(.*?)^```$", page, re.M | re.S):
-    written = block.splitlines(keepends=True)
-    more = next((n for n, line in enumerate(written) if n and not line.startswith("> ")), len(written))
-    command, wanted = "".join(line[2:] for line in written[:more]).strip(), "".join(written[more:])
-    tools = [tool for tool in ("jq", "gnuplot", "pv", "sqlite3") if re.search(rf"\b{tool} ", command)]
-    absent = [tool for tool in tools if not shutil.which(tool)]
+for command, wanted in console.blocks("docs/RECIPES.md"):
+    absent = console.absent_tools(command)
     if absent:
         passed += 1
         print(f"recipes: passed over, since {' and '.join(absent)} is absent: {command}")
         continue
-    _, out, err = ran(["bash", "-c", command])
-    out, shown = out.decode() + err, shown + 1
-    is_front = wanted.endswith("...\n")
-    wanted = wanted.removesuffix("...\n")
-    is_right = out.startswith(wanted) if is_front else out == wanted
-    ask(is_right, f"{command}\n  wrote\n{out}  and the page has\n{wanted}")
+    shown += 1
+    fault = console.fault_of(command, wanted)
+    ask(not fault, fault)
 for name in headers:
     ask(name == "lines.py" or f"examples/recipes/{name}" in page, f"the page does not lead to {name}")
     has_header = "Who wants it:" in headers[name] and "One command:" in headers[name]
@@ -100,6 +93,27 @@ for words in commands(str(examples / "life.out"))[:2]:
     ask(has_front, f"the header of {words[0]} has not the first lines of what comes out")
 
 # ---- whole outputs, and outputs that are not
+
+
+def tries_over_a_store():
+    """What the recipes are to say of a run that was stopped and resumed, of its rest alone, and of answers to questions."""
+    given = (examples / "life.jsonl").read_bytes().splitlines(keepends=True)
+    asked = [["supply"], ["validators"], ["account", addresses[2]], ["rewards", addresses[2]], ["delegations", addresses[2]],
+             ["validator", addresses[1]], ["signing", addresses[1]], ["pool"]]
+    if not built:
+        print("recipes: what is resumed and asked is passed over, since the program is not built")
+        return []
+    with tempfile.TemporaryDirectory() as room:
+        store = [built, f"{room}/store"]
+        begun, rest = ran([*store, "replay"], b"".join(given[:3]))[1], ran([*store, "resume"], b"".join(given[3:]))[1]
+        answers = {f"the answer to {' '.join(words)}": ran([*store, "query", *words])[1] for words in asked}
+    ask(b"".join(line for line in begun.splitlines(keepends=True) if b'"height"' in line) + rest == life,
+        "a run of the example that is resumed does not write what one whole run does")
+    outputs = {"a run that was resumed": (begun + rest, "0"), "the rest of a run": (rest, "3")}
+    return ([(words, output, 0, name) for name, (output, first) in outputs.items() for words in commands("-", first, "5")]
+            + [(words, answer, 0, name) for name, answer in answers.items() if answer for words in commands("-")
+               if words[0] != "reconcile.py"])
+
 
 tries = []
 for end in sorted(examples.glob("*.end")):
@@ -124,7 +138,7 @@ broken = {"cut in a line": life[:3000], "cut between lines": b"".join(texts[:40]
 tries += [(words, given, 2, f"output that is {name}") for name, given in broken.items() for words in commands("-")]
 tries += [(words, given, 0, name) for name, given in whole_reports.items() for words in commands("-")
           if words[0] != "reconcile.py" or "continuation" in name]
-tried = try_all(tries)
+tried = try_all(tries + tries_over_a_store())
 answer = b"".join(text for text in texts if b'"kind":"account"' in text)
 following = whole_reports["an output and its continuation"][len(life):]
 status, out, err = tried_here(["reconcile.py", "5", "6", "-", *addresses], answer + following)

@@ -8,7 +8,7 @@ cd "$(dirname "$0")/.."
 bad=0
 # crates of laws and rows alone, which have no body that could be wrong (as those of tests alone, by their names), and the
 # program, whose body is one call
-no_edits=" stk_rules stk_rule_rows stk_bracket stk_owed stk_decided stk_reached stk_machine stk_histories stk_bracket_rows stk_summary_rows stk_generated stakeplay "
+no_edits=" stk_rules stk_rule_rows stk_bracket stk_owed stk_decided stk_kept stk_itemized stk_reached stk_machine stk_histories stk_bracket_rows stk_summary_rows stk_generated stakeplay "
 wrong_bodies="invents_overflow|rounds_exact_quotient|cuts_slash_fraction|starts_after_removal|skips_slash_at_start|drops_slash_reference"
 wrong_bodies="$wrong_bodies|keeps_dead_records|drops_the_dust|burns_from_bonded|hides_a_burn|keeps_refused_reward|writes_before_commit"
 wrong_bodies="$wrong_bodies|sorts_all_validators|invents_(read|write|store)_fault|invents_not_found|restarts_from_genesis"

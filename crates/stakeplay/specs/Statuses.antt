@@ -4,7 +4,7 @@ use Rattle.stk_msgs.specs.declared.faults.BlockFault.{BlockFault}
 use Rattle.stk_msgs.specs.declared.faults.BlockFault.TheVariants as block
 use Rattle.stk_app.specs.declared.status.InputFault.TheVariants as input
 use Rattle.stk_app.specs.declared.status.Status.{Status}
-use Rattle.stk_app.specs.declared.status.Status.TheVariants.{Done, Usage, BadInput, Limit, ReadFault, WriteFault, NoMemory}
+use Rattle.stk_app.specs.declared.status.Status.TheVariants.{Done, Usage, BadInput, Limit, ReadFault, WriteFault, KeepFault, NoMemory, BadStore, WrongStore, NotFound}
 
 -- The number by which the process ends, for each status.
 abbrev pub status_number : Status → ℕ
@@ -14,7 +14,11 @@ status_number (BadInput line fault) = 2
 status_number (Limit line kind) = 3
 status_number ReadFault = 4
 status_number WriteFault = 5
+status_number KeepFault = 6
 status_number NoMemory = 7
+status_number BadStore = 8
+status_number (WrongStore is_empty) = 9
+status_number NotFound = 10
 
 -- The number by which a block's fault is named.
 abbrev pub number_of_fault : BlockFault → ℕ

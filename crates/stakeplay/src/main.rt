@@ -1,18 +1,21 @@
 //! `stakeplay STORE WORDS`: replays the accounting of a chain from standard input to standard
-//! output, or writes input that it generates. STORE is `-`, since no store is built yet, and WORDS is `replay`,
-//! `gen SEED COUNT` or `trial SEED COUNT`.
+//! output, or writes input that it generates. STORE is the path of a database file, in which the chain's rows are kept,
+//! or `-`, and then they are kept in memory. WORDS is `replay`, `gen SEED COUNT` or `trial SEED COUNT`.
 #![tactic(auto)]
 
 ghost use Rattle.std.specs.Prelude.{◌≡◌};
+ghost use Rattle.stk_keeping.specs.Held.{TakesDistinct};
 ghost use Rattle.stakeplay.specs.Statuses.{fault_number, line_number, status_number, number_of_fault};
 
+use sqlite::Unknown;
 use std::alloc::Global;
 use std::env::{self, Env};
 use std::io::ErrorKind;
 use std::process::ExitCode;
 use stk_app::{InputFault, LimitKind, Status, run};
-use stk_io::{StdSink, StdSource};
+use stk_io::{KeepFault, Keeper, StdSink, StdSource, SureKeeper};
 use stk_msgs::BlockFault;
+use stk_store::SqlKeeper;
 
 /// The number by which the process ends.
 fn number_of(status: &Status) -> u8
@@ -25,7 +28,11 @@ fn number_of(status: &Status) -> u8
         Status::Limit(_, _) => 3,
         Status::ReadFault => 4,
         Status::WriteFault => 5,
+        Status::KeepFault => 6,
         Status::NoMemory => 7,
+        Status::BadStore => 8,
+        Status::WrongStore(_) => 9,
+        Status::NotFound => 10,
     }
 }
 
@@ -87,14 +94,35 @@ fn words(rt: &(impl Env + Alloc<A = Global>)) -> Result<Vec<String>, Status> {
     Ok(words)
 }
 
+/// Carries out a command over standard input and output, and this keeper.
+fn serve<D: Keeper>(rt: &HostRuntime, command: &[String], keeper: &mut D) -> Status
+    requires { TakesDistinct (D.takes keeper.old) }
+{
+    let mut source = StdSource::new(rt.stdin());
+    let mut sink = StdSink::new(rt.stdout());
+    run(rt.alloc(), command, &mut source, &mut sink, keeper)
+}
+
+/// Carries out a command over the store of this name.
+fn serve_from(rt: &HostRuntime, store: &str, command: &[String]) -> Status {
+    if store == "-" {
+        let mut keeper = SureKeeper::new(rt.alloc(), Vec::new(rt.alloc()));
+        return serve(rt, command, &mut keeper);
+    }
+    if store.starts_with("-") {
+        return Status::Usage;
+    }
+    match SqlKeeper::open(rt, store, Unknown) {
+        Ok(mut keeper) => serve(rt, command, &mut keeper),
+        Err(KeepFault::Failed) => Status::KeepFault,
+        Err(KeepFault::NoMemory) => Status::NoMemory,
+    }
+}
+
 fn main(rt: HostRuntime) -> ExitCode {
     let status = match words(&rt) {
         Ok(words) => match words.as_slice() {
-            [_, store, command @ ..] if store.as_str() == "-" => {
-                let mut source = StdSource::new(rt.stdin());
-                let mut sink = StdSink::new(rt.stdout());
-                run(rt.alloc(), command, &mut source, &mut sink)
-            }
+            [_, store, command @ ..] => serve_from(&rt, store.as_str(), command),
             _ => Status::Usage,
         },
         Err(status) => status,
@@ -126,7 +154,12 @@ fn main(rt: HostRuntime) -> ExitCode {
         ),
         Status::ReadFault => eprintln!(rt; "stakeplay: read fault"),
         Status::WriteFault => eprintln!(rt; "stakeplay: write fault"),
+        Status::KeepFault => eprintln!(rt; "stakeplay: store fault"),
         Status::NoMemory => eprintln!(rt; "stakeplay: no memory"),
+        Status::BadStore => eprintln!(rt; "stakeplay: bad store"),
+        Status::WrongStore(true) => eprintln!(rt; "stakeplay: store is empty"),
+        Status::WrongStore(false) => eprintln!(rt; "stakeplay: store is not empty"),
+        Status::NotFound => eprintln!(rt; "stakeplay: not found"),
     };
     ExitCode::from(number_of(&status))
 }

@@ -1,5 +1,5 @@
 -- Answers of a chain to lines, from the states for which it stands.
-use Rattle.std.proofs.Common.{◌≡◌, ◌∙◌, inl, ℕ, ◌≤◌, false, nat_lt, List, [], ◌++◌, length, Option, Some, None, Result, Ok, Err, OnOk, IfErr, IfSome, refl, sym, ap, subst, arith}
+use Rattle.std.proofs.Common.{◌≡◌, ◌∙◌, inl, inr, ℕ, ◌≤◌, false, nat_lt, List, [], ◌++◌, length, Option, Some, None, Result, Ok, Err, OnOk, IfErr, IfSome, refl, sym, ap, subst, arith}
 use Rattle.std.proofs.lemmas.List.{append-nil}
 use Rattle.stk_io.specs.Outside.{IsPart, AddsPart, Stays}
 use Rattle.stk_keep.specs.declared.facts.Fact.{Fact}
@@ -30,7 +30,10 @@ use Rattle.stk_app.specs.declared.status.EndStop.TheVariants as ends
 use Rattle.stk_app.specs.declared.status.InputFault.TheVariants as input
 use Rattle.stk_app.specs.Machine.{Standing, Answer, StandsAt, AnswersTo, longest, not_read, begun, told, started_answer, genesis_answer, not_applied, applied_answer, block_answer, answer_within, line_answer, report_of}
 use Rattle.stk_app.specs.Runs.{ran_report, Reported}
-use Rattle.stk_app.specs.Parts.{IsFault, NotAnswered, Grows, Took, Finishes, FinishStops}
+use Rattle.stk_io.specs.declared.keeper.KeepFault.{KeepFault}
+use Rattle.stk_io.specs.declared.keeper.KeepFault.TheVariants as keep
+use Rattle.stk_app.specs.Parts.{IsFault, NotAnswered, Grows, Took, Finishes, FinishStops, not_kept}
+use Rattle.stk_app.proofs.PartLemmas.{untold}
 
 -- an answer of this text, after which this state stands
 abbrev answer_of : List ℕ → State → Result Answer Stop
@@ -44,7 +47,7 @@ started_with g r = Ok (told (begun g r))
 
 -- a genesis that starts a chain is answered by its supply, and the chain stands for its state
 pub begins : (n : ℕ) (line : List ℕ) (g : Genesis) (facts : List Fact) (x : Chained) (coins : Money) (text : List ℕ) → genesis_of line ≡ Ok g → start_condition g ≡ None → Starts g facts x.kept
-    → ((p : State) → StandsFor x.kept p → coins ≡ p.view.bank.supplies) → text ≡ text_of_genesis coins → AnswersTo (genesis_answer n (genesis_of line)) text (Some x)
+    → ((p : State) → StandsFor x.kept p → coins ≡ p.view.bank.supplies) → text ≡ text_of_genesis coins → AnswersTo (genesis_answer n (genesis_of line)) text (StandsAt (Some x))
 begins n line g facts x coins text read none starts supply is = (
   Some starts.0,
   ap (genesis_answer n) read
@@ -63,31 +66,34 @@ fits n s line short =
     let e : nat_lt longest (length line) ≡ false = grind (arith, short) in
     rw e refl
 
--- and has the faults that its reading has
-not_answered : (why : Stop) (n : ℕ) (s : Standing) (line : List ℕ) (due : Result Answer Stop) → line_answer n s line ≡ due → IsFault why due → NotAnswered why n s line
-not_answered (stop.BadInput m fault) n s line due e h = e ∙ h
-not_answered (stop.Long m) n s line due e h = absurd h
-not_answered (stop.Ratio m over) n s line due e h = e ∙ h
-not_answered stop.Write n s line due e h = absurd h
-not_answered stop.NoMemory n s line due e h = tt
+-- the first line is answered as its genesis
+pub first_fits : (n : ℕ) (s : Standing) (line : List ℕ) → StandsAt None s → length line ≤ longest → line_answer n s line ≡ genesis_answer n (genesis_of line)
+first_fits n s line none short = fits n s line short ∙ ap (λ (x : Standing). answer_within n x line) none
 
--- the first line has the faults of its genesis
-pub first_faulted : (why : Stop) (n : ℕ) (s : Standing) (line : List ℕ) → StandsAt None s → length line ≤ longest → IsFault why (genesis_answer n (genesis_of line)) → NotAnswered why n s line
-first_faulted why n s line none short h =
-    not_answered why n s line (genesis_answer n (genesis_of line)) (fits n s line short ∙ ap (λ (x : Standing). answer_within n x line) none) h
+-- a line behind it as its block
+pub block_fits : (n : ℕ) (p : State) (line : List ℕ) → length line ≤ longest → line_answer n (Some p) line ≡ block_answer n p (block_of line)
+block_fits n p line short = fits n (Some p) line short
 
--- a line after the genesis is answered as its block
-pub block_answered : {A : Type 0} (r : Result A Stop) (n : ℕ) (x : Chained) (s : Standing) (line text : List ℕ) (chain : Option Chained) → StandsAt (Some x) s → length line ≤ longest
-    → ((p : State) → StandsFor x.kept p → OnOk r (AnswersTo (block_answer n p (block_of line)) text chain)) → OnOk r (AnswersTo (line_answer n s line) text chain)
-block_answered r n x None line text chain stood short h = absurd stood
-block_answered r n x (Some p) line text chain stood short h = subst (λ (due : Result Answer Stop). OnOk r (AnswersTo due text chain)) (sym (fits n (Some p) line short)) (h p stood)
+-- a fault of the line is why it is not answered
+pub faulted : (L : Standing → Standing → Type 0) (why : Stop) (s : Standing) (due : Result Answer Stop) → IsFault why due → L s s → NotAnswered L why s due
+faulted L (stop.BadInput m fault) s due h left = (h, left)
+faulted L (stop.Long m) s due h left = absurd h
+faulted L (stop.Ratio m over) s due h left = (h, left)
+faulted L stop.Write s due h left = absurd h
+faulted L stop.Keep s due h left = absurd h
+faulted L stop.NoMemory s due h left = inl left
 
--- and has the faults of its block
-pub block_faulted : {A : Type 0} (r : Result A Stop) (n : ℕ) (x : Chained) (s : Standing) (line : List ℕ) → StandsAt (Some x) s → length line ≤ longest
-    → ((p : State) → StandsFor x.kept p → IfErr r (λ why. IsFault why (block_answer n p (block_of line)))) → IfErr r (λ why. NotAnswered why n s line)
-block_faulted r n x None line stood short h = absurd stood
-block_faulted (Ok a) n x (Some p) line stood short h = tt
-block_faulted (Err why) n x (Some p) line stood short h = not_answered why n (Some p) line (block_answer n p (block_of line)) (fits n (Some p) line short) (h p stood)
+-- so is a commit that failed
+pub unkept : (L : Standing → Standing → Type 0) (why : KeepFault) (s : Standing) (due : Result Answer Stop) (a : Answer) → due ≡ Ok a → L s a.standing → NotAnswered L (not_kept why) s due
+unkept L keep.Failed s due a is left = (a, is, left)
+unkept L keep.NoMemory s due a is left = inr (a, is, left)
+
+-- the same of a line as of what it is read as
+pub same_answer : (L : Standing → Standing → Type 0) (why : Stop) (s : Standing) (due due' : Result Answer Stop) → due' ≡ due → NotAnswered L why s due → NotAnswered L why s due'
+same_answer L why s due due' e h = subst (NotAnswered L why s) (sym e) h
+
+pub same_answers : {A : Type 0} (r : Result A Stop) (due due' : Result Answer Stop) (text : List ℕ) (P : Standing → Type 0) → due' ≡ due → OnOk r (AnswersTo due text P) → OnOk r (AnswersTo due' text P)
+same_answers r due due' text P e h = subst (λ (d : Result Answer Stop). OnOk r (AnswersTo d text P)) (sym e) h
 
 -- ---- blocks
 
@@ -103,7 +109,7 @@ answered_by n line b p r read steps = ap (block_answer n p) read ∙ ap (applied
 
 -- a block that is applied is answered by its report, and what is kept stands for the state after it
 pub steps_on : (n : ℕ) (line : List ℕ) (b : Block) (p : State) (report : BlockReport) (new : Chained) (text : List ℕ) → block_of line ≡ Ok b → Applies b p new.kept (Ok report)
-    → text ≡ text_of_block report → AnswersTo (block_answer n p (block_of line)) text (Some new)
+    → text ≡ text_of_block report → AnswersTo (block_answer n p (block_of line)) text (StandsAt (Some new))
 steps_on n line b p report new text read steps is = (
   Some steps.0,
   answered_by n line b p (Ok (record { report = report; state = steps.0 })) read steps.1
@@ -132,9 +138,9 @@ grown w w' text text' same wrote = λ old held.
     h ∙ ap (λ (t : List ℕ). Some (old ++ t)) same
 
 -- a line was answered, and its text written
-pub took_on : (n : ℕ) (s : Standing) (line text text' : List ℕ) (chain : Option Chained) (w w' : Option (List ℕ)) → AnswersTo (line_answer n s line) text chain → text' ≡ text → IfSome w (λ (bytes : List ℕ). w' ≡ Some (bytes ++ text'))
-    → (next : Standing) × Took n s line next w w' × StandsAt chain next
-took_on n s line text text' chain w w' answers same wrote = (answers.0, (text, answers.1, grown w w' text text' same wrote), answers.2)
+pub took_on : (n : ℕ) (s : Standing) (line text text' : List ℕ) (P : Standing → Type 0) (w w' : Option (List ℕ)) → AnswersTo (line_answer n s line) text P → text' ≡ text → IfSome w (λ (bytes : List ℕ). w' ≡ Some (bytes ++ text'))
+    → (next : Standing) × Took n s line next w w' × P next
+took_on n s line text text' P w w' answers same wrote = (answers.0, (text, answers.1, grown w w' text text' same wrote), answers.2)
 
 -- ---- the report
 
@@ -144,9 +150,9 @@ none_yet None s h stood = stood
 none_yet (Some x) s h stood = absurd (h x refl)
 
 -- before the genesis there is none
-pub lacking : (s : Standing) (w : Option (List ℕ)) → StandsAt None s → FinishStops 1 s [] w w (ends.Lacking 1 input.Missing)
+pub lacking : (s : Standing) (w : Option (List ℕ)) → StandsAt None s → FinishStops untold 1 s [] w w (ends.Lacking 1 input.Missing)
 unfolding report_of
-lacking s w none = λ old held. ([], held ∙ ap Some (sym (append-nil old)), record { end = s; answered = (refl, refl); fault_is = ap report_of none })
+lacking s w none = λ old held. ([], held ∙ ap Some (sym (append-nil old)), record { end = s; answered = (refl, refl); fault_is = ap report_of none; left = tt })
 
 -- the report of a chain is that of the state for which it stands
 reported_at : (x : Chained) (s : Standing) (text : List ℕ) → StandsAt (Some x) s → ((p : State) → StandsFor x.kept p → report_of (Some p) ≡ Ok text) → report_of s ≡ Ok text
@@ -154,7 +160,7 @@ reported_at x None text stood reports = absurd stood
 reported_at x (Some p) text stood reports = reports p stood
 
 module _ (x : Chained) (s : Standing) (text text' : List ℕ) (stood : StandsAt (Some x) s) (reports : (p : State) → StandsFor x.kept p → report_of (Some p) ≡ Ok text) (same : text' ≡ text) where
-  part : (front : List ℕ) → IsPart front text' → Reported 1 s [] front
+  part : (front : List ℕ) → IsPart front text' → Reported untold 1 s [] front
   part front p = record {
     end = s;
     done = [];
@@ -164,15 +170,16 @@ module _ (x : Chained) (s : Standing) (text text' : List ℕ) (stood : StandsAt 
     report_is = reported_at x s text stood reports;
     part = subst (IsPart front) same p;
     text_is = refl;
+    left = tt;
   }
 
   -- a part of it was written
-  pub report_failed : (w w' : Option (List ℕ)) → AddsPart w w' text' → FinishStops 1 s [] w w' ends.Report
+  pub report_failed : (w w' : Option (List ℕ)) → AddsPart w w' text' → FinishStops untold 1 s [] w w' ends.Report
   report_failed w w' adds = λ old at. let a = adds old at in (a.0, a.2, part a.0 a.1)
 
-  pub report_full : (w w' : Option (List ℕ)) → AddsPart w w' text' → FinishStops 1 s [] w w' ends.NoMemory
+  pub report_full : (w w' : Option (List ℕ)) → AddsPart w w' text' → FinishStops untold 1 s [] w w' ends.NoMemory
   report_full w w' adds = λ old at. let a = adds old at in (a.0, a.2, inl (part a.0 a.1))
 
   -- all of it was written
-  pub report_written : (w w1 w' : Option (List ℕ)) → IfSome w (λ (bytes : List ℕ). w1 ≡ Some (bytes ++ text')) → Stays w1 w' → Finishes 1 s [] w w'
-  report_written w w1 w' wrote stays = (text, ap ran_report (reported_at x s text stood reports), λ old at. stays (old ++ text) (grown w w1 text text' same wrote old at))
+  pub report_written : (w w1 w' : Option (List ℕ)) → IfSome w (λ (bytes : List ℕ). w1 ≡ Some (bytes ++ text')) → Stays w1 w' → Finishes untold 1 s [] w w'
+  report_written w w1 w' wrote stays = (text, record { end = s; done = []; answered = (refl, refl); ran = ap ran_report (reported_at x s text stood reports); left = tt }, λ old at. stays (old ++ text) (grown w w1 text text' same wrote old at))

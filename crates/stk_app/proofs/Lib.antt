@@ -8,5 +8,12 @@ pub mod SoundLemmas
 pub mod WholeLemmas
 pub mod ReportLemmas
 pub mod AnswerLemmas
+pub mod AskingLemmas
+pub mod KeepLemmas
 pub mod LineLemmas
 pub mod ModeLemmas
+pub mod ResumeLemmas
+pub mod CommandLemmas
+pub mod StopLemmas
+pub mod RestLemmas
+pub mod OnwardLemmas

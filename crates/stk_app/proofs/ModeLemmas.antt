@@ -1,6 +1,6 @@
--- How runs end of the commands that generate their input.
-use Rattle.std.proofs.Common.{◌≡◌, ◌∙◌, ◌⊎◌, inl, inr, ap, sym, subst, refl, arith, ℕ, ◌≤◌, ◌&&◌, nat_le, Bool, true, false, List, [], ◌∷◌, ◌++◌, append-nil, bytes_eq, codes, Option, Some, None, Result, Ok, Err, if◌then◌else◌}
-use Rattle.std.specs.Prelude.{IsErrOf, OnErr, OnOk, option_and_then, ⊤}
+-- How a run of each command ends.
+use Rattle.std.proofs.Common.{◌≡◌, ◌∙◌, ◌⊎◌, inl, inr, ap, sym, subst, refl, arith, ℕ, ◌≤◌, ◌&&◌, nat_le, Bool, true, false, true≢false, List, [], ◌∷◌, ◌++◌, append-nil, bytes_eq, codes, Option, Some, None, Result, Ok, Err, if◌then◌else◌}
+use Rattle.std.specs.Prelude.{IsErrOf, IsSome, OnErr, OnOk, option_and_then, option_map, ⊤}
 use Rattle.stk_io.specs.declared.outside.SinkFault.{SinkFault}
 use Rattle.stk_io.specs.declared.outside.SinkFault.TheVariants as sink
 use Rattle.stk_io.specs.Faults.{UnlessFailed}
@@ -15,15 +15,19 @@ use Rattle.stk_trial.specs.declared.fault.TrialFault.{TrialFault}
 use Rattle.stk_trial.specs.declared.fault.TrialFault.TheVariants as trial
 use Rattle.stk_trial.specs.Trying.{IsTrialFault}
 use Rattle.stk_words.specs.declared.mode.Mode.{Mode}
-use Rattle.stk_words.specs.declared.mode.Mode.TheVariants.{Replay, Gen, Trial}
-use Rattle.stk_words.specs.Words.{begins_with_zero, count_of, mode_of, seed_of, with_input}
+use Rattle.stk_words.specs.declared.mode.Mode.TheVariants.{Replay, Resume, Query, Gen, Trial}
+use Rattle.stk_report.specs.declared.question.Query.{Query as Question}
+use Rattle.stk_words.specs.Questions.{address_asked, kind_asked}
+use Rattle.stk_words.specs.Words.{alone, begins_with_zero, count_of, generating, mode_of, seed_of, with_input, with_word, with_words}
 use Rattle.stk_app.specs.declared.status.Status.{Status}
-use Rattle.stk_app.specs.declared.status.Status.TheVariants.{Done, Usage, BadInput, Limit, ReadFault, WriteFault, NoMemory}
+use Rattle.stk_app.specs.declared.status.Status.TheVariants.{Done, Usage, BadInput, Limit, ReadFault, WriteFault, KeepFault, NoMemory, BadStore, WrongStore, NotFound}
 use Rattle.stk_app.specs.Machine.{not_applied}
-use Rattle.stk_app.specs.Modes.{Adds, HasFewBlocks, IsTried, IsUntroubledAt, IsWritten, ModeEnds, Tries, Writes, status_of_sink}
-use Rattle.stk_app.specs.Outcome.{RunEnds, UnlessWriteFault}
+use Rattle.stk_io.specs.Rows.{Makes, Pair}
+use Rattle.stk_app.specs.Kept.{AreLeft, AreSome, AreUntouched, IsUnbegun, UnlessKeepFault}
+use Rattle.stk_app.specs.Modes.{HasFewBlocks, IsTried, Tries}
+use Rattle.stk_app.specs.Outcome.{UnlessReadFault, UnlessWriteFault}
 use Rattle.stk_app.specs.Parts.{status_of}
-use Rattle.stk_app.proofs.DriveLemmas.{untroubled_run}
+use Rattle.stk_app.specs.Writes.{Adds, IsWritten, Leaves, Writes, status_of_sink}
 
 -- ---- a text that is written
 
@@ -42,6 +46,11 @@ read_so (Ok done) e = absurd cc
 read_so (Err sink.Failed) e = absurd cc
 read_so (Err sink.NoMemory) e = absurd cc
 
+pub keep_so : (r : Result ⊤ SinkFault) → status_of_sink r ≡ KeepFault → ⊥
+keep_so (Ok done) e = absurd cc
+keep_so (Err sink.Failed) e = absurd cc
+keep_so (Err sink.NoMemory) e = absurd cc
+
 pub clean_so : (r : Result ⊤ SinkFault) (P : Type 0) → OnOk r P → status_of_sink r ≡ Done → P
 clean_so (Ok done) P h e = h
 clean_so (Err sink.Failed) P h e = absurd cc
@@ -58,7 +67,7 @@ quiet_so (Err sink.Failed) P h = tt
 quiet_so (Err sink.NoMemory) P h = h
 
 -- nothing was written
-nothing : (w : Option (List ℕ)) (P : List ℕ → Type 0) → P [] → Adds w w P
+pub nothing : (w : Option (List ℕ)) (P : List ℕ → Type 0) → P [] → Adds w w P
 nothing w P p old o = ([], o ∙ ap Some (sym (append-nil old)), p)
 
 -- ---- a block's fault
@@ -71,7 +80,11 @@ IsOfBlock (BadInput n fault) = Unit {0}
 IsOfBlock (Limit n kind) = Unit {0}
 IsOfBlock ReadFault = ⊥
 IsOfBlock WriteFault = ⊥
+IsOfBlock KeepFault = ⊥
 IsOfBlock NoMemory = Unit {0}
+IsOfBlock BadStore = ⊥
+IsOfBlock (WrongStore is_empty) = ⊥
+IsOfBlock NotFound = ⊥
 
 pub of_block : (n : ℕ) (f : BlockFault) → IsOfBlock (status_of (not_applied n f))
 of_block n (why.BadHeight due) = tt
@@ -87,14 +100,46 @@ of_block n why.NoMemory = tt
 pub not_so : (n : ℕ) (f : BlockFault) (s : Status) → (IsOfBlock s → ⊥) → status_of (not_applied n f) ≡ s → ⊥
 not_so n f s other e = other (subst IsOfBlock e (of_block n f))
 
-quiet_at : (s : Status) (P : Type 0) → P → UnlessWriteFault s P
+pub quiet_at : (s : Status) (P : Type 0) → P → UnlessWriteFault s P
 quiet_at Done P p = p
 quiet_at Usage P p = p
 quiet_at (BadInput n fault) P p = p
 quiet_at (Limit n kind) P p = p
 quiet_at ReadFault P p = p
 quiet_at WriteFault P p = tt
+quiet_at KeepFault P p = p
 quiet_at NoMemory P p = p
+quiet_at BadStore P p = p
+quiet_at (WrongStore is_empty) P p = p
+quiet_at NotFound P p = p
+
+-- the same of a run that did not call its source
+pub quiet_read : (s : Status) (P : Type 0) → P → UnlessReadFault s P
+quiet_read Done P p = p
+quiet_read Usage P p = p
+quiet_read (BadInput n fault) P p = p
+quiet_read (Limit n kind) P p = p
+quiet_read ReadFault P p = tt
+quiet_read WriteFault P p = p
+quiet_read KeepFault P p = p
+quiet_read NoMemory P p = p
+quiet_read BadStore P p = p
+quiet_read (WrongStore is_empty) P p = p
+quiet_read NotFound P p = p
+
+-- the same of a run that did not call its keeper
+pub quiet_keep : (s : Status) (P : Type 0) → P → UnlessKeepFault s P
+quiet_keep Done P p = p
+quiet_keep Usage P p = p
+quiet_keep (BadInput n fault) P p = p
+quiet_keep (Limit n kind) P p = p
+quiet_keep ReadFault P p = p
+quiet_keep WriteFault P p = p
+quiet_keep KeepFault P p = tt
+quiet_keep NoMemory P p = p
+quiet_keep BadStore P p = p
+quiet_keep (WrongStore is_empty) P p = p
+quiet_keep NotFound P p = p
 
 pub quiet_block : (n : ℕ) (f : BlockFault) (P : Type 0) → P → UnlessWriteFault (status_of (not_applied n f)) P
 quiet_block n f P p = quiet_at (status_of (not_applied n f)) P p
@@ -142,53 +187,95 @@ input_is_few form h (Some s) (Some n) m few e = subst FewIn e (h s n (few n refl
 input_is_few form h (Some s) None m few e = absurd cc
 input_is_few form h None c m few e = absurd cc
 
-pub few_blocks : (words : List (List ℕ)) (m : Mode) → mode_of words ≡ Some m → HasFewBlocks m
-few_blocks [] m e = absurd cc
-few_blocks (name ∷ []) m e = by (bytes_eq name (codes "replay")) e
+few_alone : (name : List ℕ) (m : Mode) → alone name ≡ Some m → HasFewBlocks m
+few_alone name m e = by (bytes_eq name (codes "replay")) (bytes_eq name (codes "resume")) e
   where
-    by : (b : Bool) → (if b then Some Replay else None) ≡ Some m → HasFewBlocks m
-    by true f = subst FewIn f tt
+    by : (b d : Bool) → (if b then Some Replay else (if d then Some Resume else None)) ≡ Some m → HasFewBlocks m
+    by true d f = subst FewIn f tt
+    by false true f = subst FewIn f tt
+    by false false f = absurd cc
+
+few_asked : (o : Option Question) (m : Mode) → option_map Query o ≡ Some m → HasFewBlocks m
+few_asked (Some what) m e = subst FewIn e tt
+few_asked None m e = absurd cc
+
+few_with_word : (name what : List ℕ) (m : Mode) → with_word name what ≡ Some m → HasFewBlocks m
+few_with_word name what m e = by (bytes_eq name (codes "query")) e
+  where
+    by : (b : Bool) → (if b then option_map Query (kind_asked what) else None) ≡ Some m → HasFewBlocks m
+    by true f = few_asked (kind_asked what) m f
     by false f = absurd cc
-few_blocks (name ∷ seed ∷ []) m e = absurd cc
-few_blocks (name ∷ seed ∷ count ∷ []) m e = by (bytes_eq name (codes "gen")) (bytes_eq name (codes "trial")) e
+
+few_generated : (name seed count : List ℕ) (m : Mode) → generating name seed count ≡ Some m → HasFewBlocks m
+few_generated name seed count m e = by (bytes_eq name (codes "gen")) (bytes_eq name (codes "trial")) e
   where
     by : (b d : Bool) → (if b then with_input Gen (seed_of seed) (count_of count) else (if d then with_input Trial (seed_of seed) (count_of count) else None)) ≡ Some m → HasFewBlocks m
     by true d f = input_is_few Gen (λ s n h. h) (seed_of seed) (count_of count) m (count_is_few count) f
     by false true f = input_is_few Trial (λ s n h. h) (seed_of seed) (count_of count) m (count_is_few count) f
     by false false f = absurd cc
-few_blocks (name ∷ seed ∷ count ∷ other ∷ others) m e = absurd cc
+
+few_with_words : (name first second : List ℕ) (m : Mode) → with_words name first second ≡ Some m → HasFewBlocks m
+few_with_words name first second m e = by (bytes_eq name (codes "query")) e
+  where
+    by : (b : Bool) → (if b then option_map Query (address_asked first second) else generating name first second) ≡ Some m → HasFewBlocks m
+    by true f = few_asked (address_asked first second) m f
+    by false f = few_generated name first second m f
+
+pub few_blocks : (words : List (List ℕ)) (m : Mode) → mode_of words ≡ Some m → HasFewBlocks m
+few_blocks [] m e = absurd cc
+few_blocks (name ∷ []) m e = few_alone name m e
+few_blocks (name ∷ what ∷ []) m e = few_with_word name what m e
+few_blocks (name ∷ first ∷ second ∷ []) m e = few_with_words name first second m e
+few_blocks (name ∷ first ∷ second ∷ other ∷ others) m e = absurd cc
 
 -- ---- runs that do not begin
 
--- before anything is taken, a run may end where memory is wanting, and leaves all as it was
-pub ends_unbegun : (o : Option Mode) (left w : Option (List ℕ)) → ModeEnds o left left w w NoMemory
-ends_unbegun None left w = (refl, nothing w _ refl)
-ends_unbegun (Some Replay) left w = λ input old l o.
-    ([], input, [], refl, l, o ∙ ap Some (sym (append-nil old)), (omega arith, inl ([], inl refl, inr (record { before = []; after = []; middle = None; lines_are = refl; answered = (refl, refl) }))))
-ends_unbegun (Some (Gen seed count)) left w = (refl, nothing w _ (record { rest = generated_text seed count; text_is = refl }))
-ends_unbegun (Some (Trial seed count)) left w = (refl, tried_without_memory (trial_of seed count) w)
+-- nothing was taken or written
+pub nothing_done : (left w : Option (List ℕ)) → Leaves left left w w (λ text. text ≡ [])
+nothing_done left w = (refl, nothing w _ refl)
 
-pub ends_unasked : (o : Option Mode) (left w : Option (List ℕ)) → o ≡ None → ModeEnds o left left w w Usage
-ends_unasked o left w e = subst (λ p. ModeEnds p left left w w Usage) (sym e) (refl, nothing w _ refl)
+pub rows_left : (rows rows' : Option (List Pair)) (honest' : Type 0) (leaves leaves' : List Pair → Type 0) → Makes (λ before. before) rows rows' → (honest' → (left : List Pair) → leaves' left → leaves left) → AreLeft rows rows' honest' leaves leaves'
+rows_left rows rows' honest' leaves leaves' same stop = record { rows_are = same; stop = stop }
+
+pub untouched : (rows : Option (List Pair)) (leaves : List Pair → Type 0) → AreUntouched rows rows leaves leaves
+untouched rows leaves = record { rows_are = refl; stop = λ left l. l }
+
+pub same_rows : (rows : Option (List Pair)) → Makes (λ before. before) rows rows
+same_rows None = tt
+same_rows (Some pairs) = (pairs, refl, refl)
 
 -- ---- runs that come to their end
 
-written_to_end : (whole text : List ℕ) (s : Status) → IsWritten whole s text → (s ≡ WriteFault → ⊥) → (s ≡ Done) ⊎ (s ≡ NoMemory)
+pub written_to_end : (whole text : List ℕ) (s : Status) → IsWritten whole s text → (s ≡ WriteFault → ⊥) → (s ≡ Done) ⊎ (s ≡ NoMemory)
 written_to_end whole text Done h w = inl refl
 written_to_end whole text Usage h w = absurd h
 written_to_end whole text (BadInput n fault) h w = absurd h
 written_to_end whole text (Limit n kind) h w = absurd h
 written_to_end whole text ReadFault h w = absurd h
 written_to_end whole text WriteFault h w = absurd (w refl)
+written_to_end whole text KeepFault h w = absurd h
 written_to_end whole text NoMemory h w = inr refl
+written_to_end whole text BadStore h w = absurd h
+written_to_end whole text (WrongStore is_empty) h w = absurd h
+written_to_end whole text NotFound h w = absurd h
 
-pub untroubled_command : (m : Mode) (left left' w w' : Option (List ℕ)) (s : Status) → ModeEnds (Some m) left left' w w' s → IsUntroubledAt (Some m) left w
-    → (s ≡ Usage → ⊥) → (s ≡ ReadFault → ⊥) → (s ≡ WriteFault → ⊥) → (s ≡ Done) ⊎ (s ≡ NoMemory)
-untroubled_command Replay left left' w w' s ends calm busy read write = untroubled_run left left' w w' s ends calm busy read write
-untroubled_command (Gen seed count) left left' w w' s ends calm busy read write =
-    let e = ends.1 calm.0 calm.1 in
-    written_to_end (generated_text seed count) e.0 s e.2 write
-untroubled_command (Trial seed count) left left' w w' s ends calm busy read write =
-    let e = ends.1 calm.0.0 calm.0.1 in
-    let told : IsWritten calm.1.0 s e.0 = subst (λ d. IsTried d s e.0) calm.1.1 e.2 in
-    written_to_end calm.1.0 e.0 s told write
+-- a keeper without rows has none after a call either
+pub never_some : (rows rows' : Option (List Pair)) (honest' : Type 0) → rows ≡ Some [] → honest' → Makes (λ before. before) rows rows' → AreSome rows rows' honest' → ⊥
+never_some rows None honest' none honest m some = true≢false (sym (some.told honest (subst (λ (o : Option (List Pair)). IsSome o) (sym none) refl)))
+never_some rows (Some now) honest' none honest m some = some.some (m.2 ∙ some_same (sym m.1 ∙ none))
+  where
+    some_same : Some m.0 ≡ Some [] → m.0 ≡ []
+    some_same e = cc
+
+pub unbegun_replay : (s : Status) (some : Type 0) → IsUnbegun s some → (some → ⊥) → (s ≡ KeepFault → ⊥) → (s ≡ Done) ⊎ (s ≡ NoMemory)
+unbegun_replay Done some h n k = absurd h
+unbegun_replay Usage some h n k = absurd h
+unbegun_replay (BadInput m fault) some h n k = absurd h
+unbegun_replay (Limit m kind) some h n k = absurd h
+unbegun_replay ReadFault some h n k = absurd h
+unbegun_replay WriteFault some h n k = absurd h
+unbegun_replay KeepFault some h n k = absurd (k refl)
+unbegun_replay NoMemory some h n k = inr refl
+unbegun_replay BadStore some h n k = absurd h
+unbegun_replay (WrongStore is_empty) some h n k = absurd (n h.1)
+unbegun_replay NotFound some h n k = absurd h

@@ -1,17 +1,18 @@
 -- One line, one end of a line, one piece of the input, and the end of the input.
 use Rattle.std.proofs.Common.{inl, inr, ◌≡◌, ◌∙◌, ℕ, ◌+◌, ◌<◌, ◌≤◌, Bool, true, false, ◌==◌, cond, nat_lt, lt-ltb, List, [], ◌∷◌, ◌++◌, length, take, drop, slice_index, Option, Some, None, Result, Ok, Err, OnOk, IfErr, IfSome, IfNone, refl, sym, ap, subst, append_assoc, arith, add-zero, length-append}
+use Rattle.std.specs.Prelude.{⊤}
 use Rattle.std.proofs.lemmas.List.{append-nil, take-append-drop}
 use Rattle.memchr.specs.Find.{IsFirstByte, is_byte}
 use Rattle.stk_io.specs.Outside.{IsPart, AddsPart}
 use Rattle.stk_json.specs.Genesis.{genesis_of}
 use Rattle.stk_app.specs.declared.status.Stop.{Stop}
-use Rattle.stk_app.specs.declared.status.Stop.TheVariants.{BadInput, Long, Ratio, Write, NoMemory}
+use Rattle.stk_app.specs.declared.status.Stop.TheVariants.{BadInput, Long, Ratio, Write, Keep, NoMemory}
 use Rattle.stk_app.specs.declared.status.EndStop.{EndStop}
 use Rattle.stk_app.specs.declared.status.EndStop.TheVariants as ends
 use Rattle.stk_app.specs.Lines.{whole_from, rest_from, last_line, lines_from}
 use Rattle.stk_app.specs.Machine.{Standing, Answer, longest, line_answer, genesis_answer}
-use Rattle.stk_app.specs.Runs.{before, ran_from, AreAnswered, Named, Wrote, Held}
-use Rattle.stk_app.specs.Parts.{PartStops, Fed, Took, HasNoEnd, NotAnswered, NotExtended, lines_after, FinishEnds, FinishStops, Finishes, IsOfReport}
+use Rattle.stk_app.specs.Runs.{before, ran_from, AreAnswered, Named, Wrote, Unkept, Held, Reported, Finished}
+use Rattle.stk_app.specs.Parts.{PartEnds, PartStops, Fed, Grows, Took, HasNoEnd, NotAnswered, NotExtended, lines_after, FinishEnds, FinishStops, Finishes, IsOfReport}
 use Rattle.stk_app.proofs.CutLemmas.{whole_none, rest_none, whole_one, rest_one, no_end_before, lines-append}
 use Rattle.stk_app.proofs.RunLemmas.{ran-append, answered-append, stops_along, fed-append, fed_stops, fed_number, no_growth}
 
@@ -35,28 +36,33 @@ found_none bytes (Some i) h = tt
 
 -- ---- one line
 
-first_named : (n : ℕ) (s : Standing) (line : List ℕ) (after : List (List ℕ)) (fault : Stop) → line_answer n s line ≡ Err fault → Named n s (line ∷ after) [] fault
-first_named n s line after fault h = record { before = []; line = line; after = after; middle = s; lines_are = refl; answered = (refl, refl); fault_is = rw (add-zero n) h }
+first_named : (L : Standing → Standing → Type 0) (n : ℕ) (s : Standing) (line : List ℕ) (after : List (List ℕ)) (fault : Stop) → line_answer n s line ≡ Err fault → L s s → Named L n s (line ∷ after) [] fault
+first_named L n s line after fault h left = record { before = []; line = line; after = after; middle = s; lines_are = refl; answered = (refl, refl); fault_is = rw (add-zero n) h; left = left }
 
 -- nothing was written
-pub none_held : (n : ℕ) (s : Standing) (lines : List (List ℕ)) → Held n s lines []
-none_held n s lines = record { before = []; after = lines; middle = s; lines_are = refl; answered = (refl, refl) }
+pub none_held : (L : Standing → Standing → Type 0) (n : ℕ) (s : Standing) (lines : List (List ℕ)) → L s s → Held L n s lines []
+none_held L n s lines left = record { before = []; after = lines; middle = s; lines_are = refl; answered = (refl, refl); left = left }
 
-pub answer_stops : (n : ℕ) (s : Standing) (line : List ℕ) (w : Option (List ℕ)) (stop : Stop) → NotAnswered stop n s line → PartStops n s (λ (more : List (List ℕ)). line ∷ more) (line ∷ []) w w stop
-answer_stops n s line w (BadInput m fault) h = λ old told. ([], no_growth w old told, first_named n s line [] (BadInput m fault) h)
-answer_stops n s line w (Long m) h = λ old told. ([], no_growth w old told, λ more. first_named n s line more (Long m) h.0)
-answer_stops n s line w (Ratio m over) h = λ old told. ([], no_growth w old told, first_named n s line [] (Ratio m over) h)
-answer_stops n s line w Write h = absurd h
-answer_stops n s line w NoMemory h = λ old told. ([], no_growth w old told, inr (none_held n s (line ∷ [])))
+first_unkept : (L : Standing → Standing → Type 0) (n : ℕ) (s : Standing) (line : List ℕ) (a : Answer) → line_answer n s line ≡ Ok a → L s a.standing → Unkept L n s (line ∷ []) []
+first_unkept L n s line a h left = record { before = []; line = line; after = []; middle = s; answer = a; lines_are = refl; answered = (refl, refl); answer_is = rw (add-zero n) h; left = left }
 
-wrote_first : (n : ℕ) (s : Standing) (line : List ℕ) (a : Answer) (front : List ℕ) → line_answer n s line ≡ Ok a → IsPart front a.text → Wrote n s (line ∷ []) front
-wrote_first n s line a front h part = record { before = []; line = line; after = []; middle = s; done = []; answer = a; front = front; lines_are = refl; answered = (refl, refl); answer_is = rw (add-zero n) h; part = part; text_is = refl }
+pub answer_stops : (L : Standing → Standing → Type 0) (n : ℕ) (s : Standing) (line : List ℕ) (w : Option (List ℕ)) (stop : Stop) → NotAnswered L stop s (line_answer n s line) → PartStops L n s (λ (more : List (List ℕ)). line ∷ more) (line ∷ []) w w stop
+answer_stops L n s line w (BadInput m fault) h = λ old told. ([], no_growth w old told, first_named L n s line [] (BadInput m fault) h.0 h.1)
+answer_stops L n s line w (Long m) h = λ old told. ([], no_growth w old told, λ more. first_named L n s line more (Long m) h.0 h.1)
+answer_stops L n s line w (Ratio m over) h = λ old told. ([], no_growth w old told, first_named L n s line [] (Ratio m over) h.0 h.1)
+answer_stops L n s line w Write h = absurd h
+answer_stops L n s line w Keep h = λ old told. ([], no_growth w old told, first_unkept L n s line h.0 h.1 h.2)
+answer_stops L n s line w NoMemory (inl h) = λ old told. ([], no_growth w old told, inr (inl (none_held L n s (line ∷ []) h)))
+answer_stops L n s line w NoMemory (inr h) = λ old told. ([], no_growth w old told, inr (inr (first_unkept L n s line h.0 h.1 h.2)))
 
-pub write_stops : (n : ℕ) (s : Standing) (line : List ℕ) (a : Answer) (w w' : Option (List ℕ)) → line_answer n s line ≡ Ok a → AddsPart w w' a.text → PartStops n s (λ (more : List (List ℕ)). line ∷ more) (line ∷ []) w w' Write
-write_stops n s line a w w' h adds = λ old told. let x = adds old told in (x.0, x.2, wrote_first n s line a x.0 h x.1)
+wrote_first : (L : Standing → Standing → Type 0) (n : ℕ) (s : Standing) (line : List ℕ) (a : Answer) (front : List ℕ) → line_answer n s line ≡ Ok a → L a.standing a.standing → IsPart front a.text → Wrote L n s (line ∷ []) front
+wrote_first L n s line a front h left part = record { before = []; line = line; after = []; middle = s; done = []; answer = a; front = front; lines_are = refl; answered = (refl, refl); answer_is = rw (add-zero n) h; part = part; text_is = refl; left = left }
 
-pub full_stops : (n : ℕ) (s : Standing) (line : List ℕ) (a : Answer) (w w' : Option (List ℕ)) → line_answer n s line ≡ Ok a → AddsPart w w' a.text → PartStops n s (λ (more : List (List ℕ)). line ∷ more) (line ∷ []) w w' NoMemory
-full_stops n s line a w w' h adds = λ old told. let x = adds old told in (x.0, x.2, inl (wrote_first n s line a x.0 h x.1))
+pub write_stops : (L : Standing → Standing → Type 0) (n : ℕ) (s : Standing) (line : List ℕ) (a : Answer) (w w' : Option (List ℕ)) → line_answer n s line ≡ Ok a → L a.standing a.standing → AddsPart w w' a.text → PartStops L n s (λ (more : List (List ℕ)). line ∷ more) (line ∷ []) w w' Write
+write_stops L n s line a w w' h left adds = λ old told. let x = adds old told in (x.0, x.2, wrote_first L n s line a x.0 h left x.1)
+
+pub full_stops : (L : Standing → Standing → Type 0) (n : ℕ) (s : Standing) (line : List ℕ) (a : Answer) (w w' : Option (List ℕ)) → line_answer n s line ≡ Ok a → L a.standing a.standing → AddsPart w w' a.text → PartStops L n s (λ (more : List (List ℕ)). line ∷ more) (line ∷ []) w w' NoMemory
+full_stops L n s line a w w' h left adds = λ old told. let x = adds old told in (x.0, x.2, inl (wrote_first L n s line a x.0 h left x.1))
 
 -- the first line is a genesis
 pub first_answered : (n : ℕ) (s : Standing) (line : List ℕ) (a : Answer) → s ≡ None → length line ≤ longest → genesis_answer n (genesis_of line) ≡ Ok a → line_answer n s line ≡ Ok a
@@ -71,34 +77,35 @@ pub answer_long : (n : ℕ) (s : Standing) (line : List ℕ) → longest < lengt
 unfolding line_answer
 answer_long n s line h = rw (lt-ltb longest (length line) h) refl
 
-long_step : (test : Bool) (s : Standing) (line more : List ℕ) (b n : ℕ) → longest < length line → Named n s (lines_from (line ++ b ∷ []) more) [] (Long n)
-    → Named n s (cond test (line ∷ whole_from [] more) (whole_from (line ++ b ∷ []) more) ++ last_line (cond test (rest_from [] more) (rest_from (line ++ b ∷ []) more))) [] (Long n)
-long_step true s line more b n h k = first_named n s line _ (Long n) (answer_long n s line h)
-long_step false s line more b n h k = k
+long_step : (L : Standing → Standing → Type 0) (test : Bool) (s : Standing) (line more : List ℕ) (b n : ℕ) → L s s → longest < length line → Named L n s (lines_from (line ++ b ∷ []) more) [] (Long n)
+    → Named L n s (cond test (line ∷ whole_from [] more) (whole_from (line ++ b ∷ []) more) ++ last_line (cond test (rest_from [] more) (rest_from (line ++ b ∷ []) more))) [] (Long n)
+long_step L true s line more b n left h k = first_named L n s line _ (Long n) (answer_long n s line h) left
+long_step L false s line more b n left h k = k
 
-pub too_long : (more line : List ℕ) (n : ℕ) (s : Standing) → longest < length line → Named n s (lines_from line more) [] (Long n)
-too_long [] [] n s h = absurd (omega arith)
-too_long [] (x ∷ line) n s h = first_named n s (x ∷ line) [] (Long n) (answer_long n s (x ∷ line) h)
-too_long (b ∷ more) line n s h = long_step (b == 10) s line more b n h (too_long more (line ++ b ∷ []) n s (rw (length-append line (b ∷ [])) (omega arith)))
+pub too_long : (L : Standing → Standing → Type 0) (more line : List ℕ) (n : ℕ) (s : Standing) → L s s → longest < length line → Named L n s (lines_from line more) [] (Long n)
+too_long L [] [] n s left h = absurd (omega arith)
+too_long L [] (x ∷ line) n s left h = first_named L n s (x ∷ line) [] (Long n) (answer_long n s (x ∷ line) h) left
+too_long L (b ∷ more) line n s left h = long_step L (b == 10) s line more b n left h (too_long L more (line ++ b ∷ []) n s left (rw (length-append line (b ∷ [])) (omega arith)))
 
 -- bytes that make the line too long, whatever comes behind them
-pub extend_stops : (n : ℕ) (s : Standing) (line bytes behind : List ℕ) (w : Option (List ℕ)) (stop : Stop) → HasNoEnd bytes → NotExtended stop n line bytes → PartStops n s (lines_after line (bytes ++ behind)) (whole_from line (bytes ++ behind)) w w stop
-extend_stops n s line bytes behind w (BadInput m fault) none h = absurd h
-extend_stops n s line bytes behind w (Long m) none h = λ old told. (
+pub extend_stops : (L : Standing → Standing → Type 0) (n : ℕ) (s : Standing) (line bytes behind : List ℕ) (w : Option (List ℕ)) (stop : Stop) → L s s → HasNoEnd bytes → NotExtended stop n line bytes → PartStops L n s (lines_after line (bytes ++ behind)) (whole_from line (bytes ++ behind)) w w stop
+extend_stops L n s line bytes behind w (BadInput m fault) left none h = absurd h
+extend_stops L n s line bytes behind w (Long m) left none h = λ old told. (
   [],
   no_growth w old told,
-  λ more. rw h.0 (rw (append_assoc bytes behind more, lines-append bytes line (behind ++ more), whole_none bytes line none, rest_none bytes line none) (too_long (behind ++ more) (line ++ bytes) n s h.1)),
+  λ more. rw h.0 (rw (append_assoc bytes behind more, lines-append bytes line (behind ++ more), whole_none bytes line none, rest_none bytes line none) (too_long L (behind ++ more) (line ++ bytes) n s left h.1)),
 )
-extend_stops n s line bytes behind w (Ratio m over) none h = absurd h
-extend_stops n s line bytes behind w Write none h = absurd h
-extend_stops n s line bytes behind w NoMemory none h = λ old told. ([], no_growth w old told, inr (none_held n s (whole_from line (bytes ++ behind))))
+extend_stops L n s line bytes behind w (Ratio m over) left none h = absurd h
+extend_stops L n s line bytes behind w Write left none h = absurd h
+extend_stops L n s line bytes behind w Keep left none h = absurd h
+extend_stops L n s line bytes behind w NoMemory left none h = λ old told. ([], no_growth w old told, inr (inl (none_held L n s (whole_from line (bytes ++ behind)) left)))
 
 -- ---- the end of a line
 
-pub line_stops : (n : ℕ) (s : Standing) (line bytes : List ℕ) (w w' : Option (List ℕ)) (stop : Stop) → HasNoEnd bytes → PartStops n s (λ (more : List (List ℕ)). (line ++ bytes) ∷ more) ((line ++ bytes) ∷ []) w w' stop
-    → PartStops n s (lines_after line (bytes ++ 10 ∷ [])) (whole_from line (bytes ++ 10 ∷ [])) w w' stop
-line_stops n s line bytes w w' stop none stops =
-    stops_along n n s [] [] s (λ (more : List (List ℕ)). (line ++ bytes) ∷ more) (lines_after line (bytes ++ 10 ∷ [])) (λ more. lines_from [] more) ((line ++ bytes) ∷ []) [] _ w w w' stop (refl, refl) (sym (add-zero n))
+pub line_stops : (L : Standing → Standing → Type 0) (n : ℕ) (s : Standing) (line bytes : List ℕ) (w w' : Option (List ℕ)) (stop : Stop) → HasNoEnd bytes → PartStops L n s (λ (more : List (List ℕ)). (line ++ bytes) ∷ more) ((line ++ bytes) ∷ []) w w' stop
+    → PartStops L n s (lines_after line (bytes ++ 10 ∷ [])) (whole_from line (bytes ++ 10 ∷ [])) w w' stop
+line_stops L n s line bytes w w' stop none stops =
+    stops_along L n n s [] [] s (λ (more : List (List ℕ)). (line ++ bytes) ∷ more) (lines_after line (bytes ++ 10 ∷ [])) (λ more. lines_from [] more) ((line ++ bytes) ∷ []) [] _ w w w' stop (refl, refl) (sym (add-zero n))
     (λ more. lines-append (bytes ++ 10 ∷ []) line more ∙ rw (whole_one bytes line none, rest_one bytes line none) refl) (whole_one bytes line none) (no_growth w) stops
 
 pub line_fed : (n : ℕ) (s s' : Standing) (line bytes : List ℕ) (w w' : Option (List ℕ)) → HasNoEnd bytes → Took n s (line ++ bytes) s' w w' → Fed n s line (bytes ++ 10 ∷ []) (n + 1) s' [] w w'
@@ -131,47 +138,92 @@ pub last-some : (line : List ℕ) → 0 < length line → last_line line ≡ lin
 last-some [] h = absurd (omega arith)
 last-some (b ∷ line) h = refl
 
-pub report_done : (n : ℕ) (s s' : Standing) (line : List ℕ) (w w1 w' : Option (List ℕ)) → 0 < length line → Took n s line s' w w1 → Finishes 1 s' [] w1 w' → Finishes n s (last_line line) w w'
-report_done n s s' line w w1 w' h took done =
-    rw (last-some line h) (took.0 ++ done.0, rw took.1 (ap (before took.0) done.1), λ old told. done.2 _ (took.2 old told) ∙ ap Some (append_assoc old took.0 done.0))
+-- what is told of a report alone says nothing of a keeper
+abbrev pub untold : Standing → Standing → Type 0
+untold s t = Unit {0}
 
 answered_all : (n m : ℕ) (s s' : Standing) (lines : List (List ℕ)) (text' text : List ℕ) (end : Standing) → AreAnswered n s lines text' s' → AreAnswered m s' [] text end → AreAnswered n s lines (text' ++ text) end
 answered_all n m s s' lines text' text end good none =
     subst (λ (ls : List (List ℕ)). AreAnswered n s ls (text' ++ text) end) (append-nil lines) (answered-append n s lines [] text' s' text end good none)
 
--- what the report gives, at no lines, is what the end gives, at lines that were answered
-report_ends : (n : ℕ) (s s' : Standing) (lines : List (List ℕ)) (text' : List ℕ) (stop : EndStop) (text : List ℕ) → AreAnswered n s lines text' s' → IsOfReport stop → FinishEnds 1 s' [] stop text → FinishEnds n s lines stop (text' ++ text)
-report_ends n s s' lines text' (ends.Line stop) text good of h = absurd of
-report_ends n s s' lines text' (ends.Lacking m fault) text good of h = record { end = h.end; answered = answered_all n 1 s s' lines text' text h.end good h.answered; fault_is = h.fault_is }
-report_ends n s s' lines text' ends.Report text good of h = record {
-  end = h.end;
-  done = text' ++ h.done;
-  report = h.report;
-  front = h.front;
-  answered = answered_all n 1 s s' lines text' h.done h.end good h.answered;
-  report_is = h.report_is;
-  part = h.part;
-  text_is = ap (λ (t : List ℕ). text' ++ t) h.text_is ∙ sym (append_assoc text' h.done h.front);
-}
-report_ends n s s' lines text' ends.Flush text good of h =
-    ap (ran_from n s) (sym (append-nil lines)) ∙ ran-append n s lines [] text' s' good ∙ ap (before text') h
-report_ends n s s' lines text' ends.NoMemory text good of (inl h) = inl (record {
-  end = h.end;
-  done = text' ++ h.done;
-  report = h.report;
-  front = h.front;
-  answered = answered_all n 1 s s' lines text' h.done h.end good h.answered;
-  report_is = h.report_is;
-  part = h.part;
-  text_is = ap (λ (t : List ℕ). text' ++ t) h.text_is ∙ sym (append_assoc text' h.done h.front);
-})
-report_ends n s s' lines text' ends.NoMemory text good of (inr h) = inr (record { end = h.end; answered = answered_all n 1 s s' lines text' text h.end good h.answered })
+module _ (L : Standing → Standing → Type 0) (n : ℕ) (s s' : Standing) (lines : List (List ℕ)) (text' : List ℕ) (good : AreAnswered n s lines text' s') (left : L s' s') where
+  -- no lines lead on
+  same_end : (text : List ℕ) (end : Standing) → AreAnswered 1 s' [] text end → L end end
+  same_end text end none = subst (λ x. L x x) (sym none.1) left
 
-pub report_stops : (n : ℕ) (s s' : Standing) (line : List ℕ) (w w1 w' : Option (List ℕ)) (stop : EndStop) → 0 < length line → Took n s line s' w w1 → IsOfReport stop → FinishStops 1 s' [] w1 w' stop → FinishStops n s (last_line line) w w' stop
-report_stops n s s' line w w1 w' stop h took of stops = λ old told.
-    let t = stops _ (took.2 old told) in
-    let one : AreAnswered n s (line ∷ []) took.0 s' = (record { text = took.0; standing = s' }, [], took.1, sym (append-nil took.0), (refl, refl)) in
-    (took.0 ++ t.0, t.1 ∙ ap Some (append_assoc old took.0 t.0), rw (last-some line h) (report_ends n s s' (line ∷ []) took.0 stop t.0 one of t.2))
+  reported : (text : List ℕ) → Reported untold 1 s' [] text → Reported L n s lines (text' ++ text)
+  reported text h = record {
+    end = h.end;
+    done = text' ++ h.done;
+    report = h.report;
+    front = h.front;
+    answered = answered_all n 1 s s' lines text' h.done h.end good h.answered;
+    report_is = h.report_is;
+    part = h.part;
+    text_is = ap (λ (t : List ℕ). text' ++ t) h.text_is ∙ sym (append_assoc text' h.done h.front);
+    left = same_end h.done h.end h.answered;
+  }
+
+  finished : (text : List ℕ) → Finished untold 1 s' [] text → Finished L n s lines (text' ++ text)
+  finished text h = record {
+    end = h.end;
+    done = text' ++ h.done;
+    answered = answered_all n 1 s s' lines text' h.done h.end good h.answered;
+    ran = ap (ran_from n s) (sym (append-nil lines)) ∙ ran-append n s lines [] text' s' good ∙ ap (before text') h.ran;
+    left = same_end h.done h.end h.answered;
+  }
+
+  -- what the report gives, at no lines, is what the end gives, at lines that were answered
+  pub report_ends : (stop : EndStop) (text : List ℕ) → IsOfReport stop → FinishEnds untold 1 s' [] stop text → FinishEnds L n s lines stop (text' ++ text)
+  report_ends (ends.Line stop) text of h = absurd of
+  report_ends (ends.Lacking m fault) text of h = record { end = h.end; answered = answered_all n 1 s s' lines text' text h.end good h.answered; fault_is = h.fault_is; left = same_end text h.end h.answered }
+  report_ends ends.Report text of h = reported text h
+  report_ends ends.Flush text of h = finished text h
+  report_ends ends.NoMemory text of (inl h) = inl (reported text h)
+  report_ends ends.NoMemory text of (inr h) = inr (record { end = h.end; answered = answered_all n 1 s s' lines text' text h.end good h.answered; left = same_end text h.end h.answered })
+
+  pub report_stops : (w w1 w' : Option (List ℕ)) (stop : EndStop) → Grows w w1 text' → IsOfReport stop → FinishStops untold 1 s' [] w1 w' stop → FinishStops L n s lines w w' stop
+  report_stops w w1 w' stop grows of stops = λ old told.
+      let t = stops _ (grows old told) in
+      (text' ++ t.0, t.1 ∙ ap Some (append_assoc old text' t.0), report_ends stop t.0 of t.2)
+
+  pub report_done : (w w1 w' : Option (List ℕ)) → Grows w w1 text' → Finishes untold 1 s' [] w1 w' → Finishes L n s lines w w'
+  report_done w w1 w' grows done = (text' ++ done.0, finished done.0 done.1, λ old told. done.2 _ (grows old told) ∙ ap Some (append_assoc old text' done.0))
+
+-- the last line alone
+one_answered : (n : ℕ) (s s' : Standing) (line text : List ℕ) → line_answer n s line ≡ Ok (record { text = text; standing = s' }) → AreAnswered n s (line ∷ []) text s'
+one_answered n s s' line text h = (record { text = text; standing = s' }, [], h, sym (append-nil text), (refl, refl))
+
+module _ (L : Standing → Standing → Type 0) (n : ℕ) (s s' : Standing) (line : List ℕ) (w w1 w' : Option (List ℕ)) (some : 0 < length line) (took : Took n s line s' w w1) (left : L s' s') where
+  pub line_done : Finishes untold 1 s' [] w1 w' → Finishes L n s (last_line line) w w'
+  line_done done = rw (last-some line some) (report_done L n s s' (line ∷ []) took.0 (one_answered n s s' line took.0 took.1) left w w1 w' took.2 done)
+
+  pub line_report_stops : (stop : EndStop) → IsOfReport stop → FinishStops untold 1 s' [] w1 w' stop → FinishStops L n s (last_line line) w w' stop
+  line_report_stops stop of stops = rw (last-some line some) (report_stops L n s s' (line ∷ []) took.0 (one_answered n s s' line took.0 took.1) left w w1 w' stop took.2 of stops)
+
+-- the last line stops the end
+last_ends : (L : Standing → Standing → Type 0) (n : ℕ) (s : Standing) (line text : List ℕ) (stop : Stop) → PartEnds L n s (λ (more : List (List ℕ)). line ∷ more) (line ∷ []) stop text → PartEnds L n s (λ (_ : ⊤). line ∷ []) (line ∷ []) stop text
+last_ends L n s line text (BadInput m fault) h = h
+last_ends L n s line text (Long m) h = λ u. h []
+last_ends L n s line text (Ratio m over) h = h
+last_ends L n s line text Write h = h
+last_ends L n s line text Keep h = h
+last_ends L n s line text NoMemory h = h
+
+pub last_stops : (L : Standing → Standing → Type 0) (n : ℕ) (s : Standing) (line : List ℕ) (w w' : Option (List ℕ)) (stop : Stop) → 0 < length line → PartStops L n s (λ (more : List (List ℕ)). line ∷ more) (line ∷ []) w w' stop → FinishStops L n s (last_line line) w w' (ends.Line stop)
+last_stops L n s line w w' stop some stops = rw (last-some line some) (λ old told. let o = stops old told in (o.0, o.1, last_ends L n s line o.0 stop o.2))
+
+-- no line is left
+last-none : (line : List ℕ) → length line ≡ 0 → last_line line ≡ []
+last-none [] h = refl
+last-none (b ∷ line) h = absurd (omega (arith, h))
+
+module _ (L : Standing → Standing → Type 0) (n : ℕ) (s : Standing) (line : List ℕ) (w w' : Option (List ℕ)) (none : length line ≡ 0) (left : L s s) where
+  pub none_done : Finishes untold 1 s [] w w' → Finishes L n s (last_line line) w w'
+  none_done done = rw (last-none line none) (report_done L n s s [] [] (refl, refl) left w w w' (no_growth w) done)
+
+  pub none_report_stops : (stop : EndStop) → IsOfReport stop → FinishStops untold 1 s [] w w' stop → FinishStops L n s (last_line line) w w' stop
+  none_report_stops stop of stops = rw (last-none line none) (report_stops L n s s [] [] (refl, refl) left w w w' stop (no_growth w) of stops)
 
 -- ---- a piece, line by line
 
@@ -202,16 +254,16 @@ pub fed_to_rest : (n : ℕ) (s : Standing) (line piece rest : List ℕ) (n1 : �
 fed_to_rest n s line piece rest n1 s1 line1 line2 w w1 f none e short =
     rw (f.piece_is, e) (fed-append n s line f.done n1 s1 line1 rest n1 s1 (line1 ++ rest) w w1 w1 f.fed (bytes_fed n1 s1 line1 rest w1 none (rw e at short)))
 
-pub end_stops : (n : ℕ) (s : Standing) (line piece rest : List ℕ) (n1 : ℕ) (s1 : Standing) (line1 : List ℕ) (i : ℕ) (w w1 w' : Option (List ℕ)) (stop : Stop) → FedTo n s line piece rest n1 s1 line1 w w1
-    → drop i rest ≡ 10 ∷ drop (i + 1) rest → PartStops n1 s1 (lines_after line1 (take i rest ++ 10 ∷ [])) (whole_from line1 (take i rest ++ 10 ∷ [])) w1 w' stop → PartStops n s (lines_after line piece) (whole_from line piece) w w' stop
-end_stops n s line piece rest n1 s1 line1 i w w1 w' stop f e stops =
-    fed_stops n s line f.done n1 s1 line1 (take i rest ++ 10 ∷ []) (drop (i + 1) rest) piece w w1 w' stop f.fed (f.piece_is ∙ ap (λ (t : List ℕ). f.done ++ t) (parted rest i e)) stops
+pub end_stops : (L : Standing → Standing → Type 0) (n : ℕ) (s : Standing) (line piece rest : List ℕ) (n1 : ℕ) (s1 : Standing) (line1 : List ℕ) (i : ℕ) (w w1 w' : Option (List ℕ)) (stop : Stop) → FedTo n s line piece rest n1 s1 line1 w w1
+    → drop i rest ≡ 10 ∷ drop (i + 1) rest → PartStops L n1 s1 (lines_after line1 (take i rest ++ 10 ∷ [])) (whole_from line1 (take i rest ++ 10 ∷ [])) w1 w' stop → PartStops L n s (lines_after line piece) (whole_from line piece) w w' stop
+end_stops L n s line piece rest n1 s1 line1 i w w1 w' stop f e stops =
+    fed_stops L n s line f.done n1 s1 line1 (take i rest ++ 10 ∷ []) (drop (i + 1) rest) piece w w1 w' stop f.fed (f.piece_is ∙ ap (λ (t : List ℕ). f.done ++ t) (parted rest i e)) stops
 
-pub rest_stops : (n : ℕ) (s : Standing) (line piece rest : List ℕ) (n1 : ℕ) (s1 : Standing) (line1 : List ℕ) (w w1 : Option (List ℕ)) (stop : Stop) → FedTo n s line piece rest n1 s1 line1 w w1
-    → HasNoEnd rest → NotExtended stop n1 line1 rest → PartStops n s (lines_after line piece) (whole_from line piece) w w1 stop
-rest_stops n s line piece rest n1 s1 line1 w w1 stop f none h =
+pub rest_stops : (L : Standing → Standing → Type 0) (n : ℕ) (s : Standing) (line piece rest : List ℕ) (n1 : ℕ) (s1 : Standing) (line1 : List ℕ) (w w1 : Option (List ℕ)) (stop : Stop) → FedTo n s line piece rest n1 s1 line1 w w1
+    → L s1 s1 → HasNoEnd rest → NotExtended stop n1 line1 rest → PartStops L n s (lines_after line piece) (whole_from line piece) w w1 stop
+rest_stops L n s line piece rest n1 s1 line1 w w1 stop f left none h =
     let whole : rest ++ [] ≡ rest = append-nil rest in
-    fed_stops n s line f.done n1 s1 line1 (rest ++ []) [] piece w w1 w1 stop f.fed (f.piece_is ∙ ap (λ (t : List ℕ). f.done ++ t) (sym whole ∙ sym (append-nil (rest ++ [])))) (extend_stops n1 s1 line1 rest [] w1 stop none h)
+    fed_stops L n s line f.done n1 s1 line1 (rest ++ []) [] piece w w1 w1 stop f.fed (f.piece_is ∙ ap (λ (t : List ℕ). f.done ++ t) (sym whole ∙ sym (append-nil (rest ++ [])))) (extend_stops L n1 s1 line1 rest [] w1 stop left none h)
 
 -- no more lines end than there are bytes, so the number fits
 pub fed_to_number : (n : ℕ) (s : Standing) (line piece rest : List ℕ) (n1 : ℕ) (s1 : Standing) (line1 : List ℕ) (w w1 : Option (List ℕ)) → FedTo n s line piece rest n1 s1 line1 w w1 → n1 + length rest ≤ n + length piece
@@ -224,8 +276,11 @@ both_err : {A E : Type 0} (r : Result A E) (P Q R : E → Type 0) → ((e : E) �
 both_err (Ok x) P Q R f p q = tt
 both_err (Err e) P Q R f p q = f e p q
 
-pub report_all : (r : Result (Unit {0}) EndStop) (n : ℕ) (s s' : Standing) (line : List ℕ) (w w1 w' : Option (List ℕ)) → 0 < length line → Took n s line s' w w1 → IfErr r IsOfReport → IfErr r (FinishStops 1 s' [] w1 w') → IfErr r (FinishStops n s (last_line line) w w')
-report_all r n s s' line w w1 w' h took of stops = both_err r IsOfReport _ _ (λ stop o t. report_stops n s s' line w w1 w' stop h took o t) of stops
+pub line_report_all : (L : Standing → Standing → Type 0) (r : Result (Unit {0}) EndStop) (n : ℕ) (s s' : Standing) (line : List ℕ) (w w1 w' : Option (List ℕ)) → 0 < length line → Took n s line s' w w1 → L s' s' → IfErr r IsOfReport → IfErr r (FinishStops untold 1 s' [] w1 w') → IfErr r (FinishStops L n s (last_line line) w w')
+line_report_all L r n s s' line w w1 w' h took left of stops = both_err r IsOfReport _ _ (λ stop o t. line_report_stops L n s s' line w w1 w' h took left stop o t) of stops
+
+pub none_report_all : (L : Standing → Standing → Type 0) (r : Result (Unit {0}) EndStop) (n : ℕ) (s : Standing) (line : List ℕ) (w w' : Option (List ℕ)) → length line ≡ 0 → L s s → IfErr r IsOfReport → IfErr r (FinishStops untold 1 s [] w w') → IfErr r (FinishStops L n s (last_line line) w w')
+none_report_all L r n s line w w' none left of stops = both_err r IsOfReport _ _ (λ stop o t. none_report_stops L n s line w w' none left stop o t) of stops
 
 pub piece_fed : (r : Result (Unit {0}) Stop) (n : ℕ) (s : Standing) (line piece rest : List ℕ) (n1 : ℕ) (s1 : Standing) (line1 line2 : List ℕ) (w w1 : Option (List ℕ)) → FedTo n s line piece rest n1 s1 line1 w w1
     → HasNoEnd rest → OnOk r (line2 ≡ line1 ++ rest) → OnOk r (length line2 ≤ longest) → OnOk r (Fed n s line piece n1 s1 line2 w w1)
@@ -237,13 +292,13 @@ pub fed_with : {A : Type 0} (r : Result A Stop) (next : Standing) (P Q : Standin
 fed_with (Ok a) next P Q p q = (next, p, q)
 fed_with (Err stop) next P Q p q = tt
 
-pub piece_stops : (r : Result (Unit {0}) Stop) (n : ℕ) (s : Standing) (line piece rest : List ℕ) (n1 : ℕ) (s1 : Standing) (line1 : List ℕ) (w w1 : Option (List ℕ)) → FedTo n s line piece rest n1 s1 line1 w w1
-    → HasNoEnd rest → IfErr r (λ stop. NotExtended stop n1 line1 rest) → IfErr r (PartStops n s (lines_after line piece) (whole_from line piece) w w1)
-piece_stops (Ok x) n s line piece rest n1 s1 line1 w w1 f none h = tt
-piece_stops (Err stop) n s line piece rest n1 s1 line1 w w1 f none h = rest_stops n s line piece rest n1 s1 line1 w w1 stop f none h
+pub piece_stops : (L : Standing → Standing → Type 0) (r : Result (Unit {0}) Stop) (n : ℕ) (s : Standing) (line piece rest : List ℕ) (n1 : ℕ) (s1 : Standing) (line1 : List ℕ) (w w1 : Option (List ℕ)) → FedTo n s line piece rest n1 s1 line1 w w1
+    → L s1 s1 → HasNoEnd rest → IfErr r (λ stop. NotExtended stop n1 line1 rest) → IfErr r (PartStops L n s (lines_after line piece) (whole_from line piece) w w1)
+piece_stops L (Ok x) n s line piece rest n1 s1 line1 w w1 f left none h = tt
+piece_stops L (Err stop) n s line piece rest n1 s1 line1 w w1 f left none h = rest_stops L n s line piece rest n1 s1 line1 w w1 stop f left none h
 
 -- ---- the report
 
 -- nothing was written of the report, and memory was wanting
-pub nothing_reported : (s : Standing) (written : Option (List ℕ)) → FinishStops 1 s [] written written ends.NoMemory
-nothing_reported s written old e = ([], e ∙ ap Some (sym (append-nil old)), inr (record { end = s; answered = (refl, refl) }))
+pub nothing_reported : (s : Standing) (written : Option (List ℕ)) → FinishStops untold 1 s [] written written ends.NoMemory
+nothing_reported s written old e = ([], e ∙ ap Some (sym (append-nil old)), inr (record { end = s; answered = (refl, refl); left = tt }))

@@ -18,7 +18,7 @@ none_behind [] = refl
 none_behind (i ∷ items) = ap (λ l. i ∷ l) (none_behind items)
 
 -- all items of a state are its items
-all_of : (w : State) → AreItemsOf w (items_of w)
+pub all_of : (w : State) → AreItemsOf w (items_of w)
 all_of w = record {
   missing = [];
   unread = All-from_recursion IsUnread [] tt;

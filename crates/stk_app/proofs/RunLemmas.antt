@@ -2,10 +2,10 @@
 use Rattle.std.proofs.Common.{inl, inr, ◌≡◌, ◌∙◌, ℕ, ◌+◌, ◌≤◌, List, [], ◌∷◌, ◌++◌, length, Option, Some, refl, sym, ap, append_assoc, arith, add-zero, length-append}
 use Rattle.std.proofs.lemmas.List.{append-nil}
 use Rattle.stk_app.specs.declared.status.Stop.{Stop}
-use Rattle.stk_app.specs.declared.status.Stop.TheVariants.{BadInput, Long, Ratio, Write, NoMemory}
+use Rattle.stk_app.specs.declared.status.Stop.TheVariants.{BadInput, Long, Ratio, Write, Keep, NoMemory}
 use Rattle.stk_app.specs.Lines.{whole_from, rest_from, lines_from}
 use Rattle.stk_app.specs.Machine.{Standing}
-use Rattle.stk_app.specs.Runs.{before, ran_from, AreAnswered, Named, Wrote, Held}
+use Rattle.stk_app.specs.Runs.{before, ran_from, AreAnswered, Named, Wrote, Unkept, Held}
 use Rattle.stk_app.specs.Parts.{PartEnds, PartStops, Grows, Fed}
 use Rattle.stk_app.proofs.CutLemmas.{whole-append, rest-append, lines-append, whole_no_longer}
 
@@ -54,8 +54,8 @@ fed_number n s line piece n2 s2 line2 w w' fed =
 
 -- ---- stopping: answered lines before, and later lines after
 
-pub named_along : (n : ℕ) (s : Standing) (done : List (List ℕ)) (text' : List ℕ) (s' : Standing) (ls more all : List (List ℕ)) (text : List ℕ) (fault : Stop) → AreAnswered n s done text' s' → all ≡ done ++ (ls ++ more) → Named (n + length done) s' ls text fault → Named n s all (text' ++ text) fault
-named_along n s done text' s' ls more all text fault good e w =
+pub named_along : (L : Standing → Standing → Type 0) (n : ℕ) (s : Standing) (done : List (List ℕ)) (text' : List ℕ) (s' : Standing) (ls more all : List (List ℕ)) (text : List ℕ) (fault : Stop) → AreAnswered n s done text' s' → all ≡ done ++ (ls ++ more) → Named L (n + length done) s' ls text fault → Named L n s all (text' ++ text) fault
+named_along L n s done text' s' ls more all text fault good e w =
     let m : n + length (done ++ w.before) ≡ n + length done + length w.before = omega (arith, length-append done w.before) in
     record {
       before = done ++ w.before;
@@ -65,10 +65,11 @@ named_along n s done text' s' ls more all text fault good e w =
       lines_are = e ∙ ap (λ (l : List (List ℕ)). done ++ (l ++ more)) w.lines_are ∙ regroup done w.before w.line w.after more;
       answered = answered-append n s done w.before text' s' text w.middle good w.answered;
       fault_is = rw m w.fault_is;
+      left = w.left;
     }
 
-pub wrote_along : (n : ℕ) (s : Standing) (done : List (List ℕ)) (text' : List ℕ) (s' : Standing) (ls more all : List (List ℕ)) (text : List ℕ) → AreAnswered n s done text' s' → all ≡ done ++ (ls ++ more) → Wrote (n + length done) s' ls text → Wrote n s all (text' ++ text)
-wrote_along n s done text' s' ls more all text good e w =
+pub wrote_along : (L : Standing → Standing → Type 0) (n : ℕ) (s : Standing) (done : List (List ℕ)) (text' : List ℕ) (s' : Standing) (ls more all : List (List ℕ)) (text : List ℕ) → AreAnswered n s done text' s' → all ≡ done ++ (ls ++ more) → Wrote L (n + length done) s' ls text → Wrote L n s all (text' ++ text)
+wrote_along L n s done text' s' ls more all text good e w =
     let m : n + length (done ++ w.before) ≡ n + length done + length w.before = omega (arith, length-append done w.before) in
     record {
       before = done ++ w.before;
@@ -83,38 +84,57 @@ wrote_along n s done text' s' ls more all text good e w =
       answer_is = rw m w.answer_is;
       part = w.part;
       text_is = ap (λ (t : List ℕ). text' ++ t) w.text_is ∙ sym (append_assoc text' w.done w.front);
+      left = w.left;
     }
 
-pub held_along : (n : ℕ) (s : Standing) (done : List (List ℕ)) (text' : List ℕ) (s' : Standing) (ls more all : List (List ℕ)) (text : List ℕ) → AreAnswered n s done text' s' → all ≡ done ++ (ls ++ more) → Held (n + length done) s' ls text → Held n s all (text' ++ text)
-held_along n s done text' s' ls more all text good e w = record {
+pub held_along : (L : Standing → Standing → Type 0) (n : ℕ) (s : Standing) (done : List (List ℕ)) (text' : List ℕ) (s' : Standing) (ls more all : List (List ℕ)) (text : List ℕ) → AreAnswered n s done text' s' → all ≡ done ++ (ls ++ more) → Held L (n + length done) s' ls text → Held L n s all (text' ++ text)
+held_along L n s done text' s' ls more all text good e w = record {
   before = done ++ w.before;
   after = w.after ++ more;
   middle = w.middle;
   lines_are = e ∙ ap (λ (l : List (List ℕ)). done ++ (l ++ more)) w.lines_are ∙ simp append_assoc;
   answered = answered-append n s done w.before text' s' text w.middle good w.answered;
+  left = w.left;
 }
 
-pub ends_along : {X Y : Type 0} (n : ℕ) (s : Standing) (done : List (List ℕ)) (text' : List ℕ) (s' : Standing) (lines : X → List (List ℕ)) (lines' : Y → List (List ℕ)) (f : Y → X) (ended more ended' : List (List ℕ)) (text : List ℕ) (stop : Stop) → AreAnswered n s done text' s'
-    → ((y : Y) → lines' y ≡ done ++ lines (f y)) → ended' ≡ done ++ (ended ++ more) → PartEnds (n + length done) s' lines ended stop text → PartEnds n s lines' ended' stop (text' ++ text)
-ends_along n s done text' s' lines lines' f ended more ended' text (BadInput m fault) good same e h = named_along n s done text' s' ended more ended' text _ good e h
-ends_along n s done text' s' lines lines' f ended more ended' text (Long m) good same e h = λ y. named_along n s done text' s' (lines (f y)) [] (lines' y) text _ good (same y ∙ ap (λ (l : List (List ℕ)). done ++ l) (sym (append-nil (lines (f y))))) (h (f y))
-ends_along n s done text' s' lines lines' f ended more ended' text (Ratio m over) good same e h = named_along n s done text' s' ended more ended' text _ good e h
-ends_along n s done text' s' lines lines' f ended more ended' text Write good same e h = wrote_along n s done text' s' ended more ended' text good e h
-ends_along n s done text' s' lines lines' f ended more ended' text NoMemory good same e (inl h) = inl (wrote_along n s done text' s' ended more ended' text good e h)
-ends_along n s done text' s' lines lines' f ended more ended' text NoMemory good same e (inr h) = inr (held_along n s done text' s' ended more ended' text good e h)
+pub unkept_along : (L : Standing → Standing → Type 0) (n : ℕ) (s : Standing) (done : List (List ℕ)) (text' : List ℕ) (s' : Standing) (ls more all : List (List ℕ)) (text : List ℕ) → AreAnswered n s done text' s' → all ≡ done ++ (ls ++ more) → Unkept L (n + length done) s' ls text → Unkept L n s all (text' ++ text)
+unkept_along L n s done text' s' ls more all text good e w =
+    let m : n + length (done ++ w.before) ≡ n + length done + length w.before = omega (arith, length-append done w.before) in
+    record {
+      before = done ++ w.before;
+      line = w.line;
+      after = w.after ++ more;
+      middle = w.middle;
+      answer = w.answer;
+      lines_are = e ∙ ap (λ (l : List (List ℕ)). done ++ (l ++ more)) w.lines_are ∙ regroup done w.before w.line w.after more;
+      answered = answered-append n s done w.before text' s' text w.middle good w.answered;
+      answer_is = rw m w.answer_is;
+      left = w.left;
+    }
 
-pub stops_along : {X Y : Type 0} (n n' : ℕ) (s : Standing) (done : List (List ℕ)) (text' : List ℕ) (s' : Standing) (lines : X → List (List ℕ)) (lines' : Y → List (List ℕ)) (f : Y → X) (ended more ended' : List (List ℕ)) (w w1 w' : Option (List ℕ)) (stop : Stop) → AreAnswered n s done text' s' → n' ≡ n + length done
-    → ((y : Y) → lines' y ≡ done ++ lines (f y)) → ended' ≡ done ++ (ended ++ more) → Grows w w1 text' → PartStops n' s' lines ended w1 w' stop → PartStops n s lines' ended' w w' stop
-stops_along n n' s done text' s' lines lines' f ended more ended' w w1 w' stop good e same e2 grows stops = λ old told.
+pub ends_along : (L : Standing → Standing → Type 0) {X Y : Type 0} (n : ℕ) (s : Standing) (done : List (List ℕ)) (text' : List ℕ) (s' : Standing) (lines : X → List (List ℕ)) (lines' : Y → List (List ℕ)) (f : Y → X) (ended more ended' : List (List ℕ)) (text : List ℕ) (stop : Stop) → AreAnswered n s done text' s'
+    → ((y : Y) → lines' y ≡ done ++ lines (f y)) → ended' ≡ done ++ (ended ++ more) → PartEnds L (n + length done) s' lines ended stop text → PartEnds L n s lines' ended' stop (text' ++ text)
+ends_along L n s done text' s' lines lines' f ended more ended' text (BadInput m fault) good same e h = named_along L n s done text' s' ended more ended' text _ good e h
+ends_along L n s done text' s' lines lines' f ended more ended' text (Long m) good same e h = λ y. named_along L n s done text' s' (lines (f y)) [] (lines' y) text _ good (same y ∙ ap (λ (l : List (List ℕ)). done ++ l) (sym (append-nil (lines (f y))))) (h (f y))
+ends_along L n s done text' s' lines lines' f ended more ended' text (Ratio m over) good same e h = named_along L n s done text' s' ended more ended' text _ good e h
+ends_along L n s done text' s' lines lines' f ended more ended' text Write good same e h = wrote_along L n s done text' s' ended more ended' text good e h
+ends_along L n s done text' s' lines lines' f ended more ended' text NoMemory good same e (inl h) = inl (wrote_along L n s done text' s' ended more ended' text good e h)
+ends_along L n s done text' s' lines lines' f ended more ended' text Keep good same e h = unkept_along L n s done text' s' ended more ended' text good e h
+ends_along L n s done text' s' lines lines' f ended more ended' text NoMemory good same e (inr (inl h)) = inr (inl (held_along L n s done text' s' ended more ended' text good e h))
+ends_along L n s done text' s' lines lines' f ended more ended' text NoMemory good same e (inr (inr h)) = inr (inr (unkept_along L n s done text' s' ended more ended' text good e h))
+
+pub stops_along : (L : Standing → Standing → Type 0) {X Y : Type 0} (n n' : ℕ) (s : Standing) (done : List (List ℕ)) (text' : List ℕ) (s' : Standing) (lines : X → List (List ℕ)) (lines' : Y → List (List ℕ)) (f : Y → X) (ended more ended' : List (List ℕ)) (w w1 w' : Option (List ℕ)) (stop : Stop) → AreAnswered n s done text' s' → n' ≡ n + length done
+    → ((y : Y) → lines' y ≡ done ++ lines (f y)) → ended' ≡ done ++ (ended ++ more) → Grows w w1 text' → PartStops L n' s' lines ended w1 w' stop → PartStops L n s lines' ended' w w' stop
+stops_along L n n' s done text' s' lines lines' f ended more ended' w w1 w' stop good e same e2 grows stops = λ old told.
     let t = stops _ (grows old told) in
-    (text' ++ t.0, t.1 ∙ ap Some (append_assoc old text' t.0), ends_along n s done text' s' lines lines' f ended more ended' t.0 stop good same e2 (rw e at t.2))
+    (text' ++ t.0, t.1 ∙ ap Some (append_assoc old text' t.0), ends_along L n s done text' s' lines lines' f ended more ended' t.0 stop good same e2 (rw e at t.2))
 
 -- the same, from a place in the bytes to the next
-pub fed_stops : (n : ℕ) (s : Standing) (line a : List ℕ) (n1 : ℕ) (s1 : Standing) (line1 b c : List ℕ) (all : List ℕ) (w w1 w' : Option (List ℕ)) (stop : Stop) → Fed n s line a n1 s1 line1 w w1 → all ≡ a ++ (b ++ c)
-    → PartStops n1 s1 (λ (more : List ℕ). lines_from line1 (b ++ more)) (whole_from line1 b) w1 w' stop → PartStops n s (λ (more : List ℕ). lines_from line (all ++ more)) (whole_from line all) w w' stop
-fed_stops n s line a n1 s1 line1 b c all w w1 w' stop fed e stops =
+pub fed_stops : (L : Standing → Standing → Type 0) (n : ℕ) (s : Standing) (line a : List ℕ) (n1 : ℕ) (s1 : Standing) (line1 b c : List ℕ) (all : List ℕ) (w w1 w' : Option (List ℕ)) (stop : Stop) → Fed n s line a n1 s1 line1 w w1 → all ≡ a ++ (b ++ c)
+    → PartStops L n1 s1 (λ (more : List ℕ). lines_from line1 (b ++ more)) (whole_from line1 b) w1 w' stop → PartStops L n s (λ (more : List ℕ). lines_from line (all ++ more)) (whole_from line all) w w' stop
+fed_stops L n s line a n1 s1 line1 b c all w w1 w' stop fed e stops =
     let more : List (List ℕ) = whole_from (rest_from line1 b) c in
-    stops_along n n1 s (whole_from line a) fed.text s1 (λ (m : List ℕ). lines_from line1 (b ++ m)) (λ (m : List ℕ). lines_from line (all ++ m)) (λ (m : List ℕ). c ++ m) (whole_from line1 b) more (whole_from line all) w w1 w' stop fed.answered fed.number
+    stops_along L n n1 s (whole_from line a) fed.text s1 (λ (m : List ℕ). lines_from line1 (b ++ m)) (λ (m : List ℕ). lines_from line (all ++ m)) (λ (m : List ℕ). c ++ m) (whole_from line1 b) more (whole_from line all) w w1 w' stop fed.answered fed.number
     (λ (m : List ℕ). ap (λ (p : List ℕ). lines_from line (p ++ m)) e ∙ ap (lines_from line) (append_assoc a (b ++ c) m ∙ ap (λ (t : List ℕ). a ++ t) (append_assoc b c m)) ∙ lines-append a line _ ∙ ap (λ (l : List ℕ). whole_from line a ++ lines_from l (b ++ (c ++ m))) (sym fed.line_is))
     (ap (whole_from line) e ∙ whole-append a line (b ++ c) ∙ ap (λ (l : List (List ℕ)). whole_from line a ++ l) (rw (← fed.line_is) (whole-append b line1 c)))
     fed.grows stops

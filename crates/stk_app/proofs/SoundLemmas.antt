@@ -35,11 +35,11 @@ use Rattle.stk_app.proofs.SizeLemmas.{delegations_few}
 -- ---- a line that is answered
 
 -- it is within the limit
-record IsWithin (n : ℕ) (s : Standing) (line : List ℕ) (answer : Answer) : Type 0 where
-  short : length line ≤ 4194304
-  is : answer_within n s line ≡ Ok answer
+pub record IsWithin (n : ℕ) (s : Standing) (line : List ℕ) (answer : Answer) : Type 0 where
+  pub short : length line ≤ 4194304
+  pub is : answer_within n s line ≡ Ok answer
 
-within : (n : ℕ) (s : Standing) (line : List ℕ) (answer : Answer) → line_answer n s line ≡ Ok answer → IsWithin n s line answer
+pub within : (n : ℕ) (s : Standing) (line : List ℕ) (answer : Answer) → line_answer n s line ≡ Ok answer → IsWithin n s line answer
 unfolding line_answer
 within n s line answer e = by (nat_lt longest (length line)) refl e
   where
@@ -48,15 +48,15 @@ within n s line answer e = by (nat_lt longest (length line)) refl e
     by false q h = record { short = grind (arith, nat_tests, q); is = h }
 
 -- a block that the line spells was applied
-record Led (line : List ℕ) (s : State) (answer : Answer) : Type 0 where
-  block : Block
-  line_is : block_of line ≡ Ok block
-  done : Step
-  done_is : step block s ≡ Ok done
-  standing_is : answer.standing ≡ Some done.state
-  text_is : answer.text ≡ text_of_block done.report
+pub record Led (line : List ℕ) (s : State) (answer : Answer) : Type 0 where
+  pub block : Block
+  pub line_is : block_of line ≡ Ok block
+  pub done : Step
+  pub done_is : step block s ≡ Ok done
+  pub standing_is : answer.standing ≡ Some done.state
+  pub text_is : answer.text ≡ text_of_block done.report
 
-block_led : (n : ℕ) (line : List ℕ) (s : State) (r : Result Block LineFault) → block_of line ≡ r → (answer : Answer) → block_answer n s r ≡ Ok answer → Led line s answer
+pub block_led : (n : ℕ) (line : List ℕ) (s : State) (r : Result Block LineFault) → block_of line ≡ r → (answer : Answer) → block_answer n s r ≡ Ok answer → Led line s answer
 block_led n line s (Err fault) is answer e = absurd cc
 block_led n line s (Ok block) is answer e = by (step block s) refl e
   where
@@ -81,7 +81,7 @@ record Runs (s : State) (lines : List (List ℕ)) (text : List ℕ) (end : Stand
 one_run : (b : Block) (blocks : List Block) (s : State) (done : Step) → step b s ≡ Ok done → going_on s (Ok done) (λ u. run_of blocks u) ≡ run_of (b ∷ blocks) s
 one_run b blocks s done is = ap (λ (r : Result Step BlockFault). going_on s r (λ u. run_of blocks u)) (sym is)
 
-next_height : (b : Block) (s : State) (done : Step) → step b s ≡ Ok done → b.height ≡ s.view.ctx.height + 1
+pub next_height : (b : Block) (s : State) (done : Step) → step b s ≡ Ok done → b.height ≡ s.view.ctx.height + 1
 next_height b s done e = let first = first_ok (block_checked b s) _ done e in (is_due b s first.1).height
 
 module _ (P : List ℕ → Type 0) where
@@ -112,20 +112,20 @@ module _ (P : List ℕ → Type 0) where
 
 -- ---- the first line
 
-record Begun (line : List ℕ) (answer : Answer) : Type 0 where
-  genesis : Genesis
-  line_is : genesis_of line ≡ Ok genesis
-  good : IsGoodGenesis genesis
-  start : Start
-  started : chain_started genesis ≡ Ok start
-  standing_is : answer.standing ≡ Some start.state
-  text_is : answer.text ≡ text_of_genesis start.state.view.bank.supplies
+pub record Begun (line : List ℕ) (answer : Answer) : Type 0 where
+  pub genesis : Genesis
+  pub line_is : genesis_of line ≡ Ok genesis
+  pub good : IsGoodGenesis genesis
+  pub start : Start
+  pub started : chain_started genesis ≡ Ok start
+  pub standing_is : answer.standing ≡ Some start.state
+  pub text_is : answer.text ≡ text_of_genesis start.state.view.bank.supplies
 
 good_start : (g : Genesis) (r : Result Start Refusal) → IsOkAnd r (λ s. IsSound s.state) → (start : Start) × (r ≡ Ok start)
 good_start g (Ok start) k = (start, refl)
 good_start g (Err why) k = absurd k
 
-genesis_led : (n : ℕ) (line : List ℕ) → length line ≤ 4194304 → (r : Result Genesis LineFault) → genesis_of line ≡ r → (answer : Answer) → genesis_answer n r ≡ Ok answer → Begun line answer
+pub genesis_led : (n : ℕ) (line : List ℕ) → length line ≤ 4194304 → (r : Result Genesis LineFault) → genesis_of line ≡ r → (answer : Answer) → genesis_answer n r ≡ Ok answer → Begun line answer
 genesis_led n line short (Err fault) is answer e = absurd cc
 genesis_led n line short (Ok g) is answer e = by (start_condition g) refl e
   where

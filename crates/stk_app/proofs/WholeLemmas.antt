@@ -14,13 +14,13 @@ abbrev IsWhole : Ran → List ℕ → Type 0
 IsWhole ran text = ran ≡ record { text = text; fault = None }
 
 -- each of the lines was answered, and the report of what they lead to was written
-record Reports (n : ℕ) (s : Standing) (lines : List (List ℕ)) (text : List ℕ) : Type 0 where
-  done : List ℕ
-  last : List ℕ
-  end : Standing
-  answered : AreAnswered n s lines done end
-  report_is : report_of end ≡ Ok last
-  text_is : text ≡ done ++ last
+pub record Reports (n : ℕ) (s : Standing) (lines : List (List ℕ)) (text : List ℕ) : Type 0 where
+  pub done : List ℕ
+  pub last : List ℕ
+  pub end : Standing
+  pub answered : AreAnswered n s lines done end
+  pub report_is : report_of end ≡ Ok last
+  pub text_is : text ≡ done ++ last
 
 report_only : (n : ℕ) (s : Standing) (text : List ℕ) (r : Result (List ℕ) Stop) → report_of s ≡ r → IsWhole (ran_report r) text → Reports n s [] text
 report_only n s text (Ok last) is e = record { done = []; last = last; end = s; answered = (refl, refl); report_is = is; text_is = sym (ap (λ (r : Ran). r.text) e) }
@@ -45,7 +45,7 @@ module _ (n : ℕ) (s : Standing) (line : List ℕ) (lines : List (List ℕ)) (t
       }
   one_more next others (Err fault) is e = let none : Some fault ≡ None = ap (λ (r : Ran). r.fault) e in absurd cc
 
-reports : (lines : List (List ℕ)) (n : ℕ) (s : Standing) (text : List ℕ) → IsWhole (ran_from n s lines) text → Reports n s lines text
+pub reports : (lines : List (List ℕ)) (n : ℕ) (s : Standing) (text : List ℕ) → IsWhole (ran_from n s lines) text → Reports n s lines text
 reports [] n s text e = report_only n s text (report_of s) refl e
 reports (line ∷ lines) n s text e = one_more n s line lines text (λ u. ran_from (n + 1) u lines) (reports lines (n + 1)) (line_answer n s line) refl e
 

@@ -1,17 +1,19 @@
 -- What lines that are answered lead to: a replay, of which all that the machine keeps is said.
-use Rattle.std.specs.Prelude.{◌≡◌, ℕ, List, [], ◌∷◌, ◌++◌, Some, None, Ok}
+use Rattle.std.specs.Prelude.{◌≡◌, ◌↔◌, ℕ, List, [], ◌∷◌, ◌++◌, Some, None, Ok}
 use Rattle.stk_msgs.specs.declared.block.Block.{Block}
 use Rattle.stk_msgs.specs.declared.report.BlockReport.{BlockReport}
 use Rattle.stk_json.specs.Block.{block_of}
 use Rattle.stk_json.specs.Genesis.{genesis_of}
 use Rattle.stk_json.specs.Written.{text_of_genesis, text_of_block}
 use Rattle.stk_rules.specs.Chain.{State}
+use Rattle.stk_rules.specs.Sound.{IsSound}
 use Rattle.stk_machine.specs.Promises.{Replayed, run_in}
 use Rattle.stk_machine.specs.Report as machine
 use Rattle.stk_report.specs.Lines as report
 use Rattle.stk_app.specs.Lines.{lines_of}
 use Rattle.stk_app.specs.Outcome.{answer_to}
-use Rattle.stk_app.specs.Runs.{AreAnswered}
+use Rattle.stk_app.specs.Machine.{Standing}
+use Rattle.stk_app.specs.Runs.{AreAnswered, Ran, ran_from}
 
 -- the lines spell these blocks, one each
 abbrev pub SpellBlocks : List (List ℕ) → List Block → Type 0
@@ -55,3 +57,31 @@ pub record IsReplayed (input text : List ℕ) : Type 0 where
 -- A whole answer without a fault, as a run that is done wrote it, is that of a replay.
 abbrev pub AnswersAreReplays : Type 0
 AnswersAreReplays = (input text : List ℕ) → answer_to input ≡ record { text = text; fault = None } → IsReplayed input text
+
+-- What a run writes from where lines led is the rest of what one run writes for these lines and those behind them: so a stopped and
+-- resumed run prints what one run does. Only the number of a line at fault differs, since a run that goes on counts its own lines.
+pub record IsRest (text : List ℕ) (whole rest : Ran) : Type 0 where
+  pub text_is : whole.text ≡ text ++ rest.text
+  pub good : (whole.fault ≡ None) ↔ (rest.fault ≡ None)
+
+abbrev pub ResumesAreTheRest : Type 0
+ResumesAreTheRest =
+    (first middle : Standing) (lines more : List (List ℕ)) (text : List ℕ) → AreAnswered 1 first lines text middle
+    → IsRest text (ran_from 1 first (lines ++ more)) (ran_from 1 middle more)
+
+-- A run may go on from here: from before the genesis, or from a sound state without facts of what led to it.
+abbrev pub MayGoOn : Standing → Type 0
+MayGoOn None = Unit {0}
+MayGoOn (Some p) = IsSound p × (p.view.facts ≡ [])
+
+-- Wherever lines lead that are answered, a run may go on. So the rows that a run leaves, of which each item has one of its own, are
+-- those of a sound state, and no run that goes on from them, or asks of them, refuses them.
+abbrev pub RunsMayGoOn : Type 0
+RunsMayGoOn = (n : ℕ) (first : Standing) (lines : List (List ℕ)) (text : List ℕ) (end : Standing) → MayGoOn first → AreAnswered n first lines text end → MayGoOn end
+
+-- Lines that were answered, and those that a run answered that went on from where they led, are answered as the lines of one run. So
+-- what holds of replays holds of what a resume writes too, with each history that led to the rows on which it began.
+abbrev pub AnswersJoin : Type 0
+AnswersJoin =
+    (first middle end : Standing) (lines more : List (List ℕ)) (text text' : List ℕ) → AreAnswered 1 first lines text middle
+    → AreAnswered 1 middle more text' end → AreAnswered 1 first (lines ++ more) (text ++ text') end

@@ -1,9 +1,13 @@
 pub mod Lines
 pub mod Machine
 pub mod Runs
+pub mod Kept
 pub mod Outcome
 pub mod Parts
 pub mod Laws
 pub mod LineStops
 pub mod Sizes
+pub mod Writes
+pub mod Resumes
 pub mod Modes
+pub mod Stops

@@ -10,4 +10,5 @@ IsOfLine (stop.BadInput n fault) line = Unit {0}
 IsOfLine (stop.Long n) line = longest < length line
 IsOfLine (stop.Ratio n over) line = Unit {0}
 IsOfLine stop.Write line = ⊥
+IsOfLine stop.Keep line = Unit {0}
 IsOfLine stop.NoMemory line = Unit {0}

@@ -44,10 +44,15 @@ pub record Answer : Type 0 where
   pub text : List ℕ
   pub standing : Standing
 
--- the line of this number has an answer with this text, and the chain stands for what it leads to
-abbrev pub AnswersTo : Result Answer Stop → List ℕ → Option Chained → Type 0
-AnswersTo due text chain =
-    (next : Standing) × (due ≡ Ok (record { text = text; standing = next })) × StandsAt chain next
+-- the line has an answer with this text, and what it leads to is so
+abbrev pub AnswersTo : Result Answer Stop → List ℕ → (Standing → Type 0) → Type 0
+AnswersTo due text P =
+    (next : Standing) × (due ≡ Ok (record { text = text; standing = next })) × P next
+
+-- what was settled of a chain is what it keeps
+abbrev pub IsSettled : Option Chained → Type 0
+IsSettled None = Unit {0}
+IsSettled (Some chain) = chain.settled ≡ chain.kept
 
 -- why the line of this number is not read
 abbrev pub not_read : ℕ → LineFault → Stop

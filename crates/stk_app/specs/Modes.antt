@@ -1,44 +1,21 @@
 -- How a run of each command ends.
-use Rattle.std.specs.Prelude.{◌≡◌, ◌⊎◌, ℕ, ◌≤◌, List, [], ◌++◌, Option, Some, None, Result, Ok, Err, ⊤}
-use Rattle.stk_io.specs.declared.outside.SinkFault.{SinkFault}
-use Rattle.stk_io.specs.declared.outside.SinkFault.TheVariants as sink
+use Rattle.std.specs.Prelude.{◌≡◌, ◌⊎◌, ℕ, ◌≤◌, List, [], Option, Some, None, Result, Ok, Err}
+use Rattle.stk_io.specs.Outside.{Rose}
+use Rattle.stk_io.specs.Rows.{Pair}
 use Rattle.stk_keep.specs.declared.refusal.Refusal.{Refusal}
 use Rattle.stk_words.specs.declared.mode.Mode.{Mode}
-use Rattle.stk_words.specs.declared.mode.Mode.TheVariants.{Replay, Gen, Trial}
-use Rattle.stk_input.specs.Writing.{IsFront, generated_text}
+use Rattle.stk_words.specs.declared.mode.Mode.TheVariants.{Replay, Resume, Query, Gen, Trial}
+use Rattle.stk_input.specs.Writing.{generated_text}
 use Rattle.stk_summary.specs.Summary.{Stopped}
 use Rattle.stk_summary.specs.Trial.{trial_of}
 use Rattle.stk_app.specs.declared.status.Status.{Status}
-use Rattle.stk_app.specs.declared.status.Status.TheVariants.{Done, Usage, BadInput, Limit, ReadFault, WriteFault, NoMemory}
+use Rattle.stk_app.specs.declared.status.Status.TheVariants.{NoMemory}
+use Rattle.stk_app.specs.Kept.{AreLeft, AreSome, AreUntouched, IsUnbegun, LeftIn, on_none}
 use Rattle.stk_app.specs.Machine.{not_applied}
 use Rattle.stk_app.specs.Outcome.{IsUntroubled, RunEnds}
 use Rattle.stk_app.specs.Parts.{status_of}
-
--- ---- a text that is written
-
--- how a run ends that has written its text, or could not
-abbrev pub status_of_sink : Result ⊤ SinkFault → Status
-status_of_sink (Ok done) = Done
-status_of_sink (Err sink.Failed) = WriteFault
-status_of_sink (Err sink.NoMemory) = NoMemory
-
--- What a run has written that is to write this text: all of it, or a front of it at a fault of the sink and where memory is
--- wanting. At a fault the front is all of it where the flush failed.
-abbrev pub IsWritten : List ℕ → Status → List ℕ → Type 0
-IsWritten whole Done text = text ≡ whole
-IsWritten whole Usage text = ⊥
-IsWritten whole (BadInput n fault) text = ⊥
-IsWritten whole (Limit n kind) text = ⊥
-IsWritten whole ReadFault text = ⊥
-IsWritten whole WriteFault text = IsFront text whole
-IsWritten whole NoMemory text = IsFront text whole
-
--- what came to the sink is so, where it is told
-abbrev pub Adds : Option (List ℕ) → Option (List ℕ) → (List ℕ → Type 0) → Type 0
-Adds written written' P = (old : List ℕ) → written ≡ Some old → (text : List ℕ) × (written' ≡ Some (old ++ text)) × P text
-
-abbrev pub Writes : List ℕ → Option (List ℕ) → Option (List ℕ) → Status → Type 0
-Writes whole written written' status = Adds written written' (IsWritten whole status)
+use Rattle.stk_app.specs.Resumes.{AsksCalmly, QueryEnds, ResumeEnds, ResumesCalmly}
+use Rattle.stk_app.specs.Writes.{Adds, IsWritten, Leaves}
 
 -- ---- a trial
 
@@ -57,23 +34,41 @@ Tries due written written' status = Adds written written' (IsTried due status)
 -- A generated input has at most 100,000 blocks.
 abbrev pub HasFewBlocks : Mode → Type 0
 HasFewBlocks Replay = Unit {0}
+HasFewBlocks Resume = Unit {0}
+HasFewBlocks (Query what) = Unit {0}
 HasFewBlocks (Gen seed count) = count ≤ 100000
 HasFewBlocks (Trial seed count) = count ≤ 100000
 
--- nothing was taken from the source, and this came to the sink
-abbrev pub Leaves : Option (List ℕ) → Option (List ℕ) → Option (List ℕ) → Option (List ℕ) → (List ℕ → Type 0) → Type 0
-Leaves left left' written written' P = (left' ≡ left) × Adds written written' P
+-- A replay begins on no rows, and ends as its input says; or it does not begin, takes and writes nothing, and leaves all rows.
+abbrev pub ReplayEnds : Option (List ℕ) → Option (List ℕ) → Option (List ℕ) → Option (List ℕ) → Option (List Pair) → Option (List Pair) → Type 0 → (List Pair → Type 0) → (List Pair → Type 0) → Status → Type 0
+ReplayEnds left left' written written' rows rows' honest' leaves leaves' status =
+    RunEnds None (LeftIn (on_none rows) rows' honest' leaves') left left' written written' status
+    ⊎ (IsUnbegun status (AreSome rows rows' honest') × Leaves left left' written written' (λ text. text ≡ []) × AreLeft rows rows' honest' leaves leaves')
 
--- what was taken and written at the end of a run: of no command, of a replay, of the generated input, of a trial
-abbrev pub ModeEnds : Option Mode → Option (List ℕ) → Option (List ℕ) → Option (List ℕ) → Option (List ℕ) → Status → Type 0
-ModeEnds None left left' written written' status = Leaves left left' written written' (λ text. text ≡ [])
-ModeEnds (Some Replay) left left' written written' status = RunEnds left left' written written' status
-ModeEnds (Some (Gen seed count)) left left' written written' status = Leaves left left' written written' (IsWritten (generated_text seed count) status)
-ModeEnds (Some (Trial seed count)) left left' written written' status = Leaves left left' written written' (IsTried (trial_of seed count) status)
+-- What was taken, written and kept at the end of a run: of no command, of a replay, of a run that goes on, of a question, of the
+-- generated input, of a trial.
+abbrev pub ModeEnds : Option Mode → Option (List ℕ) → Option (List ℕ) → Option (List ℕ) → Option (List ℕ) → Option (List Pair) → Option (List Pair) → Type 0 → (List Pair → Type 0) → (List Pair → Type 0) → Status → Type 0
+ModeEnds None left left' written written' rows rows' honest' leaves leaves' status = Leaves left left' written written' (λ text. text ≡ []) × AreUntouched rows rows' leaves leaves'
+ModeEnds (Some Replay) left left' written written' rows rows' honest' leaves leaves' status = ReplayEnds left left' written written' rows rows' honest' leaves leaves' status
+ModeEnds (Some Resume) left left' written written' rows rows' honest' leaves leaves' status = ResumeEnds left left' written written' rows rows' honest' leaves leaves' status
+ModeEnds (Some (Query what)) left left' written written' rows rows' honest' leaves leaves' status = (left' ≡ left) × QueryEnds what written written' rows rows' honest' leaves leaves' status
+ModeEnds (Some (Gen seed count)) left left' written written' rows rows' honest' leaves leaves' status =
+    Leaves left left' written written' (IsWritten (generated_text seed count) status) × AreUntouched rows rows' leaves leaves'
+ModeEnds (Some (Trial seed count)) left left' written written' rows rows' honest' leaves leaves' status =
+    Leaves left left' written written' (IsTried (trial_of seed count) status) × AreUntouched rows rows' leaves leaves'
+
+-- a keeper without rows that is honest to the end, and of which no call fails
+pub record FitsReplay (rows : Option (List Pair)) (honest' : Type 0) (faults faults' : ℕ) : Type 0 where
+  pub none : rows ≡ Some []
+  pub honest : honest'
+  pub quiet : ¬ Rose faults faults'
 
 -- A sink that tells, and an input free of faults: that of the source, or one whose blocks all follow; what `gen` writes needs none.
-abbrev pub IsUntroubledAt : Option Mode → Option (List ℕ) → Option (List ℕ) → Type 0
-IsUntroubledAt None left written = ⊥
-IsUntroubledAt (Some Replay) left written = IsUntroubled left written
-IsUntroubledAt (Some (Gen seed count)) left written = (old : List ℕ) × (written ≡ Some old)
-IsUntroubledAt (Some (Trial seed count)) left written = ((old : List ℕ) × (written ≡ Some old)) × ((summary : List ℕ) × (trial_of seed count ≡ Ok (Ok summary)))
+-- A replay has a keeper that fits it, and so have a run that goes on and a question, which has an answer.
+abbrev pub IsUntroubledAt : Option Mode → Option (List ℕ) → Option (List ℕ) → Option (List Pair) → Type 0 → ℕ → ℕ → Type 0
+IsUntroubledAt None left written rows honest' faults faults' = ⊥
+IsUntroubledAt (Some Replay) left written rows honest' faults faults' = IsUntroubled None left written × FitsReplay rows honest' faults faults'
+IsUntroubledAt (Some Resume) left written rows honest' faults faults' = ResumesCalmly left written rows honest' faults faults'
+IsUntroubledAt (Some (Query what)) left written rows honest' faults faults' = AsksCalmly what written rows honest' faults faults'
+IsUntroubledAt (Some (Gen seed count)) left written rows honest' faults faults' = (old : List ℕ) × (written ≡ Some old)
+IsUntroubledAt (Some (Trial seed count)) left written rows honest' faults faults' = ((old : List ℕ) × (written ≡ Some old)) × ((summary : List ℕ) × (trial_of seed count ≡ Ok (Ok summary)))

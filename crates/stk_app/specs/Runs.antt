@@ -31,8 +31,13 @@ AreAnswered n s [] text end = (text ≡ []) × (end ≡ s)
 AreAnswered n s (line ∷ lines) text end =
     (answer : Answer) × (rest : List ℕ) × (line_answer n s line ≡ Ok answer) × (text ≡ answer.text ++ rest) × AreAnswered (n + 1) answer.standing lines rest end
 
+-- ---- what a run leaves
+
+-- In each record below, `Left s t` says what a run leaves in its keeper, where `s` stands for the last lines that were committed,
+-- and `t` for those that were to be: it is `s`, unless a commit failed.
+
 -- the first of the lines that has a fault has this one, and the texts of those before it were written
-pub record Named (n : ℕ) (s : Standing) (lines : List (List ℕ)) (text : List ℕ) (fault : Stop) : Type 0 where
+pub record Named (Left : Standing → Standing → Type 0) (n : ℕ) (s : Standing) (lines : List (List ℕ)) (text : List ℕ) (fault : Stop) : Type 0 where
   pub before : List (List ℕ)
   pub line : List ℕ
   pub after : List (List ℕ)
@@ -40,9 +45,10 @@ pub record Named (n : ℕ) (s : Standing) (lines : List (List ℕ)) (text : List
   pub lines_are : lines ≡ before ++ line ∷ after
   pub answered : AreAnswered n s before text middle
   pub fault_is : line_answer (n + length before) middle line ≡ Err fault
+  pub left : Left middle middle
 
 -- the texts of the lines before one of the lines were written, and a part of its own
-pub record Wrote (n : ℕ) (s : Standing) (lines : List (List ℕ)) (text : List ℕ) : Type 0 where
+pub record Wrote (Left : Standing → Standing → Type 0) (n : ℕ) (s : Standing) (lines : List (List ℕ)) (text : List ℕ) : Type 0 where
   pub before : List (List ℕ)
   pub line : List ℕ
   pub after : List (List ℕ)
@@ -55,22 +61,37 @@ pub record Wrote (n : ℕ) (s : Standing) (lines : List (List ℕ)) (text : List
   pub answer_is : line_answer (n + length before) middle line ≡ Ok answer
   pub part : IsPart front answer.text
   pub text_is : text ≡ done ++ front
+  pub left : Left answer.standing answer.standing
+
+-- the texts of the lines before one of the lines were written, and what that line leads to was not committed
+pub record Unkept (Left : Standing → Standing → Type 0) (n : ℕ) (s : Standing) (lines : List (List ℕ)) (text : List ℕ) : Type 0 where
+  pub before : List (List ℕ)
+  pub line : List ℕ
+  pub after : List (List ℕ)
+  pub middle : Standing
+  pub answer : Answer
+  pub lines_are : lines ≡ before ++ line ∷ after
+  pub answered : AreAnswered n s before text middle
+  pub answer_is : line_answer (n + length before) middle line ≡ Ok answer
+  pub left : Left middle answer.standing
 
 -- the texts of the first lines were written
-pub record Held (n : ℕ) (s : Standing) (lines : List (List ℕ)) (text : List ℕ) : Type 0 where
+pub record Held (Left : Standing → Standing → Type 0) (n : ℕ) (s : Standing) (lines : List (List ℕ)) (text : List ℕ) : Type 0 where
   pub before : List (List ℕ)
   pub after : List (List ℕ)
   pub middle : Standing
   pub lines_are : lines ≡ before ++ after
   pub answered : AreAnswered n s before text middle
+  pub left : Left middle middle
 
 -- the texts of all lines were written
-pub record Answered (n : ℕ) (s : Standing) (lines : List (List ℕ)) (text : List ℕ) : Type 0 where
+pub record Answered (Left : Standing → Standing → Type 0) (n : ℕ) (s : Standing) (lines : List (List ℕ)) (text : List ℕ) : Type 0 where
   pub end : Standing
   pub answered : AreAnswered n s lines text end
+  pub left : Left end end
 
 -- the texts of all lines were written, and a part of the report
-pub record Reported (n : ℕ) (s : Standing) (lines : List (List ℕ)) (text : List ℕ) : Type 0 where
+pub record Reported (Left : Standing → Standing → Type 0) (n : ℕ) (s : Standing) (lines : List (List ℕ)) (text : List ℕ) : Type 0 where
   pub end : Standing
   pub done : List ℕ
   pub report : List ℕ
@@ -79,9 +100,19 @@ pub record Reported (n : ℕ) (s : Standing) (lines : List (List ℕ)) (text : L
   pub report_is : report_of end ≡ Ok report
   pub part : IsPart front report
   pub text_is : text ≡ done ++ front
+  pub left : Left end end
 
 -- the texts of all lines were written, and they lead to no report, by this fault
-pub record Lacking (n : ℕ) (s : Standing) (lines : List (List ℕ)) (text : List ℕ) (fault : Stop) : Type 0 where
+pub record Lacking (Left : Standing → Standing → Type 0) (n : ℕ) (s : Standing) (lines : List (List ℕ)) (text : List ℕ) (fault : Stop) : Type 0 where
   pub end : Standing
   pub answered : AreAnswered n s lines text end
   pub fault_is : report_of end ≡ Err fault
+  pub left : Left end end
+
+-- the texts of all lines were written, and the whole report
+pub record Finished (Left : Standing → Standing → Type 0) (n : ℕ) (s : Standing) (lines : List (List ℕ)) (text : List ℕ) : Type 0 where
+  pub end : Standing
+  pub done : List ℕ
+  pub answered : AreAnswered n s lines done end
+  pub ran : ran_from n s lines ≡ record { text = text; fault = None }
+  pub left : Left end end

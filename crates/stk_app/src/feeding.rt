@@ -1,15 +1,18 @@
 ghost use Rattle.std.specs.Prelude.{◌≡◌, ◌≤◌, ◌<◌, ◌^◌, ◌+◌, ◌∷◌, ◌++◌, [], List, ℕ, IfErr, IfSome, IfNone, OnOk, OnErr, IsErrOf, length, take, drop, slice_index};
 ghost use Rattle.stk_io.specs.Outside.{Rose};
 ghost use Rattle.stk_app.specs.Lines.{whole_from};
-ghost use Rattle.stk_app.specs.Machine.{longest, Standing, StandsAt};
-ghost use Rattle.stk_app.specs.Parts.{PartStops, Fed, lines_after, HasNoEnd, NotExtended, UnlessWrite};
+ghost use Rattle.stk_app.specs.Kept.{Began, Keeping, LeftIn};
+ghost use Rattle.stk_app.specs.Machine.{longest, Standing};
+ghost use Rattle.stk_app.specs.Parts.{PartStops, Fed, lines_after, HasNoEnd, NotExtended, UnlessKeep, UnlessWrite};
+ghost use Rattle.stk_io.specs.declared.keeper.Change.{Change};
+ghost use Rattle.stk_keeping.specs.Held.{TakesDistinct};
 
 use crate::line::{Buffers, LONGEST, take_line};
 use crate::status::Stop;
 use memchr::memchr;
 use std::alloc::Global;
 use stk_chain::Chain;
-use stk_io::Sink;
+use stk_io::{Keeper, Sink};
 
 /// Where a run stands: the number of the next line, what has come of it, and what the lines
 /// before it led to.
@@ -55,29 +58,45 @@ fn extend(number: u64, line: &mut Vec<u8>, bytes: &[u8]) -> Result<(), Stop>
 }
 
 /// Takes the bytes up to the end of a line, and that end.
-fn end_line<K: Sink>(
+fn end_line<K: Sink, D: Keeper>(
     alloc: Global,
     buffers: &mut Buffers,
     sink: &mut K,
+    keeper: &mut D,
     progress: &mut Progress,
     bytes: &[u8],
 ) -> Result<(), Stop>
     requires number { progress.old.number < 2 ^ 63 }
     requires short { length progress.old.line.items ≤ longest }
     requires before { HasNoEnd bytes.now }
-    ensures fed { (s : Standing) → StandsAt progress.old.chain s → OnOk result ((next : Standing)
+    requires takes { TakesDistinct (D.takes keeper.old) }
+    requires kept { (b : Began) × (s : Standing) × Keeping b progress.old.chain
+        (D.rows keeper.old) (D.is_honest keeper.old) (D.may_leave keeper.old) s }
+    ensures fed { (b : Began) → (s : Standing) → Keeping b progress.old.chain
+        (D.rows keeper.old) (D.is_honest keeper.old) (D.may_leave keeper.old) s
+        → OnOk result ((next : Standing)
         × Fed progress.old.number s progress.old.line.items (bytes.now ++ 10 ∷ [])
         progress.new.number next progress.new.line.items (K.written sink.old) (K.written sink.new)
-        × StandsAt progress.new.chain next) }
-    ensures stops { (s : Standing) → StandsAt progress.old.chain s
-        → IfErr result (PartStops progress.old.number s
-        (lines_after progress.old.line.items (bytes.now ++ 10 ∷ []))
+        × Keeping b progress.new.chain
+        (D.rows keeper.new) (D.is_honest keeper.new) (D.may_leave keeper.new) next) }
+    ensures stops { (b : Began) → (s : Standing) → Keeping b progress.old.chain
+        (D.rows keeper.old) (D.is_honest keeper.old) (D.may_leave keeper.old) s
+        → IfErr result (PartStops
+        (LeftIn b (D.rows keeper.new) (D.is_honest keeper.new) (D.may_leave keeper.new))
+        progress.old.number s (lines_after progress.old.line.items (bytes.now ++ 10 ∷ []))
         (whole_from progress.old.line.items (bytes.now ++ 10 ∷ []))
         (K.written sink.old) (K.written sink.new)) }
     ensures later { K.faults sink.old ≤ K.faults sink.new }
     ensures cause { IsErrOf result Stop.Write
         → Rose (K.faults sink.old) (K.faults sink.new) }
     ensures quiet { UnlessWrite result (K.faults sink.new ≡ K.faults sink.old) }
+    ensures honest { D.is_honest keeper.new → D.is_honest keeper.old }
+    ensures takes { (changes : List Change) → D.takes keeper.old changes
+        → D.takes keeper.new changes }
+    ensures keep_later { D.faults keeper.old ≤ D.faults keeper.new }
+    ensures keep_cause { IsErrOf result Stop.Keep
+        → Rose (D.faults keeper.old) (D.faults keeper.new) }
+    ensures keep_quiet { UnlessKeep result (D.faults keeper.new ≡ D.faults keeper.old) }
 {
     if let Err(stop) = extend(progress.number, &mut progress.line, bytes) {
         return Err(stop);
@@ -86,6 +105,7 @@ fn end_line<K: Sink>(
         alloc,
         buffers,
         sink,
+        keeper,
         progress.number,
         &mut progress.chain,
         &progress.line,
@@ -98,32 +118,47 @@ fn end_line<K: Sink>(
 }
 
 /// Takes the next bytes of the source.
-pub fn feed<K: Sink>(
+pub fn feed<K: Sink, D: Keeper>(
     alloc: Global,
     buffers: &mut Buffers,
     sink: &mut K,
+    keeper: &mut D,
     progress: &mut Progress,
     piece: &[u8],
 ) -> Result<(), Stop>
     requires number { progress.old.number + length piece.now < 2 ^ 63 }
     requires short { length progress.old.line.items ≤ longest }
-    requires stands { (s : Standing) × StandsAt progress.old.chain s }
-    ensures fed { (s : Standing) → StandsAt progress.old.chain s → OnOk result ((next : Standing)
+    requires takes { TakesDistinct (D.takes keeper.old) }
+    requires kept { (b : Began) × (s : Standing) × Keeping b progress.old.chain
+        (D.rows keeper.old) (D.is_honest keeper.old) (D.may_leave keeper.old) s }
+    ensures fed { (b : Began) → (s : Standing) → Keeping b progress.old.chain
+        (D.rows keeper.old) (D.is_honest keeper.old) (D.may_leave keeper.old) s
+        → OnOk result ((next : Standing)
         × Fed progress.old.number s progress.old.line.items piece.now
         progress.new.number next progress.new.line.items (K.written sink.old) (K.written sink.new)
-        × StandsAt progress.new.chain next) }
-    ensures stops { (s : Standing) → StandsAt progress.old.chain s
-        → IfErr result (PartStops progress.old.number s
-        (lines_after progress.old.line.items piece.now)
+        × Keeping b progress.new.chain
+        (D.rows keeper.new) (D.is_honest keeper.new) (D.may_leave keeper.new) next) }
+    ensures stops { (b : Began) → (s : Standing) → Keeping b progress.old.chain
+        (D.rows keeper.old) (D.is_honest keeper.old) (D.may_leave keeper.old) s
+        → IfErr result (PartStops
+        (LeftIn b (D.rows keeper.new) (D.is_honest keeper.new) (D.may_leave keeper.new))
+        progress.old.number s (lines_after progress.old.line.items piece.now)
         (whole_from progress.old.line.items piece.now) (K.written sink.old) (K.written sink.new)) }
     ensures later { K.faults sink.old ≤ K.faults sink.new }
     ensures cause { IsErrOf result Stop.Write
         → Rose (K.faults sink.old) (K.faults sink.new) }
     ensures quiet { UnlessWrite result (K.faults sink.new ≡ K.faults sink.old) }
+    ensures honest { D.is_honest keeper.new → D.is_honest keeper.old }
+    ensures takes { (changes : List Change) → D.takes keeper.old changes
+        → D.takes keeper.new changes }
+    ensures keep_later { D.faults keeper.old ≤ D.faults keeper.new }
+    ensures keep_cause { IsErrOf result Stop.Keep
+        → Rose (D.faults keeper.old) (D.faults keeper.new) }
+    ensures keep_quiet { UnlessKeep result (D.faults keeper.new ≡ D.faults keeper.old) }
 {
     let mut rest = piece;
     while let Some(end) = end_of_line(rest) {
-        if let Err(stop) = end_line(alloc, buffers, sink, progress, &rest[..end]) {
+        if let Err(stop) = end_line(alloc, buffers, sink, keeper, progress, &rest[..end]) {
             return Err(stop);
         }
         rest = after(rest, end + 1);

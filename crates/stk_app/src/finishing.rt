@@ -1,24 +1,26 @@
 ghost use Rattle.std.specs.Prelude.{◌≡◌, ◌≤◌, ◌⊎◌, true, IfErr, OnOk, IsErrOf, []};
 ghost use Rattle.stk_io.specs.Outside.{Rose};
 ghost use Rattle.stk_app.specs.Lines.{last_line};
+ghost use Rattle.stk_app.specs.Kept.{Began, Keeping, LeftIn};
 ghost use Rattle.stk_app.specs.Machine.{Standing, StandsAt};
-ghost use Rattle.stk_app.specs.Parts.{EndLongOnly, IsOfReport, FinishStops, Finishes, UnlessWriteAtEnd};
+ghost use Rattle.stk_keeping.specs.Held.{TakesDistinct};
+ghost use Rattle.stk_app.specs.Parts.{EndLongOnly, IsOfReport, FinishStops, Finishes, UnlessKeepAtEnd, UnlessWriteAtEnd};
 
 use crate::line::{Buffers, take_line};
 use crate::report::report_text;
 use crate::status::{EndStop, InputFault, Stop};
 use std::alloc::Global;
 use stk_chain::Chain;
-use stk_io::{Sink, SinkFault, write_all};
+use stk_io::{Keeper, Sink, SinkFault, write_all};
 
 /// Writes the report, and flushes.
 #[tactic(auto, unfolding(crate::specs::Machine::report_of))]
 fn report<K: Sink>(alloc: Global, sink: &mut K, chain: &Option<Chain>) -> Result<(), EndStop>
     ensures clean { OnOk result (K.clean sink.new ≡ true) }
-    ensures written { (s : Standing) → StandsAt chain.now s
-        → OnOk result (Finishes 1 s [] (K.written sink.old) (K.written sink.new)) }
-    ensures stops { (s : Standing) → StandsAt chain.now s
-        → IfErr result (FinishStops 1 s [] (K.written sink.old) (K.written sink.new)) }
+    ensures written { (s : Standing) → StandsAt chain.now s → OnOk result
+        (Finishes (λ _ _. Unit {0}) 1 s [] (K.written sink.old) (K.written sink.new)) }
+    ensures stops { (s : Standing) → StandsAt chain.now s → IfErr result
+        (FinishStops (λ _ _. Unit {0}) 1 s [] (K.written sink.old) (K.written sink.new)) }
     ensures no_line { IfErr result IsOfReport }
     ensures later { K.faults sink.old ≤ K.faults sink.new }
     ensures report_cause { IsErrOf result EndStop.Report
@@ -46,21 +48,29 @@ fn report<K: Sink>(alloc: Global, sink: &mut K, chain: &Option<Chain>) -> Result
 
 /// Answers the last line, which came without its end, where there is one; then the report and
 /// the flush.
-pub fn finish<K: Sink>(
+pub fn finish<K: Sink, D: Keeper>(
     alloc: Global,
     buffers: &mut Buffers,
     sink: &mut K,
+    keeper: &mut D,
     number: u64,
     chain: &mut Option<Chain>,
     line: &[u8],
 ) -> Result<(), EndStop>
+    requires takes { TakesDistinct (D.takes keeper.old) }
+    requires kept { (b : Began) × (s : Standing) × Keeping b chain.old
+        (D.rows keeper.old) (D.is_honest keeper.old) (D.may_leave keeper.old) s }
     ensures clean { OnOk result (K.clean sink.new ≡ true) }
-    ensures done { (s : Standing) → StandsAt chain.old s
-        → OnOk result (Finishes number s (last_line line.now)
-        (K.written sink.old) (K.written sink.new)) }
-    ensures stops { (s : Standing) → StandsAt chain.old s
-        → IfErr result (FinishStops number s (last_line line.now)
-        (K.written sink.old) (K.written sink.new)) }
+    ensures done { (b : Began) → (s : Standing) → Keeping b chain.old
+        (D.rows keeper.old) (D.is_honest keeper.old) (D.may_leave keeper.old) s
+        → OnOk result (Finishes
+        (LeftIn b (D.rows keeper.new) (D.is_honest keeper.new) (D.may_leave keeper.new))
+        number s (last_line line.now) (K.written sink.old) (K.written sink.new)) }
+    ensures stops { (b : Began) → (s : Standing) → Keeping b chain.old
+        (D.rows keeper.old) (D.is_honest keeper.old) (D.may_leave keeper.old) s
+        → IfErr result (FinishStops
+        (LeftIn b (D.rows keeper.new) (D.is_honest keeper.new) (D.may_leave keeper.new))
+        number s (last_line line.now) (K.written sink.old) (K.written sink.new)) }
     ensures long { IfErr result (λ stop. EndLongOnly stop line.now) }
     ensures later { K.faults sink.old ≤ K.faults sink.new }
     ensures report_cause { IsErrOf result EndStop.Report
@@ -70,11 +80,16 @@ pub fn finish<K: Sink>(
     ensures quiet { UnlessWriteAtEnd result (K.faults sink.new ≡ K.faults sink.old) }
     ensures line_cause { IsErrOf result (EndStop.Line Stop.Write)
         → Rose (K.faults sink.old) (K.faults sink.new) }
+    ensures honest { D.is_honest keeper.new → D.is_honest keeper.old }
+    ensures keep_later { D.faults keeper.old ≤ D.faults keeper.new }
+    ensures keep_cause { IsErrOf result (EndStop.Line Stop.Keep)
+        → Rose (D.faults keeper.old) (D.faults keeper.new) }
+    ensures keep_quiet { UnlessKeepAtEnd result (D.faults keeper.new ≡ D.faults keeper.old) }
 {
     if line.is_empty() {
         return report(alloc, sink, chain);
     }
-    if let Err(stop) = take_line(alloc, buffers, sink, number, chain, line) {
+    if let Err(stop) = take_line(alloc, buffers, sink, keeper, number, chain, line) {
         return Err(EndStop::Line(stop));
     }
     report(alloc, sink, chain)

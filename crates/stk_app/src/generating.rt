@@ -4,8 +4,9 @@ ghost use Rattle.std.specs.Prelude.{◌≡◌, ◌≤◌, true};
 ghost use Rattle.stk_io.specs.Outside.{Rose};
 ghost use Rattle.stk_input.specs.Writing.{generated_text};
 ghost use Rattle.stk_summary.specs.Trial.{trial_of};
-ghost use Rattle.stk_app.specs.Modes.{Tries, Writes, status_of_sink};
+ghost use Rattle.stk_app.specs.Modes.{Tries};
 ghost use Rattle.stk_app.specs.Outcome.{UnlessWriteFault};
+ghost use Rattle.stk_app.specs.Writes.{Writes, status_of_sink};
 
 use crate::line::not_applied;
 use crate::status::{Status, status_of};
@@ -15,7 +16,7 @@ use stk_io::{Sink, SinkFault};
 use stk_trial::{TrialFault, try_input};
 
 /// How a run ends that has written its text, or could not.
-fn status_of_sink(written: Result<(), SinkFault>) -> Status
+pub(crate) fn status_of_sink(written: Result<(), SinkFault>) -> Status
     ensures { result ≡ status_of_sink written }
 {
     match written {
@@ -32,6 +33,7 @@ pub(crate) fn write_generated<K: Sink>(alloc: Global, sink: &mut K, seed: u64, c
         result }
     ensures busy { result ≡ Status.Usage → ⊥ }
     ensures read { result ≡ Status.ReadFault → ⊥ }
+    ensures keep { result ≡ Status.KeepFault → ⊥ }
     ensures clean { result ≡ Status.Done → K.clean sink.new ≡ true }
     ensures write_cause { result ≡ Status.WriteFault
         → Rose (K.faults sink.old) (K.faults sink.new) }
@@ -46,6 +48,7 @@ pub(crate) fn write_trial<K: Sink>(alloc: Global, sink: &mut K, seed: u64, count
     ensures ends { Tries (trial_of seed count) (K.written sink.old) (K.written sink.new) result }
     ensures busy { result ≡ Status.Usage → ⊥ }
     ensures read { result ≡ Status.ReadFault → ⊥ }
+    ensures keep { result ≡ Status.KeepFault → ⊥ }
     ensures clean { result ≡ Status.Done → K.clean sink.new ≡ true }
     ensures write_cause { result ≡ Status.WriteFault
         → Rose (K.faults sink.old) (K.faults sink.new) }

@@ -2,11 +2,13 @@
 //! answers to a sink.
 #![tactic(auto)]
 
+mod answer;
 mod feeding;
 mod finishing;
 mod generating;
 mod line;
 mod report;
+mod resuming;
 mod running;
 mod status;
 

@@ -6,14 +6,18 @@ ghost use Rattle.stk_app.specs.LineStops.{IsOfLine};
 ghost use Rattle.stk_app.specs.Machine.{line_answer, not_read, not_applied, IsOfGenesis, IsNotStarted, genesis_answer, block_answer, Standing, StandsAt, AnswersTo};
 ghost use Rattle.stk_modules.specs.Kept.{StandsFor};
 ghost use Rattle.stk_rules.specs.Chain.{State};
-ghost use Rattle.stk_app.specs.Parts.{IsFault, LongOnly, NotAnswered, PartStops, Took, UnlessWrite};
+ghost use Rattle.stk_app.specs.Kept.{Began, Keeping, LeftIn};
+ghost use Rattle.stk_app.specs.Parts.{IsFault, LongOnly, NotAnswered, PartStops, Took, UnlessKeep, UnlessWrite, not_kept};
+ghost use Rattle.stk_io.specs.declared.keeper.Change.{Change};
+ghost use Rattle.stk_keeping.specs.Held.{TakesDistinct};
 
 use crate::status::{InputFault, Stop};
 use json::Scratch;
 use std::alloc::Global;
 use stk_chain::{Chain, ChainFault};
-use stk_io::{Sink, SinkFault, write_all};
+use stk_io::{KeepFault, Keeper, Sink, SinkFault, write_all};
 use stk_json::{push_line_of_genesis, push_lines_of_block, read_block, read_genesis};
+use stk_keeping::{commit_first, commit_next};
 use stk_msgs::{BlockFault, LineFault};
 
 /// The most bytes of a line, without its end.
@@ -67,7 +71,8 @@ pub struct Buffers {
 fn begin(alloc: Global, text: &mut Vec<u8>, number: u64, line: &[u8]) -> Result<Chain, Stop>
     requires { text.old.items ≡ [] }
     ensures ok { IfOk result (λ chain. AnswersTo (genesis_answer number (genesis_of line.now))
-        text.new.items (Some chain)) }
+        text.new.items (StandsAt (Some chain))) }
+    ensures settled { IfOk result (λ chain. chain.settled ≡ chain.kept) }
     ensures err { IfErr result
         (λ stop. IsFault stop (genesis_answer number (genesis_of line.now))) }
 {
@@ -103,7 +108,8 @@ fn advance(
     requires { buffers.old.text.items ≡ [] }
     ensures ok { (p : State) → StandsFor chain.old.kept p
         → OnOk result (AnswersTo (block_answer number p (block_of line.now))
-        buffers.new.text.items (Some chain.new)) }
+        buffers.new.text.items (StandsAt (Some chain.new))) }
+    ensures settled { OnOk result (chain.new.settled ≡ chain.old.settled) }
     ensures err { (p : State) → StandsFor chain.old.kept p
         → IfErr result (λ stop. IsFault stop (block_answer number p (block_of line.now))) }
     ensures of_line { IfErr result (λ stop. IsOfLine stop line.now) }
@@ -116,8 +122,6 @@ fn advance(
         Ok(report) => report,
         Err(fault) => return Err(not_applied(number, fault)),
     };
-    // Nobody asks what changed, so nothing is to be held of it from block to block.
-    chain.settle();
     match push_lines_of_block(alloc, &mut buffers.text, &report) {
         Ok(()) => Ok(()),
         Err(LineFault::NoMemory) => Err(Stop::NoMemory),
@@ -125,29 +129,138 @@ fn advance(
     }
 }
 
-/// The machine's answer to a line, which leads the chain on, and whose text takes the place of the last one.
-#[tactic(auto, unfolding(crate::specs::Machine::line_answer))]
-fn answer(
+/// Why a line is not answered that the keeper did not take.
+fn not_kept(fault: KeepFault) -> Stop
+    ensures { result ≡ not_kept fault }
+{
+    match fault {
+        KeepFault::Failed => Stop::Keep,
+        KeepFault::NoMemory => Stop::NoMemory,
+    }
+}
+
+/// The answer to the first line, once the rows of the chain that it starts are committed.
+fn start<D: Keeper>(
+    alloc: Global,
+    text: &mut Vec<u8>,
+    keeper: &mut D,
+    number: u64,
+    line: &[u8],
+) -> Result<Chain, Stop>
+    requires text { text.old.items ≡ [] }
+    requires takes { TakesDistinct (D.takes keeper.old) }
+    requires kept { (b : Began) × Keeping b None
+        (D.rows keeper.old) (D.is_honest keeper.old) (D.may_leave keeper.old) None }
+    ensures ok { (b : Began) → Keeping b None
+        (D.rows keeper.old) (D.is_honest keeper.old) (D.may_leave keeper.old) None
+        → IfOk result (λ chain. AnswersTo (genesis_answer number (genesis_of line.now))
+        text.new.items (Keeping b (Some chain)
+        (D.rows keeper.new) (D.is_honest keeper.new) (D.may_leave keeper.new))) }
+    ensures err { (b : Began) → Keeping b None
+        (D.rows keeper.old) (D.is_honest keeper.old) (D.may_leave keeper.old) None
+        → IfErr result (λ stop. NotAnswered
+        (LeftIn b (D.rows keeper.new) (D.is_honest keeper.new) (D.may_leave keeper.new))
+        stop None (genesis_answer number (genesis_of line.now))) }
+    ensures honest { D.is_honest keeper.new → D.is_honest keeper.old }
+    ensures takes { (changes : List Change) → D.takes keeper.old changes
+        → D.takes keeper.new changes }
+    ensures later { D.faults keeper.old ≤ D.faults keeper.new }
+    ensures cause { IsErrOf result Stop.Keep
+        → Rose (D.faults keeper.old) (D.faults keeper.new) }
+    ensures quiet { UnlessKeep result (D.faults keeper.new ≡ D.faults keeper.old) }
+{
+    let chain = match begin(alloc, text, number, line) {
+        Ok(chain) => chain,
+        Err(stop) => return Err(stop),
+    };
+    match commit_first(alloc, keeper, &chain) {
+        Ok(()) => Ok(chain),
+        Err(fault) => Err(not_kept(fault)),
+    }
+}
+
+/// The answer to a line after the genesis, once the rows that it changes are committed.
+fn go_on<D: Keeper>(
     alloc: Global,
     buffers: &mut Buffers,
+    keeper: &mut D,
+    number: u64,
+    chain: &mut Chain,
+    line: &[u8],
+) -> Result<(), Stop>
+    requires text { buffers.old.text.items ≡ [] }
+    requires takes { TakesDistinct (D.takes keeper.old) }
+    requires kept { (b : Began) × (p : State) × Keeping b (Some chain.old)
+        (D.rows keeper.old) (D.is_honest keeper.old) (D.may_leave keeper.old) (Some p) }
+    ensures ok { (b : Began) → (p : State) → Keeping b (Some chain.old)
+        (D.rows keeper.old) (D.is_honest keeper.old) (D.may_leave keeper.old) (Some p)
+        → OnOk result (AnswersTo (block_answer number p (block_of line.now))
+        buffers.new.text.items (Keeping b (Some chain.new)
+        (D.rows keeper.new) (D.is_honest keeper.new) (D.may_leave keeper.new))) }
+    ensures err { (b : Began) → (p : State) → Keeping b (Some chain.old)
+        (D.rows keeper.old) (D.is_honest keeper.old) (D.may_leave keeper.old) (Some p)
+        → IfErr result (λ stop. NotAnswered
+        (LeftIn b (D.rows keeper.new) (D.is_honest keeper.new) (D.may_leave keeper.new))
+        stop (Some p) (block_answer number p (block_of line.now))) }
+    ensures of_line { IfErr result (λ stop. IsOfLine stop line.now) }
+    ensures honest { D.is_honest keeper.new → D.is_honest keeper.old }
+    ensures takes { (changes : List Change) → D.takes keeper.old changes
+        → D.takes keeper.new changes }
+    ensures later { D.faults keeper.old ≤ D.faults keeper.new }
+    ensures cause { IsErrOf result Stop.Keep
+        → Rose (D.faults keeper.old) (D.faults keeper.new) }
+    ensures quiet { UnlessKeep result (D.faults keeper.new ≡ D.faults keeper.old) }
+{
+    if let Err(stop) = advance(alloc, buffers, number, chain, line) {
+        return Err(stop);
+    }
+    match commit_next(alloc, keeper, chain) {
+        Ok(()) => Ok(()),
+        Err(fault) => Err(not_kept(fault)),
+    }
+}
+
+/// The machine's answer to a line, which leads the chain on, and whose text takes the place of the last one. What it leads to
+/// is committed.
+#[tactic(auto, unfolding(crate::specs::Machine::line_answer))]
+fn answer<D: Keeper>(
+    alloc: Global,
+    buffers: &mut Buffers,
+    keeper: &mut D,
     number: u64,
     chain: &mut Option<Chain>,
     line: &[u8],
 ) -> Result<(), Stop>
-    ensures ok { (s : Standing) → StandsAt chain.old s
-        → OnOk result (AnswersTo (line_answer number s line.now) buffers.new.text.items chain.new) }
-    ensures err { (s : Standing) → StandsAt chain.old s
-        → IfErr result (λ stop. NotAnswered stop number s line.now) }
+    requires takes { TakesDistinct (D.takes keeper.old) }
+    requires kept { (b : Began) × (s : Standing) × Keeping b chain.old
+        (D.rows keeper.old) (D.is_honest keeper.old) (D.may_leave keeper.old) s }
+    ensures ok { (b : Began) → (s : Standing) → Keeping b chain.old
+        (D.rows keeper.old) (D.is_honest keeper.old) (D.may_leave keeper.old) s
+        → OnOk result (AnswersTo (line_answer number s line.now) buffers.new.text.items
+        (Keeping b chain.new
+        (D.rows keeper.new) (D.is_honest keeper.new) (D.may_leave keeper.new))) }
+    ensures err { (b : Began) → (s : Standing) → Keeping b chain.old
+        (D.rows keeper.old) (D.is_honest keeper.old) (D.may_leave keeper.old) s
+        → IfErr result (λ stop. NotAnswered
+        (LeftIn b (D.rows keeper.new) (D.is_honest keeper.new) (D.may_leave keeper.new))
+        stop s (line_answer number s line.now)) }
     ensures of_line { IfErr result (λ stop. IsOfLine stop line.now) }
+    ensures honest { D.is_honest keeper.new → D.is_honest keeper.old }
+    ensures takes { (changes : List Change) → D.takes keeper.old changes
+        → D.takes keeper.new changes }
+    ensures later { D.faults keeper.old ≤ D.faults keeper.new }
+    ensures cause { IsErrOf result Stop.Keep
+        → Rose (D.faults keeper.old) (D.faults keeper.new) }
+    ensures quiet { UnlessKeep result (D.faults keeper.new ≡ D.faults keeper.old) }
 {
     if line.len() > LONGEST {
         return Err(Stop::Long(number));
     }
     buffers.text.clear();
     match chain {
-        Some(chain) => advance(alloc, buffers, number, chain, line),
+        Some(chain) => go_on(alloc, buffers, keeper, number, chain, line),
         None => {
-            let first = match begin(alloc, &mut buffers.text, number, line) {
+            let first = match start(alloc, &mut buffers.text, keeper, number, line) {
                 Ok(first) => first,
                 Err(stop) => return Err(stop),
             };
@@ -157,29 +270,45 @@ fn answer(
     }
 }
 
-/// Answers one line, and writes its text.
-pub fn take_line<K: Sink>(
+/// Answers one line, commits what it leads to, and writes its text.
+pub fn take_line<K: Sink, D: Keeper>(
     alloc: Global,
     buffers: &mut Buffers,
     sink: &mut K,
+    keeper: &mut D,
     number: u64,
     chain: &mut Option<Chain>,
     line: &[u8],
 ) -> Result<(), Stop>
-    ensures took { (s : Standing) → StandsAt chain.old s → OnOk result ((next : Standing)
+    requires takes { TakesDistinct (D.takes keeper.old) }
+    requires kept { (b : Began) × (s : Standing) × Keeping b chain.old
+        (D.rows keeper.old) (D.is_honest keeper.old) (D.may_leave keeper.old) s }
+    ensures took { (b : Began) → (s : Standing) → Keeping b chain.old
+        (D.rows keeper.old) (D.is_honest keeper.old) (D.may_leave keeper.old) s
+        → OnOk result ((next : Standing)
         × Took number s line.now next (K.written sink.old) (K.written sink.new)
-        × StandsAt chain.new next) }
-    ensures stops { (s : Standing) → StandsAt chain.old s
-        → IfErr result (PartStops number s
-        (λ (more : List (List ℕ)). line.now ∷ more) (line.now ∷ [])
+        × Keeping b chain.new
+        (D.rows keeper.new) (D.is_honest keeper.new) (D.may_leave keeper.new) next) }
+    ensures stops { (b : Began) → (s : Standing) → Keeping b chain.old
+        (D.rows keeper.old) (D.is_honest keeper.old) (D.may_leave keeper.old) s
+        → IfErr result (PartStops
+        (LeftIn b (D.rows keeper.new) (D.is_honest keeper.new) (D.may_leave keeper.new))
+        number s (λ (more : List (List ℕ)). line.now ∷ more) (line.now ∷ [])
         (K.written sink.old) (K.written sink.new)) }
     ensures long { IfErr result (λ stop. LongOnly stop line.now) }
     ensures later { K.faults sink.old ≤ K.faults sink.new }
     ensures cause { IsErrOf result Stop.Write
         → Rose (K.faults sink.old) (K.faults sink.new) }
     ensures quiet { UnlessWrite result (K.faults sink.new ≡ K.faults sink.old) }
+    ensures honest { D.is_honest keeper.new → D.is_honest keeper.old }
+    ensures takes { (changes : List Change) → D.takes keeper.old changes
+        → D.takes keeper.new changes }
+    ensures keep_later { D.faults keeper.old ≤ D.faults keeper.new }
+    ensures keep_cause { IsErrOf result Stop.Keep
+        → Rose (D.faults keeper.old) (D.faults keeper.new) }
+    ensures keep_quiet { UnlessKeep result (D.faults keeper.new ≡ D.faults keeper.old) }
 {
-    if let Err(stop) = answer(alloc, buffers, number, chain, line) {
+    if let Err(stop) = answer(alloc, buffers, keeper, number, chain, line) {
         return Err(stop);
     }
     match write_all(sink, &buffers.text) {

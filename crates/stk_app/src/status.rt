@@ -46,8 +46,17 @@ pub enum Status {
     ReadFault,
     /// The sink failed.
     WriteFault,
+    /// The keeper failed.
+    KeepFault,
     /// Memory was wanting.
     NoMemory,
+    /// The keeper's rows are those of no sound state.
+    BadStore,
+    /// The keeper has no rows, where this is true, though the command goes on from rows; or it has rows, though the command
+    /// begins on none.
+    WrongStore(bool),
+    /// No line is told of this address.
+    NotFound,
 }
 
 /// Why a line, or a piece of the input, was not answered.
@@ -57,6 +66,7 @@ pub enum Stop {
     Long(u64),
     Ratio(u64, Over),
     Write,
+    Keep,
     NoMemory,
 }
 
@@ -81,6 +91,7 @@ pub fn status_of(stop: Stop) -> Status
         Stop::Long(n) => Status::Limit(n, LimitKind::Line),
         Stop::Ratio(n, over) => Status::Limit(n, LimitKind::Ratio(over)),
         Stop::Write => Status::WriteFault,
+        Stop::Keep => Status::KeepFault,
         Stop::NoMemory => Status::NoMemory,
     }
 }

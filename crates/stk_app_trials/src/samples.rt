@@ -1,6 +1,6 @@
 //! Lines that several tests read, and those that are written for them.
 
-use std::alloc::{AllocError, Global};
+use std::process::Abort;
 
 /// A genesis up to its accounts, and from them on.
 pub const GENESIS_HEAD: &str =
@@ -20,12 +20,9 @@ pub const TX_MESSAGES: &str = r#""}],"msgs":["#;
 
 pub const TX_TAIL: &str = "]}";
 
-/// Messages of the first account to the second: 100 uatom, and 991.
+/// A message of the first account to the second, of 100 uatom.
 pub const SEND_100: &str =
     r#"{"kind":"send","from":"1111111111111111111111111111111111111111","to":"2222222222222222222222222222222222222222","coins":[{"denom":"uatom","amount":"100"}]}"#;
-
-pub const SEND_991: &str =
-    r#"{"kind":"send","from":"1111111111111111111111111111111111111111","to":"2222222222222222222222222222222222222222","coins":[{"denom":"uatom","amount":"991"}]}"#;
 
 pub const GENESIS_LINE: &str =
     r#"{"height":0,"kind":"genesis","supply":[{"amount":"1000","denom":"uatom"}]}"#;
@@ -48,77 +45,69 @@ pub const PAYER_LINE: &str =
 pub const RECEIVER_LINE: &str =
     r#"{"address":"2222222222222222222222222222222222222222","coins":[{"amount":"100","denom":"uatom"}],"kind":"account"}"#;
 
-/// The fee of the first block, 10, goes to the community pool where the second has no votes.
-pub const SHARED_LINE: &str =
-    r#"{"coins":[{"amount":"10","denom":"uatom"}],"from":"fee_collector","height":2,"kind":"transfer","to":"distribution"}"#;
+pub const COLLECTOR_LINE: &str =
+    r#"{"address":"fee_collector","coins":[{"amount":"10","denom":"uatom"}],"kind":"account"}"#;
 
-pub const POOLED_LINE: &str =
-    r#"{"coins":[{"amount":"10.000000000000000000","denom":"uatom"}],"height":2,"kind":"pooled"}"#;
+pub const POOL_LINE: &str = r#"{"coins":[],"kind":"pool"}"#;
 
-pub const DISTRIBUTION_LINE: &str =
-    r#"{"address":"distribution","coins":[{"amount":"10","denom":"uatom"}],"kind":"account"}"#;
-
-pub const TEN_POOLED_LINE: &str =
-    r#"{"coins":[{"amount":"10.000000000000000000","denom":"uatom"}],"kind":"pool"}"#;
-
-/// Adds a line, in parts.
-pub fn push_line(text: &mut Vec<u8>, parts: &[&str]) -> Result<(), AllocError> {
+/// Adds texts.
+fn push_all(rt: &impl Abort, text: &mut Vec<u8>, parts: &[&str]) {
     for part in parts {
-        text.extend_from_slice(part.as_bytes())?;
+        text.extend_from_slice(part.as_bytes()).expect(rt, "memory");
     }
-    text.push(b'\n')?;
-    Ok(())
 }
 
 /// Adds a genesis of these accounts.
-pub fn push_genesis(text: &mut Vec<u8>, accounts: &str) -> Result<(), AllocError> {
-    push_line(text, &[GENESIS_HEAD, accounts, GENESIS_TAIL])
+pub fn push_genesis(rt: &impl Abort, text: &mut Vec<u8>, accounts: &str) {
+    push_all(rt, text, &[GENESIS_HEAD, accounts, GENESIS_TAIL, "\n"]);
 }
 
 /// Adds a block of these transactions.
-pub fn push_block(
-    text: &mut Vec<u8>,
-    height: &str,
-    time: &str,
-    txs: &[&str],
-) -> Result<(), AllocError> {
-    text.extend_from_slice(b"{\"kind\":\"block\",\"height\":")?;
-    text.extend_from_slice(height.as_bytes())?;
-    text.extend_from_slice(b",\"time\":\"")?;
-    text.extend_from_slice(time.as_bytes())?;
-    text.extend_from_slice(b"\",\"votes\":[],\"evidence\":[],\"txs\":[")?;
-    for part in txs {
-        text.extend_from_slice(part.as_bytes())?;
-    }
-    push_line(text, &["]}"])
+pub fn push_block(rt: &impl Abort, text: &mut Vec<u8>, height: &str, time: &str, txs: &[&str]) {
+    push_all(
+        rt,
+        text,
+        &[
+            "{\"kind\":\"block\",\"height\":",
+            height,
+            ",\"time\":\"",
+            time,
+            "\",\"votes\":[],\"evidence\":[],\"txs\":[",
+        ],
+    );
+    push_all(rt, text, txs);
+    push_all(rt, text, &["]}\n"]);
 }
 
 /// The lines, each with its end.
-pub fn text(alloc: Global, lines: &[&str]) -> Result<Vec<u8>, AllocError> {
-    let mut text = Vec::new(alloc);
+pub fn text(rt: &(impl Abort + AllocGlobal), lines: &[&str]) -> Vec<u8> {
+    let mut text = Vec::new(rt.alloc());
     for line in lines {
-        text.extend_from_slice(line.as_bytes())?;
-        text.push(b'\n')?;
+        push_all(rt, &mut text, &[line, "\n"]);
     }
-    Ok(text)
+    text
 }
 
 /// The words of a command of one word.
-pub fn words(alloc: Global, word: &str) -> Result<Vec<String>, AllocError> {
-    let mut words = Vec::new(alloc);
-    words.push(String::from_str(alloc, word)?)?;
-    Ok(words)
+pub fn words(rt: &(impl Abort + AllocGlobal), word: &str) -> Vec<String> {
+    let word = String::from_str(rt.alloc(), word).expect(rt, "memory");
+    let mut words = Vec::new(rt.alloc());
+    match words.push(word) {
+        Ok(()) => words,
+        Err(_) => panic!(rt; "no memory"),
+    }
 }
 
 /// The input of the worked run: 100 uatom are sent, for a fee of 10.
-pub fn worked_input(alloc: Global) -> Result<Vec<u8>, AllocError> {
-    let mut text = Vec::new(alloc);
-    push_genesis(&mut text, ONE_THOUSAND)?;
+pub fn worked_input(rt: &(impl Abort + AllocGlobal)) -> Vec<u8> {
+    let mut text = Vec::new(rt.alloc());
+    push_genesis(rt, &mut text, ONE_THOUSAND);
     push_block(
+        rt,
         &mut text,
         "1",
         "2024-01-01T00:00:05Z",
         &[TX_HEAD, "10", TX_MESSAGES, SEND_100, TX_TAIL],
-    )?;
-    Ok(text)
+    );
+    text
 }

@@ -7,9 +7,8 @@ use crate::values::{coins, dec, validator};
 use std::marker::Brand;
 use std::process::Abort;
 use std::sync::ledger::{Blank, Ledger};
-use std::test::Fail;
 use stk_coins::Coins;
-use stk_keep::{Fact, Facts, HookPair, Stop};
+use stk_keep::{Fact, Facts, HookPair};
 use stk_keep_trials::callers::send_between_hooks;
 use stk_keep_trials::forgetting::Forgetting;
 use stk_types::Steps;
@@ -27,7 +26,7 @@ fn period_alone<L: Ledger>(
     rt: &(impl Abort + AllocGlobal),
     blank: Blank,
     nothing: &Coins,
-) -> Result<Option<u64>, Stop>
+) -> Option<u64>
     requires name { blank.name ≡ L.name }
     requires parts { blank.parts ≡ L.parts }
     requires some { 0 < L.parts }
@@ -37,7 +36,7 @@ fn period_alone<L: Ledger>(
     let mut hooks = Forgetting { latest: 1 };
     let v = validator(rt, 5);
     let one = dec(rt, 1);
-    send_between_hooks(
+    let sent = send_between_hooks(
         rt.alloc(),
         &mut g,
         &mut hooks,
@@ -46,8 +45,9 @@ fn period_alone<L: Ledger>(
         nothing,
         one,
         &mut steps,
-    )?;
-    Ok(period_at(&g.facts, 0))
+    );
+    sent.expect(rt, "coins that are sent");
+    period_at(&g.facts, 0)
 }
 
 /// The periods that two such hooks tell, of which the second never saw one.
@@ -55,7 +55,7 @@ fn periods_of_both<L: Ledger>(
     rt: &(impl Abort + AllocGlobal),
     blank: Blank,
     nothing: &Coins,
-) -> Result<(Option<u64>, Option<u64>), Stop>
+) -> (Option<u64>, Option<u64>)
     requires name { blank.name ≡ L.name }
     requires parts { blank.parts ≡ L.parts }
     requires some { 0 < L.parts }
@@ -68,7 +68,7 @@ fn periods_of_both<L: Ledger>(
     };
     let v = validator(rt, 5);
     let one = dec(rt, 1);
-    send_between_hooks(
+    let sent = send_between_hooks(
         rt.alloc(),
         &mut g,
         &mut hooks,
@@ -77,16 +77,16 @@ fn periods_of_both<L: Ledger>(
         nothing,
         one,
         &mut steps,
-    )?;
-    Ok((period_at(&g.facts, 0), period_at(&g.facts, 1)))
+    );
+    sent.expect(rt, "coins that are sent");
+    (period_at(&g.facts, 0), period_at(&g.facts, 1))
 }
 
 #[test]
-fn the_latest_height_is_told(rt: HostRuntime) -> Result<(), Fail> {
-    let nothing = coins(&rt, 0)?;
+fn the_latest_height_is_told(rt: HostRuntime) {
+    let nothing = coins(&rt, 0);
     let alone = period_alone::<Brand>(&rt, Blank::new(1), &nothing);
-    assert!(rt; alone == Ok(Some(1)));
+    assert!(rt; alone == Some(1));
     let both = periods_of_both::<Brand>(&rt, Blank::new(1), &nothing);
-    assert!(rt; both == Ok((Some(1), Some(0))));
-    Ok(())
+    assert!(rt; both == (Some(1), Some(0)));
 }

@@ -1,7 +1,6 @@
 use crate::values::{atom, coins, dec, moment, params, user};
 use std::alloc::{AllocError, AllocFailed};
 use std::process::Abort;
-use std::test::Fail;
 use stk_coins::{Coin, Coins};
 use stk_keep::Listed;
 use stk_msgs::{
@@ -12,6 +11,7 @@ use stk_msgs::{
 };
 use stk_types::{Account, ConsAddr, Copied, Denom, Module, TableFault};
 
+/// Three of one denomination.
 fn coin(rt: &impl Abort) -> Coin {
     Coin {
         denom: atom(rt),
@@ -19,16 +19,20 @@ fn coin(rt: &impl Abort) -> Coin {
     }
 }
 
+/// The account of distribution.
+fn pool() -> Account {
+    Account::Module(Module::Distribution)
+}
+
 /// A message of each kind.
-fn messages(rt: &(impl Abort + AllocGlobal)) -> Result<Vec<Msg>, Fail> {
+fn messages(rt: &(impl Abort + AllocGlobal)) -> Vec<Msg> {
     let (delegator, validator, cons, one) = (
         user(rt, 1),
         user(rt, 2),
         ConsAddr::of([9; 20]),
         dec(rt, 1),
     );
-    let (amount, to) = (coin(rt), Account::Module(Module::Distribution));
-    Ok(vec![in rt.alloc();
+    let messages = vec![in rt.alloc();
         Msg::CreateValidator(CreateValidator {
             validator,
             cons,
@@ -36,7 +40,7 @@ fn messages(rt: &(impl Abort + AllocGlobal)) -> Result<Vec<Msg>, Fail> {
             max_rate: one,
             max_change_rate: one,
             min_self_delegation: 3,
-            amount
+            amount: coin(rt)
         }),
         Msg::EditValidator(EditValidator {
             validator,
@@ -46,23 +50,23 @@ fn messages(rt: &(impl Abort + AllocGlobal)) -> Result<Vec<Msg>, Fail> {
         Msg::Delegate(Delegate {
             delegator,
             validator,
-            amount
+            amount: coin(rt)
         }),
         Msg::Undelegate(Undelegate {
             delegator,
             validator,
-            amount
+            amount: coin(rt)
         }),
         Msg::BeginRedelegate(BeginRedelegate {
             delegator,
             source: validator,
             target: delegator,
-            amount
+            amount: coin(rt)
         }),
         Msg::CancelUnbonding(CancelUnbonding {
             delegator,
             validator,
-            amount,
+            amount: coin(rt),
             creation_height: 5
         }),
         Msg::Unjail(Unjail { validator }),
@@ -73,23 +77,24 @@ fn messages(rt: &(impl Abort + AllocGlobal)) -> Result<Vec<Msg>, Fail> {
         Msg::WithdrawCommission(WithdrawCommission { validator }),
         Msg::SetWithdrawAddress(SetWithdrawAddress {
             delegator,
-            withdraw: to
+            withdraw: pool()
         }),
         Msg::Send(Send {
             from: delegator,
-            to,
-            coins: coins(rt, 1)?
+            to: pool(),
+            coins: coins(rt, 1)
         }),
         Msg::FundCommunityPool(FundCommunityPool {
             depositor: delegator,
-            coins: coins(rt, 2)?
+            coins: coins(rt, 2)
         }),
         Msg::CommunityPoolSpend(CommunityPoolSpend {
             authority: delegator,
-            recipient: to,
-            coins: coins(rt, 3)?
+            recipient: pool(),
+            coins: coins(rt, 3)
         }),
-    ]?)
+    ];
+    messages.expect(rt, "memory")
 }
 
 /// Whether two lists of coins hold as much of a denomination.
@@ -135,41 +140,49 @@ fn all_equal(a: &Listed<Msg>, b: &Listed<Msg>, denom: &Denom) -> bool {
     true
 }
 
+/// A list of this alone.
+fn only<T: Drop>(rt: &(impl Abort + AllocGlobal), it: T) -> Listed<T> {
+    let mut list = Vec::new(rt.alloc());
+    match list.push(it) {
+        Ok(()) => Listed::of(list),
+        Err(_) => panic!(rt; "no memory"),
+    }
+}
+
 /// A block of one vote, one piece of evidence and one transaction.
-fn block(rt: &(impl Abort + AllocGlobal)) -> Result<Block, Fail> {
+fn block(rt: &(impl Abort + AllocGlobal)) -> Block {
     let (cons, time) = (ConsAddr::of([9; 20]), moment(rt, 7));
     let tx = Tx {
         payer: user(rt, 1),
-        fee: coins(rt, 5)?,
-        msgs: Listed::of(messages(rt)?),
+        fee: coins(rt, 5),
+        msgs: Listed::of(messages(rt)),
     };
-    Ok(Block {
+    let vote = Vote {
+        cons,
+        power: 1,
+        signed: true,
+    };
+    let evidence = Evidence {
+        cons,
+        height: 2,
+        time,
+        power: 1,
+    };
+    Block {
         height: 3,
         time,
-        votes: Listed::of(vec![in rt.alloc();
-            Vote {
-                cons,
-                power: 1,
-                signed: true
-            },
-        ]?),
-        evidence: Listed::of(vec![in rt.alloc();
-            Evidence {
-                cons,
-                height: 2,
-                time,
-                power: 1
-            },
-        ]?),
-        txs: Listed::of(vec![in rt.alloc(); tx]?),
-    })
+        votes: only(rt, vote),
+        evidence: only(rt, evidence),
+        txs: only(rt, tx),
+    }
 }
 
-fn genesis(rt: &(impl Abort + AllocGlobal)) -> Result<Genesis, Fail> {
+/// A genesis of one account, one validator and one delegation.
+fn genesis(rt: &(impl Abort + AllocGlobal)) -> Genesis {
     let (operator, one) = (user(rt, 2), dec(rt, 1));
     let account = GenesisAccount {
         address: Account::User(operator),
-        coins: coins(rt, 4)?,
+        coins: coins(rt, 4),
     };
     let validator = GenesisValidator {
         operator,
@@ -184,46 +197,40 @@ fn genesis(rt: &(impl Abort + AllocGlobal)) -> Result<Genesis, Fail> {
         validator: operator,
         amount: 2,
     };
-    Ok(Genesis {
+    Genesis {
         time: moment(rt, 7),
         params: params(rt),
-        accounts: Listed::of(vec![in rt.alloc(); account]?),
-        validators: Listed::of(vec![in rt.alloc(); validator]?),
-        delegations: Listed::of(vec![in rt.alloc(); delegation]?),
-    })
+        accounts: only(rt, account),
+        validators: only(rt, validator),
+        delegations: only(rt, delegation),
+    }
 }
 
 #[test]
-fn a_copy_of_a_block_has_equal_members(rt: HostRuntime) -> Result<(), Fail> {
-    let block = block(&rt)?;
-    let copy = block.copied()?;
+fn a_copy_of_a_block_has_equal_members(rt: HostRuntime) {
+    let block = block(&rt);
+    let copy = block.copied().expect(&rt, "memory");
     assert!(rt; copy.height == 3 && copy.time == block.time);
     assert!(rt; copy.votes.as_slice() == block.votes.as_slice());
     assert!(rt; copy.evidence.as_slice() == block.evidence.as_slice());
-    let (Some(tx), Some(other)) = (block.txs.at(0), copy.txs.at(0)) else {
-        assert!(rt; false);
-        return Ok(());
-    };
+    let tx = block.txs.at(0).expect(&rt, "a transaction");
+    let other = copy.txs.at(0).expect(&rt, "a transaction");
     assert!(rt; other.payer == tx.payer && hold_as_much(&other.fee, &tx.fee, &atom(&rt)));
     assert!(rt; tx.msgs.len() == 13 && all_equal(&other.msgs, &tx.msgs, &atom(&rt)));
-    Ok(())
 }
 
 #[test]
-fn a_copy_of_a_genesis_has_equal_members(rt: HostRuntime) -> Result<(), Fail> {
-    let genesis = genesis(&rt)?;
-    let copy = genesis.copied()?;
+fn a_copy_of_a_genesis_has_equal_members(rt: HostRuntime) {
+    let genesis = genesis(&rt);
+    let copy = genesis.copied().expect(&rt, "memory");
     assert!(rt; copy.time == genesis.time && copy.params == genesis.params);
     assert!(rt; copy.validators.as_slice() == genesis.validators.as_slice());
     assert!(rt; copy.delegations.as_slice() == genesis.delegations.as_slice());
-    let (Some(account), Some(other)) = (genesis.accounts.at(0), copy.accounts.at(0)) else {
-        assert!(rt; false);
-        return Ok(());
-    };
+    let account = genesis.accounts.at(0).expect(&rt, "an account");
+    let other = copy.accounts.at(0).expect(&rt, "an account");
     assert!(rt;
         other.address == account.address && hold_as_much(&other.coins, &account.coins, &atom(&rt))
     );
-    Ok(())
 }
 
 #[test]

@@ -1,7 +1,6 @@
 use crate::values::{atom, dec, moment, params, user, validator};
 use std::alloc::{AllocError, AllocFailed};
 use std::process::Abort;
-use std::test::Fail;
 use stk_coins::{Coin, DecCoin, DecCoins};
 use stk_dec::{Over, OverKind};
 use stk_keep::laws::{banks_stay_in_order, coins_burn_by_amounts, coins_move_by_amounts};
@@ -13,28 +12,31 @@ use stk_keep::{
 };
 use stk_types::{ConsAddr, Copied, TableFault};
 
-fn dec_coins(rt: &(impl Abort + AllocGlobal), raw: u128) -> Result<DecCoins, Fail> {
-    let mut list = Vec::new(rt.alloc());
-    list.push(DecCoin {
+/// So many units of one denomination.
+fn dec_coins(rt: &(impl Abort + AllocGlobal), raw: u128) -> DecCoins {
+    let coin = DecCoin {
         denom: atom(rt),
         amount: dec(rt, raw),
-    })?;
-    Ok(DecCoins::of(list)?)
+    };
+    let mut list = Vec::new(rt.alloc());
+    list.push(coin).expect(rt, "memory");
+    DecCoins::of(list).expect(rt, "coins")
 }
 
 #[test]
-fn facts_are_put_at_the_end_and_cut(rt: HostRuntime) -> Result<(), Fail> {
+fn facts_are_put_at_the_end_and_cut(rt: HostRuntime) {
     let mut facts = Facts::new(rt.alloc());
     let validator = user(&rt, 7);
-    facts.push(Fact::Jailed { validator })?;
-    facts.push(Fact::Tombstoned { validator })?;
+    facts.push(Fact::Jailed { validator }).expect(&rt, "memory");
+    facts
+        .push(Fact::Tombstoned { validator })
+        .expect(&rt, "memory");
     assert!(rt; facts.len() == 2);
     assert!(rt; matches!(facts.at(1), Some(Fact::Tombstoned { .. })));
     assert!(rt; facts.at(2).is_none());
     facts.cut(1);
     assert!(rt; facts.len() == 1);
     assert!(rt; matches!(facts.at(0), Some(Fact::Jailed { .. })));
-    Ok(())
 }
 
 #[test]
@@ -157,23 +159,27 @@ fn copies_are_equal(rt: HostRuntime) {
 }
 
 #[test]
-fn copies_have_the_same_coins(rt: HostRuntime) -> Result<(), Fail> {
+fn a_copy_of_a_purse_has_the_same_coins(rt: HostRuntime) {
     let purse = Purse {
-        outstanding: dec_coins(&rt, 1)?,
-        commission: dec_coins(&rt, 2)?,
-        current: dec_coins(&rt, 3)?,
+        outstanding: dec_coins(&rt, 1),
+        commission: dec_coins(&rt, 2),
+        current: dec_coins(&rt, 3),
     };
-    let copy = purse.copied()?;
-    assert!(rt; copy.outstanding.amount_of(&atom(&rt)).raw() == 1);
-    assert!(rt; copy.commission.amount_of(&atom(&rt)).raw() == 2);
-    assert!(rt; copy.current.amount_of(&atom(&rt)).raw() == 3);
+    let copy = purse.copied().expect(&rt, "memory");
+    let atom = atom(&rt);
+    assert!(rt; copy.outstanding.amount_of(&atom).raw() == 1);
+    assert!(rt; copy.commission.amount_of(&atom).raw() == 2);
+    assert!(rt; copy.current.amount_of(&atom).raw() == 3);
+}
+
+#[test]
+fn a_copy_of_a_ratio_has_the_same_coins(rt: HostRuntime) {
     let history = Historical {
-        ratio: dec_coins(&rt, 4)?,
+        ratio: dec_coins(&rt, 4),
         count: 2,
     };
-    let copy = history.copied()?;
+    let copy = history.copied().expect(&rt, "memory");
     assert!(rt; copy.ratio.amount_of(&atom(&rt)).raw() == 4 && copy.count == 2);
-    Ok(())
 }
 
 #[test]
@@ -209,19 +215,24 @@ fn faults_become_those_of_callers(rt: HostRuntime) {
 }
 
 #[test]
-fn a_list_gives_back_what_it_was_made_of(rt: HostRuntime) -> Result<(), Fail> {
-    let ring = Listed::of(vec![in rt.alloc(); true, false]?).copied()?;
+fn a_list_gives_back_what_it_was_made_of(rt: HostRuntime) {
+    let given = vec![in rt.alloc(); true, false].expect(&rt, "memory");
+    let ring = Listed::of(given).copied().expect(&rt, "memory");
     assert!(rt; ring.len() == 2);
     assert!(rt; ring.at(0) == Some(&true));
     assert!(rt; ring.at(2).is_none());
     assert!(rt; ring.as_slice() == [true, false].as_slice());
-    assert!(rt; ring.into_vec() == vec![in rt.alloc(); true, false]?);
+    assert!(rt; ring.into_vec().as_slice() == [true, false].as_slice());
     let none: Listed<bool> = Listed::new(rt.alloc());
     assert!(rt; none.len() == 0);
+}
+
+#[test]
+fn facts_give_back_what_they_were_made_of(rt: HostRuntime) {
     let validator = user(&rt, 7);
-    let facts = Facts::of(vec![in rt.alloc(); Fact::Jailed { validator }]?);
+    let given = vec![in rt.alloc(); Fact::Jailed { validator }].expect(&rt, "memory");
+    let facts = Facts::of(given);
     assert!(rt; matches!(facts.into_vec().pop(), Some(Fact::Jailed { .. })));
-    Ok(())
 }
 
 #[test]

@@ -8,12 +8,11 @@ use std::alloc::Global;
 use std::marker::Brand;
 use std::process::Abort;
 use std::sync::ledger::{Blank, Ledger};
-use std::test::Fail;
 use stk_coins::DecCoins;
 use stk_dec::Dec;
 use stk_keep::{
-    Facts, HookFault, Item, NoHooks, RecordFault, Records, RedelegationSlash, Signers, SigningInfo,
-    Slasher, Unbonder, UnbondingSlash, Validator, ValidatorView,
+    Facts, HookFault, Item, NoHooks, Records, RedelegationSlash, Signers, SigningInfo, Slasher,
+    Unbonder, UnbondingSlash, Validator, ValidatorView,
 };
 use stk_keep_trials::trials::{NoEntries, NoRecords, OneSigner, OneValidator};
 use stk_types::{ConsAddr, Steps};
@@ -42,6 +41,7 @@ fn trials_are_slashed<L: Ledger>(rt: &(impl Abort + AllocGlobal), blank: Blank) 
         && is_jailed(rt, &v, &mut steps)
 }
 
+/// Whether no redelegation is slashed where there is none.
 fn redelegations_are_slashed<L: Ledger>(
     rt: &(impl Abort + AllocGlobal),
     v: &Validator,
@@ -66,6 +66,7 @@ fn redelegations_are_slashed<L: Ledger>(
     slashed == Ok(0)
 }
 
+/// Whether the slash of a validator without tokens burns nothing.
 fn is_slashed<L: Ledger>(
     rt: &(impl Abort + AllocGlobal),
     v: &Validator,
@@ -89,6 +90,7 @@ fn is_slashed<L: Ledger>(
     ) == Ok(0)
 }
 
+/// Whether the validator is found and jailed, which is told.
 fn is_jailed<L: Ledger>(
     rt: &(impl Abort + AllocGlobal),
     v: &Validator,
@@ -171,34 +173,36 @@ fn is_banned<L: Ledger>(rt: &(impl Abort + AllocGlobal), blank: Blank) -> bool
 }
 
 /// Whether the marks of a module without records nest, and it lists nothing.
-fn marks_nest<L: Ledger>(rt: &(impl Abort + AllocGlobal), blank: Blank) -> Result<bool, RecordFault>
+fn marks_nest<L: Ledger>(rt: &(impl Abort + AllocGlobal), blank: Blank) -> bool
     requires name { blank.name ≡ L.name }
     requires parts { blank.parts ≡ L.parts }
     requires some { 0 < L.parts }
 {
     let mut steps: Steps<L> = Steps::new(blank);
     let mut none = NoRecords { open: 0 };
-    none.mark(rt.alloc(), &mut steps)?;
-    none.mark(rt.alloc(), &mut steps)?;
+    none.mark(rt.alloc(), &mut steps).expect(rt, "a mark");
+    none.mark(rt.alloc(), &mut steps).expect(rt, "a mark");
     let mut items = Vec::new(rt.alloc());
-    none.items_into(&mut items, &mut steps)?;
+    none.items_into(&mut items, &mut steps).expect(rt, "items");
     let mut changes = Vec::new(rt.alloc());
-    none.changes_into(&mut changes, &mut steps)?;
+    let told = none.changes_into(&mut changes, &mut steps);
+    told.expect(rt, "changes");
     let pool = Item::Pool {
         coins: DecCoins::new(rt.alloc()),
     };
-    let loaded = none.load(rt.alloc(), &pool, &mut steps)?;
+    let loaded = none
+        .load(rt.alloc(), &pool, &mut steps)
+        .expect(rt, "an item");
     none.back(&mut steps);
     none.forget(&mut steps);
     none.settle(&mut steps);
-    Ok(items.len() == 0 && changes.len() == 0 && !loaded && none.open == 0)
+    items.len() == 0 && changes.len() == 0 && !loaded && none.open == 0
 }
 
 #[test]
-fn each_trait_has_a_value(rt: HostRuntime) -> Result<(), Fail> {
+fn each_trait_has_a_value(rt: HostRuntime) {
     assert!(rt; trials_are_slashed::<Brand>(&rt, Blank::new(1)));
     assert!(rt; wants_memory::<Brand>(&rt, Blank::new(1)));
     assert!(rt; is_banned::<Brand>(&rt, Blank::new(1)));
-    assert!(rt; marks_nest::<Brand>(&rt, Blank::new(1)) == Ok(true));
-    Ok(())
+    assert!(rt; marks_nest::<Brand>(&rt, Blank::new(1)));
 }

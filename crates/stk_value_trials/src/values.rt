@@ -4,32 +4,36 @@ ghost use Rattle.std.specs.Prelude.{◌≡◌, ◌*◌, ◌<◌, ◌^◌};
 ghost use Rattle.stk_keep.specs.Ground.{AreInRange};
 
 use std::process::Abort;
-use std::test::Fail;
 use stk_coins::{Coin, Coins};
 use stk_dec::Dec;
 use stk_keep::{Commission, Params, Validator};
 use stk_types::{Addr, BondStatus, ConsAddr, Denom, Moment};
 
+/// The decimal of so many units.
 pub fn dec(rt: &impl Abort, raw: u128) -> Dec
     ensures { result ≡ raw }
 {
     Dec::from_raw(raw).expect(rt, "below the limit")
 }
 
+/// The moment so many nanoseconds after the beginning of 1970.
 pub fn moment(rt: &impl Abort, nanos: u128) -> Moment
     ensures { result ≡ nanos }
 {
     Moment::of(nanos).expect(rt, "before the year 10000")
 }
 
+/// The user with an address of twenty such bytes.
 pub fn user(rt: &impl Abort, byte: u8) -> Addr {
     Addr::of([byte; 20]).expect(rt, "no module's address")
 }
 
+/// The denomination of the tests.
 pub fn atom(rt: &impl Abort) -> Denom {
     Denom::of(b"uatom").expect(rt, "a denomination")
 }
 
+/// Parameters in their ranges.
 pub fn params(rt: &impl Abort) -> Params
     ensures { AreInRange result }
 {
@@ -79,13 +83,14 @@ pub fn validator(rt: &impl Abort, tokens: u128) -> Validator
 }
 
 /// So much of one denomination.
-pub fn coins(rt: &(impl Abort + AllocGlobal), amount: u128) -> Result<Coins, Fail>
+pub fn coins(rt: &(impl Abort + AllocGlobal), amount: u128) -> Coins
     requires { amount < 10 ^ 38 }
 {
-    let mut list = Vec::new(rt.alloc());
-    list.push(Coin {
+    let coin = Coin {
         denom: atom(rt),
         amount,
-    })?;
-    Ok(Coins::of(list)?)
+    };
+    let mut list = Vec::new(rt.alloc());
+    list.push(coin).expect(rt, "memory");
+    Coins::of(list).expect(rt, "coins")
 }

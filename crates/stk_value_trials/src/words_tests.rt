@@ -2,6 +2,8 @@
 
 use std::alloc::{AllocError, Global};
 use std::test::Fail;
+use stk_report::Query;
+use stk_types::{Account, Module, read_cons};
 use stk_words::{Mode, WordsFault, read_words};
 
 /// The words of a line, parted by single spaces.
@@ -23,6 +25,10 @@ fn read(alloc: Global, line: &str) -> Result<Mode, WordsFault> {
 fn commands_are_read(rt: HostRuntime) -> Result<(), Fail> {
     let alloc: Global = rt.alloc();
     assert!(rt; read(alloc, "replay") == Ok(Mode::Replay));
+    assert!(rt; read(alloc, "resume") == Ok(Mode::Resume));
+    assert!(rt; read(alloc, "query supply") == Ok(Mode::Query(Query::Supply)));
+    assert!(rt; read(alloc, "query pool") == Ok(Mode::Query(Query::Pool)));
+    assert!(rt; read(alloc, "query validators") == Ok(Mode::Query(Query::Validators)));
     assert!(rt; read(alloc, "gen 0 1") == Ok(Mode::Gen { seed: 0, count: 1 }));
     assert!(rt;
         read(alloc, "gen 18446744073709551615 100000")
@@ -42,11 +48,35 @@ fn commands_are_read(rt: HostRuntime) -> Result<(), Fail> {
 }
 
 #[test]
+fn questions_have_addresses(rt: HostRuntime) -> Result<(), Fail> {
+    let alloc: Global = rt.alloc();
+    let pool = Account::Module(Module::Distribution);
+    let asked = read(
+        alloc,
+        "query account 0000000000000000000000000000000000000004",
+    );
+    assert!(rt; asked == Ok(Mode::Query(Query::Account(pool))));
+    let cons = read_cons("00000000000000000000000000000000000000ff").expect(&rt, "an address");
+    let signing = read(
+        alloc,
+        "query signing 00000000000000000000000000000000000000ff",
+    );
+    assert!(rt; signing == Ok(Mode::Query(Query::Signing(cons))));
+    Ok(())
+}
+
+#[test]
 fn other_words_are_no_command(rt: HostRuntime) -> Result<(), Fail> {
     let alloc: Global = rt.alloc();
     for line in [
         "",
         "query",
+        "query account",
+        "query supply 0000000000000000000000000000000000000004",
+        "query account 000000000000000000000000000000000000000A",
+        "query account 000000000000000000000000000000000000004",
+        "query balance 0000000000000000000000000000000000000004",
+        "resume 1",
         "--help",
         "-",
         "replays",

@@ -49,20 +49,20 @@ few_texts words few = omega (arith, few, length_of_texts words)
 pub record AreRead (words : List (List ℕ)) : Type 0 where
   pub taken : takes three words ≡ true
   pub command : first_of (codes "command") (matches_of three words) ≡ slice_get words 0
-  pub seed : first_of (codes "seed") (matches_of three words) ≡ slice_get words 1
-  pub count : first_of (codes "count") (matches_of three words) ≡ slice_get words 2
+  pub first : first_of (codes "first") (matches_of three words) ≡ slice_get words 1
+  pub second : first_of (codes "second") (matches_of three words) ≡ slice_get words 2
 
 none_read : AreRead []
 unfolding clap_on_literals
-none_read = record { taken = refl; command = refl; seed = refl; count = refl }
+none_read = record { taken = refl; command = refl; first = refl; second = refl }
 
 one_read : (a : List ℕ) → IsPlain a → AreRead (a ∷ [])
 unfolding clap_on_literals
 one_read a p = record {
   taken = simp (p.0, p.1);
   command = simp (p.0, p.1);
-  seed = simp (p.0, p.1);
-  count = simp (p.0, p.1);
+  first = simp (p.0, p.1);
+  second = simp (p.0, p.1);
 }
 
 two_read : (a b : List ℕ) → IsPlain a → IsPlain b → AreRead (a ∷ b ∷ [])
@@ -70,8 +70,8 @@ unfolding clap_on_literals
 two_read a b p q = record {
   taken = simp (p.0, p.1, q.0, q.1);
   command = simp (p.0, p.1, q.0, q.1);
-  seed = simp (p.0, p.1, q.0, q.1);
-  count = simp (p.0, p.1, q.0, q.1);
+  first = simp (p.0, p.1, q.0, q.1);
+  second = simp (p.0, p.1, q.0, q.1);
 }
 
 three_read : (a b c : List ℕ) → IsPlain a → IsPlain b → IsPlain c → AreRead (a ∷ b ∷ c ∷ [])
@@ -79,8 +79,8 @@ unfolding clap_on_literals
 three_read a b c p q r = record {
   taken = simp (p.0, p.1, q.0, q.1, r.0, r.1);
   command = simp (p.0, p.1, q.0, q.1, r.0, r.1);
-  seed = simp (p.0, p.1, q.0, q.1, r.0, r.1);
-  count = simp (p.0, p.1, q.0, q.1, r.0, r.1);
+  first = simp (p.0, p.1, q.0, q.1, r.0, r.1);
+  second = simp (p.0, p.1, q.0, q.1, r.0, r.1);
 }
 
 pub words_read : (words : List (List ℕ)) → length words ≤ 3 → list_any is_option words ≡ false → AreRead words

@@ -1,10 +1,15 @@
 -- The words that are no command, and the command by what stands at the places.
 use Rattle.std.proofs.Common.{◌≡◌, ◌∙◌, ◌⊎◌, inl, inr, refl, ap, sym, ℕ, suc, ◌<◌, ◌≤◌, ◌&&◌, ◌||◌, Bool, true, false, true≢false, cond, List, [], ◌∷◌, map, length, Option, Some, None, slice_get, bytes_eq, codes, arith, String, Global, string_bytes}
+use Rattle.std.specs.Prelude.{◌==◌, option_and_then, option_map}
 use Rattle.std.specs.List.{list_any}
 use Rattle.stk_dec.specs.Texts.{is_number, number_of}
 use Rattle.stk_words.specs.declared.mode.Mode.{Mode}
 use Rattle.stk_words.specs.declared.mode.Mode.TheVariants as mode
-use Rattle.stk_words.specs.Words.{count_of, is_option, mode_at, mode_of, seed_of, with_input}
+use Rattle.stk_types.specs.Accounts.{account_from, account_of}
+use Rattle.stk_types.specs.Address.{address_of, bytes_of}
+use Rattle.stk_report.specs.declared.question.Query.TheVariants as question
+use Rattle.stk_words.specs.Questions.{address_asked, kind_asked, of_account}
+use Rattle.stk_words.specs.Words.{count_of, generating, is_option, mode_at, mode_of, seed_of, with_input}
 use Rattle.stk_words.proofs.ClapLemmas.{any_of_texts}
 
 -- more than three words are none
@@ -29,11 +34,60 @@ and_false : (b : Bool) → (b && false) ≡ false
 and_false true = refl
 and_false false = refl
 
-no_name : (w : List ℕ) → is_option w ≡ true → (bytes_eq w (codes "gen") ≡ false) × (bytes_eq w (codes "trial") ≡ false) × (bytes_eq w (codes "replay") ≡ false)
+-- it is the name of no command
+record IsNoName (w : List ℕ) : Type 0 where
+  generated : bytes_eq w (codes "gen") ≡ false
+  tried : bytes_eq w (codes "trial") ≡ false
+  replayed : bytes_eq w (codes "replay") ≡ false
+  resumed : bytes_eq w (codes "resume") ≡ false
+  asked : bytes_eq w (codes "query") ≡ false
+
+no_name : (w : List ℕ) → is_option w ≡ true → IsNoName w
 no_name [] h = absurd (true≢false (sym h))
 no_name (x ∷ xs) h =
     let is : x ≡ 45 = grind (arith, h) in
-    rw is (refl, refl, refl)
+    rw is (record { generated = refl; tried = refl; replayed = refl; resumed = refl; asked = refl })
+
+-- and of no question
+no_kind : (w : List ℕ) → is_option w ≡ true → kind_asked w ≡ None
+no_kind [] h = absurd (true≢false (sym h))
+no_kind (x ∷ xs) h = let is : x ≡ 45 = grind (arith, h) in rw is refl
+
+never : {A B : Type 0} (o : Option A) → option_and_then {T = A} {U = B} (λ x. None) o ≡ None
+never None = refl
+never (Some x) = refl
+
+no_question : (w text : List ℕ) → is_option w ≡ true → address_asked w text ≡ None
+no_question [] text h = absurd (true≢false (sym h))
+no_question (x ∷ xs) text h =
+    let is : x ≡ 45 = grind (arith, h) in
+    let nothing : address_asked (45 ∷ xs) text ≡ None = never (account_of text) in
+    rw is nothing
+
+-- it is the text of no address
+no_bytes : (w : List ℕ) → is_option w ≡ true → bytes_of w ≡ None
+no_bytes [] h = absurd (true≢false (sym h))
+no_bytes (x ∷ []) h = refl
+no_bytes (x ∷ y ∷ ys) h = let is : x ≡ 45 = grind (arith, h) in rw is refl
+
+neither : {A : Type 0} (b : Bool) (x : Option A) → x ≡ None → cond b x None ≡ None
+neither true x h = h
+neither false x h = refl
+
+no_address : (w : List ℕ) → is_option w ≡ true → address_of w ≡ None
+no_address w h = neither (length w == 40) (bytes_of w) (no_bytes w h)
+
+no_account : (w : List ℕ) → is_option w ≡ true → account_of w ≡ None
+no_account w h = ap (option_map account_from) (no_address w h)
+
+both_none : {A : Type 0} (b : Bool) (x y : Option A) → x ≡ None → y ≡ None → cond b x y ≡ None
+both_none true x y p q = p
+both_none false x y p q = q
+
+no_address_asked : (what w : List ℕ) → is_option w ≡ true → address_asked what w ≡ None
+no_address_asked what w h =
+    both_none (bytes_eq what (codes "signing")) (option_map (λ cons. question.Signing cons) (address_of w)) (option_and_then (λ who. of_account what who) (account_of w))
+    (ap (option_map (λ cons. question.Signing cons)) (no_address w h)) (ap (option_and_then (λ who. of_account what who)) (no_account w h))
 
 no_number : (most : ℕ) (w : List ℕ) → is_option w ≡ true → number_of most w ≡ None
 no_number most [] h = absurd (true≢false (sym h))
@@ -65,22 +119,42 @@ either_true : (a b : Bool) → (a || b) ≡ true → (a ≡ true) ⊎ (b ≡ tru
 either_true true b h = inl refl
 either_true false b h = inr h
 
+-- three words, of which one begins with a hyphen, generate nothing
+not_generated : (a b c : List ℕ) → list_any is_option (b ∷ c ∷ []) ≡ true → generating a b c ≡ None
+not_generated a b c q = elim (either_true (is_option b) (list_any is_option (c ∷ [])) q) [
+  | inl p ↦ no_input (bytes_eq a (codes "gen")) (bytes_eq a (codes "trial")) (with_input mode.Gen (seed_of b) (count_of c)) (with_input mode.Trial (seed_of b) (count_of c)) (rw (no_seed b p) refl) (rw (no_seed b p) refl)
+  | inr r ↦ elim (either_true (is_option c) false r) [
+    | inl p ↦ no_input (bytes_eq a (codes "gen")) (bytes_eq a (codes "trial")) (with_input mode.Gen (seed_of b) (count_of c)) (with_input mode.Trial (seed_of b) (count_of c)) (rw (no_count c p) (without_count mode.Gen (seed_of b))) (rw (no_count c p) (without_count mode.Trial (seed_of b)))
+    | inr t ↦ absurd (true≢false (sym t))
+  ]
+]
+
+-- nor do they ask anything
+not_asked : (b c : List ℕ) → list_any is_option (b ∷ c ∷ []) ≡ true → address_asked b c ≡ None
+not_asked b c q = elim (either_true (is_option b) (list_any is_option (c ∷ [])) q) [
+  | inl p ↦ no_question b c p
+  | inr r ↦ elim (either_true (is_option c) false r) [
+    | inl p ↦ no_address_asked b c p
+    | inr t ↦ absurd (true≢false (sym t))
+  ]
+]
+
 refused_options : (words : List (List ℕ)) → list_any is_option words ≡ true → mode_of words ≡ None
 refused_options [] h = absurd (true≢false (sym h))
 refused_options (a ∷ []) h = elim (either_true (is_option a) false h) [
-  | inl p ↦ rw (no_name a p).2 refl
+  | inl p ↦ rw ((no_name a p).replayed, (no_name a p).resumed) refl
   | inr q ↦ absurd (true≢false (sym q))
 ]
-refused_options (a ∷ b ∷ []) h = refl
-refused_options (a ∷ b ∷ c ∷ []) h = elim (either_true (is_option a) (list_any is_option (b ∷ c ∷ [])) h) [
-  | inl p ↦ rw ((no_name a p).0, (no_name a p).1) refl
-  | inr q ↦ elim (either_true (is_option b) (list_any is_option (c ∷ [])) q) [
-    | inl p ↦ no_input (bytes_eq a (codes "gen")) (bytes_eq a (codes "trial")) (with_input mode.Gen (seed_of b) (count_of c)) (with_input mode.Trial (seed_of b) (count_of c)) (rw (no_seed b p) refl) (rw (no_seed b p) refl)
-    | inr r ↦ elim (either_true (is_option c) false r) [
-      | inl p ↦ no_input (bytes_eq a (codes "gen")) (bytes_eq a (codes "trial")) (with_input mode.Gen (seed_of b) (count_of c)) (with_input mode.Trial (seed_of b) (count_of c)) (rw (no_count c p) (without_count mode.Gen (seed_of b))) (rw (no_count c p) (without_count mode.Trial (seed_of b)))
-      | inr t ↦ absurd (true≢false (sym t))
-    ]
+refused_options (a ∷ b ∷ []) h = elim (either_true (is_option a) (list_any is_option (b ∷ [])) h) [
+  | inl p ↦ rw (no_name a p).asked refl
+  | inr q ↦ elim (either_true (is_option b) false q) [
+    | inl p ↦ neither (bytes_eq a (codes "query")) (option_map mode.Query (kind_asked b)) (ap (option_map mode.Query) (no_kind b p))
+    | inr t ↦ absurd (true≢false (sym t))
   ]
+]
+refused_options (a ∷ b ∷ c ∷ []) h = elim (either_true (is_option a) (list_any is_option (b ∷ c ∷ [])) h) [
+  | inl p ↦ rw ((no_name a p).asked, (no_name a p).generated, (no_name a p).tried) refl
+  | inr q ↦ both_none (bytes_eq a (codes "query")) (option_map mode.Query (address_asked b c)) (generating a b c) (ap (option_map mode.Query) (not_asked b c q)) (not_generated a b c q)
 ]
 refused_options (a ∷ b ∷ c ∷ d ∷ more) h = refl
 

@@ -1,3 +1,4 @@
 pub mod Line
+pub mod Questions
 pub mod Rows
 pub mod Words

@@ -9,4 +9,4 @@ without_own_name a = record a { top = record a.top { no_binary_name = true } }
 abbrev pub three : App
 three =
     with_rule (with_rule (with_rule (without_own_name (new_app (codes "stakeplay"))) (new_rule (codes "command")))
-    (new_rule (codes "seed"))) (new_rule (codes "count"))
+    (new_rule (codes "first"))) (new_rule (codes "second"))

@@ -1,6 +1,7 @@
 //! The words of the command line: which of them are a command, and what it asks for.
 #![tactic(auto)]
 
+mod asked;
 mod fault;
 mod mode;
 mod numbers;

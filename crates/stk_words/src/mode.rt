@@ -1,8 +1,14 @@
+use stk_report::Query;
+
 /// What the words ask for.
 #[derive(Clone, Copy, Debug, PartialEq, Eq)]
 pub enum Mode {
     /// The blocks of an input are applied, and what they do is written.
     Replay,
+    /// Further blocks are applied to the chain of a store, and what they do is written.
+    Resume,
+    /// Lines of the report of a stored chain are written.
+    Query(Query),
     /// An input is generated and written.
     Gen {
         /// What its draws begin with.

@@ -1,9 +1,11 @@
 //! Worked rows, as a function that does nothing: its contract is the rows.
 
-ghost use Rattle.stk_words.specs.Rows.{Commands, NoCommands};
+ghost use Rattle.stk_words.specs.Rows.{Commands, NoCommands, NoQuestions, Questions};
 
 /// Words that are a command, and words that are none.
 pub fn words_by_example()
     ensures commands { Commands }
     ensures none { NoCommands }
+    ensures questions { Questions }
+    ensures unasked { NoQuestions }
 {}

@@ -3,8 +3,9 @@ ghost use Rattle.std.specs.List.{list_any};
 ghost use Rattle.clap.specs.Simple.{app_of};
 ghost use Rattle.clap.specs.Matches.{first_value, found_of};
 ghost use Rattle.stk_words.specs.Line.{three};
-ghost use Rattle.stk_words.specs.Words.{alone, generating, is_option, mode_at, mode_of};
+ghost use Rattle.stk_words.specs.Words.{alone, generating, is_option, mode_at, mode_of, with_word, with_words};
 
+use crate::asked::{address_asked, kind_asked};
 use crate::fault::WordsFault;
 use crate::mode::Mode;
 use crate::numbers::{count_of, seed_of};
@@ -19,8 +20,8 @@ fn command_line<'a>(alloc: Global) -> Result<Command<'a>, AllocError>
     Command::new(alloc, "stakeplay")
         .no_binary_name(true)
         .arg(Arg::new(alloc, "command"))?
-        .arg(Arg::new(alloc, "seed"))?
-        .arg(Arg::new(alloc, "count"))
+        .arg(Arg::new(alloc, "first"))?
+        .arg(Arg::new(alloc, "second"))
 }
 
 /// Whether the word begins with a hyphen.
@@ -44,9 +45,9 @@ fn parsed<'a>(alloc: Global, words: &'a [String]) -> Result<ArgMatches<'a>, Word
     requires plain { list_any (λ word. is_option (string_bytes word)) words.now ≡ false }
     ensures command { IfOk result (λ matches. first_value (found_of matches) (codes "command")
         ≡ slice_get (map string_bytes words.now) 0) }
-    ensures seed { IfOk result (λ matches. first_value (found_of matches) (codes "seed")
+    ensures first { IfOk result (λ matches. first_value (found_of matches) (codes "first")
         ≡ slice_get (map string_bytes words.now) 1) }
-    ensures count { IfOk result (λ matches. first_value (found_of matches) (codes "count")
+    ensures second { IfOk result (λ matches. first_value (found_of matches) (codes "second")
         ≡ slice_get (map string_bytes words.now) 2) }
     ensures fault { IfErr result (λ fault. fault ≡ WordsFault.NoMemory) }
 {
@@ -66,6 +67,8 @@ fn alone(name: &str) -> Option<Mode>
 {
     if name == "replay" {
         Some(Mode::Replay)
+    } else if name == "resume" {
+        Some(Mode::Resume)
     } else {
         None
     }
@@ -88,20 +91,45 @@ fn generating(name: &str, seed: &str, count: &str) -> Option<Mode>
     }
 }
 
-/// What is asked for by what stands at the three places.
-fn mode_at(name: Option<&str>, seed: Option<&str>, count: Option<&str>) -> Option<Mode>
-    ensures { result ≡ mode_at (option_map (λ w. w.now) name.entry)
-        (option_map (λ w. w.now) seed.entry) (option_map (λ w. w.now) count.entry) }
+/// The command of this name with one word.
+fn with_word(name: &str, what: &str) -> Option<Mode>
+    ensures { result ≡ with_word name.now what.now }
 {
-    match (name, seed, count) {
+    if name == "query" {
+        Some(Mode::Query(kind_asked(what)?))
+    } else {
+        None
+    }
+}
+
+/// The command of this name with two words.
+fn with_words(name: &str, first: &str, second: &str) -> Option<Mode>
+    ensures { result ≡ with_words name.now first.now second.now }
+{
+    if name == "query" {
+        Some(Mode::Query(address_asked(first, second)?))
+    } else {
+        generating(name, first, second)
+    }
+}
+
+/// What is asked for by what stands at the three places.
+fn mode_at(name: Option<&str>, first: Option<&str>, second: Option<&str>) -> Option<Mode>
+    ensures { result ≡ mode_at (option_map (λ w. w.now) name.entry)
+        (option_map (λ w. w.now) first.entry) (option_map (λ w. w.now) second.entry) }
+{
+    match (name, first, second) {
         (Some(name), None, None) => alone(name),
-        (Some(name), Some(seed), Some(count)) => generating(name, seed, count),
+        (Some(name), Some(what), None) => with_word(name, what),
+        (Some(name), Some(first), Some(second)) => with_words(name, first, second),
         _ => None,
     }
 }
 
-/// What the words ask for: `replay`; `gen SEED COUNT`, where SEED is 1 to 20 digits below 2^64 and COUNT is from 1 to
-/// 100,000 without zeros in front; or `trial SEED COUNT`.
+/// What the words ask for: `replay`; `resume`; `query` with `supply`, `pool` or `validators`; `query` with `account`,
+/// `validator`, `delegations`, `rewards`, `unbondings`, `redelegations` or `signing` and an address of forty hexadecimal
+/// digits with small letters; `gen SEED COUNT`, where SEED is 1 to 20 digits below 2^64 and COUNT is from 1 to 100,000
+/// without zeros in front; or `trial SEED COUNT`.
 ///
 /// The errors are `Usage`, only where the words are none of these, and `NoMemory`.
 #[tactic(auto, using(crate::proofs::RowLemmas::long_texts, crate::proofs::RowLemmas::optional_texts, crate::proofs::RowLemmas::texts_by_places))]
@@ -115,9 +143,9 @@ pub fn read_words(alloc: Global, words: &[String]) -> Result<Mode, WordsFault>
     }
     let matches = parsed(alloc, words)?;
     let name = matches.get_str("command");
-    let seed = matches.get_str("seed");
-    let count = matches.get_str("count");
-    match mode_at(name, seed, count) {
+    let first = matches.get_str("first");
+    let second = matches.get_str("second");
+    match mode_at(name, first, second) {
         Some(mode) => Ok(mode),
         None => Err(WordsFault::Usage),
     }

@@ -1,5 +1,5 @@
 use Rattle.std.proofs.Common.{◌≡◌, sym, subst}
-use Rattle.stk_app.proofs.ModeLemmas.{busy_so, cause_so, clean_so, quiet_so, read_so, written_so}
+use Rattle.stk_app.proofs.ModeLemmas.{busy_so, cause_so, clean_so, keep_so, quiet_so, read_so, written_so}
 use Rattle.stk_app.proofs.generating.write_generated.Goals as goal
 
 pub returns-clause-ends : goal.returns-clause-ends
@@ -10,6 +10,9 @@ returns-clause-busy g c = rw c.status_of_sink.ensures (busy_so c.write_input.res
 
 pub returns-clause-read : goal.returns-clause-read
 returns-clause-read g c = rw c.status_of_sink.ensures (read_so c.write_input.result)
+
+pub returns-clause-keep : goal.returns-clause-keep
+returns-clause-keep g c = rw c.status_of_sink.ensures (keep_so c.write_input.result)
 
 pub returns-clause-clean : goal.returns-clause-clean
 returns-clause-clean g c = rw c.status_of_sink.ensures (clean_so c.write_input.result _ c.write_input.ensures.clean)

@@ -3,7 +3,7 @@ use Rattle.stk_summary.specs.Trial.{trial_of}
 use Rattle.stk_app.specs.Machine.{not_applied}
 use Rattle.stk_app.specs.Modes.{Tries}
 use Rattle.stk_app.specs.Parts.{status_of}
-use Rattle.stk_app.proofs.ModeLemmas.{busy_so, cause_so, clean_so, not_so, quiet_block, quiet_so, read_so, tried, tried_at_block, tried_without_memory, written_so}
+use Rattle.stk_app.proofs.ModeLemmas.{busy_so, cause_so, clean_so, keep_so, not_so, quiet_block, quiet_so, read_so, tried, tried_at_block, tried_without_memory, written_so}
 use Rattle.stk_app.proofs.generating.write_trial.Goals as goal
 
 pub returns-in-Ok-clause-ends : goal.returns-in-Ok-clause-ends
@@ -16,6 +16,9 @@ returns-in-Ok-clause-busy g c = rw c.status_of_sink.ensures (busy_so c.write_tex
 
 pub returns-in-Ok-clause-read : goal.returns-in-Ok-clause-read
 returns-in-Ok-clause-read g c = rw c.status_of_sink.ensures (read_so c.write_text.result)
+
+pub returns-in-Ok-clause-keep : goal.returns-in-Ok-clause-keep
+returns-in-Ok-clause-keep g c = rw c.status_of_sink.ensures (keep_so c.write_text.result)
 
 pub returns-in-Ok-clause-clean : goal.returns-in-Ok-clause-clean
 returns-in-Ok-clause-clean g c = rw c.status_of_sink.ensures (clean_so c.write_text.result _ c.write_text.ensures.clean)

@@ -11,7 +11,7 @@ returns-in-Err-apply_block-clause-err c = λ p s.
 
 pub returns-in-Ok-push_lines_of_block-clause-ok : goal.returns-in-Ok-push_lines_of_block-clause-ok
 returns-in-Ok-push_lines_of_block-clause-ok c = λ p s.
-    steps_on _ _ c.in-Ok.block p c.in-Ok-apply_block.report c.settle.new.self _ c.in-Ok.ensures (rw c.settle.ensures.kept (c.in-Ok-apply_block.ensures.applies p s)) (rw c.requires at c.in-Ok-push_lines_of_block.ensures.text)
+    steps_on _ _ c.in-Ok.block p c.in-Ok-apply_block.report c.apply_block.new.self _ c.in-Ok.ensures (c.in-Ok-apply_block.ensures.applies p s) (rw c.requires at c.in-Ok-push_lines_of_block.ensures.text)
 
 pub returns-in-Err-clause-of_line : goal.returns-in-Err-clause-of_line
 returns-in-Err-clause-of_line c = rw c.not_read.ensures (not_read_stops _ c.in-Err.fault _)

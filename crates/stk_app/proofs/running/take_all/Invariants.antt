@@ -1,5 +1,7 @@
-use Rattle.std.proofs.Common.{◌≤◌, ◌+◌, ◌-◌, ◌≡◌, length}
-use Rattle.stk_app.specs.Machine.{longest, Standing, StandsAt}
+use Rattle.std.proofs.Common.{◌≤◌, ◌+◌, ◌-◌, ◌≡◌, List, length}
+use Rattle.stk_io.specs.declared.keeper.Change.{Change}
+use Rattle.stk_app.specs.Kept.{Began, Keeping}
+use Rattle.stk_app.specs.Machine.{longest, Standing}
 use Rattle.stk_app.specs.Outcome.{most_bytes}
 use Rattle.stk_app.specs.Parts.{Stands}
 use Rattle.stk_app.proofs.running.take_all.Given as goal
@@ -13,9 +15,15 @@ invariant-loop-taken g l = record {
   most : l.taken ≤ most_bytes;
   number : l.progress.number ≤ 1 + l.taken;
   short : length l.progress.line.items ≤ longest;
-  at : (s : Standing) × StandsAt l.progress.chain s × Stands (g.S.Source.left l.initial.source) l.taken l.progress.number s l.progress.line.items (g.S.Source.left l.source) (g.K.Sink.written l.initial.sink) (g.K.Sink.written l.sink);
+  at : (b : Began) (s0 : Standing) → Keeping b l.initial.progress.chain (g.D.Keeper.rows l.initial.keeper) (g.D.Keeper.is_honest l.initial.keeper) (g.D.Keeper.may_leave l.initial.keeper) s0
+      → (s : Standing) × Keeping b l.progress.chain (g.D.Keeper.rows l.keeper) (g.D.Keeper.is_honest l.keeper) (g.D.Keeper.may_leave l.keeper) s
+      × Stands s0 (g.S.Source.left l.initial.source) l.taken l.progress.number s l.progress.line.items (g.S.Source.left l.source) (g.K.Sink.written l.initial.sink) (g.K.Sink.written l.sink);
   read_later : g.S.Source.faults l.initial.source ≤ g.S.Source.faults l.source;
   write_later : g.K.Sink.faults l.initial.sink ≤ g.K.Sink.faults l.sink;
   read_quiet : g.S.Source.faults l.source ≡ g.S.Source.faults l.initial.source;
   write_quiet : g.K.Sink.faults l.sink ≡ g.K.Sink.faults l.initial.sink;
+  honest : g.D.Keeper.is_honest l.keeper → g.D.Keeper.is_honest l.initial.keeper;
+  takes : (changes : List Change) → g.D.Keeper.takes l.initial.keeper changes → g.D.Keeper.takes l.keeper changes;
+  keep_later : g.D.Keeper.faults l.initial.keeper ≤ g.D.Keeper.faults l.keeper;
+  keep_quiet : g.D.Keeper.faults l.keeper ≡ g.D.Keeper.faults l.initial.keeper;
 }

@@ -2,8 +2,8 @@ use Rattle.std.proofs.Common.{true, false, [], ◌∷◌, refl, arith}
 use Rattle.stk_value_trials.proofs.forgetting_tests.period_alone.Goals as goal
 
 -- the plain value has one height; the validator's operator is in the list, and nothing is started
-pub send_between_hooks-requires-clause-ready : goal.send_between_hooks-requires-clause-ready
-send_between_hooks-requires-clause-ready g c = (
+pub send_between_hooks-sent-requires-clause-ready : goal.send_between_hooks-sent-requires-clause-ready
+send_between_hooks-sent-requires-clause-ready g c = (
   1 ∷ [],
   (
     refl,

@@ -8,8 +8,8 @@ use Rattle.stk_words.proofs.words.command_line.Goals as goal
 pub returns : goal.returns
 returns c =
     let first : rule_of c.new-2.result ≡ new_rule (codes "command") = search rules in
-    let second : rule_of c.new-3.result ≡ new_rule (codes "seed") = search rules in
-    let third : rule_of c.new-4.result ≡ new_rule (codes "count") = search rules in
+    let second : rule_of c.new-3.result ≡ new_rule (codes "first") = search rules in
+    let third : rule_of c.new-4.result ≡ new_rule (codes "second") = search rules in
     let none : app_of c.no_binary_name.result ≡ without_own_name (new_app (codes "stakeplay")) = ap app_of_fields c.no_binary_name.ensures ∙ ap without_own_name c.new.ensures.app in
     let one = c.in_ok-arg.ensures.shape (search rules) ∙ ap₂ with_rule none first in
     let two = c.in_ok-arg-2.ensures.shape (search rules) ∙ ap₂ with_rule one second in

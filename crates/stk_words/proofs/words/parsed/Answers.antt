@@ -12,19 +12,19 @@ returns-in-Ok-clause-command c =
     found_at (codes "command") (found_of c.in-Ok.matches) (app_of c.in_ok-command.command) words _ c.in_ok-command.ensures (c.in-Ok.ensures.matches simple).0
     (words_read words (few_texts c.args.words.now c.requires.few) (sym (any_of_texts c.args.words.now) ∙ c.requires.plain)).command
 
-pub returns-in-Ok-clause-seed : goal.returns-in-Ok-clause-seed
-returns-in-Ok-clause-seed c =
+pub returns-in-Ok-clause-first : goal.returns-in-Ok-clause-first
+returns-in-Ok-clause-first c =
     let words = map string_bytes c.args.words.now in
     let simple : is_simple (app_of c.in_ok-command.command) ≡ true = ap is_simple c.in_ok-command.ensures ∙ three_is_simple in
-    found_at (codes "seed") (found_of c.in-Ok.matches) (app_of c.in_ok-command.command) words _ c.in_ok-command.ensures (c.in-Ok.ensures.matches simple).0
-    (words_read words (few_texts c.args.words.now c.requires.few) (sym (any_of_texts c.args.words.now) ∙ c.requires.plain)).seed
+    found_at (codes "first") (found_of c.in-Ok.matches) (app_of c.in_ok-command.command) words _ c.in_ok-command.ensures (c.in-Ok.ensures.matches simple).0
+    (words_read words (few_texts c.args.words.now c.requires.few) (sym (any_of_texts c.args.words.now) ∙ c.requires.plain)).first
 
-pub returns-in-Ok-clause-count : goal.returns-in-Ok-clause-count
-returns-in-Ok-clause-count c =
+pub returns-in-Ok-clause-second : goal.returns-in-Ok-clause-second
+returns-in-Ok-clause-second c =
     let words = map string_bytes c.args.words.now in
     let simple : is_simple (app_of c.in_ok-command.command) ≡ true = ap is_simple c.in_ok-command.ensures ∙ three_is_simple in
-    found_at (codes "count") (found_of c.in-Ok.matches) (app_of c.in_ok-command.command) words _ c.in_ok-command.ensures (c.in-Ok.ensures.matches simple).0
-    (words_read words (few_texts c.args.words.now c.requires.few) (sym (any_of_texts c.args.words.now) ∙ c.requires.plain)).count
+    found_at (codes "second") (found_of c.in-Ok.matches) (app_of c.in_ok-command.command) words _ c.in_ok-command.ensures (c.in-Ok.ensures.matches simple).0
+    (words_read words (few_texts c.args.words.now c.requires.few) (sym (any_of_texts c.args.words.now) ∙ c.requires.plain)).second
 
 pub unreachable-requires : goal.unreachable-requires
 unreachable-requires c =
