@@ -29,7 +29,8 @@ use Rattle.stk_distr.specs.Stands.{KeepsShared}
 use Rattle.stk_machine.specs.Items.{entry_items, historical_items, holding_items, items_of, reward_items, ring_of, shared_items, signing_items, staked_items}
 use Rattle.stk_modules.specs.Kept.{KeptState, StandsFor}
 use Rattle.stk_modules.specs.Rows.{ctx_items, items_of_stakes, items_of as module_items}
-use Rattle.stk_chain.proofs.RewardItemLemmas.{block, currents, currents_kept, events_at, histories, histories_kept, slashes, slashes_kept}
+use Rattle.stk_decided.proofs.RewardLists.{block, currents, currents_kept, events_at, histories, histories_kept, slashes, slashes_kept}
+use Rattle.stk_decided.proofs.RingLaws.{one_ring}
 
 -- ---- rewards
 
@@ -73,35 +74,6 @@ shared_listed height k d o s sound = λ i.
     alloc.items_of (s.purses i) ++ (rows_of distr.payee_item (s.withdraw i) ++ rewards_listed height k.rewards d.rewards o.rewards s.rewards sound i)
 
 -- ---- signing records
-
--- a list that is turned, and turned back
-abbrev turned : ℕ → List Bool → List Bool
-turned n xs = drop n xs ++ take n xs
-
-back : (front rest : List Bool) (n : ℕ) → (length front ≡ n) ⊎ ((rest ≡ []) × (length front ≤ n)) → turned (length (rest ++ front) - n) (rest ++ front) ≡ front ++ rest
-back front rest n (inl e) =
-    let all = length-append rest front in
-    let older : length (rest ++ front) - n ≡ length rest = omega (arith, all, e) in
-    ap (λ m. turned m (rest ++ front)) older ∙ (λ i. drop_at rest front (length rest) refl i ++ take_at rest front (length rest) refl i)
-back front rest n (inr h) =
-    let l : length front ≤ n = h.1 in
-    let older : length front - n ≡ 0 = omega (arith, l) in
-    ap (λ r. turned (length (r ++ front) - n) (r ++ front)) h.0 ∙ ap (λ m. turned m front) older ∙ ap (λ r. front ++ r) (sym h.0)
-
-parts : (n : ℕ) (xs : List Bool) → (length (take n xs) ≡ n) ⊎ ((drop n xs ≡ []) × (length (take n xs) ≤ n))
-parts zero xs = inl refl
-parts (suc n) [] = inr (refl, omega arith)
-parts (suc n) (x ∷ xs) = by (parts n xs)
-  where
-    by : (length (take n xs) ≡ n) ⊎ ((drop n xs ≡ []) × (length (take n xs) ≤ n)) → (length (x ∷ take n xs) ≡ suc n) ⊎ ((drop n xs ≡ []) × (length (x ∷ take n xs) ≤ suc n))
-    by (inl e) = inl (omega (arith, e))
-    by (inr h) = let l : length (take n xs) ≤ n = h.1 in inr (h.0, omega (arith, l))
-
--- there is one ring of the votes
-pub one_ring : (w : ℕ) (votes ring : List Bool) → IsRing w votes ring → ring ≡ ring_of w votes
-one_ring w votes ring is =
-    let n = length votes % w in
-    sym (take-append-drop n ring) ∙ sym (back (take n ring) (drop n ring) n (parts n ring)) ∙ ap (λ last. turned (length last - n) last) is
 
 signings_listed : (n : ℕ) (k : Kept) (w : Window) → KeepsSignings n k w → window.items_of k ≡ signing_items n w
 signings_listed n [] [] h = refl

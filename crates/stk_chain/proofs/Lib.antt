@@ -8,8 +8,6 @@ pub mod FoundingLemmas
 pub mod AddingLemmas
 pub mod EmptyLemmas
 pub mod StartedLemmas
-pub mod GroupLemmas
-pub mod RewardItemLemmas
 pub mod ItemLemmas
 pub mod ChainLemmas
 pub mod FairLemmas
