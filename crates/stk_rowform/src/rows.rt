@@ -25,6 +25,10 @@ use stk_keep::Item;
 /// The number of this form of rows.
 const FORMAT: u8 = 1;
 
+/// How many bytes a key or a value has room for from the beginning, which is enough for most: so each is
+/// allocated once.
+const ROOM: usize = 64;
+
 fn kind_of(item: &Item) -> Kind
     ensures { result ≡ kind_in item.now }
 {
@@ -164,7 +168,7 @@ pub fn key_of(alloc: Global, item: &Item) -> Result<Vec<u8>, RowFault>
     ensures range { IfOk result (λ _. IsKeyInRange item.now) }
     ensures fault { IfErr result (λ fault. fault ≡ RowFault.NoMemory) }
 {
-    let mut key = Vec::new(alloc);
+    let mut key = Vec::with_capacity(alloc, ROOM)?;
     push_key(&mut key, item)?;
     Ok(key)
 }
@@ -181,7 +185,7 @@ pub fn encode(alloc: Global, item: &Item) -> Result<Row, RowFault>
     ensures fault { IfErr result (λ fault. fault ≡ RowFault.NoMemory) }
 {
     let key = key_of(alloc, item)?;
-    let mut value = Vec::new(alloc);
+    let mut value = Vec::with_capacity(alloc, ROOM)?;
     push_value(&mut value, item)?;
     Ok(Row { key, value })
 }
