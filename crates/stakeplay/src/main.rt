@@ -1,6 +1,7 @@
 //! `stakeplay STORE WORDS`: replays the accounting of a chain from standard input to standard
-//! output, or writes input that it generates. STORE is the path of a database file, in which the chain's rows are kept,
-//! or `-`, and then they are kept in memory. WORDS is `replay`, `gen SEED COUNT` or `trial SEED COUNT`.
+//! output, answers questions about a store, or writes input that it generates. STORE is the path of a database file, in
+//! which the chain's rows are kept, or `-`, and then nothing is kept. WORDS is `replay`, `resume`, `query` with a kind and
+//! perhaps an address, `gen SEED COUNT` or `trial SEED COUNT`.
 #![tactic(auto)]
 
 ghost use Rattle.std.specs.Prelude.{◌≡◌};
@@ -13,7 +14,7 @@ use std::env::{self, Env};
 use std::io::ErrorKind;
 use std::process::ExitCode;
 use stk_app::{InputFault, LimitKind, Status, run};
-use stk_io::{KeepFault, Keeper, StdSink, StdSource, SureKeeper};
+use stk_io::{KeepFault, Keeper, NoKeeper, StdSink, StdSource};
 use stk_msgs::BlockFault;
 use stk_store::SqlKeeper;
 
@@ -103,10 +104,11 @@ fn serve<D: Keeper>(rt: &HostRuntime, command: &[String], keeper: &mut D) -> Sta
     run(rt.alloc(), command, &mut source, &mut sink, keeper)
 }
 
-/// Carries out a command over the store of this name.
+/// Carries out a command over the store of this name. Of the name `-` there is none: nobody could read it when the program
+/// has ended, so nothing is kept.
 fn serve_from(rt: &HostRuntime, store: &str, command: &[String]) -> Status {
     if store == "-" {
-        let mut keeper = SureKeeper::new(rt.alloc(), Vec::new(rt.alloc()));
+        let mut keeper = NoKeeper::new(rt.alloc());
         return serve(rt, command, &mut keeper);
     }
     if store.starts_with("-") {

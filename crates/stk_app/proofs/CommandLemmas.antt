@@ -1,5 +1,5 @@
 -- How a run of each command ends.
-use Rattle.std.proofs.Common.{◌≡◌, ◌⊎◌, inl, inr, sym, subst, refl, ℕ, List, [], Option, Some, None, Ok}
+use Rattle.std.proofs.Common.{◌≡◌, ◌⊎◌, inl, inr, sym, subst, refl, ℕ, Bool, true, false, List, [], Option, Some, None, Ok}
 use Rattle.stk_io.specs.Outside.{Rose}
 use Rattle.stk_io.specs.Rows.{Pair}
 use Rattle.stk_input.specs.Writing.{generated_text}
@@ -7,12 +7,12 @@ use Rattle.stk_summary.specs.Trial.{trial_of}
 use Rattle.stk_words.specs.declared.mode.Mode.{Mode}
 use Rattle.stk_words.specs.declared.mode.Mode.TheVariants.{Replay, Resume, Query, Gen, Trial}
 use Rattle.stk_app.specs.declared.status.Status.{Status}
-use Rattle.stk_app.specs.declared.status.Status.TheVariants.{Done, Usage, ReadFault, WriteFault, KeepFault, NoMemory}
+use Rattle.stk_app.specs.declared.status.Status.TheVariants.{Done, Usage, ReadFault, WriteFault, KeepFault, NoMemory, WrongStore}
 use Rattle.stk_app.specs.Kept.{AreSome}
 use Rattle.stk_app.specs.Modes.{IsTried, IsUntroubledAt, ModeEnds}
 use Rattle.stk_app.specs.Writes.{IsWritten}
 use Rattle.stk_app.proofs.DriveLemmas.{untroubled_run}
-use Rattle.stk_app.proofs.ModeLemmas.{never_some, nothing, nothing_done, rows_left, same_rows, tried_without_memory, unbegun_replay, untouched, written_to_end}
+use Rattle.stk_app.proofs.ModeLemmas.{finds_none, nothing, nothing_done, rows_left, same_rows, tried_without_memory, unbegun_replay, untouched, written_to_end}
 use Rattle.stk_app.proofs.ResumeLemmas.{untroubled_query, untroubled_resume}
 
 -- before anything is taken, a run may end where memory is wanting, and leaves all as it was
@@ -29,20 +29,20 @@ ends_unasked o left w rows honest leaves e = subst (λ p. ModeEnds p left left w
 
 -- ---- runs that come to their end
 
-pub untroubled_command : (m : Mode) (left left' w w' : Option (List ℕ)) (rows rows' : Option (List Pair)) (honest' : Type 0) (leaves leaves' : List Pair → Type 0) (faults faults' : ℕ) (s : Status) → ModeEnds (Some m) left left' w w' rows rows' honest' leaves leaves' s
-    → IsUntroubledAt (Some m) left w rows honest' faults faults' → (s ≡ Usage → ⊥) → (s ≡ ReadFault → ⊥) → (s ≡ WriteFault → ⊥) → (s ≡ KeepFault → Rose faults faults') → (s ≡ Done) ⊎ (s ≡ NoMemory)
-untroubled_command Replay left left' w w' rows rows' honest' leaves leaves' faults faults' s (inl ends) calm busy read write keep =
+pub untroubled_command : (m : Mode) (left left' w w' : Option (List ℕ)) (keeps : Bool) (rows rows' : Option (List Pair)) (honest' : Type 0) (leaves leaves' : List Pair → Type 0) (faults faults' : ℕ) (s : Status) → ModeEnds (Some m) left left' w w' rows rows' honest' leaves leaves' s
+    → IsUntroubledAt (Some m) left w keeps rows honest' faults faults' → (s ≡ Usage → ⊥) → (s ≡ ReadFault → ⊥) → (s ≡ WriteFault → ⊥) → (s ≡ KeepFault → Rose faults faults') → (m ≡ Replay → s ≡ WrongStore false → keeps ≡ true) → (s ≡ Done) ⊎ (s ≡ NoMemory)
+untroubled_command Replay left left' w w' keeps rows rows' honest' leaves leaves' faults faults' s (inl ends) calm busy read write keep kept =
     untroubled_run _ None left left' w w' s ends calm.0 busy read write (λ e. calm.1.quiet (keep e))
-untroubled_command Replay left left' w w' rows rows' honest' leaves leaves' faults faults' s (inr ends) calm busy read write keep =
-    unbegun_replay s (AreSome rows rows' honest') ends.0 (never_some rows rows' honest' calm.1.none calm.1.honest ends.2.rows_are) (λ e. calm.1.quiet (keep e))
-untroubled_command Resume left left' w w' rows rows' honest' leaves leaves' faults faults' s ends calm busy read write keep =
+untroubled_command Replay left left' w w' keeps rows rows' honest' leaves leaves' faults faults' s (inr ends) calm busy read write keep kept =
+    unbegun_replay s (AreSome rows rows' honest') ends.0 (λ e. finds_none keeps rows rows' honest' calm.1.none calm.1.honest ends.2.rows_are (kept refl e)) (λ e. calm.1.quiet (keep e))
+untroubled_command Resume left left' w w' keeps rows rows' honest' leaves leaves' faults faults' s ends calm busy read write keep kept =
     untroubled_resume left left' w w' rows rows' honest' leaves leaves' faults faults' s ends calm busy read write keep
-untroubled_command (Query what) left left' w w' rows rows' honest' leaves leaves' faults faults' s ends calm busy read write keep =
+untroubled_command (Query what) left left' w w' keeps rows rows' honest' leaves leaves' faults faults' s ends calm busy read write keep kept =
     untroubled_query what w w' rows rows' honest' leaves leaves' faults faults' s ends.1 calm write keep
-untroubled_command (Gen seed count) left left' w w' rows rows' honest' leaves leaves' faults faults' s ends calm busy read write keep =
+untroubled_command (Gen seed count) left left' w w' keeps rows rows' honest' leaves leaves' faults faults' s ends calm busy read write keep kept =
     let e = ends.0.1 calm.0 calm.1 in
     written_to_end (generated_text seed count) e.0 s e.2 write
-untroubled_command (Trial seed count) left left' w w' rows rows' honest' leaves leaves' faults faults' s ends calm busy read write keep =
+untroubled_command (Trial seed count) left left' w w' keeps rows rows' honest' leaves leaves' faults faults' s ends calm busy read write keep kept =
     let e = ends.0.1 calm.0.0 calm.0.1 in
     let told : IsWritten calm.1.0 s e.0 = subst (λ d. IsTried d s e.0) calm.1.1 e.2 in
     written_to_end calm.1.0 e.0 s told write

@@ -30,16 +30,16 @@ told_left : (rows : List Pair) (told : Option (List Pair)) (leaves : List Pair �
 told_left rows None leaves is settled some left l = absurd (true≢false (sym some))
 told_left rows (Some now) leaves is settled some left l = settled left l ∙ is
 
-rows_of_told : (began : Type 0) (told : Option (List Pair)) (s : Standing) → IfSome told (λ now. began) → IfSome told (λ now. now ≡ rows_at s) → AreStored (items_at s) → IfSome told (λ now. began × AreRowsOf now s)
+rows_of_told : (began : Type 0) (told : Option (List Pair)) (s : Standing) → IfSome told (λ now. began) → IfSome told (λ now. now ≡ rows_at s) → (IsSome told → AreStored (items_at s)) → IfSome told (λ now. began × AreRowsOf now s)
 rows_of_told began None s b rows stored = tt
-rows_of_told began (Some now) s b rows stored = (b, (rows, stored))
+rows_of_told began (Some now) s b rows stored = (b, (rows, stored refl))
 
 module _ (b : Began) (chain : Option Chained) (told : Option (List Pair)) (honest : Type 0) (leaves : List Pair → Type 0) (s : Standing) (k : Keeping b chain told honest leaves s) where
   -- between lines just the rows are left
   pub left_of : LeftIn b told honest leaves s s
   left_of = record {
     rows = rows_of_told (b.rows ≡ Some (rows_at b.first)) told s k.began k.held.rows k.held.stored;
-    stop = λ h some left l. inl (told_left (rows_at s) told leaves k.held.rows k.settled (k.tells h some) left l, k.held.stored);
+    stop = λ h some left l. inl (told_left (rows_at s) told leaves k.held.rows k.settled (k.tells h some) left l, k.held.stored (k.tells h some));
   }
 
   -- a line that has a fault was not committed
@@ -55,13 +55,14 @@ module _ (b : Began) (chain : Option Chained) (told : Option (List Pair)) (hones
         rows (Some after) m =
             let was = subst (λ (o : Option (List Pair)). IfSome o (λ now. b.rows ≡ Some (rows_at b.first))) m.1 k.began in
             let held = subst (λ (o : Option (List Pair)). IfSome o (λ now. now ≡ rows_at s)) m.1 k.held.rows in
-            (was, (m.2 ∙ held, k.held.stored))
+            let told : IsSome told = subst (λ (o : Option (List Pair)). IsSome o) (sym m.1) refl in
+            (was, (m.2 ∙ held, k.held.stored told))
 
         stop : honest' → IsSome b.rows → (left : List Pair) → leaves' left → AreRowsOf left s ⊎ AreRowsOf left t
         stop h some left l = by (c.stop h (k.tells (c.back h) some) left l)
           where
             by : leaves left ⊎ ((left ≡ rows_in items) × AreStored items) → AreRowsOf left s ⊎ AreRowsOf left t
-            by (inl was) = inl (told_left (rows_at s) told leaves k.held.rows k.settled (k.tells (c.back h) some) left was, k.held.stored)
+            by (inl was) = inl (told_left (rows_at s) told leaves k.held.rows k.settled (k.tells (c.back h) some) left was, k.held.stored (k.tells (c.back h) some))
             by (inr new) = inr (new.0 ∙ ap rows_in (sym is), subst AreStored (sym is) new.1)
 
     after_commit : (y : Chained) (q : State) → Commits (Ok tt) (items_of q) told told' honest honest' leaves leaves' → StandsFor y.kept q → y.settled ≡ y.kept → Keeping b (Some y) told' honest' leaves' (Some q)
@@ -121,7 +122,7 @@ pub begins_on_none : (rows told : Option (List Pair)) (honest : Type 0) (leaves 
 begins_on_none rows told honest leaves none same telling settled = record {
   stands = refl;
   same = tt;
-  held = record { stored = none_stored; rows = none };
+  held = record { stored = λ some. none_stored; rows = none };
   began = began told none same;
   tells = telling;
   settled = settled;

@@ -260,14 +260,19 @@ written_to_end whole text (WrongStore is_empty) h w = absurd h
 written_to_end whole text NotFound h w = absurd h
 
 -- a keeper without rows has none after a call either
-pub never_some : (rows rows' : Option (List Pair)) (honest' : Type 0) → rows ≡ Some [] → honest' → Makes (λ before. before) rows rows' → AreSome rows rows' honest' → ⊥
+never_some : (rows rows' : Option (List Pair)) (honest' : Type 0) → rows ≡ Some [] → honest' → Makes (λ before. before) rows rows' → AreSome rows rows' honest' → ⊥
 never_some rows None honest' none honest m some = true≢false (sym (some.told honest (subst (λ (o : Option (List Pair)). IsSome o) (sym none) refl)))
 never_some rows (Some now) honest' none honest m some = some.some (m.2 ∙ some_same (sym m.1 ∙ none))
   where
     some_same : Some m.0 ≡ Some [] → m.0 ≡ []
     some_same e = cc
 
-pub unbegun_replay : (s : Status) (some : Type 0) → IsUnbegun s some → (some → ⊥) → (s ≡ KeepFault → ⊥) → (s ≡ Done) ⊎ (s ≡ NoMemory)
+-- nor does a replay find rows of a keeper that keeps nothing
+pub finds_none : (keeps : Bool) (rows rows' : Option (List Pair)) (honest' : Type 0) → (keeps ≡ false) ⊎ (rows ≡ Some []) → honest' → Makes (λ before. before) rows rows' → keeps ≡ true → AreSome rows rows' honest' → ⊥
+finds_none keeps rows rows' honest' (inl unkept) honest m kept some = true≢false (sym kept ∙ unkept)
+finds_none keeps rows rows' honest' (inr none) honest m kept some = never_some rows rows' honest' none honest m some
+
+pub unbegun_replay : (s : Status) (some : Type 0) → IsUnbegun s some → (s ≡ WrongStore false → some → ⊥) → (s ≡ KeepFault → ⊥) → (s ≡ Done) ⊎ (s ≡ NoMemory)
 unbegun_replay Done some h n k = absurd h
 unbegun_replay Usage some h n k = absurd h
 unbegun_replay (BadInput m fault) some h n k = absurd h
@@ -277,5 +282,5 @@ unbegun_replay WriteFault some h n k = absurd h
 unbegun_replay KeepFault some h n k = absurd (k refl)
 unbegun_replay NoMemory some h n k = inr refl
 unbegun_replay BadStore some h n k = absurd h
-unbegun_replay (WrongStore is_empty) some h n k = absurd (n h.1)
+unbegun_replay (WrongStore is_empty) some h n k = absurd (n (ap WrongStore h.0) h.1)
 unbegun_replay NotFound some h n k = absurd h

@@ -51,7 +51,7 @@ module _ (rows told : Option (List Pair)) (honest : Type 0) (leaves : List Pair 
   resumed p q alike = record {
     stands = c.stands p q alike;
     same = c.settled;
-    held = record { stored = q.stored; rows = held told c.rows_are.are };
+    held = record { stored = λ some. q.stored; rows = held told c.rows_are.are };
     began = began told c.rows_are.are same;
     tells = λ h some. c.rows_are.told h some;
     settled = settled;

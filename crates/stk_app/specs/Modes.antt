@@ -1,5 +1,5 @@
 -- How a run of each command ends.
-use Rattle.std.specs.Prelude.{◌≡◌, ◌⊎◌, ℕ, ◌≤◌, List, [], Option, Some, None, Result, Ok, Err}
+use Rattle.std.specs.Prelude.{◌≡◌, ◌⊎◌, ℕ, ◌≤◌, Bool, false, List, [], Option, Some, None, Result, Ok, Err}
 use Rattle.stk_io.specs.Outside.{Rose}
 use Rattle.stk_io.specs.Rows.{Pair}
 use Rattle.stk_keep.specs.declared.refusal.Refusal.{Refusal}
@@ -57,18 +57,18 @@ ModeEnds (Some (Gen seed count)) left left' written written' rows rows' honest' 
 ModeEnds (Some (Trial seed count)) left left' written written' rows rows' honest' leaves leaves' status =
     Leaves left left' written written' (IsTried (trial_of seed count) status) × AreUntouched rows rows' leaves leaves'
 
--- a keeper without rows that is honest to the end, and of which no call fails
-pub record FitsReplay (rows : Option (List Pair)) (honest' : Type 0) (faults faults' : ℕ) : Type 0 where
-  pub none : rows ≡ Some []
+-- a keeper that keeps nothing, or one without rows, that is honest to the end, and of which no call fails
+pub record FitsReplay (keeps : Bool) (rows : Option (List Pair)) (honest' : Type 0) (faults faults' : ℕ) : Type 0 where
+  pub none : (keeps ≡ false) ⊎ (rows ≡ Some [])
   pub honest : honest'
   pub quiet : ¬ Rose faults faults'
 
 -- A sink that tells, and an input free of faults: that of the source, or one whose blocks all follow; what `gen` writes needs none.
 -- A replay has a keeper that fits it, and so have a run that goes on and a question, which has an answer.
-abbrev pub IsUntroubledAt : Option Mode → Option (List ℕ) → Option (List ℕ) → Option (List Pair) → Type 0 → ℕ → ℕ → Type 0
-IsUntroubledAt None left written rows honest' faults faults' = ⊥
-IsUntroubledAt (Some Replay) left written rows honest' faults faults' = IsUntroubled None left written × FitsReplay rows honest' faults faults'
-IsUntroubledAt (Some Resume) left written rows honest' faults faults' = ResumesCalmly left written rows honest' faults faults'
-IsUntroubledAt (Some (Query what)) left written rows honest' faults faults' = AsksCalmly what written rows honest' faults faults'
-IsUntroubledAt (Some (Gen seed count)) left written rows honest' faults faults' = (old : List ℕ) × (written ≡ Some old)
-IsUntroubledAt (Some (Trial seed count)) left written rows honest' faults faults' = ((old : List ℕ) × (written ≡ Some old)) × ((summary : List ℕ) × (trial_of seed count ≡ Ok (Ok summary)))
+abbrev pub IsUntroubledAt : Option Mode → Option (List ℕ) → Option (List ℕ) → Bool → Option (List Pair) → Type 0 → ℕ → ℕ → Type 0
+IsUntroubledAt None left written keeps rows honest' faults faults' = ⊥
+IsUntroubledAt (Some Replay) left written keeps rows honest' faults faults' = IsUntroubled None left written × FitsReplay keeps rows honest' faults faults'
+IsUntroubledAt (Some Resume) left written keeps rows honest' faults faults' = ResumesCalmly left written rows honest' faults faults'
+IsUntroubledAt (Some (Query what)) left written keeps rows honest' faults faults' = AsksCalmly what written rows honest' faults faults'
+IsUntroubledAt (Some (Gen seed count)) left written keeps rows honest' faults faults' = (old : List ℕ) × (written ≡ Some old)
+IsUntroubledAt (Some (Trial seed count)) left written keeps rows honest' faults faults' = ((old : List ℕ) × (written ≡ Some old)) × ((summary : List ℕ) × (trial_of seed count ≡ Ok (Ok summary)))

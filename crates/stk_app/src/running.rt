@@ -1,4 +1,4 @@
-ghost use Rattle.std.specs.Prelude.{◌≡◌, ◌≤◌, ◌<◌, ◌^◌, ◌+◌, ◌⊎◌, [], ◌∷◌, List, ℕ, Some, None, length, map, string_bytes, true, IfErr, OnOk, IfOk, IfSome};
+ghost use Rattle.std.specs.Prelude.{◌≡◌, ◌≤◌, ◌<◌, ◌^◌, ◌+◌, ◌⊎◌, [], ◌∷◌, List, ℕ, Some, None, length, map, string_bytes, true, false, IfErr, OnOk, IfOk, IfSome};
 ghost use Rattle.stk_io.specs.Outside.{Rose};
 ghost use Rattle.stk_app.specs.Lines.{last_line};
 ghost use Rattle.stk_app.specs.Kept.{Began, Keeping, LeftIn, UnlessKeepFault};
@@ -78,6 +78,7 @@ fn end<K: Sink, D: Keeper>(
         progress.old.number s (last_line progress.old.line.items)
         (K.written sink.old) (K.written sink.new) result }
     ensures busy { result ≡ Status.Usage → ⊥ }
+    ensures begun { result ≡ Status.WrongStore false → ⊥ }
     ensures clean { result ≡ Status.Done → K.clean sink.new ≡ true }
     ensures read { result ≡ Status.ReadFault → ⊥ }
     ensures later { K.faults sink.old ≤ K.faults sink.new }
@@ -124,6 +125,7 @@ fn take_all<S: Source, K: Sink, D: Keeper>(
         (LeftIn b (D.rows keeper.new) (D.is_honest keeper.new) (D.may_leave keeper.new))
         (S.left source.old) (S.left source.new) (K.written sink.old) (K.written sink.new) result }
     ensures busy { result ≡ Status.Usage → ⊥ }
+    ensures begun { result ≡ Status.WrongStore false → ⊥ }
     ensures clean { result ≡ Status.Done → K.clean sink.new ≡ true }
     ensures read_cause { result ≡ Status.ReadFault
         → Rose (S.faults source.old) (S.faults source.new) }
@@ -181,6 +183,7 @@ pub(crate) fn drive<S: Source, K: Sink, D: Keeper>(
         (LeftIn b (D.rows keeper.new) (D.is_honest keeper.new) (D.may_leave keeper.new))
         (S.left source.old) (S.left source.new) (K.written sink.old) (K.written sink.new) result }
     ensures busy { result ≡ Status.Usage → ⊥ }
+    ensures begun { result ≡ Status.WrongStore false → ⊥ }
     ensures clean { result ≡ Status.Done → K.clean sink.new ≡ true }
     ensures read_cause { result ≡ Status.ReadFault
         → Rose (S.faults source.old) (S.faults source.new) }
@@ -218,6 +221,8 @@ fn replay<S: Source, K: Sink, D: Keeper>(
         (K.written sink.old) (K.written sink.new) (D.rows keeper.old) (D.rows keeper.new)
         (D.is_honest keeper.new) (D.may_leave keeper.old) (D.may_leave keeper.new) result }
     ensures busy { result ≡ Status.Usage → ⊥ }
+    // A keeper that keeps nothing is never refused.
+    ensures kept { result ≡ Status.WrongStore false → D.keeps keeper.old ≡ true }
     ensures clean { result ≡ Status.Done → K.clean sink.new ≡ true }
     ensures read_cause { result ≡ Status.ReadFault
         → Rose (S.faults source.old) (S.faults source.new) }
@@ -251,6 +256,9 @@ fn carry_out<S: Source, K: Sink, D: Keeper>(
         (K.written sink.old) (K.written sink.new) (D.rows keeper.old) (D.rows keeper.new)
         (D.is_honest keeper.new) (D.may_leave keeper.old) (D.may_leave keeper.new) result }
     ensures busy { result ≡ Status.Usage → ⊥ }
+    // Nor does a replay refuse a keeper that keeps nothing.
+    ensures kept { mode ≡ Mode.Replay → result ≡ Status.WrongStore false
+        → D.keeps keeper.old ≡ true }
     ensures clean { result ≡ Status.Done → K.clean sink.new ≡ true }
     ensures read_cause { result ≡ Status.ReadFault
         → Rose (S.faults source.old) (S.faults source.new) }
@@ -276,10 +284,11 @@ fn carry_out<S: Source, K: Sink, D: Keeper>(
 ///
 /// Of `replay` the first line of the source is a genesis, each further line a block. It begins on a keeper without rows.
 /// What a line leads to is committed, and then its text is written; at the end of the input the report is written, and the
-/// sink flushed. `resume` goes on from the keeper's rows, so each of its lines is a block; its lines are numbered from 1. It
-/// writes and commits what the machine does from any sound state that has these rows. `query` writes the lines of that state's
-/// report that are of its kind and belong to its address, and commits nothing; it takes nothing from the source. `gen` writes
-/// the generated input, and `trial` the summary of it, which a chain takes block by block; neither takes anything from the
+/// sink flushed. A keeper that keeps nothing has no rows, and there a commit does nothing; all else is as over any other.
+/// `resume` goes on from the keeper's rows, so each of its lines is a block; its lines are numbered from 1. It writes and
+/// commits what the machine does from any sound state that has these rows. `query` writes the lines of that state's report
+/// that are of its kind and belong to its address, and commits nothing; it takes nothing from the source. `gen` writes the
+/// generated input, and `trial` the summary of it, which a chain takes block by block; neither takes anything from the
 /// source, or calls the keeper.
 ///
 /// What each status leaves: at `Done` the whole output, flushed; at `Usage` nothing was read or
@@ -331,7 +340,7 @@ pub fn run<S: Source, K: Sink, D: Keeper>(
     ensures keep_quiet { UnlessKeepFault result (D.faults keeper.new ≡ D.faults keeper.old) }
     // Nothing else keeps the run from its end.
     ensures complete { IsUntroubledAt (mode_of (map string_bytes words.now)) (S.left source.old)
-        (K.written sink.old) (D.rows keeper.old) (D.is_honest keeper.new)
+        (K.written sink.old) (D.keeps keeper.old) (D.rows keeper.old) (D.is_honest keeper.new)
         (D.faults keeper.old) (D.faults keeper.new)
         → ¬ Rose (S.faults source.old) (S.faults source.new)
         → ¬ Rose (K.faults sink.old) (K.faults sink.new)

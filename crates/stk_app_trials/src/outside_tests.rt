@@ -3,7 +3,7 @@ ghost use Rattle.std.specs.Prelude.{◌≤◌};
 use crate::samples::*;
 use std::process::Abort;
 use stk_app::{Status, run};
-use stk_io::{StdSink, StdSource, SureKeeper, SureSink, SureSource};
+use stk_io::{NoKeeper, StdSink, StdSource, SureKeeper, SureSink, SureSource};
 
 /// How a replay of the worked input ends that comes in pieces of so many bytes, and what it writes.
 fn ends(rt: &(impl Abort + AllocGlobal), piece: usize) -> (Status, Vec<u8>)
@@ -51,4 +51,16 @@ fn a_run_goes_over_readers_and_writers_of_std(rt: HostRuntime) {
     let words = words(&rt, "replay");
     let status = run(rt.alloc(), &words, &mut source, &mut sink, &mut keeper);
     assert_eq!(rt; status, Status::Done);
+}
+
+#[test]
+fn a_replay_that_keeps_nothing_writes_the_same(rt: HostRuntime) {
+    let mut source = SureSource::new(worked_input(&rt), 4096);
+    let mut sink = SureSink::new(rt.alloc());
+    let mut keeper = NoKeeper::new(rt.alloc());
+    let words = words(&rt, "replay");
+    let status = run(rt.alloc(), &words, &mut source, &mut sink, &mut keeper);
+    assert_eq!(rt; status, Status::Done);
+    let (_, kept) = ends(&rt, 4096);
+    assert!(rt; sink.bytes() == kept.as_slice());
 }

@@ -1,4 +1,4 @@
-ghost use Rattle.std.specs.Prelude.{◌≡◌, ◌⊎◌, ℕ, ◌≤◌, List, map, Option, Some, IsErrOf, IfOk, IfSome, IsSome, OnOk, OnErr};
+ghost use Rattle.std.specs.Prelude.{◌≡◌, ◌⊎◌, ℕ, ◌≤◌, Bool, false, List, [], map, Option, Some, None, IsErrOf, IfOk, IfSome, IsSome, OnOk, OnErr};
 ghost use Rattle.stk_io.specs.declared.keeper.Change.{Change};
 ghost use Rattle.stk_io.specs.Keeping.{UnlessLost};
 ghost use Rattle.stk_io.specs.Outside.{Rose};
@@ -71,7 +71,13 @@ impl<T: Drop> From<AllocFailed<T>> for KeepFault {
 /// Rows that were told may be told no more after any call, as where a disk turns out not to have kept
 /// what was written; so what is said of the rows is said where they are told after the call. What is
 /// said of a stop holds while the keeper is honest: so far its disk has returned what was written.
+///
+/// A keeper may also keep nothing, where nobody is to read the rows. It has nothing to load, and tells
+/// no rows.
 pub trait Keeper {
+    /// Whether what is committed is kept.
+    ghost keeps: { Self → Bool };
+
     /// The rows, where told.
     ghost rows: { Self → Option (List Pair) };
 
@@ -87,6 +93,10 @@ pub trait Keeper {
     /// Whether it takes these changes.
     ghost takes: { Self → List Change → Type 0 };
 
+    /// Whether what is committed is kept. Where it is not, a caller need not find out what to commit.
+    fn keeps_rows(&self) -> bool
+        ensures { result ≡ keeps self.now };
+
     /// All rows, in ascending order of the keys. Whatever it answers, the rows stay. After Ok they are
     /// still told.
     ///
@@ -96,6 +106,8 @@ pub trait Keeper {
         ensures rows { IfOk result (λ list.
             IfSome (rows self.new) (λ pairs. map pair_of list.items ≡ pairs)) }
         ensures ascending { IfSome (rows self.new) Rises }
+        // A keeper that keeps nothing has nothing to load.
+        ensures unkept { keeps self.old ≡ false → IfOk result (λ list. list.items ≡ []) }
         ensures same { Makes (λ pairs. pairs) (rows self.old) (rows self.new) }
         ensures told { OnOk result (is_honest self.new
             → IsSome (rows self.old) → IsSome (rows self.new)) }
@@ -138,4 +150,7 @@ pub trait Keeper {
     /// Every keeper takes the changes that are ordinary.
     ghost takes_ordinary: { (keeper : Self) (changes : List Change)
         → IsOrdinary changes → takes keeper changes };
+
+    /// A keeper that keeps nothing tells no rows.
+    ghost untold: { (keeper : Self) → keeps keeper ≡ false → rows keeper ≡ None };
 }

@@ -1,4 +1,4 @@
-ghost use Rattle.std.specs.Prelude.{◌≡◌, ◌↔◌, Some, List, map, IfOk, IfErr, OnOk, OnErr, IsErrOf};
+ghost use Rattle.std.specs.Prelude.{◌≡◌, ◌↔◌, Some, List, [], map, IfOk, IfErr, OnOk, OnErr, IsErrOf, IsOk, IsOkAnd};
 ghost use Rattle.stk_io.specs.Memory.{IsDue, after_failure, after_success};
 ghost use Rattle.stk_io.specs.Rows.{Pair, pair_of, changed, HasDistinctKeys, Rises};
 
@@ -45,8 +45,11 @@ impl SureKeeper {
 }
 
 impl Keeper for SureKeeper {
-    ghost use Rattle.std.specs.Prelude.{◌≡◌, Some};
+    ghost use Rattle.std.specs.Prelude.{◌≡◌, Some, true};
+    ghost use Rattle.std.proofs.Common.{true≢false};
     ghost use Rattle.stk_io.specs.Rows.{HasDistinctKeys};
+
+    ghost keeps = { λ _. true };
 
     ghost rows = { λ k. Some k };
 
@@ -57,6 +60,10 @@ impl Keeper for SureKeeper {
     ghost faults = { λ _. 0 };
 
     ghost takes = { λ _ changes. HasDistinctKeys changes };
+
+    fn keeps_rows(&self) -> bool {
+        true
+    }
 
     /// Copies of all rows. The only error is `NoMemory`.
     fn load(&mut self) -> Result<Vec<Row>, KeepFault>
@@ -81,6 +88,8 @@ impl Keeper for SureKeeper {
     }
 
     ghost takes_ordinary = { λ _ changes ordinary. ordinary.distinct };
+
+    ghost untold = { λ _ unkept. absurd (true≢false unkept) };
 }
 
 /// Rows in memory, of which the listed calls fail.
@@ -124,8 +133,11 @@ impl MemKeeper {
 }
 
 impl Keeper for MemKeeper {
-    ghost use Rattle.std.specs.Prelude.{◌≡◌, Some};
+    ghost use Rattle.std.specs.Prelude.{◌≡◌, Some, true};
+    ghost use Rattle.std.proofs.Common.{true≢false};
     ghost use Rattle.stk_io.specs.Rows.{HasDistinctKeys};
+
+    ghost keeps = { λ _. true };
 
     ghost rows = { λ k. Some k.rows };
 
@@ -136,6 +148,10 @@ impl Keeper for MemKeeper {
     ghost faults = { λ k. k.calls.faults };
 
     ghost takes = { λ _ changes. HasDistinctKeys changes };
+
+    fn keeps_rows(&self) -> bool {
+        true
+    }
 
     /// Copies of all rows.
     ///
@@ -176,4 +192,61 @@ impl Keeper for MemKeeper {
     }
 
     ghost takes_ordinary = { λ _ changes ordinary. ordinary.distinct };
+
+    ghost untold = { λ _ unkept. absurd (true≢false unkept) };
+}
+
+/// A keeper that keeps nothing: a commit leaves no rows, and there are none to load. No call fails.
+///
+/// It is for a run whose rows nobody reads. It tells no rows, so what is said of a keeper's rows says
+/// nothing of it.
+#[derive(Debug, Drop)]
+pub struct NoKeeper {
+    alloc: Global,
+}
+
+impl NoKeeper {
+    /// A keeper that keeps nothing.
+    pub fn new(alloc: Global) -> NoKeeper {
+        NoKeeper { alloc }
+    }
+}
+
+impl Keeper for NoKeeper {
+    ghost use Rattle.std.specs.Prelude.{◌≡◌, refl, None, [], false};
+    ghost use Rattle.stk_io.specs.Rows.{HasDistinctKeys};
+
+    ghost keeps = { λ _. false };
+
+    ghost rows = { λ _. None };
+
+    ghost is_honest = { λ _. Unit {0} };
+
+    ghost may_leave = { λ _ left. left ≡ [] };
+
+    ghost faults = { λ _. 0 };
+
+    ghost takes = { λ _ changes. HasDistinctKeys changes };
+
+    fn keeps_rows(&self) -> bool {
+        false
+    }
+
+    /// No rows.
+    fn load(&mut self) -> Result<Vec<Row>, KeepFault>
+        ensures { IsOkAnd result (λ list. list.items ≡ []) }
+    {
+        Ok(Vec::new(self.alloc))
+    }
+
+    /// Keeps none of the changes.
+    fn commit(&mut self, _changes: &[Change]) -> Result<(), KeepFault>
+        ensures { IsOk result }
+    {
+        Ok(())
+    }
+
+    ghost takes_ordinary = { λ _ changes ordinary. ordinary.distinct };
+
+    ghost untold = { λ _ unkept. refl };
 }

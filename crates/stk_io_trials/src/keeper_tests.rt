@@ -3,7 +3,7 @@ ghost use Rattle.stk_io.specs.Rows.{HasDistinctKeys};
 
 use std::alloc::{AllocError, Global};
 use std::process::Abort;
-use stk_io::{Change, KeepFault, Keeper, MemKeeper, Row, SureKeeper};
+use stk_io::{Change, KeepFault, Keeper, MemKeeper, NoKeeper, Row, SureKeeper};
 
 fn row(alloc: Global, key: u8, value: &[u8]) -> Result<Row, AllocError> {
     Ok(Row {
@@ -49,6 +49,7 @@ fn are(rows: &[Row], wanted: &[(u8, u8)]) -> bool {
 #[test]
 fn a_sure_keeper_keeps_its_rows_in_order(rt: HostRuntime) {
     let mut keeper = SureKeeper::new(rt.alloc(), Vec::new(rt.alloc()));
+    assert!(rt; keeper.keeps_rows());
     assert_eq!(rt; keeper.commit(&put(&rt, 5, &[50])), Ok(()));
     assert_eq!(rt; keeper.commit(&put(&rt, 3, &[30])), Ok(()));
     assert_eq!(rt; keeper.commit(&put(&rt, 9, &[90])), Ok(()));
@@ -63,6 +64,7 @@ fn a_sure_keeper_keeps_its_rows_in_order(rt: HostRuntime) {
 fn a_keeper_in_memory_fails_at_the_listed_calls(rt: HostRuntime) {
     let failing = Vec::from_slice(rt.alloc(), &[1, 3]).expect(&rt, "memory");
     let mut keeper = MemKeeper::new(rt.alloc(), Vec::new(rt.alloc()), failing);
+    assert!(rt; keeper.keeps_rows());
     assert_eq!(rt; keeper.commit(&put(&rt, 3, &[30])), Ok(()));
     assert_eq!(rt; keeper.commit(&put(&rt, 4, &[40])), Err(KeepFault::Failed));
     assert!(rt; are(keeper.rows(), &[(3, 30)]));
@@ -70,4 +72,17 @@ fn a_keeper_in_memory_fails_at_the_listed_calls(rt: HostRuntime) {
     assert!(rt; matches!(keeper.load(), Err(KeepFault::Failed)));
     let rows = keeper.load().expect(&rt, "the rows");
     assert!(rt; are(&rows, &[(3, 30)]));
+}
+
+#[test]
+fn a_keeper_that_keeps_nothing_has_nothing_to_load(rt: HostRuntime) {
+    let mut keeper = NoKeeper::new(rt.alloc());
+    assert!(rt; !keeper.keeps_rows());
+    let rows = keeper.load().expect(&rt, "no rows");
+    assert!(rt; rows.is_empty());
+    assert_eq!(rt; keeper.commit(&put(&rt, 3, &[30])), Ok(()));
+    assert_eq!(rt; keeper.commit(&removal(&rt, 3)), Ok(()));
+    assert_eq!(rt; keeper.commit(&put(&rt, 3, &[30])), Ok(()));
+    let rows = keeper.load().expect(&rt, "no rows");
+    assert!(rt; rows.is_empty());
 }

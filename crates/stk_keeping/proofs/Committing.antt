@@ -7,16 +7,17 @@ use Rattle.stk_io.specs.declared.keeper.Change.{Change}
 use Rattle.stk_io.specs.declared.keeper.Row.{Row}
 use Rattle.stk_io.specs.declared.keeper.KeepFault.{KeepFault}
 use Rattle.stk_io.specs.declared.keeper.KeepFault.TheVariants as fault
-use Rattle.stk_io.specs.Rows.{ChangeRows, ChangesRows, LeavesRows, Makes, Pair, changed, pair_of}
+use Rattle.stk_io.specs.Rows.{ChangeRows, ChangesRows, HasDistinctKeys, LeavesRows, Makes, Pair, changed, pair_of}
 use Rattle.stk_keep.specs.declared.items.Item.{Item}
 use Rattle.stk_keep.specs.Items.{AreChanges, IsOnce, key_of}
 use Rattle.stk_machine.specs.Items.{items_of}
 use Rattle.stk_rowform.specs.Spelled.{HasRow, IsWritable}
+use Rattle.stk_rowform.proofs.KeyLemmas.{key_in_range}
 use Rattle.stk_rows.proofs.KindLemmas.{once-told}
 use Rattle.stk_rows.proofs.MemberLemmas.{Member, Once, contained, member, once}
-use Rattle.stk_stored.specs.Stored.{AreMade, AreStored, CanBeWritten, HasRowIfPut, change_seen, item_change, item_put, rows_in}
+use Rattle.stk_stored.specs.Stored.{AreMade, AreStored, CanBeWritten, HasKeyInRange, HasRowIfPut, HaveOwnKeys, change_seen, item_change, item_put, rows_in}
 use Rattle.stk_rules.specs.Chain.{State}
-use Rattle.stk_keeping.specs.Held.{Commits, IsCommit}
+use Rattle.stk_keeping.specs.Held.{Commits, Holds, IsCommit}
 use Rattle.stk_keeping.proofs.Ranges.{has_row}
 
 -- ---- items that are stored
@@ -33,11 +34,11 @@ own_key (x ∷ xs) h i j (inl p) (inr q) e = absurd (h.0 (subst (Member (map key
 own_key (x ∷ xs) h i j (inr p) (inl q) e = absurd (h.0 (subst (Member (map key_of xs)) (e ∙ ap key_of (sym q)) (key_there xs i p)))
 own_key (x ∷ xs) h i j (inr p) (inr q) e = own_key xs h.1 i j p q e
 
+own_keys : (items : List Item) → IsOnce (map key_of items) → HaveOwnKeys items
+own_keys items keys = λ i j p q e. own_key items (once-told (map key_of items) keys) i j (member items i p) (member items j q) e
+
 pub stored : (items : List Item) → IsOnce (map key_of items) → ((i : Item) → Contains items i → HasRow i) → AreStored items
-stored items keys rows = record {
-  have_rows = rows;
-  once = λ i j p q e. own_key items (once-told (map key_of items) keys) i j (member items i p) (member items j q) e;
-}
+stored items keys rows = record { have_rows = rows; once = own_keys items keys }
 
 pub none_stored : AreStored []
 none_stored = record { have_rows = λ i c. absurd (member [] i c); once = λ i j p q e. absurd (member [] i p) }
@@ -92,8 +93,12 @@ all_new items keys = record {
     no_removal : false ≡ true → ⊥
     no_removal e = cc
 
-pub made_first : (items : List Item) (list : List Change) → IsOnce (map key_of items) → map change_seen list ≡ map item_put items → AreMade [] items list
-made_first items list keys seen = record { changes = map put_of items; from_items = all_new items keys; same = seen ∙ sym (puts_seen items) }
+puts_ranged : (items : List Item) → All HasRow items → All HasKeyInRange (map put_of items)
+puts_ranged items rows = all_by HasKeyInRange (map put_of items) (λ c there.
+    key_in_range c.0 (All-contains HasRow items c.0 rows (contained items c.0 (there_put items c (member (map put_of items) c there)).0)))
+
+pub made_first : (items : List Item) (list : List Change) → IsOnce (map key_of items) → map change_seen list ≡ map item_put items → All HasRow items → AreMade [] items list
+made_first items list keys seen rows = record { changes = map put_of items; from_items = all_new items keys; in_range = puts_ranged items rows; same = seen ∙ sym (puts_seen items) }
 
 pub stored_first : (items : List Item) → IsOnce (map key_of items) → All HasRow items → AreStored items
 stored_first items keys rows = stored items keys (λ i c. All-contains HasRow items i rows c)
@@ -129,11 +134,16 @@ not_committed items rows honest leaves = record {
   stop = λ h t left l. inl l;
 }
 
-made_rows : (old new : List Pair) (list : List Change) (rows rows' : Option (List Pair)) → IfSome rows (λ r. r ≡ old) → changed list old ≡ new → Makes (changed list) rows rows' → Makes (λ before. new) rows rows'
+-- rows that are told after a call were told before it
+told_before : (f : List Pair → List Pair) (rows rows' : Option (List Pair)) → Makes f rows rows' → IsSome rows' → IsSome rows
+told_before f rows None m some = absurd (true≢false (sym some))
+told_before f rows (Some after) m some = subst (λ (o : Option (List Pair)). IsSome o) (sym m.1) refl
+
+made_rows : (old new : List Pair) (list : List Change) (rows rows' : Option (List Pair)) → IfSome rows (λ r. r ≡ old) → (IsSome rows → changed list old ≡ new) → Makes (changed list) rows rows' → Makes (λ before. new) rows rows'
 made_rows old new list rows None h reached m = tt
 made_rows old new list rows (Some after) h reached m =
     let held : m.0 ≡ old = subst (λ (o : Option (List Pair)). IfSome o (λ r. r ≡ old)) m.1 h in
-    (m.0, m.1, m.2 ∙ ap (changed list) held ∙ reached)
+    (m.0, m.1, m.2 ∙ ap (changed list) held ∙ reached (told_before (changed list) rows (Some after) m refl))
 
 stop_rows : (old new : List Pair) (list : List Change) (rows : Option (List Pair)) (leaves leaves' : List Pair → Type 0) → IfSome rows (λ r. r ≡ old) → changed list old ≡ new
     → IfSome rows (λ pairs. (left : List Pair) → leaves' left → leaves left ⊎ (left ≡ changed list pairs)) → IsSome rows → (left : List Pair) → leaves' left → leaves left ⊎ (left ≡ new)
@@ -145,36 +155,36 @@ stop_rows old new list (Some pairs) leaves leaves' h reached stop some left l = 
     by (inr is) = inr (is ∙ ap (changed list) h ∙ reached)
 
 -- a list of changes that is taken
-pub changing : (old : List Pair) (list : List Change) (rows : Option (List Pair)) → IfSome rows (λ r. r ≡ old) → AllByRecursion (ChangesRows old) list → ChangeRows list rows
+pub changing : (old : List Pair) (list : List Change) (rows : Option (List Pair)) → IfSome rows (λ r. r ≡ old) → (IsSome rows → AllByRecursion (ChangesRows old) list) → ChangeRows list rows
 changing old list rows h all told is =
     let held : told ≡ old = subst (λ (o : Option (List Pair)). IfSome o (λ r. r ≡ old)) is h in
-    subst (λ (r : List Pair). AllByRecursion (ChangesRows r) list) (sym held) all
+    subst (λ (r : List Pair). AllByRecursion (ChangesRows r) list) (sym held) (all (subst (λ (o : Option (List Pair)). IsSome o) (sym is) refl))
 
 module _ (result : Result ⊤ KeepFault) (old new : List Item) (list : List Change) (rows rows' : Option (List Pair)) (honest honest' : Type 0) (leaves leaves' : List Pair → Type 0) where
-  pub committed : IfSome rows (λ r. r ≡ rows_in old) → changed list (rows_in old) ≡ rows_in new → AreStored new
+  pub committed : Holds old rows → (AreStored old → changed list (rows_in old) ≡ rows_in new) → (AreStored old → AreStored new)
       → OnOk result (Makes (changed list) rows rows') → OnOk result (honest' → IsSome rows → IsSome rows') → OnErr result (Makes (λ pairs. pairs) rows rows') → LeavesRows leaves' rows' → (honest' → honest)
       → (honest' → IfSome rows (λ pairs. (left : List Pair) → leaves' left → leaves left ⊎ (left ≡ changed list pairs)))
       → Commits result new rows rows' honest honest' leaves leaves'
   committed held reached s ok told err settled back stop = record {
-    stored = stored_ok result;
+    stored = stored_ok result ok;
     ok = made result ok;
     told = told;
     err = err;
     settled = λ before. settled;
     back = back;
-    stop = λ h some left l. with_stored left (stop_rows (rows_in old) (rows_in new) list rows leaves leaves' held reached (stop h) some left l);
+    stop = λ h some left l. with_stored (held.stored some) left (stop_rows (rows_in old) (rows_in new) list rows leaves leaves' held.rows (reached (held.stored some)) (stop h) some left l);
   }
     where
-      with_stored : (left : List Pair) → leaves left ⊎ (left ≡ rows_in new) → leaves left ⊎ ((left ≡ rows_in new) × AreStored new)
-      with_stored left (inl was) = inl was
-      with_stored left (inr is) = inr (is, s)
+      with_stored : AreStored old → (left : List Pair) → leaves left ⊎ (left ≡ rows_in new) → leaves left ⊎ ((left ≡ rows_in new) × AreStored new)
+      with_stored o left (inl was) = inl was
+      with_stored o left (inr is) = inr (is, s o)
 
-      stored_ok : (r : Result ⊤ KeepFault) → OnOk r (AreStored new)
-      stored_ok (Ok done) = s
-      stored_ok (Err why) = tt
+      stored_ok : (r : Result ⊤ KeepFault) → OnOk r (Makes (changed list) rows rows') → OnOk r (IsSome rows' → AreStored new)
+      stored_ok (Ok done) m = λ some. s (held.stored (told_before (changed list) rows rows' m some))
+      stored_ok (Err why) m = tt
 
       made : (r : Result ⊤ KeepFault) → OnOk r (Makes (changed list) rows rows') → OnOk r (Makes (λ before. rows_in new) rows rows')
-      made (Ok done) m = made_rows (rows_in old) (rows_in new) list rows rows' held reached m
+      made (Ok done) m = made_rows (rows_in old) (rows_in new) list rows rows' held.rows (λ some. reached (held.stored some)) m
       made (Err why) m = tt
 
 -- ---- the changes of a chain
@@ -182,21 +192,28 @@ module _ (result : Result ⊤ KeepFault) (old new : List Item) (list : List Chan
 pub all_writable : {all items : List Item} → ((i : Item) → Contains all i → IsWritable i) → items ≡ all → All IsWritable items
 all_writable {all} {items} h is = all_by IsWritable items (λ i c. h i (subst (λ (l : List Item). Contains l i) is c))
 
-pub first_commit : (q : State) (items : List Item) (list : List Change) → IsOnce (map key_of (items_of q)) → items ≡ items_of q → map change_seen list ≡ map item_put items → All HasRow items → IsCommit [] (items_of q) list
-first_commit q items list keys is seen rows = record {
-  made = made_first (items_of q) list keys (seen ∙ ap (map item_put) is);
-  stored = stored_first (items_of q) keys (subst (All HasRow) is rows);
-}
+-- no key is changed twice, by the law of commits
+abbrev pub KeysDiffer : Type 0
+KeysDiffer = (old new : List Item) (list : List Change) → HaveOwnKeys new → AreMade old new list → HasDistinctKeys list
+
+pub first_commit : KeysDiffer → (q : State) (items : List Item) (list : List Change) → IsOnce (map key_of (items_of q)) → items ≡ items_of q → map change_seen list ≡ map item_put items → All HasRow items → IsCommit [] (items_of q) list
+first_commit differ q items list keys is seen rows =
+    let have = subst (All HasRow) is rows in
+    let made = made_first (items_of q) list keys (seen ∙ ap (map item_put) is) have in
+    record { made = made; distinct = differ [] (items_of q) list (own_keys (items_of q) keys) made; stored = λ none. stored_first (items_of q) keys have }
 
 pub all_can_be_written : {old new : List Item} {changes told : List (Item × Bool)} → AreChanges old new changes → ((i : Item) → Contains new i → IsWritable i) → told ≡ changes → All CanBeWritten told
 all_can_be_written {old} {new} {changes} {told} a writable is = all_by CanBeWritten told (λ c there. can_be_written old new changes a writable c (subst (λ (l : List (Item × Bool)). Contains l c) is there))
 
-pub next_commit : (p q : State) (changes told : List (Item × Bool)) (list : List Change) → AreStored (items_of p) → IsOnce (map key_of (items_of q)) → ((i : Item) → Contains (items_of q) i → IsWritable i) → AreChanges (items_of p) (items_of q) changes → told ≡ changes
-    → map change_seen list ≡ map item_change told → All HasRowIfPut told → IsCommit (items_of p) (items_of q) list
-next_commit p q changes told list s keys writable a is seen rows = record {
-  made = record { changes = changes; from_items = a; same = seen ∙ ap (map item_change) is };
-  stored = stored_next (items_of p) (items_of q) changes s a keys writable (subst (All HasRowIfPut) is rows);
-}
+pub next_commit : KeysDiffer → (p q : State) (changes told : List (Item × Bool)) (list : List Change) → IsOnce (map key_of (items_of q)) → ((i : Item) → Contains (items_of q) i → IsWritable i) → AreChanges (items_of p) (items_of q) changes → told ≡ changes
+    → map change_seen list ≡ map item_change told → All HasRowIfPut told → All HasKeyInRange told → IsCommit (items_of p) (items_of q) list
+next_commit differ p q changes told list keys writable a is seen rows ranged =
+    let made : AreMade (items_of p) (items_of q) list = record { changes = changes; from_items = a; in_range = subst (All HasKeyInRange) is ranged; same = seen ∙ ap (map item_change) is } in
+    record {
+      made = made;
+      distinct = differ (items_of p) (items_of q) list (own_keys (items_of q) keys) made;
+      stored = λ s. stored_next (items_of p) (items_of q) changes s a keys writable (subst (All HasRowIfPut) is rows);
+    }
 
 -- ---- whether there are rows
 
@@ -211,3 +228,8 @@ no_rows (r ∷ list) told is none = absurd (omega (arith, none))
 pub some_rows : (list : List Row) (told : Option (List Pair)) → IfSome told (λ pairs. map pair_of list ≡ pairs) → 0 < length list → IfSome told (λ rows. rows ≢ [])
 some_rows [] told is some = absurd (omega (arith, some))
 some_rows (r ∷ list) told is some = rows_are (r ∷ list) told is (λ rows. rows ≢ []) (λ (e : map pair_of (r ∷ list) ≡ []). cc)
+
+-- and then the keeper keeps
+pub keeps_some : (keeps : Bool) (list : List Row) → (keeps ≡ false → list ≡ []) → 0 < length list → keeps ≡ true
+keeps_some true list none some = refl
+keeps_some false list none some = absurd (omega (arith, subst (λ (l : List Row). 0 < length l) (none refl) some))

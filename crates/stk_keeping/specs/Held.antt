@@ -21,20 +21,25 @@ rows_at s = rows_in (items_at s)
 abbrev pub TakesDistinct : (List Change → Type 0) → Type 0
 TakesDistinct takes = (changes : List Change) → HasDistinctKeys changes → takes changes
 
--- A keeper holds these items: each of them has a row, and where its rows are told they are just these.
+-- A keeper holds these items: where its rows are told, each item has a row, and the rows are just
+-- these. Where it tells none, as where it keeps nothing, nothing is said: a commit that is not made
+-- encodes no item, so nobody finds out whether each has a row.
 pub record Holds (items : List Item) (told : Option (List Pair)) : Type 0 where
-  pub stored : AreStored items
+  pub stored : IsSome told → AreStored items
   pub rows : IfSome told (λ rows. rows ≡ rows_in items)
 
--- these changes lead from some items to others, of which each has a row
+-- These changes lead from some items to others, and none changes the key of another. If each of the
+-- first items has a row, so has each of the others.
 pub record IsCommit (old new : List Item) (list : List Change) : Type 0 where
   pub made : AreMade old new list
-  pub stored : AreStored new
+  pub distinct : HasDistinctKeys list
+  pub stored : AreStored old → AreStored new
 
--- What a commit leaves that is to bring a keeper to these items: after Ok just their rows, and after a fault the rows that it
--- held. A stop then leaves what it could leave before, or just their rows, and then each has one.
+-- What a commit leaves that is to bring a keeper to these items: after Ok just their rows, of which
+-- each item has one where they are told, and after a fault the rows that it held. A stop then leaves
+-- what it could leave before, or just their rows, and then each has one.
 pub record Commits (result : Result ⊤ KeepFault) (items : List Item) (rows rows' : Option (List Pair)) (honest honest' : Type 0) (leaves leaves' : List Pair → Type 0) : Type 0 where
-  pub stored : OnOk result (AreStored items)
+  pub stored : OnOk result (IsSome rows' → AreStored items)
   pub ok : OnOk result (Makes (λ before. rows_in items) rows rows')
   pub told : OnOk result (honest' → IsSome rows → IsSome rows')
   pub err : OnErr result (Makes (λ before. before) rows rows')

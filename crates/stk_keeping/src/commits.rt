@@ -5,7 +5,6 @@ ghost use Rattle.stk_io.specs.Outside.{Rose};
 ghost use Rattle.stk_io.specs.Rows.{LeavesRows, Makes, Pair};
 ghost use Rattle.stk_keep.specs.declared.items.Item.{Item};
 ghost use Rattle.stk_keeping.specs.Held.{Commits, Holds, IsCommit, TakesDistinct};
-ghost use Rattle.stk_stored.specs.Stored.{AreStored};
 ghost use Rattle.stk_machine.specs.Items.{items_of};
 ghost use Rattle.stk_modules.specs.Kept.{StandsFor};
 ghost use Rattle.stk_rules.specs.Chain.{State};
@@ -23,6 +22,8 @@ use stk_stored::{changes_of, commits_reach_new_rows, puts_of};
 pub fn has_rows<D: Keeper>(keeper: &mut D) -> Result<bool, KeepFault>
     ensures none { result ≡ Ok false → IfSome (D.rows keeper.new) (λ rows. rows ≡ []) }
     ensures some { result ≡ Ok true → IfSome (D.rows keeper.new) (λ rows. rows ≢ []) }
+    // One that keeps nothing has none.
+    ensures kept { result ≡ Ok true → D.keeps keeper.old ≡ true }
     ensures same { Makes (λ rows. rows) (D.rows keeper.old) (D.rows keeper.new) }
     ensures told { OnOk result (D.is_honest keeper.new → IsSome (D.rows keeper.old)
         → IsSome (D.rows keeper.new)) }
@@ -51,6 +52,7 @@ fn first_changes(alloc: Global, chain: &Chain) -> Result<Vec<Change>, KeepFault>
     ensures fault { IfErr result (λ fault. fault ≡ KeepFault.NoMemory) }
 {
     items_can_be_kept();
+    commits_reach_new_rows();
     let items = match chain.items(alloc) {
         Ok(items) => items,
         Err(ChainFault::NoMemory) => return Err(KeepFault::NoMemory),
@@ -66,12 +68,12 @@ fn first_changes(alloc: Global, chain: &Chain) -> Result<Vec<Change>, KeepFault>
 fn next_changes(alloc: Global, chain: &Chain) -> Result<Vec<Change>, KeepFault>
     requires settled { (p : State) × StandsFor chain.now.settled p }
     requires stands { (q : State) × StandsFor chain.now.kept q }
-    ensures made { (p q : State) → StandsFor chain.now.settled p → AreStored (items_of p)
-        → StandsFor chain.now.kept q
+    ensures made { (p q : State) → StandsFor chain.now.settled p → StandsFor chain.now.kept q
         → IfOk result (λ list. IsCommit (items_of p) (items_of q) list.items) }
     ensures fault { IfErr result (λ fault. fault ≡ KeepFault.NoMemory) }
 {
     items_can_be_kept();
+    commits_reach_new_rows();
     let changes = match chain.changes(alloc) {
         Ok(changes) => changes,
         Err(ChainFault::NoMemory) => return Err(KeepFault::NoMemory),
@@ -104,7 +106,8 @@ fn commit_made<D: Keeper>(keeper: &mut D, list: &[Change]) -> Result<(), KeepFau
     keeper.commit(list)
 }
 
-/// Puts the rows of a chain into a keeper that has none.
+/// Puts the rows of a chain into a keeper that has none. Nothing is done where the keeper keeps
+/// nothing.
 ///
 /// # Errors
 /// `Failed`, only where the count of faults rose, and `NoMemory`. The keeper has no rows then.
@@ -128,17 +131,22 @@ pub fn commit_first<D: Keeper>(
         → Rose (D.faults keeper.old) (D.faults keeper.new) }
     ensures quiet { UnlessLost result (D.faults keeper.new ≡ D.faults keeper.old) }
 {
+    if !keeper.keeps_rows() {
+        return Ok(());
+    }
     match first_changes(alloc, chain) {
         Ok(list) => commit_made(keeper, &list),
         Err(fault) => Err(fault),
     }
 }
 
-/// Makes the changes of a chain since it was settled, in a keeper that holds what was settled. After Ok the chain is settled.
+/// Makes the changes of a chain since it was settled, in a keeper that holds what was settled. After
+/// Ok the chain is settled. Where the keeper keeps nothing, no change is looked for: the chain is
+/// settled, and that is all.
 ///
 /// # Errors
-/// `Failed`, only where the count of faults rose, and `NoMemory`. The keeper holds what it held then, and what was settled of
-/// the chain stays.
+/// `Failed`, only where the count of faults rose, and `NoMemory`. The keeper holds what it held then,
+/// and what was settled of the chain stays.
 pub fn commit_next<D: Keeper>(
     alloc: Global,
     keeper: &mut D,
@@ -163,6 +171,10 @@ pub fn commit_next<D: Keeper>(
         → Rose (D.faults keeper.old) (D.faults keeper.new) }
     ensures quiet { UnlessLost result (D.faults keeper.new ≡ D.faults keeper.old) }
 {
+    if !keeper.keeps_rows() {
+        chain.settle();
+        return Ok(());
+    }
     let list = match next_changes(alloc, chain) {
         Ok(list) => list,
         Err(fault) => return Err(fault),

@@ -125,10 +125,14 @@ impl<S: Alter + Drop> SqlKeeper<S> {
 }
 
 impl<S: Alter + Drop> Keeper for SqlKeeper<S> {
+    ghost use Rattle.std.specs.Prelude.{true};
+    ghost use Rattle.std.proofs.Common.{true≢false};
     ghost use Rattle.sqlite.specs.State.{HasCleanDisk};
     ghost use Rattle.sqlite.specs.Held.{state};
     ghost use Rattle.stk_io.specs.Rows.{HasDistinctKeys};
     ghost use Rattle.stk_store.specs.Kept.{told, Leaves};
+
+    ghost keeps = { λ _. true };
 
     ghost rows = { λ k. told (state S.Store k.0) };
 
@@ -139,6 +143,10 @@ impl<S: Alter + Drop> Keeper for SqlKeeper<S> {
     ghost faults = { λ k. k.1 };
 
     ghost takes = { λ _ changes. HasDistinctKeys changes };
+
+    fn keeps_rows(&self) -> bool {
+        true
+    }
 
     fn load(&mut self) -> Result<Vec<Row>, KeepFault> {
         match read(self.alloc, &mut self.conn) {
@@ -155,4 +163,6 @@ impl<S: Alter + Drop> Keeper for SqlKeeper<S> {
     }
 
     ghost takes_ordinary = { λ _ changes ordinary. ordinary.distinct };
+
+    ghost untold = { λ _ unkept. absurd (true≢false unkept) };
 }

@@ -4,6 +4,7 @@ use Rattle.std.specs.Prelude.{IsSome, slice_get}
 use Rattle.std.specs.List.{AllByRecursion}
 use Rattle.std.specs.Ordering.{match_ordering}
 use Rattle.std.proofs.lemmas.Cmp.{tied_itself}
+use Rattle.std.proofs.lemmas.List.Elements.{All-contains}
 use Rattle.sqlite_rules.specs.Lists.{Has}
 use Rattle.sqlite_rules.proofs.ListLemmas.{all_from, all_has}
 use Rattle.stk_io.specs.declared.keeper.Change.{Change}
@@ -12,12 +13,14 @@ use Rattle.stk_io.specs.declared.keeper.Row.{Row}
 use Rattle.stk_io.specs.Rows.{ChangesRows, HasDistinctKeys, Pair, Rises, changed, key_cmp, pair_of, value_of}
 use Rattle.stk_io.specs.Rows as rows
 use Rattle.stk_keep.specs.declared.items.Item.{Item}
+use Rattle.stk_keep.specs.declared.items.Item.TheVariants as item
 use Rattle.stk_keep.specs.Items.{IsOnce, key_of}
 use Rattle.stk_rowform.specs.Rows.{key_bytes, row_of, value_bytes}
-use Rattle.stk_rowform.proofs.KeyLemmas.{keys_one_to_one}
+use Rattle.stk_rowform.specs.Spelled.{IsKeyInRange}
+use Rattle.stk_rowform.proofs.KeyLemmas.{keys_one_to_one, ranged_one_to_one}
 use Rattle.stk_rowform.proofs.WholeLemmas.{key_alone, one_to_one}
 use Rattle.stk_store.proofs.Maps.{same_members, total}
-use Rattle.stk_stored.specs.Stored.{AreMade, AreStored, change_seen, item_change, rows_in}
+use Rattle.stk_stored.specs.Stored.{AreMade, AreStored, HasKeyInRange, HaveOwnKeys, change_seen, item_change, rows_in}
 use Rattle.stk_stored.proofs.Members.{AreOnce, find_key, has_map, has_of, item_there, map_has, place_of, row_there, rows_rise, same_or_other, tied}
 use Rattle.stk_stored.proofs.Through.{IsFree, all_rise, kept_through, put_through, through_only}
 
@@ -109,6 +112,53 @@ distinct_from (d ∷ ds) (c ∷ cs) same apart =
       distinct_from ds cs others apart.1,
     )
 
+-- the key of a key alone is itself
+key_again : (i : Item) → key_of (key_of i) ≡ key_of i
+key_again (item.Head height time) = refl
+key_again (item.Parameters params) = refl
+key_again (item.Balance account denom amount) = refl
+key_again (item.Supply denom amount) = refl
+key_again (item.Validator validator) = refl
+key_again (item.Delegation operator delegator shares) = refl
+key_again (item.Unbonding delegator operator entries) = refl
+key_again (item.Redelegation delegator source target entries) = refl
+key_again (item.Signing cons info ring) = refl
+key_again (item.Purse operator purse) = refl
+key_again (item.Pool coins) = refl
+key_again (item.Withdraw delegator to) = refl
+key_again (item.CurrentPeriod operator period) = refl
+key_again (item.Historical operator period history) = refl
+key_again (item.Start operator delegator info) = refl
+key_again (item.Event operator event) = refl
+
+module _ (old new : List Item) (list : List Change) (keys : HaveOwnKeys new) (made : AreMade old new list) where
+  in_range : (c : Item × Bool) → Has made.changes c → IsKeyInRange c.0
+  in_range c h = All-contains HasKeyInRange made.changes c made.in_range (place_of made.changes c h)
+
+  -- what is gone is named by a key alone
+  gone_alone : (j : Item) → Has made.changes (j, false) → key_of j ≡ j
+  gone_alone j h = let it = (made.from_items.gone j).0 (place_of made.changes (j, false) h) in ap key_of it.1.1 ∙ key_again it.0 ∙ sym it.1.1
+
+  -- and has the key of none that stands
+  none_stands : (i j : Item) → Has made.changes (i, true) → Has made.changes (j, false) → key_of i ≡ key_of j → ⊥
+  none_stands i j h k e =
+      let it = (made.from_items.gone j).0 (place_of made.changes (j, false) k) in
+      it.1.2 i ((made.from_items.stands i).0 (place_of made.changes (i, true) h)).0 (e ∙ gone_alone j k ∙ it.1.1)
+
+  -- changes of one key are one change
+  same_change : (c d : Item × Bool) → Has made.changes c → Has made.changes d → key_bytes c.0 ≡ key_bytes d.0 → c ≡ d
+  same_change c d h k e = go c.0 c.1 d.0 d.1 h k (ranged_one_to_one c.0 d.0 (in_range c h) (in_range d k) e)
+    where
+      go : (i : Item) (a : Bool) (j : Item) (b : Bool) → Has made.changes (i, a) → Has made.changes (j, b) → key_of i ≡ key_of j → ◌≡◌ {A = Item × Bool} (i, a) (j, b)
+      go i true j true h k e =
+          ap (λ (x : Item). (x, true)) (keys i j ((made.from_items.stands i).0 (place_of made.changes (i, true) h)).0 ((made.from_items.stands j).0 (place_of made.changes (j, true) k)).0 e)
+      go i true j false h k e = absurd (none_stands i j h k e)
+      go i false j true h k e = absurd (none_stands j i k h (sym e))
+      go i false j false h k e = ap (λ (x : Item). (x, false)) (sym (gone_alone i h) ∙ e ∙ gone_alone j k)
+
+  pub are_distinct : HasDistinctKeys list
+  are_distinct = distinct_from list made.changes made.same (apart_from made.changes made.from_items.once same_change)
+
 -- ---- from old items to new ones
 
 module _ (old new : List Item) (list : List Change) (o : AreStored old) (n : AreStored new) (made : AreMade old new list) where
@@ -146,23 +196,8 @@ module _ (old new : List Item) (list : List Change) (o : AreStored old) (n : Are
   gone_change : (was : Item) → Has old was → ((now : Item) → Has new now → key_bytes now ≡ key_bytes was → ⊥) → Has made.changes (key_of was, false)
   gone_change was h none = has_of made.changes (key_of was, false) ((made.from_items.gone (key_of was)).1 (was, (place_of old was h, refl, λ now t e. none now (has_of new now t) (sym (key_alone now) ∙ ap key_bytes e ∙ key_alone was))))
 
-  -- changes of one key are one change
-  same_change : (c d : Item × Bool) → Has made.changes c → Has made.changes d → key_bytes c.0 ≡ key_bytes d.0 → c ≡ d
-  same_change c d h k e = go c.0 c.1 d.0 d.1 h k e
-    where
-      go : (i : Item) (a : Bool) (j : Item) (b : Bool) → Has made.changes (i, a) → Has made.changes (j, b) → key_bytes i ≡ key_bytes j → ◌≡◌ {A = Item × Bool} (i, a) (j, b)
-      go i true j true h k e = ap (λ (x : Item). (x, true)) (new_once i j (stands i h).0 (stands j k).0 e)
-      go i true j false h k e = let (was, there, key, none) = gone j k in absurd (none i (stands i h).0 (e ∙ sym key))
-      go i false j true h k e = let (was, there, key, none) = gone i h in absurd (none j (stands j k).0 (sym e ∙ sym key))
-      go i false j false h k e =
-          let one = (made.from_items.gone i).0 (place_of made.changes (i, false) h) in
-          let two = (made.from_items.gone j).0 (place_of made.changes (j, false) k) in
-          let keys : key_bytes one.0 ≡ key_bytes two.0 = sym (key_alone one.0) ∙ ap key_bytes (sym one.1.1) ∙ e ∙ ap key_bytes two.1.1 ∙ key_alone two.0 in
-          let was = old_once one.0 two.0 (has_of old one.0 one.1.0) (has_of old two.0 two.1.0) keys in
-          ap (λ (x : Item). (x, false)) (one.1.1 ∙ ap key_of was ∙ sym two.1.1)
-
-  pub are_distinct : HasDistinctKeys list
-  are_distinct = distinct_from list made.changes made.same (apart_from made.changes made.from_items.once same_change)
+  distinct : HasDistinctKeys list
+  distinct = are_distinct old new list n.once made
 
   -- no change is of the key of an item that stays
   stays_free : (m : Item) → Has new m → Has old m → IsFree list (key_bytes m)
@@ -180,7 +215,7 @@ module _ (old new : List Item) (list : List Change) (o : AreStored old) (n : Are
   put_row m in_new other =
       let (d, there, is) = from_item (m, true) (new_change m in_new other) in
       let (r, same, row) = made_put d m is in
-      subst (λ (p : Pair). Has (changed list (rows_in old)) p) row (put_through list (rows_in old) r are_distinct (subst (λ (x : Change). Has list x) (sym same) there))
+      subst (λ (p : Pair). Has (changed list (rows_in old)) p) row (put_through list (rows_in old) r distinct (subst (λ (x : Change). Has list x) (sym same) there))
 
   to_new : (p : Pair) → Has (changed list (rows_in old)) p → Has (rows_in new) p
   to_new p h = elim (through_only list (rows_in old) p (rows_rise old) h) [

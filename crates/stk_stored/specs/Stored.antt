@@ -1,12 +1,12 @@
 -- Items as the rows of a keeper, and changes of items as changes of rows.
-use Rattle.std.specs.Prelude.{◌≡◌, ℕ, Bool, true, if◌then◌else◌, List, [], ◌∷◌, map, Contains, Option, Some, None}
+use Rattle.std.specs.Prelude.{◌≡◌, ℕ, Bool, true, if◌then◌else◌, List, [], ◌∷◌, map, All, Contains, Option, Some, None}
 use Rattle.stk_io.specs.declared.keeper.Change.{Change}
 use Rattle.stk_io.specs.declared.keeper.Change.TheVariants as change
 use Rattle.stk_io.specs.Rows.{Pair, put}
 use Rattle.stk_keep.specs.declared.items.Item.{Item}
 use Rattle.stk_keep.specs.Items.{AreChanges, key_of}
 use Rattle.stk_rowform.specs.Rows.{key_bytes, row_of, value_bytes}
-use Rattle.stk_rowform.specs.Spelled.{HasRow, IsWritable}
+use Rattle.stk_rowform.specs.Spelled.{HasRow, IsKeyInRange, IsWritable}
 
 -- the rows of items, in whatever order these stand
 abbrev pub rows_in : List Item → List Pair
@@ -34,13 +34,22 @@ CanBeWritten c = c.1 ≡ true → IsWritable c.0
 abbrev pub HasRowIfPut : Item × Bool → Type 0
 HasRowIfPut c = c.1 ≡ true → HasRow c.0
 
+-- each value of the key of a changed item is in the range of its type
+abbrev pub HasKeyInRange : Item × Bool → Type 0
+HasKeyInRange c = IsKeyInRange c.0
+
+-- none has the key of another
+abbrev pub HaveOwnKeys : List Item → Type 0
+HaveOwnKeys items = (i j : Item) → Contains items i → Contains items j → key_of i ≡ key_of j → i ≡ j
+
 -- Items of which each has a row, and none the key of another.
 pub record AreStored (items : List Item) : Type 0 where
   pub have_rows : (i : Item) → Contains items i → HasRow i
-  pub once : (i j : Item) → Contains items i → Contains items j → key_of i ≡ key_of j → i ≡ j
+  pub once : HaveOwnKeys items
 
--- changes of rows that are those from some items to others
+-- Changes of rows that are those from some items to others, of which each key was encoded.
 pub record AreMade (old new : List Item) (list : List Change) : Type 0 where
   pub changes : List (Item × Bool)
   pub from_items : AreChanges old new changes
+  pub in_range : All HasKeyInRange changes
   pub same : map change_seen list ≡ map item_change changes

@@ -5,7 +5,7 @@ ghost use Rattle.stk_io.specs.Rows.{pair_of};
 ghost use Rattle.stk_keep.specs.declared.items.Item.{Item};
 ghost use Rattle.stk_rowform.specs.Rows.{row_of};
 ghost use Rattle.stk_rowform.specs.Spelled.{HasRow, IsWritable};
-ghost use Rattle.stk_stored.specs.Stored.{CanBeWritten, HasRowIfPut, change_seen, item_change, item_put};
+ghost use Rattle.stk_stored.specs.Stored.{CanBeWritten, HasKeyInRange, HasRowIfPut, change_seen, item_change, item_put};
 
 use std::alloc::Global;
 use stk_io::{Change, Row};
@@ -32,10 +32,12 @@ pub fn items_of(alloc: Global, rows: &[Row]) -> Result<Vec<Item>, RowFault>
 }
 
 /// The change of a row for that of an item, which stands, or is gone.
+#[tactic(auto, using(stk_rowform::proofs::KeyLemmas::key_in_range))]
 fn change_of(alloc: Global, change: &(Item, bool)) -> Result<Change, RowFault>
     requires { CanBeWritten change.now }
     ensures change { IfOk result (λ made. change_seen made ≡ item_change change.now) }
     ensures has { IfOk result (λ _. HasRowIfPut change.now) }
+    ensures range { IfOk result (λ _. HasKeyInRange change.now) }
     ensures fault { IfErr result (λ fault. fault ≡ RowFault.NoMemory) }
 {
     if change.1 {
@@ -55,6 +57,8 @@ pub fn changes_of(alloc: Global, changes: &[(Item, bool)]) -> Result<Vec<Change>
         (λ made. map change_seen made.items ≡ map item_change changes.now) }
     // Each item that stands has a row.
     ensures have_rows { IfOk result (λ _. All HasRowIfPut changes.now) }
+    // Each value of a key is in the range of its type.
+    ensures in_range { IfOk result (λ _. All HasKeyInRange changes.now) }
     ensures fault { IfErr result (λ fault. fault ≡ RowFault.NoMemory) }
 {
     let mut made = Vec::new(alloc);

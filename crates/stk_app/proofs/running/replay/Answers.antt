@@ -31,3 +31,8 @@ pub returns-in-Err-NoMemory-clause-ends : goal.returns-in-Err-NoMemory-clause-en
 returns-in-Err-NoMemory-clause-ends g c =
     let e = c.has_rows.ensures in
     inr (tt, nothing_done _ _, rows_left _ _ _ _ _ e.same e.stop)
+
+pub returns-in-Ok-true-clause-kept : goal.returns-in-Ok-true-clause-kept
+returns-in-Ok-true-clause-kept g c =
+    let e = c.has_rows.ensures in
+    λ _. e.kept (c.in-Ok-true.is ∙ ap Ok c.in-Ok-true.field-0-test)

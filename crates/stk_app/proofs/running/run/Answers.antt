@@ -16,8 +16,8 @@ pub returns-in-Ok-clause-complete : goal.returns-in-Ok-clause-complete
 returns-in-Ok-clause-complete g c =
     rw c.in-Ok.ensures.mode
     (λ calm reads writes.
-    untroubled_command c.in-Ok.mode _ _ _ _ _ _ _ _ _ _ _ _ c.carry_out.ensures.ends calm c.carry_out.ensures.busy
-    (λ e. reads (c.carry_out.ensures.read_cause e)) (λ e. writes (c.carry_out.ensures.write_cause e)) c.carry_out.ensures.keep_cause)
+    untroubled_command c.in-Ok.mode _ _ _ _ _ _ _ _ _ _ _ _ _ c.carry_out.ensures.ends calm c.carry_out.ensures.busy
+    (λ e. reads (c.carry_out.ensures.read_cause e)) (λ e. writes (c.carry_out.ensures.write_cause e)) c.carry_out.ensures.keep_cause c.carry_out.ensures.kept)
 
 pub returns-in-Ok-clause-usage : goal.returns-in-Ok-clause-usage
 returns-in-Ok-clause-usage g c = λ e. absurd (c.carry_out.ensures.busy e)

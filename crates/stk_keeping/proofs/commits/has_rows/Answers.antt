@@ -1,5 +1,5 @@
 use Rattle.std.proofs.Common.{◌≡◌, ◌<◌, length, rules}
-use Rattle.stk_keeping.proofs.Committing.{no_rows, some_rows}
+use Rattle.stk_keeping.proofs.Committing.{keeps_some, no_rows, some_rows}
 use Rattle.stk_keeping.proofs.commits.has_rows.Goals as goal
 
 pub returns-then-is_empty-clause-none : goal.returns-then-is_empty-clause-none
@@ -11,3 +11,8 @@ pub returns-in-Ok-clause-some : goal.returns-in-Ok-clause-some
 returns-in-Ok-clause-some g c =
     let some : 0 < length c.in-Ok.rows.items = search rules in
     λ e. some_rows c.in-Ok.rows.items _ c.in-Ok.ensures.rows some
+
+pub returns-in-Ok-clause-kept : goal.returns-in-Ok-clause-kept
+returns-in-Ok-clause-kept g c =
+    let some : 0 < length c.in-Ok.rows.items = search rules in
+    λ e. keeps_some _ c.in-Ok.rows.items c.in-Ok.ensures.unkept some

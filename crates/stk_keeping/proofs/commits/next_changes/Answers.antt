@@ -8,6 +8,6 @@ changes_of-requires c =
     all_can_be_written (c.in-Ok.ensures.changes p.0 q.0 p.1 q.1) (c.items_can_be_kept.ensures.written q.0 q.1.sound) c.deref.ensures.value
 
 pub returns-in-Ok-changes_of-clause-made : goal.returns-in-Ok-changes_of-clause-made
-returns-in-Ok-changes_of-clause-made c = λ p q settled stored stands.
-    next_commit p q _ _ _ stored (c.items_can_be_kept.ensures.once q stands.sound) (c.items_can_be_kept.ensures.written q stands.sound)
-    (c.in-Ok.ensures.changes p q settled stands) c.deref.ensures.value c.in-Ok-changes_of.ensures.changes c.in-Ok-changes_of.ensures.have_rows
+returns-in-Ok-changes_of-clause-made c = λ p q settled stands.
+    next_commit c.commits_reach_new_rows.ensures.distinct p q _ _ _ (c.items_can_be_kept.ensures.once q stands.sound) (c.items_can_be_kept.ensures.written q stands.sound)
+    (c.in-Ok.ensures.changes p q settled stands) c.deref.ensures.value c.in-Ok-changes_of.ensures.changes c.in-Ok-changes_of.ensures.have_rows c.in-Ok-changes_of.ensures.in_range
