@@ -12,7 +12,7 @@ bad=0
 no_edits=" stk_rules stk_rule_rows stk_bracket stk_owed stk_decided stk_kept stk_itemized stk_reached stk_machine stk_histories stk_bracket_rows stk_summary_rows stk_generated stakeplay "
 # crates whose check, which an edit costs once more, is long (bench/README.md has the gate's budget), and for which no wrong
 # body is among those that every reader should see refused; they may have edits, and so far have none
-long_checks=" stk_types stk_coins stk_table stk_keep stk_entries stk_unbonding stk_evidence stk_redelegate stk_window stk_modules stk_loading stk_chain stk_rowform stk_json stk_report stk_gen "
+long_checks=" stk_types stk_coins stk_keep stk_json stk_gen "
 wrong_bodies="invents_overflow|rounds_exact_quotient|cuts_slash_fraction|starts_after_removal|skips_slash_at_start|drops_slash_reference"
 wrong_bodies="$wrong_bodies|keeps_dead_records|drops_the_dust|burns_from_bonded|hides_a_burn|keeps_refused_reward|writes_before_commit"
 wrong_bodies="$wrong_bodies|sorts_all_validators|invents_(read|write|store)_fault|invents_not_found|restarts_from_genesis"
