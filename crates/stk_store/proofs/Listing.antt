@@ -1,28 +1,27 @@
--- What the query of all rows gives.
-use Rattle.std.proofs.Common.{◌≡◌, inl, inr, ◌∙◌, ℕ, zero, suc, ◌+◌, ◌≤◌, ◌<◌, add-one, arith, List, [], ◌∷◌, length, get_or, map, flat_map, refl, sym, ap, cond, subst, subst₂, Bool, false, Ordering, Less, Equal, Greater, is_eq, is_lt, true≢false}
+-- What the query of all rows gives, and what it is in order.
+use Rattle.std.proofs.Common.{◌≡◌, inl, inr, ◌∙◌, ℕ, suc, ◌+◌, ◌≤◌, ◌<◌, add-one, arith, List, [], ◌∷◌, length, map, flat_map, refl, sym, ap, cond, subst, Bool, false, Ordering, Less, Equal, Greater, is_eq, is_lt, true≢false}
 use Rattle.std.specs.List.{sum_by}
 use Rattle.std.specs.List.Sorted.{IsPermutation, IsSortedBy}
-use Rattle.std.specs.Ordering.{ordering_then}
 use Rattle.std.proofs.lemmas.Cmp.{tied_itself, tied_back}
-use Rattle.std.proofs.lemmas.List.Sorted.{IsPermutation-map, IsPermutation-sym, sum_by-IsPermutation, sorted_far, ranks_by, Contains-permutation}
+use Rattle.std.proofs.lemmas.List.Sorted.{IsPermutation-map, IsPermutation-sym, IsPermutation-trans, sum_by-IsPermutation, sorted_far, ranks_by, Contains-permutation}
 use Rattle.std.proofs.lemmas.List.Sums.{sum_by-cons}
-use Rattle.sqlite_value.specs.Order.{column, value_cmp}
-use Rattle.sqlite_value.specs.declared.value.Value.TheVariants.{Blob}
+use Rattle.std.proofs.lemmas.List.{get_or-map, length-map}
+use Rattle.stk_io.specs.declared.keeper.Row.{Row as IoRow}
 use Rattle.sqlite.specs.declared.types.Value.TheVariants.{Null}
 use Rattle.sqlite.specs.Order.{Row}
 use Rattle.sqlite.specs.Term.{Env}
-use Rattle.sqlite.specs.Query.{IsAnswer, output, Output, output_cmp}
+use Rattle.sqlite.specs.Query.{IsAnswer, output, Output}
 use Rattle.sqlite.specs.Program.{overlay}
 use Rattle.sqlite.specs.State.{State, Shown}
 use Rattle.sqlite.proofs.Callers.{reads_as}
 use Rattle.sqlite_rules.specs.Lists.{Has}
 use Rattle.sqlite_rules.proofs.ListLemmas.{all_has, all_from, has_contained, contains_had}
 use Rattle.sqlite_rules.proofs.ProbeLemmas.{has_mapped, mapped_has}
-use Rattle.stk_io.specs.Rows.{Pair, key_cmp, Rises}
-use Rattle.stk_store.specs.Kept.{kept_schema, shown, shown_pair, pair_in, map_of, IsHeld}
+use Rattle.stk_io.specs.Rows.{Pair, key_cmp, pair_of, Rises}
+use Rattle.stk_store.specs.Kept.{AreInOrder, kept_schema, shown, shown_pair, pair_in, map_of, IsHeld}
 use Rattle.stk_store.proofs.Texts.{select_text, all_query, select_is, select_unlisted, select_plain}
 use Rattle.stk_store.proofs.Maps.{total, same_members}
-use Rattle.stk_store.proofs.Held.{AreNamed, are_blobs, are_named, blob_cmp, map_rises, has_map, map_has}
+use Rattle.stk_store.proofs.Held.{AreNamed, map_rises, has_map, map_has}
 
 -- ---- how often a name comes
 
@@ -117,7 +116,7 @@ abbrev env_of : Row → Env
 env_of r = [] ∷ r ∷ []
 
 abbrev out_of : Row → Output
-out_of r = (column r 1 ∷ [], shown r)
+out_of r = ([], shown r)
 
 staged_is : (rows : List Row) → map (output all_query) (flat_map (λ r. env_of r ∷ []) rows) ≡ map out_of rows
 staged_is [] = refl
@@ -134,48 +133,25 @@ pairs_shown : (os : List Output) → map shown_pair (map (λ (o : Output). o.1) 
 pairs_shown [] = refl
 pairs_shown (o ∷ os) = ap (λ (xs : List Pair). pair_out o ∷ xs) (pairs_shown os)
 
-then_equal : (o : Ordering) → ordering_then o Equal ≡ o
-then_equal Less = refl
-then_equal Equal = refl
-then_equal Greater = refl
+pairs_long : (rows : List IoRow) → length (map pair_of rows) ≡ length rows
+pairs_long rows = simp length-map
 
--- each row of the query shows the name that it is sorted by
-output_below : (o p : Output) → column o.0 0 ≡ Blob (pair_out o).0 → column p.0 0 ≡ Blob (pair_out p).0 → is_lt (output_cmp all_query o p) ≡ Below (pair_out o) (pair_out p)
-output_below o p h k = ap is_lt (then_equal (value_cmp (column o.0 0) (column p.0 0)) ∙ subst₂ (λ v w. value_cmp v w ≡ key_cmp (pair_out o).0 (pair_out p).0) (sym h) (sym k) (blob_cmp (pair_out o).0 (pair_out p).0))
+-- rows in the order of their keys, as pairs
+pub sorted_pairs : (rows : List IoRow) → IsSortedBy (λ (x y : IoRow). is_lt (key_cmp x.key.items y.key.items)) rows → IsSortedBy Below (map pair_of rows)
+sorted_pairs [] up = λ k d low high. absurd (omega arith)
+sorted_pairs (r ∷ rows) up = λ k d low high.
+    let next : k + 1 < length (r ∷ rows) = omega (arith, high, pairs_long (r ∷ rows)) in
+    rw (get_or-map pair_of (r ∷ rows) (k + 1) r d next, get_or-map pair_of (r ∷ rows) k r d (omega arith)) (up k r low next)
 
-at_map : (os : List Output) (i : ℕ) (d : Pair) (e : Output) → i < length os → get_or (map pair_out os) i d ≡ pair_out (get_or os i e)
-at_map [] i d e low = absurd (omega arith)
-at_map (o ∷ os) zero d e low = refl
-at_map (o ∷ os) (suc i) d e low = at_map os i d e (omega arith)
-
-length_out : (os : List Output) → length (map pair_out os) ≡ length os
-length_out [] = refl
-length_out (o ∷ os) = ap suc (length_out os)
-
-at_has : (os : List Output) (i : ℕ) (e : Output) → i < length os → Has os (get_or os i e)
-at_has [] i e low = absurd (omega arith)
-at_has (o ∷ os) zero e low = inl refl
-at_has (o ∷ os) (suc i) e low = inr (at_has os i e (omega arith))
-
-sorted_out : (os : List Output) → ((o : Output) → Has os o → column o.0 0 ≡ Blob (pair_out o).0) → IsSortedBy (λ x y. is_lt (output_cmp all_query x y)) os → IsSortedBy Below (map pair_out os)
-sorted_out os named up = λ k d low high.
-    let e : Output = out_of [] in
-    let here : k < length os = omega (arith, high, length_out os) in
-    let next : k + 1 < length os = omega (arith, high, length_out os) in
-    let x = get_or os (k + 1) e in
-    let y = get_or os k e in
-    rw (at_map os (k + 1) d e next, at_map os k d e here) (sym (output_below x y (named x (at_has os (k + 1) e next)) (named y (at_has os k e here))) ∙ up k e low next)
-
-pub lists : (old new : State) (rows : List Row) → IsHeld old.now → Shown select_text [] old new rows → map shown_pair rows ≡ map_of (old.now.trees 0)
+pub lists : (old new : State) (rows : List Row) → IsHeld old.now → Shown select_text [] old new rows → IsPermutation (map pair_in (old.now.trees 0)) (map shown_pair rows)
 lists old new rows held h =
     let read = reads_as select_text [] old new kept_schema held.schema _ select_is select_plain select_unlisted rows h in
     let a : IsAnswer all_query (overlay old.now.trees []) [] rows = read.answer Null in
     let kept : a.kept ≡ map out_of (old.now.trees 0) = a.distinct ∙ ap (map (output all_query)) a.grouped ∙ staged_is (old.now.trees 0) in
     let listed : rows ≡ map (λ (o : Output). o.1) a.ordered = a.shown in
-    let perm : IsPermutation (map pair_in (old.now.trees 0)) (map pair_out a.ordered) =
-    subst (λ ps. IsPermutation ps (map pair_out a.ordered)) (ap (map pair_out) kept ∙ pairs_out (old.now.trees 0)) (IsPermutation-map pair_out a.kept a.ordered a.same) in
-    let named = λ (o : Output) (k : Has a.ordered o).
-    let r = has_mapped out_of (old.now.trees 0) o (subst (λ os. Has os o) kept (has_permuted a.ordered a.kept o (IsPermutation-sym _ _ a.same) k)) in
-    let are = are_blobs old.now held r.0 r.1 in
-    let same : column o.0 0 ≡ Blob (pair_out o).0 = rw r.2 are.0 in same in
-    ap (map shown_pair) listed ∙ pairs_shown a.ordered ∙ listed_is (old.now.trees 0) (map pair_out a.ordered) (are_named old.now held) perm (sorted_out a.ordered named a.sorted)
+    subst (λ ps. IsPermutation ps (map shown_pair rows)) (ap (map pair_out) kept ∙ pairs_out (old.now.trees 0))
+    (subst (IsPermutation (map pair_out a.kept)) (sym (ap (map shown_pair) listed ∙ pairs_shown a.ordered)) (IsPermutation-map pair_out a.kept a.ordered a.same))
+
+-- in the order of their names they are the map
+pub in_order : (rows : List Row) (shown list : List Pair) → AreNamed rows → IsPermutation (map pair_in rows) shown → AreInOrder shown list → list ≡ map_of rows
+in_order rows shown list named perm o = listed_is rows list named (IsPermutation-trans _ _ _ perm o.0) o.1

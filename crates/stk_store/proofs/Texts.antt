@@ -20,7 +20,7 @@ abbrev pub create_text : List ℕ
 create_text = codes "CREATE TABLE kept (name BLOB NOT NULL PRIMARY KEY, body BLOB NOT NULL) STRICT"
 
 abbrev pub select_text : List ℕ
-select_text = codes "SELECT name, body FROM kept ORDER BY name"
+select_text = codes "SELECT name, body FROM kept"
 
 abbrev pub put_text : List ℕ
 put_text = codes "INSERT OR REPLACE INTO kept (name, body) VALUES (?1, ?2)"
@@ -36,7 +36,7 @@ pub create_plain : IsPlain (understood no_schema create_text)
 unfolding understood everything
 create_plain = (refl, refl)
 
--- the page of all rows, by name
+-- all rows, as they stand
 abbrev pub all_query : Query
 all_query = record {
   from = inner 0 end;
@@ -45,7 +45,7 @@ all_query = record {
   project = col 1 1 ∷ col 1 2 ∷ [];
   distinct = false;
   collations = [];
-  order = (col 1 1, record { collation = Binary; descending = false }) ∷ [];
+  order = [];
   limit = lit (Int (negsuc 0));
   offset = lit (Int (pos 0));
 }

@@ -2,6 +2,8 @@
 use Rattle.sqlite.specs.Collation.TheVariants.{Binary}
 use Rattle.std.specs.Prelude.{◌≡◌, ◌⊎◌, IsTrue, true, false, ◌&&◌, if◌then◌else◌, Option, [], ◌∷◌, None, Some, codes, List, ℕ}
 use Rattle.std.specs.List.{AllByRecursion}
+use Rattle.std.specs.List.Sorted.{IsPermutation, IsSortedBy}
+use Rattle.std.specs.Ordering.{is_lt}
 use Rattle.sqlite.specs.declared.types.Value.TheVariants.{Null}
 use Rattle.sqlite.specs.Order.{Row, column}
 use Rattle.sqlite_value.specs.Order.{bytes}
@@ -15,7 +17,7 @@ use Rattle.sqlite.specs.Table.{Table}
 use Rattle.sqlite.specs.Schema.{Schema}
 use Rattle.sqlite.specs.Effect.{Database, IsDatabase}
 use Rattle.sqlite.specs.Kind.TheVariants.{Blob}
-use Rattle.stk_io.specs.Rows.{Pair, put}
+use Rattle.stk_io.specs.Rows.{Pair, key_cmp, put}
 
 abbrev pub no_stamps : Stamps
 no_stamps = record { places = []; terms = []; formats = [] }
@@ -80,6 +82,10 @@ AreRowsOf db rows =
 -- the pair that a row of the query shows
 abbrev pub shown_pair : Row → Pair
 shown_pair row = (bytes (column row 0), bytes (column row 1))
+
+-- these pairs in the order of their names, those of one name in any order
+abbrev pub AreInOrder : List Pair → List Pair → Type 0
+AreInOrder pairs list = IsPermutation pairs list × IsSortedBy (λ (x y : Pair). is_lt (key_cmp x.0 y.0)) list
 
 -- ---- the keeper
 

@@ -1,7 +1,7 @@
 ghost use Rattle.std.specs.Prelude.{◌≡◌, ◌≤◌, ◌↔◌, map, IfOk};
 ghost use Rattle.stk_io.specs.Outside.{Rose};
 ghost use Rattle.stk_io.specs.Rows.{pair_of};
-ghost use Rattle.stk_store.specs.Kept.{shown_pair};
+ghost use Rattle.stk_store.specs.Kept.{AreInOrder, shown_pair};
 
 use sqlite::{Error, ErrorCode};
 use std::alloc::Global;
@@ -15,15 +15,16 @@ fn row_of(row: &sqlite::Row) -> Result<Row, Error>
     Ok(Row { key, value })
 }
 
-/// The rows of a query, of a key and a value each.
+/// The rows of a query, of a key and a value each, in the order of their keys.
 pub(crate) fn rows_of(alloc: Global, rows: &[sqlite::Row]) -> Result<Vec<Row>, Error>
-    ensures { IfOk result (λ list. map pair_of list.items ≡ map shown_pair rows.now) }
+    ensures { IfOk result (λ list. AreInOrder (map shown_pair rows.now) (map pair_of list.items)) }
 {
     let mut list = Vec::new(alloc);
     for row in rows {
         let pair = row_of(row)?;
         list.push(pair)?;
     }
+    list.sort_unstable_by(|a, b| a.key.as_slice().cmp(b.key.as_slice()));
     Ok(list)
 }
 

@@ -1,8 +1,9 @@
 ghost use Rattle.std.specs.Prelude.{◌≡◌, false, map, IfOk, OnOk, IsTrue};
+ghost use Rattle.std.specs.List.Sorted.{IsPermutation};
 ghost use Rattle.sqlite.specs.State.{HasCleanDisk, Survives};
 ghost use Rattle.sqlite.specs.Held.{state};
 ghost use Rattle.stk_io.specs.Rows.{put, remove};
-ghost use Rattle.stk_store.specs.Kept.{IsHeld, IsKept, map_of, shown_pair};
+ghost use Rattle.stk_store.specs.Kept.{IsHeld, IsKept, map_of, pair_in, shown_pair};
 
 use sqlite::{Alter, Connection, Error, Row, Transaction, params};
 
@@ -53,12 +54,13 @@ pub(crate) fn remove_row<S: Alter>(tx: &mut Transaction<'_, S>, name: &[u8]) -> 
     tx.execute("DELETE FROM kept WHERE name = ?1", params![name])
 }
 
-/// All rows, in ascending order of the names. The statement is prepared first, so that what it may do is
-/// known as it runs.
+/// All rows, as they stand: by name each would cost a search of its own, and its page would be read again. The
+/// statement is prepared first, so that what it may do is known as it runs.
 pub(crate) fn all_rows<S: Alter>(conn: &mut Connection<S>) -> Result<Vec<Row>, Error>
     requires { IsKept (state S.Store conn.old) }
     ensures rows { HasCleanDisk (state S.Store conn.new) → IfOk result
-        (λ rows. map shown_pair rows.items ≡ map_of ((state S.Store conn.old).now.trees 0)) }
+        (λ rows. IsPermutation (map pair_in ((state S.Store conn.old).now.trees 0))
+        (map shown_pair rows.items)) }
     ensures same { HasCleanDisk (state S.Store conn.new) → IsTrue (state S.Store conn.new).is_open
         → IsTrue (state S.Store conn.old).is_open × ((state S.Store conn.new).now
         ≡ (state S.Store conn.old).committed)
@@ -68,6 +70,6 @@ pub(crate) fn all_rows<S: Alter>(conn: &mut Connection<S>) -> Result<Vec<Row>, E
     ensures mode { conn.new.in_transaction ≡ false }
     ensures stop { Survives (state S.Store conn.old) (state S.Store conn.new) (λ _. ⊥) }
 {
-    let statement = conn.prepare("SELECT name, body FROM kept ORDER BY name")?;
+    let statement = conn.prepare("SELECT name, body FROM kept")?;
     statement.query_all(conn, &[])
 }

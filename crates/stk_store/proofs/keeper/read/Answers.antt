@@ -1,11 +1,13 @@
-use Rattle.std.proofs.Common.{◌∙◌, map, ap, sym, arith}
+use Rattle.std.proofs.Common.{◌∙◌, List, map, ap, sym, subst, arith}
 use Rattle.std.proofs.lemmas.Result.{IfOk-weaker}
 use Rattle.sqlite.specs.Effect.{Database}
 use Rattle.sqlite.specs.State.{HasCleanDisk}
 use Rattle.sqlite.specs.Held.{state}
-use Rattle.stk_store.specs.Kept.{map_of, shown_pair}
-use Rattle.stk_io.specs.Rows.{Rises}
-use Rattle.stk_store.proofs.Held.{map_rises}
+use Rattle.sqlite.specs.Order.{Row}
+use Rattle.stk_store.specs.Kept.{AreInOrder, map_of, shown_pair}
+use Rattle.stk_io.specs.Rows.{pair_of, Rises}
+use Rattle.stk_store.proofs.Held.{are_named, map_rises}
+use Rattle.stk_store.proofs.Listing.{in_order}
 use Rattle.stk_store.proofs.Telling.{kept_back, where_told, settles, told_still}
 use Rattle.stk_store.proofs.keeper.read.Goals as goal
 
@@ -26,7 +28,9 @@ returns-clause-rows g c =
     IfOk-weaker c.rows_of.result _ _ (λ list h. where_told (state g.S.Store c.all_rows.new.conn) _ (λ k o.
     let back = e.same k o in
     let held = c.requires.held (clean k) back.0 in
-    h ∙ ap (map shown_pair) c.deref.ensures.value ∙ c.in_ok-rows.ensures.rows k ∙ ap (λ (d : Database). map_of (d.trees 0)) (sym (back.1 ∙ held.1)))) c.rows_of.ensures
+    in_order ((state g.S.Store c.args.conn.now).now.trees 0) _ _ (are_named (state g.S.Store c.args.conn.now).now held.0) (c.in_ok-rows.ensures.rows k)
+    (subst (λ (rows : List Row). AreInOrder (map shown_pair rows) (map pair_of list.items)) c.deref.ensures.value h)
+    ∙ ap (λ (d : Database). map_of (d.trees 0)) (sym (back.1 ∙ held.1)))) c.rows_of.ensures
 
 pub returns-clause-told : goal.returns-clause-told
 returns-clause-told g c = told_still c.rows_of.result (state g.S.Store c.all_rows.new.conn) c.in_ok-rows.ensures.open

@@ -1,9 +1,10 @@
-use Rattle.std.proofs.Common.{◌∙◌, ap, arith}
+use Rattle.std.proofs.Common.{arith, map, subst}
+use Rattle.std.specs.List.Sorted.{IsPermutation}
 use Rattle.std.proofs.lemmas.Result.{IfOk-weaker}
 use Rattle.sqlite.specs.Effect.{Database}
 use Rattle.sqlite.specs.State.{HasCleanDisk}
 use Rattle.sqlite.specs.Held.{state}
-use Rattle.stk_store.specs.Kept.{map_of}
+use Rattle.stk_store.specs.Kept.{pair_in, shown_pair}
 use Rattle.stk_store.proofs.Asking.{asked_back, asked_open, asked_survives, held_then, not_prepared}
 use Rattle.stk_store.proofs.Listing.{lists}
 use Rattle.stk_store.proofs.rows.all_rows.Goals as goal
@@ -22,7 +23,7 @@ returns-clause-rows g c clean =
     let q = c.query_all.ensures in
     let before : HasCleanDisk mid = omega (arith, q.survives.clean, clean) in
     let held = held_then start mid end c.requires (λ h. omega (arith, q.survives.clean, h)) (λ h. omega (arith, e.survives.clean, h)) (λ h. (e.ok h).1) before in
-    IfOk-weaker c.query_all.result _ _ (λ rows h. lists mid end rows.items held.0 h ∙ ap (λ (d : Database). map_of (d.trees 0)) held.1) (rw (e.ok before).0 at (q.ok clean))
+    IfOk-weaker c.query_all.result _ _ (λ rows h. subst (λ (d : Database). IsPermutation (map pair_in (d.trees 0)) (map shown_pair rows.items)) held.1 (lists mid end rows.items held.0 h)) (rw (e.ok before).0 at (q.ok clean))
 
 pub returns-clause-same : goal.returns-clause-same
 returns-clause-same g c clean is_open =
