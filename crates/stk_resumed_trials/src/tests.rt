@@ -1,65 +1,81 @@
-use std::test::Fail;
+ghost use Rattle.std.specs.Prelude.{◌<◌, ◌^◌};
+
+use std::process::Abort;
 use stk_chain::{Chain, ChainFault};
 use stk_gen::{Generator, first_genesis};
+use stk_keep::Item;
+use stk_msgs::Block;
 use stk_resumed::from_items;
 
+/// The chain that the generated genesis starts.
+fn started(rt: &(impl Abort + AllocGlobal)) -> Chain {
+    let genesis = first_genesis(rt.alloc()).expect(rt, "a genesis");
+    let (chain, _facts) = Chain::genesis(rt.alloc(), &genesis).expect(rt, "a chain");
+    chain
+}
+
+/// The items of a chain.
+fn items_of(rt: &(impl Abort + AllocGlobal), chain: &Chain) -> Vec<Item> {
+    chain.items(rt.alloc()).expect(rt, "items")
+}
+
+/// The chain of the items of another.
+fn out_of_items(rt: &(impl Abort + AllocGlobal), chain: &Chain) -> Chain {
+    from_items(rt.alloc(), items_of(rt, chain)).expect(rt, "items of a chain")
+}
+
+/// What a chain tells of a block, and keeps behind it.
+fn told(rt: &(impl Abort + AllocGlobal), chain: &mut Chain, block: &Block) -> String
+    requires { block.now.height < 2 ^ 63 }
+{
+    let report = chain.apply_block(rt.alloc(), block).expect(rt, "a block");
+    let items = items_of(rt, chain);
+    format!(in rt.alloc(); "{report:?} {items:?}").expect(rt, "memory")
+}
+
+/// Whether these are the items of no chain.
+fn are_bad(rt: &impl AllocGlobal, items: Vec<Item>) -> bool {
+    matches!(from_items(rt.alloc(), items), Err(ChainFault::BadItems))
+}
+
 #[test]
-fn a_chain_out_of_items_goes_on_alike(rt: HostRuntime) -> Result<(), Fail> {
-    let alloc = rt.alloc();
-    let genesis = first_genesis(alloc)?;
+fn a_chain_out_of_items_goes_on_alike(rt: HostRuntime) {
     for seed in [7u64, 101] {
         let mut generator = Generator::new(seed);
-        let (mut chain, _facts) = Chain::genesis(alloc, &genesis)?;
-        let (mut other, _facts) = Chain::genesis(alloc, &genesis)?;
+        let mut chain = started(&rt);
+        let mut other = started(&rt);
         for height in 1..=12u64 {
-            other = from_items(alloc, other.items(alloc)?)?;
-            let block = generator.block(alloc, height)?;
-            let report = chain.apply_block(alloc, &block)?;
-            let again = other.apply_block(alloc, &block)?;
-            let told = format!(in alloc; "{report:?}")?;
-            let told_again = format!(in alloc; "{again:?}")?;
-            assert!(rt; told == told_again, "{seed} {height}");
-            let items = chain.items(alloc)?;
-            let items_again = other.items(alloc)?;
-            let kept = format!(in alloc; "{items:?}")?;
-            let kept_again = format!(in alloc; "{items_again:?}")?;
-            assert!(rt; kept == kept_again, "{seed} {height}");
+            other = out_of_items(&rt, &other);
+            let block = generator.block(rt.alloc(), height).expect(&rt, "a block");
+            let alike = told(&rt, &mut chain, &block) == told(&rt, &mut other, &block);
+            assert!(rt; alike, "{seed} {height}");
         }
     }
-    Ok(())
 }
 
 #[test]
-fn items_without_one_are_bad(rt: HostRuntime) -> Result<(), Fail> {
-    let alloc = rt.alloc();
-    let genesis = first_genesis(alloc)?;
-    let (chain, _facts) = Chain::genesis(alloc, &genesis)?;
-    let count = chain.items(alloc)?.len();
+fn items_without_one_are_bad(rt: HostRuntime) {
+    let chain = started(&rt);
+    let count = items_of(&rt, &chain).len();
     for left_out in 0..count {
-        let mut items = chain.items(alloc)?;
+        let mut items = items_of(&rt, &chain);
         if left_out < items.len() {
             let _item = items.swap_remove(left_out);
-            let bad = matches!(from_items(alloc, items), Err(ChainFault::BadItems));
-            assert!(rt; bad, "{left_out}");
+            assert!(rt; are_bad(&rt, items), "{left_out}");
         }
     }
-    Ok(())
 }
 
 #[test]
-fn items_with_one_twice_are_bad(rt: HostRuntime) -> Result<(), Fail> {
-    let alloc = rt.alloc();
-    let genesis = first_genesis(alloc)?;
-    let (chain, _facts) = Chain::genesis(alloc, &genesis)?;
-    let count = chain.items(alloc)?.len();
+fn items_with_one_twice_are_bad(rt: HostRuntime) {
+    let chain = started(&rt);
+    let count = items_of(&rt, &chain).len();
     for again in 0..count {
-        let mut items = chain.items(alloc)?;
-        let mut others = chain.items(alloc)?;
+        let mut items = items_of(&rt, &chain);
+        let mut others = items_of(&rt, &chain);
         if again < others.len() {
-            items.push(others.swap_remove(again))?;
-            let bad = matches!(from_items(alloc, items), Err(ChainFault::BadItems));
-            assert!(rt; bad, "{again}");
+            items.push(others.swap_remove(again)).expect(&rt, "memory");
+            assert!(rt; are_bad(&rt, items), "{again}");
         }
     }
-    Ok(())
 }
