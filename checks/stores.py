@@ -316,6 +316,7 @@ def try_files(room, good):
     (room / "folder").mkdir()
     try_all(room / "folder", (FAULT, FAULT, FAULT), "a folder")
     try_all(room / "missing" / "store", (FAULT, FAULT, FAULT), "a file in a folder that is missing")
+    try_all(pathlib.Path(":memory:"), (FAULT, FAULT, FAULT), "the name that sqlite has for a database in memory")
     linked = changed(good, room / "linked", lambda rows: None)
     os.link(linked, room / "second-name")
     try_all(linked, (FAULT, FAULT, FAULT), "a file with two names")

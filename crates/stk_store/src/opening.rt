@@ -1,6 +1,6 @@
 //! A keeper over a database file.
 
-ghost use Rattle.std.specs.Prelude.{◌≡◌, List, Some, IfOk};
+ghost use Rattle.std.specs.Prelude.{◌≡◌, codes, Err, List, Some, IfOk};
 ghost use Rattle.sqlite_trees.specs.Tree.{Trees};
 ghost use Rattle.sqlite_wal.specs.Files.{image_at};
 ghost use Rattle.sqlite.specs.Files.{file_state, HoldsDatabase};
@@ -34,6 +34,8 @@ impl<S: Start> SqlKeeper<FileStore<FileFrom<S>>> {
         ensures settled { IfOk result (λ k. LeavesRows (Leaves (file_state k.0))
             (told (file_state k.0))) }
         ensures faults { IfOk result (λ k. k.1 ≡ 0) }
+        // A database in memory has no files, so nothing would be kept.
+        ensures memory { path.now ≡ codes ":memory:" → result ≡ Err KeepFault.Failed }
     {
         match Connection::open_from(rt, path, false, start) {
             Ok(conn) => SqlKeeper::adopt(rt.alloc(), conn),
