@@ -1,5 +1,5 @@
 #!/usr/bin/env python3
-"""Cases of the calls of `stk_dec` with their answers by Python's exact integers, as a text in a Rattle source file: a line
+"""Cases of the calls of `base_decimals` with their answers by Python's exact integers, as a text in a Rattle source file: a line
 for each case, with the call, its operands, and the answer's units or what is over, with its operands.
 
     python3 bench/decimal_cases.py
@@ -119,7 +119,7 @@ for call, compute in CALLS.items():
     cases += [operands(call) for _ in range(16)]
     rows += [(call, a, b, c, compute(a, b, c)) for a, b, c in cases]
 
-file = pathlib.Path(__file__).parent.parent / "crates/stk_ground_trials/src/decimal_cases.rt"
+file = pathlib.Path(__file__).parent.parent / "crates/test_values/src/decimal_cases.rt"
 with open(file, "w") as out:
     print("// Written by bench/decimal_cases.py.", file=out)
     print(f'pub static CASES: &str = "\\', file=out)

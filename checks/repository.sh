@@ -9,10 +9,10 @@ cd "$(dirname "$0")/.."
 bad=0
 # crates of laws and rows alone, which have no body that could be wrong (as those of tests alone, by their names), and the
 # program, whose body is one call
-no_edits=" stk_rules stk_rule_rows stk_bracket stk_owed stk_decided stk_kept stk_itemized stk_reached stk_machine stk_histories stk_bracket_rows stk_summary_rows stk_generated stakeplay "
+no_edits=" rule_modules rule_worked law_rewards law_soundness law_records store_resuming store_items law_runs rule_machine rule_histories rule_worked run_worked run_trial stakeplay "
 # crates whose check, which an edit costs once more, is long (bench/README.md has the gate's budget), and for which no wrong
 # body is among those that every reader should see refused; they may have edits, and so far have none
-long_checks=" stk_types stk_coins stk_keep stk_json stk_gen "
+long_checks=" base_types base_coins base_roles line_json run_generated "
 wrong_bodies="invents_overflow|rounds_exact_quotient|cuts_slash_fraction|starts_after_removal|skips_slash_at_start|drops_slash_reference"
 wrong_bodies="$wrong_bodies|keeps_dead_records|drops_the_dust|burns_from_bonded|hides_a_burn|keeps_refused_reward|writes_before_commit"
 wrong_bodies="$wrong_bodies|sorts_all_validators|invents_(read|write|store)_fault|invents_not_found|restarts_from_genesis"
@@ -41,6 +41,6 @@ done
 # every refusal of the code stands in the table of FORMATS, under its number
 while read -r name number; do
     grep -q "^| $number | \`$name\`" docs/FORMATS.md || say "docs/FORMATS.md does not have refusal $number, $name"
-done < <(sed -n 's/^ *Refusal::\([A-Za-z]*\)\((_)\)\{0,1\} => \([0-9]*\),$/\1 \3/p' crates/stk_keep/src/refusal.rt)
+done < <(sed -n 's/^ *Refusal::\([A-Za-z]*\)\((_)\)\{0,1\} => \([0-9]*\),$/\1 \3/p' crates/base_roles/src/refusal.rt)
 [ $bad = 0 ] && echo "repository: all there"
 exit $bad

@@ -60,10 +60,10 @@ use json::Scratch;
 use memchr::memchr_iter;
 use std::alloc::{AllocError, Global};
 use std::io::{Read, Write};
-use stk_json::{push_lines_of_block, read_block};
-use stk_keep::{Fact, Facts, Listed};
-use stk_msgs::{Block, BlockReport, LineFault, Msg, Outcome, Tx, TxReport};
-use stk_types::{Account, Copied, Module};
+use line_json::{push_lines_of_block, read_block};
+use base_roles::{Fact, Facts, Listed};
+use base_messages::{Block, BlockReport, LineFault, Msg, Outcome, Tx, TxReport};
+use base_types::{Account, Copied, Module};
 BODY
 fn main(rt: HostRuntime) -> Result<()> {
     let alloc = rt.alloc();
@@ -226,7 +226,7 @@ def build_rattle():
         (top / "crates" / name / "src").mkdir(parents=True)
         (top / "crates" / name / "src/main.rt").write_text(AROUND.lstrip().replace("BODY\n", body))
         (top / "crates" / name / "stdin").write_text("")
-        lines.append(f"{name}: stk_types stk_coins stk_keep stk_msgs stk_json json memchr anyhow")
+        lines.append(f"{name}: base_types base_coins base_roles base_messages line_json json memchr anyhow")
     (top / "crates.txt").write_text("\n".join(lines) + "\n")
     programs = []
     for name in ("read_bench", "line_bench", "stakeplay"):

@@ -1,0 +1,8 @@
+pub mod Account
+pub mod Changes
+pub mod Laws
+pub mod Payments
+pub mod Running
+pub mod States
+pub mod Withdrawals
+pub mod Worked

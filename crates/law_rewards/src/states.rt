@@ -1,0 +1,46 @@
+//! What the laws of accounts say of a whole state: laws as functions that do nothing, whose contracts are the laws.
+
+ghost use Rattle.law_rewards.specs.States.{ReachedIsBracketed, ReachedHasShortfallWithin, ReachedIsCutWithin, NextBlockKeepsReached, EndKeepsReached, WithdrawalKeepsReached, RewardMessagesKeepReached, QuietMessagesKeepReached, StandingMessagesKeepReached, SharingKeepsReached};
+
+/// In a sound state whose accounts are reached, the claim of each delegation, in each denomination, is bracketed.
+pub fn reached_is_bracketed()
+    ensures { ReachedIsBracketed }
+{}
+
+/// In a state whose accounts are reached, what is outstanding for each validator covers all claims, but for the overclaim.
+pub fn reached_has_shortfall_within()
+    ensures { ReachedHasShortfallWithin }
+{}
+
+/// In a sound state whose accounts are reached, an exhausted outstanding record cuts a withdrawal, once its period has
+/// ended, by at most the overclaim.
+pub fn reached_is_cut_within()
+    ensures { ReachedIsCutWithin }
+{}
+
+/// The next block keeps accounts reached, and so do the end of a validator's period and the withdrawal of a reward.
+pub fn steps_keep_reached()
+    ensures next_block { NextBlockKeepsReached }
+    ensures ended { EndKeepsReached }
+    ensures withdrawn { WithdrawalKeepsReached }
+{}
+
+/// So does each message that withdraws a reward, where it is not refused.
+pub fn reward_messages_keep_reached()
+    ensures { RewardMessagesKeepReached }
+{}
+
+/// So do messages that move coins, name a payee, fund or spend from the pool, or withdraw commission.
+pub fn quiet_messages_keep_reached()
+    ensures { QuietMessagesKeepReached }
+{}
+
+/// So do messages that edit a validator or free it from jail.
+pub fn standing_messages_keep_reached()
+    ensures { StandingMessagesKeepReached }
+{}
+
+/// Where no start is of the block's height, as where a block begins, sharing fees among votes keeps accounts reached.
+pub fn sharing_keeps_reached()
+    ensures { SharingKeepsReached }
+{}

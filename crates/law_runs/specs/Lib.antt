@@ -1,0 +1,5 @@
+pub mod Going
+pub mod Moments
+pub mod Payees
+pub mod Readers
+pub mod Runs

@@ -1,0 +1,3 @@
+pub mod Causes
+pub mod Kept
+pub mod Ranges

@@ -1,0 +1,13 @@
+pub mod Kept
+pub mod Laws
+pub mod LineStops
+pub mod Lines
+pub mod Machine
+pub mod Modes
+pub mod Outcome
+pub mod Parts
+pub mod Resumes
+pub mod Runs
+pub mod Sizes
+pub mod Stops
+pub mod Writes
