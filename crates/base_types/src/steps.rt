@@ -1,13 +1,13 @@
 ghost use Rattle.std.specs.Prelude.{◌≡◌, ◌+◌, ◌<◌};
 
 use std::marker::Model;
-use std::sync::ledger::{BankBalances, Blank, Ledger, Share};
+use std::sync::ledger::{Blank, Book, Ledger, Share};
 
 /// A counter of steps, by which contracts bound the work of a call. It is for proofs alone: a program
 /// keeps no number. Contracts see the count.
 #[derive(Drop)]
 pub struct Steps<L: Ledger> {
-    book: BankBalances<L>,
+    book: Book<L>,
     share: Share<L>,
 }
 

@@ -22,7 +22,7 @@ use Rattle.law_rewards.proofs.Lists.{all_map, sum_more, all_within, some_at}
 use Rattle.law_rewards.proofs.Walking.{Walk, walk_of, first_walk, walk, crossed, walk_of_behind, walk_of_none, claim_is, earned_is}
 use Rattle.law_rewards.proofs.Following.{Follows, ratio_old, last_ratio, walk_ended, fraction_is}
 use Rattle.law_rewards.proofs.Deeds.{Good}
-use Rattle.law_rewards.proofs.Holders.{Holder, claim_of, shares_of, BankBalances, total, Covers, raised, slashed}
+use Rattle.law_rewards.proofs.Holders.{Holder, claim_of, shares_of, Book, total, Covers, raised, slashed}
 use Rattle.law_rewards.proofs.Covering.{covers_ends, covers_slashes, covers_issues, covers_removes, covers_allocates, started, covers_starts, covers_stops, covers_takes}
 
 -- a start as a holder
@@ -37,7 +37,7 @@ holder_of d p s = let w = walk_of (ratio_in d p) s.info p.events in record {
 abbrev pub holders : List ℕ → Account → List Holder
 holders d a = map (holder_of d a.periods) a.starts
 
-abbrev book_at : Account → ℕ → ℕ → List Holder → BankBalances
+abbrev book_at : Account → ℕ → ℕ → List Holder → Book
 book_at a ratio lefts hs = record {
   tokens = a.tokens;
   shares = a.shares;
@@ -49,7 +49,7 @@ book_at a ratio lefts hs = record {
   holders = hs;
 }
 
-abbrev pub book_in : List ℕ → Account → BankBalances
+abbrev pub book_in : List ℕ → Account → Book
 book_in d a = book_at a (ratio_in d a.periods (last_ended a.periods)) (count_where is_left a.history) (holders d a)
 
 covers_same : (a : Account) (r r' l l' : ℕ) (hs hs' : List Holder) → r ≡ r' → l ≡ l' → hs ≡ hs' → Covers (book_at a r' l' hs') → Covers (book_at a r l hs)

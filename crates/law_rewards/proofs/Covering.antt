@@ -12,7 +12,7 @@ use Rattle.law_rewards.specs.Account.{increment_of, lost_of}
 use Rattle.law_rewards.proofs.Rounding.{one, one_pos, floor_low, value_cut_low, increment_low}
 use Rattle.law_rewards.proofs.Steps.{fraction_gap}
 use Rattle.law_rewards.proofs.Following.{issued_some, left_fall}
-use Rattle.law_rewards.proofs.Holders.{Holder, claim_of, shares_of, stake_of, excess, BankBalances, total, IsCovered, Covers, raised, slashed, total_le, total_map, total_insert, total_remove, excess_scaled}
+use Rattle.law_rewards.proofs.Holders.{Holder, claim_of, shares_of, stake_of, excess, Book, total, IsCovered, Covers, raised, slashed, total_le, total_map, total_insert, total_remove, excess_scaled}
 
 -- ---- the end of a period
 
@@ -32,7 +32,7 @@ ends_some T c C O N r i stakes claims after low within h k =
     let m : i * stakes ≤ i * (T * one + N) = mul-le-mul_left i within in
     omega arith
 
-abbrev pub book_ended : BankBalances → BankBalances
+abbrev pub book_ended : Book → Book
 book_ended b = record b {
   current = 0;
   ratio = b.ratio + increment_of b.current b.tokens;
@@ -40,7 +40,7 @@ book_ended b = record b {
   holders = map (raised (increment_of b.current b.tokens)) b.holders;
 }
 
-covered_ends : (tokens : ℕ) (b : BankBalances) → b.tokens ≡ tokens → Covers b → IsCovered (book_ended b)
+covered_ends : (tokens : ℕ) (b : Book) → b.tokens ≡ tokens → Covers b → IsCovered (book_ended b)
 covered_ends zero b e k = rw e (omega (arith, k.covered, raised_claims 0 b.holders))
 covered_ends (suc t) b e k =
     let pos : 0 < b.shares = k.backed (omega arith) in
@@ -54,7 +54,7 @@ raised_shares i hs = omega (arith, total_map 1 1 0 (raised i) shares_of shares_o
 raised_excess : (T X i : ℕ) (hs : List Holder) → total (excess T X) (map (raised i) hs) ≤ total (excess T X) hs
 raised_excess T X i hs = omega (arith, total_map 1 1 0 (raised i) (excess T X) (excess T X) shares_of (λ h. omega arith) hs)
 
-pub covers_ends : (b : BankBalances) → Covers b → Covers (book_ended b)
+pub covers_ends : (b : Book) → Covers b → Covers (book_ended b)
 covers_ends b k = record {
   held = omega (arith, raised_shares (increment_of b.current b.tokens) b.holders, k.held);
   backed = k.backed;
@@ -92,10 +92,10 @@ slashed_above T burn X N hs some few less above =
     let m3 : T * total (excess (T - burn) X) (map (slashed (recorded_fraction burn T)) hs) ≤ T * (N * X) = omega arith in
     le_of_mul-le-mul_left m3 some
 
-abbrev pub book_slashed : BankBalances → ℕ → BankBalances
+abbrev pub book_slashed : Book → ℕ → Book
 book_slashed b burn = record b { tokens = b.tokens - burn; holders = map (slashed (recorded_fraction burn b.tokens)) b.holders }
 
-pub covers_slashes : (b : BankBalances) (burn : ℕ) → 0 < b.tokens → b.tokens ≤ one → burn ≤ b.tokens → Covers b → Covers (book_slashed b burn)
+pub covers_slashes : (b : Book) (burn : ℕ) → 0 < b.tokens → b.tokens ≤ one → burn ≤ b.tokens → Covers b → Covers (book_slashed b burn)
 covers_slashes b burn some few less k = record {
   held = omega (arith, slashed_shares (recorded_fraction burn b.tokens) b.holders, k.held);
   backed = λ h. k.backed some;
@@ -118,10 +118,10 @@ issued_above T X T' X' N hs pos fair above =
 none_held : (f : Holder → ℕ) (hs : List Holder) → hs ≡ [] → total f hs ≡ 0
 none_held f hs e = ap (total f) e
 
-abbrev pub book_issued : BankBalances → ℕ → ℕ → BankBalances
+abbrev pub book_issued : Book → ℕ → ℕ → Book
 book_issued b amount issued = record b { tokens = b.tokens + amount; shares = b.shares + issued }
 
-issues_more : (b : BankBalances) (amount issued : ℕ) → 0 < b.shares → issued_shares b.tokens b.shares amount ≡ Ok issued → Covers b → Covers (book_issued b amount issued)
+issues_more : (b : Book) (amount issued : ℕ) → 0 < b.shares → issued_shares b.tokens b.shares amount ≡ Ok issued → Covers b → Covers (book_issued b amount issued)
 issues_more b amount issued some e k = record {
   held = omega (arith, k.held);
   backed = λ h. omega arith;
@@ -139,7 +139,7 @@ issues_first tokens shares amount issued N hs none e nobody backed =
       omega (arith, none_held (excess (tokens + amount) (shares + issued)) hs nobody),
     )
 
-pub covers_issues : (b : BankBalances) (amount issued : ℕ) → issued_shares b.tokens b.shares amount ≡ Ok issued → (b.shares ≡ 0 → b.holders ≡ []) → Covers b → Covers (book_issued b amount issued)
+pub covers_issues : (b : Book) (amount issued : ℕ) → issued_shares b.tokens b.shares amount ≡ Ok issued → (b.shares ≡ 0 → b.holders ≡ []) → Covers b → Covers (book_issued b amount issued)
 covers_issues b amount issued e nobody k = elim (cases_lt 0 b.shares) [
   | inl some ↦ issues_more b amount issued some e k
   | inr nothing ↦ (let none : b.shares ≡ 0 = omega arith in
@@ -176,10 +176,10 @@ left_backed tokens shares part h some = elim (cases_lt part shares) [
   | inr more ↦ absurd (omega (arith, out_all tokens shares part (omega arith)))
 ]
 
-abbrev pub book_left : BankBalances → ℕ → BankBalances
+abbrev pub book_left : Book → ℕ → Book
 book_left b part = record b { tokens = b.tokens - amount_out b.tokens b.shares part; shares = b.shares - part; lefts = b.lefts + 1 }
 
-pub covers_removes : (b : BankBalances) (part : ℕ) → 0 < b.shares → total shares_of b.holders + part ≤ b.shares → Covers b → Covers (book_left b part)
+pub covers_removes : (b : Book) (part : ℕ) → 0 < b.shares → total shares_of b.holders + part ≤ b.shares → Covers b → Covers (book_left b part)
 covers_removes b part some fit k =
     let held : total shares_of b.holders ≤ b.shares - part = omega arith in
     let most : part ≤ b.shares = omega arith in
@@ -192,14 +192,14 @@ covers_removes b part some fit k =
 
 -- ---- an allocation, a start, a payment, the commission
 
-pub covers_allocates : (b : BankBalances) (commission amount : ℕ) → Covers b
+pub covers_allocates : (b : Book) (commission amount : ℕ) → Covers b
     → Covers (record b { outstanding = b.outstanding + (commission + amount); commission = b.commission + commission; current = b.current + amount })
 covers_allocates b commission amount k = record { held = k.held; backed = k.backed; above = k.above; covered = omega (arith, k.covered) }
 
-abbrev pub started : BankBalances → ℕ → Holder
+abbrev pub started : Book → ℕ → Holder
 started b mine = record { mine = mine; stake = value_cut_of b.tokens b.shares mine; rise = 0; closed = 0 }
 
-pub covers_starts : (b : BankBalances) (place mine : ℕ) → total shares_of b.holders + mine ≤ b.shares → Covers b → Covers (record b { holders = insert b.holders place (started b mine) })
+pub covers_starts : (b : Book) (place mine : ℕ) → total shares_of b.holders + mine ≤ b.shares → Covers b → Covers (record b { holders = insert b.holders place (started b mine) })
 covers_starts b place mine fit k = record {
   held = omega (arith, fit, total_insert shares_of (started b mine) place b.holders);
   backed = k.backed;
@@ -207,7 +207,7 @@ covers_starts b place mine fit k = record {
   covered = omega (arith, k.covered, total_insert claim_of (started b mine) place b.holders);
 }
 
-pub covers_stops : (b : BankBalances) (place reward : ℕ) (h : Holder) → slice_get b.holders place ≡ Some h → reward * one ≤ claim_of h → Covers b
+pub covers_stops : (b : Book) (place reward : ℕ) (h : Holder) → slice_get b.holders place ≡ Some h → reward * one ≤ claim_of h → Covers b
     → Covers (record b { outstanding = b.outstanding - min reward b.outstanding; holders = remove b.holders place })
 covers_stops b place reward h there within k = record {
   held = omega (arith, k.held, total_remove shares_of h place b.holders there);
@@ -216,6 +216,6 @@ covers_stops b place reward h there within k = record {
   covered = omega (arith, k.covered, within, total_remove claim_of h place b.holders there);
 }
 
-pub covers_takes : (b : BankBalances) (amount : ℕ) → amount ≤ b.commission → amount ≤ b.outstanding → Covers b
+pub covers_takes : (b : Book) (amount : ℕ) → amount ≤ b.commission → amount ≤ b.outstanding → Covers b
     → Covers (record b { outstanding = b.outstanding - amount; commission = b.commission - amount })
 covers_takes b amount fit there k = record { held = k.held; backed = k.backed; above = k.above; covered = omega (arith, k.covered, fit, there) }

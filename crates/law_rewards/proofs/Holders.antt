@@ -25,7 +25,7 @@ stake_of h = h.stake
 abbrev pub excess : ℕ → ℕ → Holder → ℕ
 excess tokens shares h = h.stake * shares - h.mine * tokens * one
 
-pub record BankBalances : Type 0 where
+pub record Book : Type 0 where
   pub tokens : ℕ
   pub shares : ℕ
   pub current : ℕ
@@ -40,10 +40,10 @@ total f [] = 0
 total f (h ∷ hs) = f h + total f hs
 
 -- outstanding with the overclaim covers commission, current and all claims (in units of units)
-abbrev pub IsCovered : BankBalances → Type 0
+abbrev pub IsCovered : Book → Type 0
 IsCovered b = (b.commission + b.current) * one + total claim_of b.holders ≤ b.outstanding * one + b.lefts * b.ratio
 
-pub record Covers (b : BankBalances) : Type 0 where
+pub record Covers (b : Book) : Type 0 where
   pub held : total shares_of b.holders ≤ b.shares
   pub backed : 0 < b.tokens → 0 < b.shares
   pub above : total (excess b.tokens b.shares) b.holders ≤ b.lefts * b.shares
