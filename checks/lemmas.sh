@@ -9,6 +9,12 @@ import collections, pathlib, re, sys
 # names of antt have letters, digits, _, ' and -, and a - stands within them alone
 NAME = r"[A-Za-z_][\w']*(?:-[\w']+)*"
 HEAD = re.compile(rf"^\s*(?:pub )?(?:abbrev )?(?:pub )?({NAME}) :(?!:)")
+
+
+def indent(line):
+    return len(line) - len(line.lstrip())
+
+
 uses = collections.Counter()
 declared = []
 for path in sorted(pathlib.Path("crates").glob("*/**/*")):
@@ -17,19 +23,20 @@ for path in sorted(pathlib.Path("crates").glob("*/**/*")):
     text = path.read_text(encoding="utf-8")
     lines = [line.split("-- ")[0] if path.suffix == ".antt" else line for line in text.splitlines()]
     of_lemmas = path.parts[2] == "proofs" and path.name not in ("Answers.antt", "Invariants.antt", "Proof.antt", "Lib.antt")
-    own = set()
+    own = {}
     for line in lines:
         head = HEAD.match(line) if of_lemmas else None
         if head and head[1] not in own:
-            own.add(head[1])
+            own[head[1]] = indent(line)
             declared.append((head[1], str(path)))
     for line in lines:
         if line.startswith(("use ", "ghost use ")):
             continue
         names = re.findall(NAME, line)
-        # the lines of a lemma's own clauses begin with its name
+        # the lines of a lemma's own clauses begin with its name, as far to the right as its head
         head = HEAD.match(line)
-        first = head[1] if head else (names[0] if names and names[0] in own and line.lstrip().startswith(names[0]) else None)
+        begins = names and line.lstrip().startswith(names[0]) and own.get(names[0]) == indent(line)
+        first = head[1] if head else names[0] if begins else None
         for at, name in enumerate(names):
             if name == first and at <= (1 if head else 0):
                 continue

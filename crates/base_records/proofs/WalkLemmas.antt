@@ -110,9 +110,6 @@ append_nil [] = refl
 append_nil (x ∷ xs) = ap (λ l. x ∷ l) (append_nil xs)
 
 module _ {K V X : Type 0} (cmp : K → K → Ordering) (of : K × V → X) (start : List X) (es : List (K × V)) where
-  pub walked-first : Walked cmp of start es start None
-  walked-first = record { made = refl; some = ([], sym (append_nil start)) }
-
   pub walked-all : (out : List X) (after : Option K) → Walked cmp of start es out after → entry_above cmp es after ≡ None → out ≡ start ++ map of es
   walked-all out after w f = sym (append_nil out) ∙ ap (λ l. out ++ map of l) (sym (walk-end cmp es after f)) ∙ w.made
 
@@ -135,9 +132,6 @@ pub record Told {K V : Type 0} (cmp : K → K → Ordering) (of : K → V → It
   pub some : (more : List (Item × Bool)) × (out ≡ start ++ more)
 
 module _ {K V : Type 0} (cmp : K → K → Ordering) (of : K → V → Item) (gone : K → Item) (same : V → V → Bool) (start : List (Item × Bool)) (touched : List (K × Option V)) (es : List (K × V)) where
-  pub told-first : (left : List (K × Option V)) → left ≡ touched → Told cmp of gone same start touched es start left
-  told-first left e = record { made = ap (λ l. start ++ changes_of cmp of gone same l es) e; some = ([], sym (append_nil start)) }
-
   pub told-same : (out : List (Item × Bool)) (left rest : List (K × Option V)) (k : K) (was : Option V) → Told cmp of gone same start touched es out left → left ≡ (k, was) ∷ rest
       → change_of of gone same k was (value_at cmp es k) ≡ None → Told cmp of gone same start touched es out rest
   told-same out left rest k was t e c = record {
@@ -152,6 +146,3 @@ module _ {K V : Type 0} (cmp : K → K → Ordering) (of : K → V → Item) (go
         ∙ ap (λ x. out ++ cons_option x (changes_of cmp of gone same rest es)) (sym c) ∙ ap (λ l. out ++ changes_of cmp of gone same l es) (sym e) ∙ t.made;
     some = (t.some.0 ++ p ∷ [], n ∙ ap (λ l. l ++ p ∷ []) t.some.1 ∙ append_assoc start t.some.0 (p ∷ []));
   }
-
-  pub told-all : (out : List (Item × Bool)) (left : List (K × Option V)) → Told cmp of gone same start touched es out left → left ≡ [] → out ≡ start ++ changes_of cmp of gone same touched es
-  told-all out left t e = sym (append_nil out) ∙ ap (λ l. out ++ changes_of cmp of gone same l es) (sym e) ∙ t.made

@@ -67,12 +67,6 @@ pub record VotesSoFar (s : Staked) (reduction : ℕ) (votes : List Vote) (place 
 pub power_alone : (n r : ℕ) → 1 ≤ r → n * r ≤ 10 ^ 18 → n ≤ 10 ^ 18
 power_alone n r some h = let more : 1 * n ≤ r * n = mul-le-mul_right n some in omega (arith, more, h)
 
-pub no_votes_yet : (s : Staked) (reduction : ℕ) (votes : List Vote) → VotesSoFar s reduction votes 0 [] 0
-no_votes_yet s reduction votes = record { before = []; count = refl; same = refl; keys = λ q. refl; total = refl; within = nothing reduction; low = omega arith }
-  where
-    nothing : (n : ℕ) → 0 * n ≤ 10 ^ 18
-    nothing n = omega arith
-
 module _ (s : Staked) (reduction : ℕ) (votes : List Vote) (place : ℕ) (t : Vote) (seen : List (List ℕ)) (power : ℕ) (lt : place < length votes) (is : t ≡ get_or votes place t) (so : VotesSoFar s reduction votes place seen power) where
   -- the vote's own checks, and then the others
   here : (vote_checked s reduction so.before t >> votes_checked s reduction (so.before ++ t ∷ []) (drop (place + 1) votes)) ≡ votes_checked s reduction [] votes
@@ -147,10 +141,6 @@ pub is_new : (there : Bool) → true ≡ not there → there ≡ false
 is_new true e = absurd cc
 is_new false e = refl
 
--- all votes are as they may be
-pub all_votes_checked : (s : Staked) (reduction : ℕ) (votes : List Vote) (place : ℕ) (seen : List (List ℕ)) (power : ℕ) → drop place votes ≡ [] → VotesSoFar s reduction votes place seen power → votes_checked s reduction [] votes ≡ Ok tt
-all_votes_checked s reduction votes place seen power e so = sym so.same ∙ ap (λ (l : List Vote). votes_checked s reduction so.before l) e
-
 -- ---- evidence
 
 -- the evidence before this place is as it may be
@@ -160,15 +150,6 @@ EvidenceSoFar b reduction es place = evidence_checked b reduction place (drop pl
 module _ (b : Block) (reduction : ℕ) (es : List Evidence) (place : ℕ) (e : Evidence) (lt : place < length es) (is : e ≡ get_or es place e) (so : EvidenceSoFar b reduction es place) where
   found : (stop_if (is_bad_evidence b reduction e) (BadEvidence place) >> evidence_checked b reduction (place + 1) (drop (place + 1) es)) ≡ evidence_checked b reduction 0 es
   found = sym (ap (λ (l : List Evidence). evidence_checked b reduction place l) (next es place e lt is)) ∙ so
-
-  pub bad_evidence : is_bad_evidence b reduction e ≡ true → evidence_checked b reduction 0 es ≡ Err (BadEvidence place)
-  bad_evidence h = sym found ∙ ap (λ x. stop_if x (BadEvidence place) >> evidence_checked b reduction (place + 1) (drop (place + 1) es)) h
-
-  pub one_more_piece : is_bad_evidence b reduction e ≡ false → EvidenceSoFar b reduction es (place + 1)
-  one_more_piece h = sym (ap (λ x. stop_if x (BadEvidence place) >> evidence_checked b reduction (place + 1) (drop (place + 1) es)) h) ∙ found
-
-pub all_evidence_checked : (b : Block) (reduction : ℕ) (es : List Evidence) (place : ℕ) → drop place es ≡ [] → EvidenceSoFar b reduction es place → evidence_checked b reduction 0 es ≡ Ok tt
-all_evidence_checked b reduction es place e so = sym so ∙ ap (λ (l : List Evidence). evidence_checked b reduction place l) e
 
 -- ---- all checks, over what is kept
 

@@ -37,11 +37,6 @@ fee_stands payer fee p k k2 money s d =
     let n = from_if (IsNext p) (fee_paid payer fee p) d.0 d.1 (fee_next payer fee p money s.sound s.whole) in
     (d.0, d.1, record { keeps = d.2; sound = n.sound; whole = n.whole })
 
--- a payer who is short
-pub fee_short : (payer : List ℕ) (fee : Money) (k : KeptState) (p : State) → StandsWhole k p → is_short k.view.bank (account.User payer) fee ≡ true → fee_paid payer fee p ≡ Err FeeUnpaid
-fee_short payer fee k p s e =
-    ap (λ b. stop_if b FeeUnpaid >> Ok (over_view (sent (account.User payer) (account.Module holder.FeeCollector) fee) p)) (ap (λ (u : View). is_short u.bank (account.User payer) fee) s.keeps.view ∙ e)
-
 -- modules that stand for another state go on steady
 pub steady_then : (old new : Modules) → AreSteady old → GoOn old new → (due : State) → StandsWhole (kept_of new) due → AreSteady new
 steady_then old new s on due stands = record {
@@ -49,10 +44,6 @@ steady_then old new s on due stands = record {
   state = due;
   stands = stands;
 }
-
--- modules that keep what they kept stay steady
-pub steady_same : (old new : Modules) → AreSteady old → GoOn old new → kept_of new ≡ kept_of old → AreSteady new
-steady_same old new s on same = steady_then old new s on s.state (whole_same (kept_of old) (kept_of new) s.state same s.stands)
 
 -- the same behind a fee that was paid
 pub fee_steady : (payer : List ℕ) (fee : Money) (old new : Modules) → AreSteady old → GoOn old new → ((p : State) → StandsWhole (kept_of old) p → (due : State) × (fee_paid payer fee p ≡ Ok due) × StandsWhole (kept_of new) due) → AreSteady new

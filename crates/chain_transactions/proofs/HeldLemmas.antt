@@ -53,19 +53,6 @@ asked_then s who operator d v x e = by (validator_at s operator) (delegation s w
     by (Some a) None q = absurd cc
     by None b q = absurd cc
 
--- where none stands, that refuses the message
-pub asked_refuses : (s : Staked) (who operator : List ℕ) (d : Shared) (v : View) (why : Refusal) → delegation_asked who operator s ≡ Err why → reward_taken s who operator d v ≡ Err why
-asked_refuses s who operator d v why e = by (validator_at s operator) (delegation s who operator) e
-  where
-    one : (y z : Refusal) → ◌≡◌ {A = Result (Validator × ℕ) Refusal} (Err y) (Err z) → y ≡ z
-    one y z q = cc
-
-    by : (a : Option Validator) (b : Option ℕ) → ◌≡◌ {A = Result (Validator × ℕ) Refusal} (or_stop a NoValidator >>= λ val. or_stop b NoDelegation >>= λ shares. Ok (val, shares)) (Err why)
-        → (or_stop a NoValidator >>= λ val. or_stop b NoDelegation >>= λ shares. stopping Overflow (reward_renewed val who shares d v)) ≡ Err why
-    by (Some a) (Some b) q = absurd cc
-    by (Some a) None q = ap (λ r. Err r) (one NoDelegation why q)
-    by None b q = ap (λ r. Err r) (one NoValidator why q)
-
 -- ---- messages over modules
 
 module _ (old new : Modules) (p : State) (s : StandsWhole (kept_of old) p) (ctx : new.ground.ctx ≡ old.ground.ctx) where

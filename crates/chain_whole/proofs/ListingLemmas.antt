@@ -44,10 +44,6 @@ of_supplies (s ∷ supplies) = ap (λ l. s ∷ l) (of_supplies supplies)
 pub coins_of_items : (h : Holdings) → map pair (filter_map coin_in (items_of h)) ≡ h.supplies
 coins_of_items h = ap (map pair) (after_balances h.balances h.supplies) ∙ of_supplies h.supplies
 
--- the items of both modules are those of the machine
-pub listed_items : (h : Holdings) (s : Staked) → items_of h ++ stake_items s ≡ holding_items h ++ staked_items s
-listed_items h s = refl
-
 -- ---- supplies as a list of coins
 
 -- each amount is below the limit

@@ -38,25 +38,6 @@ own_given p who (item.Historical operator period history) e = absurd cc
 own_given p who (item.Start operator delegator info) e = absurd cc
 own_given p who (item.Event operator event) e = absurd cc
 
--- another item gives nothing
-pub none_given : (p : State) (who : List ℕ) (i : Item) → is_delegation_of who i ≡ false → own_of_item p who i ≡ []
-none_given p who (item.Delegation operator delegator shares) e = ap (λ b. cond b (pending_for p operator delegator shares ∷ []) []) e
-none_given p who (item.Head height time) e = refl
-none_given p who (item.Parameters params) e = refl
-none_given p who (item.Balance account denom amount) e = refl
-none_given p who (item.Supply denom amount) e = refl
-none_given p who (item.Validator validator) e = refl
-none_given p who (item.Unbonding delegator operator entries) e = refl
-none_given p who (item.Redelegation delegator source target entries) e = refl
-none_given p who (item.Signing cons info ring) e = refl
-none_given p who (item.Purse operator purse) e = refl
-none_given p who (item.Pool coins) e = refl
-none_given p who (item.Withdraw delegator to) e = refl
-none_given p who (item.CurrentPeriod operator period) e = refl
-none_given p who (item.Historical operator period history) e = refl
-none_given p who (item.Start operator delegator info) e = refl
-none_given p who (item.Event operator event) e = refl
-
 -- ---- all items
 
 pub own_more : (p : State) (who : List ℕ) (items : List Item) (i : ℕ) (x : Item) (list list2 : List Pending) → i < length items → x ≡ get_or items i x → list ≡ flat_map (own_of_item p who) (take i items)

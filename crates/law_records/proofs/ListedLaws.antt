@@ -78,10 +78,6 @@ abbrev pub Takes : {A : Type 0} → Type 0 → (A → Type 0) → Option A → T
 Takes N P None = N
 Takes N P (Some x) = P x
 
-takes_map : {X A : Type 0} {N M : Type 0} {P : X → Type 0} (Q : A → Type 0) (f : X → A) (r : Option X) → (N → M) → ((x : X) → P x → Q (f x)) → Takes N P r → Takes M Q (option_map f r)
-takes_map Q f None n h t = n t
-takes_map Q f (Some x) n h t = h x t
-
 -- an item is taken into a list of entries, whose items are now one more; or one of its key stands
 module _ {K X : Type 0} (cmp : K → K → Ordering) (of : K × X → Item) (exact : (a b : K) → cmp a b ≡ Equal → a ≡ b) where
   put_in : (es : List (K × X)) (k : K) (x : X) → at cmp es k ≡ None → IsPermutation (of (k, x) ∷ map of es) (map of (insert_entry cmp es k x))

@@ -46,10 +46,6 @@ first_apart : (a b : Bool) → a ≡ false → (a && b) ≡ false
 first_apart true b e = cc
 first_apart false b e = refl
 
-both_hold : (a b : Bool) → (a && b) ≡ true → (a ≡ true) × (b ≡ true)
-both_hold true b e = (refl, e)
-both_hold false b e = absurd cc
-
 pub tied_parts : (a b : Ordering) → ordering_then a b ≡ Equal → (a ≡ Equal) × (b ≡ Equal)
 tied_parts Less b e = absurd cc
 tied_parts Equal b e = (refl, e)

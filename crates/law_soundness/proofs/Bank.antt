@@ -36,13 +36,6 @@ module _ (P : List ℕ → Type 0) where
   held_moved [] h from to n k = k
   held_moved (c ∷ cs) h from to n k = held_moved cs (coin_moved from to c.0 c.1 h) from to n.1 (held_coin_moved h from to c.0 c.1 n.0 k)
 
-  pub held_burned : (h : Holdings) (from : Account) (d : List ℕ) (n : ℕ) → P d → AreHeld h.balances → AreHeld (burned from d n h).balances
-  held_burned h from d n p k = by (n == 0)
-    where
-      by : (z : Bool) → AreHeld (cond z h (coin_burned from d n h)).balances
-      by true = k
-      by false = held_with h from d (balance_of h from d - n) p k
-
   -- a denomination of which somebody holds something has it
   pub name_held : (h : Holdings) (who : Account) (d : List ℕ) → 0 < balance_of h who d → AreHeld h.balances → P d
   name_held h who d p k = by (lookup (is_at (place_cmp (who, d))) h.balances) refl p

@@ -45,9 +45,6 @@ filtered_most test (x ∷ xs) = by (test x) (filtered_most test xs)
 
 -- ---- entries that are not mature
 
-not_mature : ℕ → UnbondingEntry → Bool
-not_mature now e = not (is_mature now e)
-
 then_balances : (key : List ℕ × List ℕ) (es : Entries) (u : UnbondingLists) → entry_balances (key_then key es u) ≡ balances_of es + entry_balances u
 then_balances key [] u = omega arith
 then_balances key (e ∷ es) u = total_more pair_cmp pair_total balances_of (key, e ∷ es) u

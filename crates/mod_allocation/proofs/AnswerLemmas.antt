@@ -112,11 +112,6 @@ module _ {A S : Type 0} (s : S) (v : View) where
   pub held_gives : (rule : Result (A × S × View) Refusal) (a : A) → rule ≡ Ok (a, s, v) → AnswersHeld rule s v (Ok a)
   held_gives rule a e = subst (λ r. AnswersHeld r s v (Ok a)) (sym e) (refl, refl, refl)
 
-  -- a message that succeeded did what the rule gives
-  pub held_given : (rule : Result (A × S × View) Refusal) (a : A) → AnswersHeld rule s v (Ok a) → rule ≡ Ok (a, s, v)
-  held_given (Ok due) a h = λ i. Ok (sym h.0 i, sym h.1 i, sym h.2 i)
-  held_given (Err why) a h = absurd h
-
   -- a payer is short, or the bank wants memory
   pub held_unpaid : (rule : Result (A × S × View) Refusal) (fault : BankFault) (from to : Account) (coins : Money) (h h2 : Holdings) (facts facts2 : List Fact) → (is_short h from coins ≡ true → rule ≡ Err InsufficientFunds)
       → Sends from to coins h facts h2 facts2 (Err fault) → AnswersHeld rule s v (Err (stop_of_bank fault))

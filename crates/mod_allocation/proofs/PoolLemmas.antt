@@ -241,8 +241,6 @@ module _ (who : List ℕ) (coins : Money) (d : Shared) (v : View) where
   bank_of (Ok z) = z.2.bank
   bank_of (Err why) = v.bank
 
-  pub funded_parts : (s : Shared) (w : View) → pool_funded who coins d v ≡ Ok (tt, s, w)
-      → (is_short v.bank (account.User who) coins ≡ false) × (w.bank ≡ moved (account.User who) (account.Module holder.Distribution) coins v.bank)
   unfolding bank_of rule_of
   funded_parts s w e = by (is_empty coins) (is_short v.bank (account.User who) coins) (pool_joined (in_units coins) d.purses) e
     where
@@ -251,17 +249,6 @@ module _ (who : List ℕ) (coins : Money) (d : Shared) (v : View) where
       by false true joins f = absurd cc
       by false false (Err over) f = absurd cc
       by false false (Ok p) f = (refl, ap bank_of (sym f))
-
--- then the distribution account has at least what it owes, where it owed nothing
-pub funded_pays : (p q : Purses) (coins : Money) (h h2 : Holdings) (who : List ℕ) → IsBacked h → IsMoney coins → is_short h (account.User who) coins ≡ false
-    → h2 ≡ moved (account.User who) (account.Module holder.Distribution) coins h → ((d : List ℕ) → owed_by p d ≡ 0) → IsMoved p coins [] q
-    → (d : List ℕ) → owed_by q d ≤ 10 ^ 18 * balance_of h2 (account.Module holder.Distribution) d
-funded_pays p q coins h h2 who backed money short is none came d =
-    subst (λ k. owed_by q d ≤ 10 ^ 18 * balance_of k (account.Module holder.Distribution) d) (sym is)
-    (has (owed_by q d) (owed_by p d) (amount_of coins d) _ _ (none d) (came d) (moves_by_amounts h (account.User who) (account.Module holder.Distribution) coins backed money short (account.Module holder.Distribution) d))
-  where
-    has : (q p n b b2 : ℕ) → p ≡ 0 → q + 10 ^ 18 * 0 ≡ p + 10 ^ 18 * n → b2 + 0 ≡ b + n → q ≤ 10 ^ 18 * b2
-    has q p n b b2 z e f = omega (arith, z, e, f)
 
 -- coins that a user has
 pub user-has : (h : Holdings) (who : List ℕ) (coins : Money) → is_short h (account.User who) coins ≡ false → (d : List ℕ) → amount_of coins d ≤ balance_of h (account.User who) d

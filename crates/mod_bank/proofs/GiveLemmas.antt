@@ -126,16 +126,6 @@ module _ (who : Account) (coins : Money) (start : Booked) (bounded : (d : List �
       }
 
   module _ (here : Booked) (rest : Money) (r : rest ≡ []) (m : Giving who coins start here rest) where
-    pub giving-end : here ≡ holding (coins_given who coins start.holdings) start
-    giving-end =
-        let gives : here.holdings ≡ coins_given who coins start.holdings = subst (λ l. coins_given who l here.holdings ≡ coins_given who coins start.holdings) r m.gives in
-        m.same ∙ ap (λ h. holding h start) gives
-
-    pub supplies-end : (d : List ℕ) → supply_of here.holdings d ≡ supply_of start.holdings d + amount_of coins d
-    supplies-end d =
-        let s : supply_of here.holdings d + amount_of [] d ≡ supply_of start.holdings d + amount_of coins d = subst (λ l. supply_of here.holdings d + amount_of l d ≡ supply_of start.holdings d + amount_of coins d) r (m.supplies d) in
-        omega (arith, s)
-
 -- ---- accounts on their way
 
 -- some accounts are given their coins, and these are left

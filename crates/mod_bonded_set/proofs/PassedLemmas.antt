@@ -124,9 +124,6 @@ pub record Left (t : Validator → Bool) (es : List (List ℕ × Validator)) (ou
   pub made : out ++ filter t (values_of (left_of addr_cmp es after)) ≡ filter t (values_of es)
 
 module _ (t : Validator → Bool) (es : List (List ℕ × Validator)) where
-  pub left-first : Left t es [] None
-  left-first = record { made = refl }
-
   pub left-more : (out next : List Validator) (after : Option (List ℕ)) (e : List ℕ × Validator) → IsStrictlySortedBy addr_cmp (keys_of es) → Left t es out after → entry_above addr_cmp es after ≡ Some e
       → next ≡ out ++ filter t (e.1 ∷ []) → Left t es next (Some e.0)
   left-more out next after e s h f g = record {

@@ -164,11 +164,6 @@ AllApart (e ∷ es) = Apart e.1.operator es × AllApart es
 abbrev pub by_place : ℕ → Validators → List (Standing × Validator)
 by_place r es = in_order standing_cmp (power_place r) es
 
-ordering_tie : (p q : Ordering) → ordering_then p q ≡ Equal → q ≡ Equal
-ordering_tie Less q e = absurd cc
-ordering_tie Equal q e = e
-ordering_tie Greater q e = absurd cc
-
 others-put : (k q : Standing) (v : Validator) (es : List (Standing × Validator)) → (standing_cmp q k ≡ Equal → ⊥) → AreOthers k es → AreOthers k (insert_entry standing_cmp es q v)
 others-put k q v [] n h = (n, tt)
 others-put k q v (e ∷ es) n h = by (standing_cmp q e.0) (others-put k q v es n h.1)

@@ -82,11 +82,6 @@ module _ {A : Type 0} (k : KeptShared) (v : View) where
   message_fault (Err due) (hook.Over over) h = ap Overflow h
   message_fault (Err due) hook.NoMemory h = tt
 
-  -- memory may be wanting in a message, or it is refused as the rule says
-  pub message_wants : (r : Result (A × Shared × View × Log) Refusal) → CarriesOutOrRefuses r k v (Err stop.NoMemory)
-  message_wants (Ok x) = tt
-  message_wants (Err why) = tt
-
   pub message_refused : (r : Result (A × Shared × View × Log) Refusal) (why : Refusal) → r ≡ Err why → CarriesOutOrRefuses r k v (Err (stop.Refused why))
   message_refused r why e = subst (λ x. CarriesOutOrRefuses x k v (Err (stop.Refused why))) (sym e) refl
 

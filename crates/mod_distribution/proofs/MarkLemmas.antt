@@ -128,10 +128,6 @@ module _ {A E : Type 0} (answer : Result A E) (f f2 : Recorded) (p p2 : Pursed) 
 pub goes_on-then : {A B E F : Type 0} (a b c : Distributed) (first : Result A E) (second : Result B F) → SharedGoesOn a b first → b.spent ≡ a.spent → SharedGoesOn b c second → SharedGoesOn a c second
 goes_on-then a b c first second g u h = record { behind = h.behind ∙ g.behind; spent = λ e. h.spent (g.spent e); unspent = on_ok second (λ e. e ∙ u) h.unspent }
 
--- of one that failed with the fault of its first call
-pub goes_on-fault : {A B E F : Type 0} (a b : Distributed) (first : Result A E) (fault : F) → SharedGoesOn a b first → SharedGoesOn {A = B} a b (Err fault)
-goes_on-fault a b first fault g = record { behind = g.behind; spent = g.spent; unspent = tt }
-
 -- ---- what can be taken back
 
 module _ {B M : Type 0} (marks : B → M) where
@@ -144,10 +140,6 @@ module _ {B M : Type 0} (marks : B → M) where
     ctx = b.ctx ∙ a.ctx;
     facts = (a.facts.0 ++ b.facts.0, b.facts.1 ∙ ap (λ l. l ++ b.facts.0) a.facts.1 ∙ append_assoc g.facts a.facts.0 b.facts.0);
   }
-
-  -- facts alone were put behind
-  pub undone-told : (g : Ground B) (facts : List Fact) → (more : List Fact) × (facts ≡ g.facts ++ more) → CanBeUndone marks g (record g { facts = facts })
-  undone-told g facts more = record { marks = refl; ctx = refl; facts = more }
 
 -- a commission is told where there is some
 pub commission_behind : (operator to : List ℕ) (coins : Money) (facts : List Fact) → (more : List Fact) × (commission_told operator to coins facts ≡ facts ++ more)

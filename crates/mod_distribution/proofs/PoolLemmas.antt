@@ -114,10 +114,6 @@ fees_rest s votes d v =
     let v1 = sent (account.Module holder.FeeCollector) (account.Module holder.Distribution) fees v in
     allocated s v.ctx.params fees votes d.purses v1.facts >>= λ x. Ok (record d { purses = x.0 }, record v1 { facts = x.1 }, x.2)
 
--- a block of height 1 allocates nothing
-pub fees_none : (s : Staked) (votes : List Vote) (k : KeptShared) (d : Shared) (v : View) → KeepsShared k d → nat_le v.ctx.height 1 ≡ true → Answers (told_of (fees_allocated s votes d v)) (KeepsShared k) v (Ok tt)
-fees_none s votes k d v h e = subst (λ b. Answers (told_of (if b then Ok (d, v, []) else fees_rest s votes d v)) (KeepsShared k) v (Ok tt)) (sym e) (h, refl)
-
 -- with a block's fees no more is owed than there can be, since after they have moved the account has as much
 pub fees_within : (k : KeptShared) (d : Shared) (v v1 : View) (l : Lists) (fees : Money) → KeepsShared k d → Stand distribution_tells d v l → IsMoney fees → is_short v.bank (account.Module holder.FeeCollector) fees ≡ false
     → v1 ≡ sent (account.Module holder.FeeCollector) (account.Module holder.Distribution) fees v → IsBacked v1.bank → AreWithin k.purses (amount_of fees)

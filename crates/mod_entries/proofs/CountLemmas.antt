@@ -99,9 +99,6 @@ module _ {K E : Type 0} (cmp : K → K → Ordering) (total : IsTotalOrder cmp) 
   left_member None e m = m
   left_member (Some k) e m = filter_member _ u e m
 
-  pub where-end : (test : K → List E → Bool) (ks : List K) → ks ++ keys_where test (left_at after) ≡ keys_where test u → entry_above cmp u after ≡ None → ks ≡ keys_where test u
-  where-end test ks told f = sym (append-nil ks) ∙ ap (λ l. ks ++ keys_where test l) (sym (walk-end cmp u after f)) ∙ told
-
   module _ (e : K × List E) (f : entry_above cmp u after ≡ Some e) where
     pub left_is : left_at after ≡ e ∷ left_at (Some e.0)
     left_is = walk-more cmp total u after e s f
@@ -137,12 +134,3 @@ module _ {K E : Type 0} (cmp : K → K → Ordering) (total : IsTotalOrder cmp) 
     -- what holds of all entries holds of that one
     pub all-left : (P : K × List E → Type 0) → All P u → P e
     all-left P h = of_member P u (recursion_from_All P u h) e (left_member after e (subst (λ l. Member l e) (sym left_is) (inl refl)))
-
-  pub count-end : (source : K → List ℕ) (made : E → Made) (operator : List ℕ) (infraction factor now sum : ℕ) → sum ≤ 10 ^ 18
-      → counted (sum + all_counted source made operator infraction factor now (left_at after)) ≡ counted (all_counted source made operator infraction factor now u)
-      → entry_above cmp u after ≡ None → sum ≡ counted (all_counted source made operator infraction factor now u)
-  count-end source made operator infraction factor now sum most told f =
-      few ∙ ap (λ l. counted (sum + all_counted source made operator infraction factor now l)) (sym (walk-end cmp u after f)) ∙ told
-    where
-      few : sum ≡ counted (sum + 0)
-      few = omega (arith, most)

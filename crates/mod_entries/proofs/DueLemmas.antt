@@ -292,13 +292,6 @@ module _ {K : Type 0} (cmp : K → K → Ordering) (total : IsTotalOrder cmp) (n
         ap (λ l. l ++ due_in now (left_at (Some e.0))) n ∙ append_assoc ks (e.0.1 ∷ []) (due_in now (left_at (Some e.0)))
         ∙ ap (λ b. ks ++ cond b (e.0.1 ∷ due_in now (left_at (Some e.0))) []) (sym due) ∙ ap (λ l. ks ++ due_in now l) (sym left_is) ∙ told
 
-    pub due-counted : e.0.0 ≤ now → length ks + 1 ≤ length (due_in now q)
-    due-counted h =
-        let due : nat_le e.0.0 now ≡ true = grind (arith, nat_tests, h) in
-        let whole : ks ++ e.0.1 ∷ due_in now (left_at (Some e.0)) ≡ due_in now q = ap (λ b. ks ++ cond b (e.0.1 ∷ due_in now (left_at (Some e.0))) []) (sym due) ∙ ap (λ l. ks ++ due_in now l) (sym left_is) ∙ told in
-        let n = sym (length-append ks (e.0.1 ∷ due_in now (left_at (Some e.0)))) ∙ ap length whole in
-        omega (arith, n)
-
     pub due-shorter : length (left_at (Some e.0)) < length (left_at after)
     due-shorter = let n = ap length left_is in omega (arith, n)
 

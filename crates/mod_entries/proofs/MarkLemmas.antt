@@ -77,6 +77,3 @@ module _ {K E : Type 0} (cmp : K → K → Ordering) (fits : K → Type 0) (made
     -- where a mark is open, one is in each table
     pub some_at : l.marks ≢ [] → (0 < length l.marks) × (0 < length q.marks)
     some_at m = let n = some_marks l.marks m in (n, subst (λ k. 0 < k) (sym h.depth) n)
-
-    pub closed-queue : l.marks ≡ [] → q.marks ≡ []
-    closed-queue m = none_from_length q.marks (h.depth ∙ ap length m)

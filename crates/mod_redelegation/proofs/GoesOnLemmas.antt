@@ -47,10 +47,6 @@ pub leaves_no_memory : {D H : Type 0} (r : Result (World D H) Over) (d : D) (hol
 leaves_no_memory (Ok w) d holds v = tt
 leaves_no_memory (Err due) d holds v = tt
 
-pub lent_no_memory : {S D H : Type 0} (r : Result (ℕ × S × World D H) Over) (s : S) (d : D) (holds : H → Type 0) (v : View) → FollowsLent r s d holds v (Err hook.NoMemory)
-lent_no_memory (Ok p) s d holds v = tt
-lent_no_memory (Err due) s d holds v = tt
-
 -- an unbonding exceeds, or wants memory
 pub leaves_fault : {D H : Type 0} (r : Result (ℕ × World D H) Over) (f : ℕ × World D H → Result (World D H) Over) (d1 d : D) (holds1 holds : H → Type 0) (v1 v : View) (fault : HookFault)
     → Follows r d1 holds1 v1 (Err fault) → Leaves (r >>= f) d holds v (Err fault)

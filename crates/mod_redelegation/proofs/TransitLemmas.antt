@@ -29,6 +29,3 @@ module _ (delegator source : List ℕ) (r : RedelegationLists) (s : IsStrictlySo
     -- one that does decides it
     pub transit-found : leads e.0 ≡ true → is_transitive (rest_at after) delegator source ≡ true
     transit-found h = split ∙ ap (λ b. b || is_transitive (rest_at (Some e.0)) delegator source) h
-
-  pub transit-end : entry_above triple_cmp r after ≡ None → is_transitive (rest_at after) delegator source ≡ false
-  transit-end f = ap (λ l. is_transitive l delegator source) (walk-end triple_cmp r after f)

@@ -8,7 +8,7 @@ use Rattle.base_table.specs.Tabled.{entry_above, value_at}
 use Rattle.base_roles.specs.declared.items.Item.{Item}
 use Rattle.base_roles.specs.Entries.{at, number_at}
 use Rattle.base_records.specs.Items.{change_of, changes_of}
-use Rattle.base_records.proofs.WalkLemmas.{Walked, walked-all, Told, told-first, told-same, told-more, told-all}
+use Rattle.base_records.proofs.WalkLemmas.{Walked, walked-all, Told, told-same, told-more}
 use Rattle.mod_signing.specs.declared.entry.Entry.{Entry}
 use Rattle.mod_signing.specs.Kept.{kept_of}
 use Rattle.mod_signing.specs.Rings.{Rows, is_set, place_set, places_of, ring_of, row_cmp}
@@ -40,9 +40,6 @@ abbrev pub signing_change : Rows → Rows → List ℕ → Option Entry → Opti
 signing_change settled rows cons was now = change_of signing_item signing_gone same_signed cons (option_map (signed_over settled cons) was) (option_map (signed_over rows cons) now)
 
 module _ (settled rows : Rows) (start : List (Item × Bool)) (touched : List (List ℕ × Option Entry)) (es : List (List ℕ × Entry)) where
-  pub signings-first : (left : List (List ℕ × Option Entry)) → left ≡ touched → ToldSignings settled rows start touched es start left
-  signings-first left e = told-first cons_cmp signing_item signing_gone same_signed start (touched_over settled touched) (kept_of es rows) (touched_over settled left) (ap (touched_over settled) e)
-
   change_is : (cons : List ℕ) (was : Option Entry) (x : Option (Item × Bool)) → signing_change settled rows cons was (at cons_cmp es cons) ≡ x
       → change_of signing_item signing_gone same_signed cons (option_map (signed_over settled cons) was) (value_at cons_cmp (kept_of es rows) cons) ≡ x
   change_is cons was x e = ap (change_of signing_item signing_gone same_signed cons (option_map (signed_over settled cons) was)) (signed_found es rows cons) ∙ e
@@ -58,10 +55,6 @@ module _ (settled rows : Rows) (start : List (Item × Bool)) (touched : List (Li
   signings-more out next left rest cons was p t e c n =
       told-more cons_cmp signing_item signing_gone same_signed start (touched_over settled touched) (kept_of es rows) out next (touched_over settled left) (touched_over settled rest)
       cons (option_map (signed_over settled cons) was) p t (ap (touched_over settled) e) (change_is cons was (Some p) c) n
-
-  pub signings-all : (out : List (Item × Bool)) (left : List (List ℕ × Option Entry)) → ToldSignings settled rows start touched es out left → left ≡ []
-      → out ≡ start ++ changes_of cons_cmp signing_item signing_gone same_signed (touched_over settled touched) (kept_of es rows)
-  signings-all out left t e = told-all cons_cmp signing_item signing_gone same_signed start (touched_over settled touched) (kept_of es rows) out (touched_over settled left) t (ap (touched_over settled) e)
 
 -- ---- a ring, row by row
 

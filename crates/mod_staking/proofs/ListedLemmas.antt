@@ -105,33 +105,8 @@ module _ {K : Type 0} (cmp : K → K → Ordering) (place_of : Validator → Opt
   abbrev Is : Tabled (List ℕ) Validator → Tabled K (List ℕ) → Type 0
   Is records list = IsListed cmp place_of records list
 
-  listed-none : Is empty_table empty_table
-  listed-none = record { entries = refl; marks = refl }
-
   module _ (records records2 : Tabled (List ℕ) Validator) (list list2 : Tabled K (List ℕ)) (h : Is records list) where
-    listed-marked : Is (with_mark records) (with_mark list)
-    listed-marked = record {
-      entries = h.entries;
-      marks = (λ i. h.marks i ++ h.entries i ∷ []) ∙ sym (map-append of records.marks (records.entries ∷ []));
     }
-
-    -- the marks but the latest, and the latest one
-    popped : (m : Validators) (l : List (K × List ℕ)) → records2.marks ++ m ∷ [] ≡ records.marks → list2.marks ++ l ∷ [] ≡ list.marks → (list2.marks ≡ map of records2.marks) × (l ≡ of m)
-    popped m l p q = last_apart list2.marks (map of records2.marks) l (of m) (q ∙ h.marks ∙ ap (map of) (sym p) ∙ map-append of records2.marks (m ∷ []))
-
-    listed-back : IsGoneBack records records2 → IsGoneBack list list2 → Is records2 list2
-    listed-back p q = let r = popped records2.entries list2.entries p.restored q.restored in record { entries = r.1; marks = r.0 }
-
-    listed-forgotten : IsForgotten records records2 → IsForgotten list list2 → Is records2 list2
-    listed-forgotten p q =
-        let r = popped p.closed.0 q.closed.0 p.closed.1 q.closed.1 in
-        record {
-          entries = ap (λ t. t.entries) q.rest ∙ h.entries ∙ ap of (sym (ap (λ t. t.entries) p.rest));
-          marks = r.0;
-        }
-
-    listed-same : records2.entries ≡ records.entries → records2.marks ≡ records.marks → list2.entries ≡ list.entries → list2.marks ≡ list.marks → Is records2 list2
-    listed-same e m f n = record { entries = f ∙ h.entries ∙ ap of (sym e); marks = n ∙ h.marks ∙ ap (map of) (sym m) }
 
     listed-with : records2.marks ≡ records.marks → list2.marks ≡ list.marks → list2.entries ≡ of records2.entries → Is records2 list2
     listed-with m n e = record { entries = e; marks = n ∙ h.marks ∙ ap (map of) (sym m) }
@@ -143,48 +118,14 @@ module _ {K : Type 0} (cmp : K → K → Ordering) (place_of : Validator → Opt
 -- ---- the three lists
 
 module _ (n : ℕ) (records records2 : Tabled (List ℕ) Validator) (lists lists2 : Lists) (h : AreListed n records lists) where
-  pub all_listed-same : records2.entries ≡ records.entries → records2.marks ≡ records.marks → lists2.by_power.entries ≡ lists.by_power.entries → lists2.bonded.entries ≡ lists.bonded.entries
-      → lists2.maturing.entries ≡ lists.maturing.entries → HaveMarksOf lists lists2 → AreListed n records2 lists2
-  all_listed-same e m p b t k = record {
-    some = h.some;
-    by_power = listed-same standing_cmp (power_place n) records records2 lists.by_power lists2.by_power h.by_power e m p k.by_power;
-    bonded = listed-same addr_cmp (bonded_place n) records records2 lists.bonded lists2.bonded h.bonded e m b k.bonded;
-    maturing = listed-same time_cmp (maturing_place n) records records2 lists.maturing lists2.maturing h.maturing e m t k.maturing;
   }
 
-  pub all_listed-marked : lists2.by_power ≡ with_mark lists.by_power → lists2.bonded ≡ with_mark lists.bonded → lists2.maturing ≡ with_mark lists.maturing → records2 ≡ with_mark records → AreListed n records2 lists2
-  all_listed-marked p b t r = record {
-    some = h.some;
-    by_power = subst (λ l. IsListed standing_cmp (power_place n) records2 l) (sym p) (subst (λ x. IsListed standing_cmp (power_place n) x (with_mark lists.by_power)) (sym r)
-        (listed-marked standing_cmp (power_place n) records records lists.by_power lists.by_power h.by_power));
-    bonded = subst (λ l. IsListed addr_cmp (bonded_place n) records2 l) (sym b) (subst (λ x. IsListed addr_cmp (bonded_place n) x (with_mark lists.bonded)) (sym r)
-        (listed-marked addr_cmp (bonded_place n) records records lists.bonded lists.bonded h.bonded));
-    maturing = subst (λ l. IsListed time_cmp (maturing_place n) records2 l) (sym t) (subst (λ x. IsListed time_cmp (maturing_place n) x (with_mark lists.maturing)) (sym r)
-        (listed-marked time_cmp (maturing_place n) records records lists.maturing lists.maturing h.maturing));
   }
 
-  pub all_listed-back : IsGoneBack records records2 → IsGoneBack lists.by_power lists2.by_power → IsGoneBack lists.bonded lists2.bonded → IsGoneBack lists.maturing lists2.maturing → AreListed n records2 lists2
-  all_listed-back r p b t = record {
-    some = h.some;
-    by_power = listed-back standing_cmp (power_place n) records records2 lists.by_power lists2.by_power h.by_power r p;
-    bonded = listed-back addr_cmp (bonded_place n) records records2 lists.bonded lists2.bonded h.bonded r b;
-    maturing = listed-back time_cmp (maturing_place n) records records2 lists.maturing lists2.maturing h.maturing r t;
   }
 
-  pub all_listed-forgotten : IsForgotten records records2 → IsForgotten lists.by_power lists2.by_power → IsForgotten lists.bonded lists2.bonded → IsForgotten lists.maturing lists2.maturing → AreListed n records2 lists2
-  all_listed-forgotten r p b t = record {
-    some = h.some;
-    by_power = listed-forgotten standing_cmp (power_place n) records records2 lists.by_power lists2.by_power h.by_power r p;
-    bonded = listed-forgotten addr_cmp (bonded_place n) records records2 lists.bonded lists2.bonded h.bonded r b;
-    maturing = listed-forgotten time_cmp (maturing_place n) records records2 lists.maturing lists2.maturing h.maturing r t;
   }
 
-  -- as many marks are open in each list
-  pub depths : (length lists.by_power.marks ≡ length records.marks) × (length lists.bonded.marks ≡ length records.marks) × (length lists.maturing.marks ≡ length records.marks)
-  depths = (
-    depth standing_cmp (power_place n) records records lists.by_power lists.by_power h.by_power,
-    depth addr_cmp (bonded_place n) records records lists.bonded lists.bonded h.bonded,
-    depth time_cmp (maturing_place n) records records lists.maturing lists.maturing h.maturing,
   )
 
 -- ---- a change

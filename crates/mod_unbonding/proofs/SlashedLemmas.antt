@@ -118,9 +118,6 @@ module _ (infraction factor now : ℕ) where
         let b = slashed-balances old in
         omega (arith, a, b)
 
-    pub burned-within : burned_of infraction factor now old ≤ entry_balances u
-    burned-within = let a = slashed-owed in omega (arith, a)
-
 -- ---- one burn, and one behind another
 
 -- an amount of the bond denomination burned, by which less is owed

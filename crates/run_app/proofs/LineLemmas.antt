@@ -30,14 +30,6 @@ not_applied_stops n (block.BadEvidence place) line = tt
 not_applied_stops n (block.RatioLimit over) line = tt
 not_applied_stops n block.NoMemory line = tt
 
-pub fault_stops : (why : LineStop) (due : Result Answer LineStop) (line : List ℕ) → IsFault why due → IsOfLine why line
-fault_stops (stop.BadInput m fault) due line h = tt
-fault_stops (stop.Long m) due line h = absurd h
-fault_stops (stop.Ratio m over) due line h = tt
-fault_stops stop.Write due line h = absurd h
-fault_stops stop.Keep due line h = absurd h
-fault_stops stop.NoMemory due line h = tt
-
 pub long_only : (why : LineStop) (line : List ℕ) → IsOfLine why line → LongOnly why line
 long_only (stop.BadInput m fault) line h = tt
 long_only (stop.Long m) line h = h

@@ -86,20 +86,6 @@ IsOfBlock BadStore = ⊥
 IsOfBlock (WrongStore is_empty) = ⊥
 IsOfBlock NotFound = ⊥
 
-pub of_block : (n : ℕ) (f : BlockFault) → IsOfBlock (status_of (not_applied n f))
-of_block n (why.BadHeight due) = tt
-of_block n (why.BadTime last) = tt
-of_block n (why.UnknownVote place) = tt
-of_block n (why.RepeatedVote place) = tt
-of_block n (why.BadPower place) = tt
-of_block n (why.BadEvidence place) = tt
-of_block n (why.RatioLimit over) = tt
-of_block n why.NoMemory = tt
-
--- so it does not end by such a status
-pub not_so : (n : ℕ) (f : BlockFault) (s : Status) → (IsOfBlock s → ⊥) → status_of (not_applied n f) ≡ s → ⊥
-not_so n f s other e = other (subst IsOfBlock e (of_block n f))
-
 pub quiet_at : (s : Status) (P : Type 0) → P → UnlessWriteFault s P
 quiet_at Done P p = p
 quiet_at Usage P p = p
@@ -140,9 +126,6 @@ quiet_keep NoMemory P p = p
 quiet_keep BadStore P p = p
 quiet_keep (WrongStore is_empty) P p = p
 quiet_keep NotFound P p = p
-
-pub quiet_block : (n : ℕ) (f : BlockFault) (P : Type 0) → P → UnlessWriteFault (status_of (not_applied n f)) P
-quiet_block n f P p = quiet_at (status_of (not_applied n f)) P p
 
 -- ---- a trial
 

@@ -64,8 +64,6 @@ write_stops L n s line a w w' h left adds = λ old told. let x = adds old told i
 pub full_stops : (L : Standing → Standing → Type 0) (n : ℕ) (s : Standing) (line : List ℕ) (a : Answer) (w w' : Option (List ℕ)) → line_answer n s line ≡ Ok a → L a.standing a.standing → AddsPart w w' a.text → PartStops L n s (λ (more : List (List ℕ)). line ∷ more) (line ∷ []) w w' NoMemory
 full_stops L n s line a w w' h left adds = λ old told. let x = adds old told in (x.0, x.2, inl (wrote_first L n s line a x.0 h left x.1))
 
--- the first line is a genesis
-pub first_answered : (n : ℕ) (s : Standing) (line : List ℕ) (a : Answer) → s ≡ None → length line ≤ longest → genesis_answer n (genesis_of line) ≡ Ok a → line_answer n s line ≡ Ok a
 unfolding line_answer
 first_answered n s line a none short is =
     let fits : nat_lt longest (length line) ≡ false = grind (arith, short) in

@@ -40,10 +40,6 @@ holds_then : {A B : Type 0} (P : A → Type 0) (Q : B → Type 0) (f : A → Opt
 holds_then P Q f None h k = tt
 holds_then P Q f (Some x) h k = h x refl k
 
-holds_of : {A : Type 0} (P : A → Type 0) (o : Option A) (x : A) → o ≡ Some x → Holds P o → P x
-holds_of P None x e h = absurd cc
-holds_of P (Some y) x e h = let same : y ≡ x = cc in subst P same h
-
 anything : {A : Type 0} (o : Option A) → Holds (λ (x : A). ⊤) o
 anything None = tt
 anything (Some x) = tt

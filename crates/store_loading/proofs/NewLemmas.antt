@@ -32,9 +32,6 @@ module _ (ctx : Ctx) (m : Modules) (new : IsNewOver (empty_ground ctx) m) where
   pub bank_unmarked : m.ground.bank.marks ≡ []
   bank_unmarked = ap (λ g. g.bank.marks) new.ground
 
-  pub bank_unspent : m.ground.bank.spent ≡ false
-  bank_unspent = ap (λ g. g.bank.spent) new.ground
-
   pub staking_none : HasNone (book.items_of m.stakes.staking.staked)
   staking_none = subst (λ s. HasNone (book.items_of s.staked)) (sym new.staking) none
 

@@ -7,18 +7,6 @@ use Rattle.base_types.proofs.DenomLemmas.{length-denom}
 pub names_are_short : (name : List ℕ) → is_denom name ≡ true → length name < 256
 names_are_short name h = omega (arith, length-denom name h)
 
--- at most seven bits are a number of at most 128 values
-pub few_bits : (n : ℕ) → n ≤ 7 → 2 ^ n ≤ 128
-few_bits zero h = omega arith
-few_bits (suc zero) h = omega arith
-few_bits (suc (suc zero)) h = omega arith
-few_bits (suc (suc (suc zero))) h = omega arith
-few_bits (suc (suc (suc (suc zero)))) h = omega arith
-few_bits (suc (suc (suc (suc (suc zero))))) h = omega arith
-few_bits (suc (suc (suc (suc (suc (suc zero)))))) h = omega arith
-few_bits (suc (suc (suc (suc (suc (suc (suc zero))))))) h = omega arith
-few_bits (suc (suc (suc (suc (suc (suc (suc (suc n)))))))) h = absurd (omega (arith, h))
-
 -- bytes that were appended one after the other
 pub nine_pieces : (out a b c d e f g h i : List ℕ) → ((((((((out ++ a) ++ b) ++ c) ++ d) ++ e) ++ f) ++ g) ++ h) ++ i ≡ out ++ (a ++ (b ++ (c ++ (d ++ (e ++ (f ++ (g ++ (h ++ i))))))))
 nine_pieces out a b c d e f g h i = simp append_assoc

@@ -85,7 +85,3 @@ kept_new s idle opens numbers schema = record {
   idle = idle;
   held = λ c o. let it = opens c in let n = numbers c schema in (record { schema = schema; sound = (it.1 o).0; rising = n.0; keyed = n.1 }, sym it.0.clean);
 }
-
--- it tells the rows of its trees
-pub tells_new : (s : State) (trees : Trees) → HasCleanDisk s → Opens s → s.now.trees ≡ trees → told s ≡ Some (map_of (trees 0))
-tells_new s trees clean opens same = told_is s clean opens.is_open ∙ ap (λ (t : Trees). Some (map_of (t 0))) same

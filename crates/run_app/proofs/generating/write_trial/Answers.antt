@@ -3,7 +3,7 @@ use Rattle.run_trial.specs.Trial.{trial_of}
 use Rattle.run_app.specs.Machine.{not_applied}
 use Rattle.run_app.specs.Modes.{Tries}
 use Rattle.run_app.specs.Parts.{status_of}
-use Rattle.run_app.proofs.ModeLemmas.{busy_so, cause_so, clean_so, keep_so, not_so, quiet_block, quiet_so, read_so, tried, tried_at_block, tried_without_memory, written_so}
+use Rattle.run_app.proofs.ModeLemmas.{busy_so, cause_so, clean_so, keep_so, quiet_so, read_so, tried, tried_at_block, tried_without_memory, written_so}
 use Rattle.run_app.proofs.generating.write_trial.Goals as goal
 
 pub returns-in-Ok-clause-ends : goal.returns-in-Ok-clause-ends
