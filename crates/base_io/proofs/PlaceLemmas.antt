@@ -6,7 +6,8 @@ use Rattle.std.specs.List.{AllByRecursion, AllWithin}
 use Rattle.std.specs.List.Sorted.{IsPartitionedBy}
 use Rattle.std.specs.Ordering.{is_lt, ordering_reverse}
 use Rattle.base_io.specs.declared.keeper.Row.{Row}
-use Rattle.base_io.specs.Rows.{Pair, IsNotBelow, Rises, is_first, key_cmp, pair_of, put, remove}
+use Rattle.base_io.specs.Rows.{Pair, key_cmp, put}
+use Rattle.base_io.specs.Changes.{IsNotBelow, Rises, is_first, pair_of, remove}
 use Rattle.base_io.proofs.RowLemmas.{total}
 
 less_is : (o : Ordering) → is_lt o ≡ true → o ≡ Less

@@ -6,7 +6,8 @@ use Rattle.std.specs.Ordering.{match_ordering, ordering_reverse}
 use Rattle.std.proofs.lemmas.Bool.{cases_Bool}
 use Rattle.std.proofs.lemmas.Cmp.{nat_list_cmp_total}
 use Rattle.base_io.specs.declared.keeper.Change.{Change}
-use Rattle.base_io.specs.Rows.{Pair, key_cmp, put, remove, changed, changed_by, Rises}
+use Rattle.base_io.specs.Rows.{Pair, key_cmp, put}
+use Rattle.base_io.specs.Changes.{remove, changed, changed_by, Rises}
 
 pub total : IsTotalOrder key_cmp
 total = nat_list_cmp_total

@@ -2,7 +2,8 @@ ghost use Rattle.std.specs.Prelude.{◌≡◌, ◌⊎◌, ℕ, ◌≤◌, Bool, 
 ghost use Rattle.base_io.specs.declared.keeper.Change.{Change};
 ghost use Rattle.base_io.specs.Keeping.{UnlessLost};
 ghost use Rattle.base_io.specs.Outside.{Rose};
-ghost use Rattle.base_io.specs.Rows.{Pair, pair_of, changed, ChangeRows, IsOrdinary, LeavesRows, Makes, Rises};
+ghost use Rattle.base_io.specs.Rows.{Pair, Makes};
+ghost use Rattle.base_io.specs.Changes.{pair_of, changed, ChangeRows, IsOrdinary, LeavesRows, Rises};
 
 use crate::outside::Failed;
 use std::alloc::{AllocError, AllocFailed};

@@ -1,6 +1,7 @@
 ghost use Rattle.std.specs.Prelude.{◌≡◌, ◌↔◌, Some, List, [], map, IfOk, IfErr, OnOk, OnErr, IsErrOf, IsOk, IsOkAnd};
 ghost use Rattle.base_io.specs.Memory.{IsDue, after_failure, after_success};
-ghost use Rattle.base_io.specs.Rows.{Pair, pair_of, changed, HasDistinctKeys, Rises};
+ghost use Rattle.base_io.specs.Rows.{Pair, HasDistinctKeys};
+ghost use Rattle.base_io.specs.Changes.{pair_of, changed, Rises};
 
 use crate::calls::Calls;
 use crate::keeper::{Change, KeepFault, Keeper, Row};
@@ -17,7 +18,8 @@ pub struct SureKeeper {
 
 impl Model for SureKeeper {
     ghost use Rattle.std.specs.Prelude.{List, map};
-    ghost use Rattle.base_io.specs.Rows.{Pair, pair_of, Rises};
+    ghost use Rattle.base_io.specs.Rows.{Pair};
+        ghost use Rattle.base_io.specs.Changes.{pair_of, Rises};
 
     ghost Value = { List Pair };
 
@@ -100,7 +102,7 @@ pub struct MemKeeper {
 }
 
 impl Model for MemKeeper {
-    ghost use Rattle.base_io.specs.Rows.{FailingRows, Rises};
+    ghost use Rattle.base_io.specs.Changes.{FailingRows, Rises};
 
     ghost Value = { FailingRows };
 

@@ -1,5 +1,6 @@
 ghost use Rattle.std.specs.Prelude.{◌≡◌, ◌≤◌, ◌<◌, ◌++◌, ℕ, Bool, true, false, List, Option, Some, [], length, take, IfOk, IfSome, OnOk, OnErr, IsErrOf};
-ghost use Rattle.base_io.specs.Outside.{Rose, Takes, Stays};
+ghost use Rattle.base_io.specs.Outside.{Rose};
+ghost use Rattle.base_io.specs.Calls.{Takes, Stays};
 ghost use Rattle.base_io.specs.Faults.{UnlessFailed};
 
 use std::alloc::AllocError;

@@ -1,5 +1,6 @@
 ghost use Rattle.std.specs.Prelude.{◌≡◌, ◌≤◌, ◌<◌, Ok, IfOk, IfSome, OnOk, OnErr, length, drop, []};
-ghost use Rattle.base_io.specs.Outside.{Rose, Takes, Stays};
+ghost use Rattle.base_io.specs.Outside.{Rose};
+ghost use Rattle.base_io.specs.Calls.{Takes, Stays};
 
 use crate::outside::{Failed, Source};
 

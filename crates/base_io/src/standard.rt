@@ -1,6 +1,6 @@
 ghost use Rattle.std.specs.Prelude.{◌≡◌, ◌≢◌, ◌≤◌, ◌<◌, ◌++◌, true, Some, Ok, [], length, take, IfOk, IfErr, IfSome, OnErr};
 ghost use Rattle.std.specs.IoError.{error_kind};
-ghost use Rattle.base_io.specs.Outside.{Takes, Stays};
+ghost use Rattle.base_io.specs.Calls.{Takes, Stays};
 
 use crate::outside::{Failed, Sink, SinkFault, Source};
 use std::io;
@@ -82,7 +82,7 @@ pub struct StdSource<R: Read> {
 }
 
 impl<R: Read> Model for StdSource<R> {
-    ghost use Rattle.base_io.specs.Outside.{Reading};
+    ghost use Rattle.base_io.specs.Calls.{Reading};
 
     ghost Value = { Reading };
 
@@ -127,7 +127,7 @@ pub struct StdSink<W: Write> {
 }
 
 impl<W: Write> Model for StdSink<W> {
-    ghost use Rattle.base_io.specs.Outside.{Writing};
+    ghost use Rattle.base_io.specs.Calls.{Writing};
 
     ghost Value = { Writing };
 

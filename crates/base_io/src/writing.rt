@@ -1,5 +1,6 @@
 ghost use Rattle.std.specs.Prelude.{◌≡◌, ◌≤◌, ◌++◌, Some, IfSome, OnOk, OnErr, IsErrOf};
-ghost use Rattle.base_io.specs.Outside.{Rose, AddsPart};
+ghost use Rattle.base_io.specs.Outside.{Rose};
+ghost use Rattle.base_io.specs.Calls.{AddsPart};
 ghost use Rattle.base_io.specs.Faults.{UnlessFailed};
 
 use crate::outside::{Sink, SinkFault};

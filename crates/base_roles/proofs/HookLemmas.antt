@@ -11,7 +11,8 @@ use Rattle.base_roles.specs.declared.facts.Fact.{Fact}
 use Rattle.base_roles.specs.Answers.{Answers}
 use Rattle.base_roles.specs.Ground.{IsInOrder}
 use Rattle.base_roles.specs.Holdings.{Holdings, IsBacked, balance_of, moved}
-use Rattle.base_roles.specs.Hooks.{Lists, after, Tells, Stand, Ready, Stands, MayCall, Lawful}
+use Rattle.base_roles.specs.Hooks.{after, Tells, Stand, Ready, Stands, MayCall, Lawful}
+use Rattle.base_roles.specs.Owing.{Lists}
 use Rattle.base_roles.specs.Log.{Log}
 use Rattle.base_roles.specs.Pair.{HoldsOwed-same, pair_tells, after_first}
 use Rattle.base_roles.specs.World.{View, Hook, Told, gives, exceeds}

@@ -8,10 +8,12 @@ use Rattle.base_coins.proofs.Amounts.{itself}
 use Rattle.base_roles.specs.declared.entities.Validator.{Validator}
 use Rattle.base_roles.specs.declared.facts.Fact.{Fact}
 use Rattle.base_roles.specs.Ground.{IsInOrder}
-use Rattle.base_roles.specs.Hooks.{Lists, Tells, Stands}
+use Rattle.base_roles.specs.Hooks.{Tells, Stands}
+use Rattle.base_roles.specs.Owing.{Lists}
 use Rattle.base_roles.specs.Lent.{IsBurned}
 use Rattle.base_roles.specs.Holdings.{balance_of}
-use Rattle.base_roles.specs.Staked.{Staked, validator_by_cons, is_unbonded, of_bond, HoldsStake, StakeFalls, StillStandByCons}
+use Rattle.base_roles.specs.Staked.{Staked, validator_by_cons, is_unbonded}
+use Rattle.base_roles.specs.StakeChanges.{of_bond, HoldsStake, StakeFalls, StillStandByCons}
 use Rattle.base_roles.specs.World.{View}
 use Rattle.base_roles.proofs.HookLemmas.{Stand-same}
 

@@ -1,5 +1,5 @@
 -- The conditions and the laws of hooks. They speak of plain values alone.
-use Rattle.std.specs.Prelude.{◌≡◌, ℕ, ◌*◌, ◌^◌, ◌<◌, ◌≤◌, Bool, true, false, ◌&&◌, List, ◌++◌, if◌then◌else◌, Option, Some, None}
+use Rattle.std.specs.Prelude.{◌≡◌, ℕ, ◌^◌, ◌<◌, ◌≤◌, Bool, true, false, ◌&&◌, List, ◌++◌, if◌then◌else◌, Option, None}
 use Rattle.base_types.specs.declared.account.Account.TheVariants as account
 use Rattle.base_types.specs.declared.account.Module.TheVariants.{FeeCollector, Bonded, NotBonded, Distribution}
 use Rattle.base_roles.specs.declared.entities.Validator.{Validator}
@@ -9,11 +9,7 @@ use Rattle.base_roles.specs.Holdings.{balance_of}
 use Rattle.base_roles.specs.Log.{Log}
 use Rattle.base_roles.specs.Orders.{same_addr}
 use Rattle.base_roles.specs.World.{View, Hook, created, removed, bonded, starting, modifying, modified, slashing, Told, gives}
-
--- which addresses are operators, and which pairs of delegator and operator are started
-pub record Lists : Type 0 where
-  pub operators : List ℕ → Bool
-  pub started : List ℕ → List ℕ → Bool
+use Rattle.base_roles.specs.Owing.{Lists, HoldsOwed}
 
 -- the validator of a call
 abbrev pub validator_in : Hook → Validator
@@ -65,11 +61,6 @@ pub record Tells (S : Type 0) : Type 1 where
   pub quiet : S → Bool
   pub sure : S → Bool
   pub most_steps : S → ℕ
-
--- the distribution account holds exactly what is owed from it
-abbrev pub HoldsOwed : Option (List ℕ → ℕ) → View → Type 0
-HoldsOwed None v = Unit {0}
-HoldsOwed (Some owed) v = (d : List ℕ) → 10 ^ 18 * balance_of v.bank (account.Module Distribution) d ≡ owed d
 
 -- the hooks stand for the lists over this ground
 pub record Stand {S : Type 0} (t : Tells S) (s : S) (v : View) (l : Lists) : Type 0 where

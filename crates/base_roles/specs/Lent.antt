@@ -14,7 +14,8 @@ use Rattle.base_roles.specs.declared.faults.HookFault.{HookFault}
 use Rattle.base_roles.specs.Answers.{AsRuled, WantsMemory, ExceedsAs}
 use Rattle.base_roles.specs.Entries.{at, with}
 use Rattle.base_roles.specs.Holdings.{balance_of, supply_of}
-use Rattle.base_roles.specs.Staked.{Staked, of_bond}
+use Rattle.base_roles.specs.Staked.{Staked}
+use Rattle.base_roles.specs.StakeChanges.{of_bond}
 use Rattle.base_roles.specs.World.{View, World}
 
 -- what a call is told of the delegations that it is lent

@@ -10,8 +10,10 @@ pub mod Lent
 pub mod Log
 pub mod NoHooks
 pub mod Orders
+pub mod Owing
 pub mod Pair
 pub mod Refusals
+pub mod StakeChanges
 pub mod Staked
 pub mod Stops
 pub mod Worked

@@ -6,7 +6,8 @@ use Rattle.base_types.specs.declared.account.Account.TheVariants as account
 use Rattle.base_types.specs.declared.account.Module.TheVariants.{Distribution}
 use Rattle.base_roles.specs.Ground.{IsInOrder}
 use Rattle.base_roles.specs.Holdings.{balance_of}
-use Rattle.base_roles.specs.Hooks.{Lists, after, Tells, HoldsOwed, Stand, Ready, Keeps, IsGiven, Lawful}
+use Rattle.base_roles.specs.Hooks.{after, Tells, Stand, Ready, Keeps, IsGiven, Lawful}
+use Rattle.base_roles.specs.Owing.{Lists, HoldsOwed}
 use Rattle.base_roles.specs.Log.{Log}
 use Rattle.base_roles.specs.World.{View, Hook, bonded, removed, Told, gives, exceeds}
 

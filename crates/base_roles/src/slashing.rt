@@ -11,7 +11,8 @@ ghost use Rattle.base_roles.specs.Ground.{seen, IsInOrder, CanBeUndone};
 ghost use Rattle.base_roles.specs.Hooks.{Stands};
 ghost use Rattle.base_roles.specs.Lent.{Unbonds, FollowsLent, IsAsTold, IsBurned, jail_told, IsBanned};
 ghost use Rattle.base_roles.specs.Log.{Log};
-ghost use Rattle.base_roles.specs.Staked.{Staked, validator_by_cons, lists_of, bonded_tokens, other_tokens, HoldsStake, StakeFalls, StillStand, StillStandByCons, SameButJailed, SameButJailedByCons, IsJailed};
+ghost use Rattle.base_roles.specs.Staked.{Staked, validator_by_cons, lists_of, bonded_tokens, other_tokens};
+ghost use Rattle.base_roles.specs.StakeChanges.{HoldsStake, StakeFalls, StillStand, StillStandByCons, SameButJailed, SameButJailedByCons, IsJailed};
 ghost use Rattle.base_roles.specs.World.{View, Hook, Told, World};
 
 use crate::bank::{Bank, Ground};

@@ -5,7 +5,8 @@ ghost use Rattle.base_roles.specs.Answers.{Follows};
 ghost use Rattle.base_roles.specs.Ground.{seen, CanBeUndone};
 ghost use Rattle.base_roles.specs.Hooks.{Stand, Stands, Keeps};
 ghost use Rattle.base_roles.specs.Log.{Log};
-ghost use Rattle.base_roles.specs.Staked.{Staked, validator_at, validator_by_cons, delegation, lists_of, HasShares, IsUnbonded};
+ghost use Rattle.base_roles.specs.Staked.{Staked, validator_at, validator_by_cons, delegation, lists_of};
+ghost use Rattle.base_roles.specs.StakeChanges.{HasShares, IsUnbonded};
 ghost use Rattle.base_roles.specs.World.{View, Hook, Told, World};
 
 use crate::bank::{Bank, Ground};

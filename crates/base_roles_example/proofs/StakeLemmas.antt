@@ -10,7 +10,8 @@ use Rattle.base_roles.specs.declared.entities.Validator.{Validator}
 use Rattle.base_roles_example.specs.Caller.{can_be_slashed, can_be_jailed, can_be_banned, account_of, IsOwnBurnt, IsBurntIfKnown}
 use Rattle.base_roles.specs.declared.params.Ctx.{Ctx}
 use Rattle.base_roles.specs.Ground.{AreInRange, end_of_blocks}
-use Rattle.base_roles.specs.Hooks.{Lists, Tells, Stands}
+use Rattle.base_roles.specs.Hooks.{Tells, Stands}
+use Rattle.base_roles.specs.Owing.{Lists}
 use Rattle.base_roles.specs.Holdings.{balance_of}
 use Rattle.base_roles.specs.Staked.{is_bonded, is_unbonded}
 use Rattle.base_roles.specs.World.{View}

@@ -10,7 +10,8 @@ use Rattle.std.proofs.lemmas.Cmp.{nat_list_cmp_total, tied_itself}
 use Rattle.base_types.specs.Orders.{addr_cmp, cons_cmp}
 use Rattle.base_roles.specs.declared.entities.Validator.{Validator}
 use Rattle.base_roles.specs.Entries.{at}
-use Rattle.base_roles.specs.Staked.{validator_at, validator_by_cons, lists_of, but_jailed, SameButJailed, SameButJailedByCons, IsJailed}
+use Rattle.base_roles.specs.Staked.{validator_at, validator_by_cons, lists_of}
+use Rattle.base_roles.specs.StakeChanges.{but_jailed, SameButJailed, SameButJailedByCons, IsJailed}
 use Rattle.base_roles_example.specs.Trials.{under_own, staked_once, HasOne, jailed, jailed_by_cons}
 
 found : (v : Validator) (delegator : List ℕ) (shares : ℕ) (cons : List ℕ) → IsSome (validator_by_cons (staked_once v None delegator shares) cons) → validator_by_cons (staked_once v None delegator shares) cons ≡ Some v

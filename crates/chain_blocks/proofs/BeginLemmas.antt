@@ -17,7 +17,7 @@ use Rattle.base_roles.specs.World.{View, World}
 use Rattle.rule_modules.specs.Allocation.{fees_allocated}
 use Rattle.rule_modules.specs.Chain.{State, Stakes, allocation_step, beside_window, evidence_step, shared_in, vote_step, window_in, with_shared, with_window}
 use Rattle.rule_modules.specs.Distribution.{Shared, distribution_told, told_of}
-use Rattle.rule_modules.specs.Laws.{CountsBelow, IsPower}
+use Rattle.rule_modules.specs.StepLaws.{CountsBelow, IsPower}
 use Rattle.rule_modules.specs.Slashing.{core_slashes, plain_slash}
 use Rattle.rule_modules.specs.Sound.{IsSound, UnbondingsAreSound}
 use Rattle.rule_modules.specs.Window.{Window, signing_of, voted}

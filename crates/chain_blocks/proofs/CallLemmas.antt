@@ -7,11 +7,12 @@ use Rattle.base_roles.specs.declared.entities.UnbondingEntry.{UnbondingEntry}
 use Rattle.base_roles.specs.declared.entities.Validator.{Validator}
 use Rattle.base_roles.specs.declared.messages.Vote.{Vote}
 use Rattle.base_roles.specs.Ground.{CanBeUndone}
-use Rattle.base_roles.specs.Staked.{bonded_tokens, other_tokens, validator_at, validator_by_cons, HoldsStake}
+use Rattle.base_roles.specs.Staked.{bonded_tokens, other_tokens, validator_at, validator_by_cons}
+use Rattle.base_roles.specs.StakeChanges.{HoldsStake}
 use Rattle.base_roles.specs.World.{View}
 use Rattle.rule_modules.proofs.SoundLemmas.{IsSoundAt, to_points}
 use Rattle.rule_modules.specs.Chain.{State, Stakes, shared_in, window_in}
-use Rattle.rule_modules.specs.Laws.{CountsBelow, IsPower}
+use Rattle.rule_modules.specs.StepLaws.{CountsBelow, IsPower}
 use Rattle.rule_modules.specs.Owed.{entry_balances}
 use Rattle.rule_modules.specs.Purses.{Purses}
 use Rattle.rule_modules.specs.Sound.{IsSound}

@@ -16,7 +16,7 @@ use Rattle.rule_modules.specs.Answers.{Leaves}
 use Rattle.rule_modules.specs.BondedSet.{set_updated, validators_matured}
 use Rattle.rule_modules.specs.Chain.{Hooks, State, Stakes, chain_told, maturing_step, redelegations_step, set_step, shared_in, staked_in, unbondings_step, window_in, with_staked}
 use Rattle.rule_modules.specs.Distribution.{Shared}
-use Rattle.rule_modules.specs.Laws.{AreWhole}
+use Rattle.rule_modules.specs.StepLaws.{AreWhole}
 use Rattle.rule_modules.specs.Redelegations.{redelegations_completed}
 use Rattle.rule_modules.specs.Sound.{IsSound}
 use Rattle.rule_modules.specs.Unbondings.{UnbondingLists, completed, is_mature, key_then, paid_back}

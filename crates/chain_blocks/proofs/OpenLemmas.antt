@@ -15,7 +15,8 @@ use Rattle.base_roles.specs.Flow.{◌>>◌, stop_if}
 use Rattle.base_messages.specs.declared.block.Block.{Block}
 use Rattle.base_messages.specs.declared.faults.BlockFault.TheVariants.{BadEvidence, BadPower, RepeatedVote, UnknownVote}
 use Rattle.rule_modules.specs.Chain.{State, window_in}
-use Rattle.rule_modules.specs.Laws.{CountsBelow, IsPower, next_block}
+use Rattle.rule_modules.specs.Laws.{next_block}
+use Rattle.rule_modules.specs.StepLaws.{CountsBelow, IsPower}
 use Rattle.rule_modules.specs.Sound.{IsSound, UnbondingsAreSound}
 use Rattle.rule_modules.specs.Window.{Signing, signing_of}
 use Rattle.rule_machine.specs.Blocks.{block_fault}

@@ -9,7 +9,8 @@ use Rattle.base_roles.specs.declared.params.Ctx.{Ctx}
 use Rattle.base_roles.specs.Staked.{validator_by_cons}
 use Rattle.base_messages.specs.declared.block.Block.{Block}
 use Rattle.rule_modules.specs.Chain.{State}
-use Rattle.rule_modules.specs.Laws.{CountsBelow, IsPower, next_block}
+use Rattle.rule_modules.specs.Laws.{next_block}
+use Rattle.rule_modules.specs.StepLaws.{CountsBelow, IsPower}
 use Rattle.rule_modules.specs.Sound.{IsSound, UnbondingsAreSound}
 use Rattle.rule_machine.specs.GenesisState.{without_facts}
 use Rattle.rule_machine.specs.Machine.{block_checked}

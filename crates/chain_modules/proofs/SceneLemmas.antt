@@ -8,11 +8,12 @@ use Rattle.base_coins.proofs.Amounts.{itself}
 use Rattle.base_roles.specs.Ground.{IsInOrder}
 use Rattle.base_roles.specs.Holdings.{balance_of}
 use Rattle.base_roles.specs.Hooks.{Stand, Stands}
-use Rattle.base_roles.specs.Staked.{Staked, bonded_tokens, delegation, other_tokens, lists_of, of_bond, validator_at, HoldsStake}
+use Rattle.base_roles.specs.Staked.{Staked, bonded_tokens, delegation, other_tokens, lists_of, validator_at}
+use Rattle.base_roles.specs.StakeChanges.{of_bond, HoldsStake}
 use Rattle.base_roles.specs.World.{View}
 use Rattle.rule_modules.proofs.SoundLemmas.{to_points}
 use Rattle.rule_modules.specs.Chain.{State, shared_in}
-use Rattle.rule_modules.specs.Laws.{AreWhole}
+use Rattle.rule_modules.specs.StepLaws.{AreWhole}
 use Rattle.rule_modules.specs.Owed.{entry_balances}
 use Rattle.rule_modules.specs.Sound.{IsSound}
 use Rattle.mod_staking.specs.Calls.{IsSoundStake}

@@ -13,7 +13,7 @@ use Rattle.base_roles.specs.Pair.{pair_tells}
 use Rattle.base_roles.specs.World.{View}
 use Rattle.rule_modules.specs.Chain.{State, Stakes, shared_in, window_in}
 use Rattle.rule_modules.specs.Distribution.{Shared}
-use Rattle.rule_modules.specs.Laws.{AreWhole}
+use Rattle.rule_modules.specs.StepLaws.{AreWhole}
 use Rattle.rule_modules.specs.Sound.{IsSound}
 use Rattle.mod_bank.specs.Booked.{Booked}
 use Rattle.mod_staking.specs.Registered.{new_register}

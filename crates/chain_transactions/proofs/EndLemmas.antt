@@ -15,7 +15,7 @@ use Rattle.rule_modules.specs.Chain.{Hooks, State, Stakes, chain_told, staked_in
 use Rattle.rule_modules.specs.Delegating.{delegated_by}
 use Rattle.rule_modules.specs.Distribution.{Shared}
 use Rattle.rule_modules.specs.Effects.{Effect, create_validator, delegate, undelegate, begin_redelegate, cancel_unbonding}
-use Rattle.rule_modules.specs.Laws.{AreWhole}
+use Rattle.rule_modules.specs.StepLaws.{AreWhole}
 use Rattle.rule_modules.specs.Redelegations.{RedelegationLists, redelegated}
 use Rattle.rule_modules.specs.Sound.{IsSound}
 use Rattle.rule_modules.specs.Unbondings.{UnbondingLists, cancelled, undelegated}

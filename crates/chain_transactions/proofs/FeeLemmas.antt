@@ -11,7 +11,7 @@ use Rattle.base_roles.specs.Flow.{◌>>◌, stop_if}
 use Rattle.base_roles.specs.World.{View, over_view, sent}
 use Rattle.rule_modules.specs.Chain.{State}
 use Rattle.rule_modules.specs.Effects.{fee_paid}
-use Rattle.rule_modules.specs.Laws.{AreWhole}
+use Rattle.rule_modules.specs.StepLaws.{AreWhole}
 use Rattle.rule_modules.specs.Sound.{IsSound}
 use Rattle.law_soundness.proofs.Burns.{total_in}
 use Rattle.law_soundness.proofs.Leaving.{to_whole}

@@ -7,8 +7,10 @@ use Rattle.std.proofs.lemmas.List.Elements.{All-nil}
 use Rattle.base_coins.proofs.Order.{money-nil}
 use Rattle.base_roles.specs.declared.bank.Ground.{Ground}
 use Rattle.base_roles.specs.declared.entities.Purse.{Purse}
-use Rattle.base_roles.specs.Hooks.{HoldsOwed, Stand}
-use Rattle.base_roles.specs.Staked.{Staked, HoldsStake, bonded_tokens, lists_of, other_tokens}
+use Rattle.base_roles.specs.Hooks.{Stand}
+use Rattle.base_roles.specs.Owing.{HoldsOwed}
+use Rattle.base_roles.specs.Staked.{Staked, bonded_tokens, lists_of, other_tokens}
+use Rattle.base_roles.specs.StakeChanges.{HoldsStake}
 use Rattle.base_roles.specs.World.{View}
 use Rattle.base_messages.specs.declared.genesis.Genesis.{Genesis}
 use Rattle.rule_modules.specs.Distribution.{nothing_shared}

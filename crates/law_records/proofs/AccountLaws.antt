@@ -29,7 +29,8 @@ use Rattle.base_roles.specs.declared.entities.Validator.{Validator}
 use Rattle.base_roles.specs.Entries.{at, number_at}
 use Rattle.base_roles.specs.Holdings.{Balances, Holdings, IsBacked, balance_of, coins_of}
 use Rattle.base_roles.specs.Orders.{place_cmp}
-use Rattle.base_roles.specs.Staked.{Staked, is_bonded, tokens_where, bonded_tokens, other_tokens, of_bond}
+use Rattle.base_roles.specs.Staked.{Staked, is_bonded, tokens_where, bonded_tokens, other_tokens}
+use Rattle.base_roles.specs.StakeChanges.{of_bond}
 use Rattle.base_roles.specs.World.{View}
 use Rattle.base_roles.proofs.HoldingLemmas.{denom_total, place_total, place_exact, account_total, balance-most}
 use Rattle.rule_modules.specs.Amounts.{bond_coins}

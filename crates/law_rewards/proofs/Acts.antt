@@ -9,7 +9,8 @@ use Rattle.base_roles.specs.Log.{LogEntry}
 use Rattle.base_roles.specs.Log as log
 use Rattle.rule_modules.specs.Ideal.{Ideal, times, ideal_start, ideal_over, shared_out}
 use Rattle.law_rewards.specs.Account.{increment_of}
-use Rattle.law_rewards.specs.Laws.{ValuesAreClose, IncrementsAreClose, RemovalsLowerByHalfAUnit, MomentsDoNotMatter, shared_among}
+use Rattle.law_rewards.specs.Laws.{ValuesAreClose, IncrementsAreClose, RemovalsLowerByHalfAUnit, MomentsDoNotMatter}
+use Rattle.law_rewards.specs.Sharing.{shared_among}
 use Rattle.law_rewards.proofs.Rounding.{one, value_cut_low, value_cut_high, value_even_high, value_even_low, increment_low, increment_high}
 use Rattle.law_rewards.proofs.Steps.{leave_half}
 use Rattle.law_rewards.proofs.Following.{out_low}

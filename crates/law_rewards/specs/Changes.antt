@@ -12,7 +12,8 @@ use Rattle.rule_modules.specs.Sound.{IsSound}
 use Rattle.base_roles.specs.declared.messages.CreateValidator.{CreateValidator}
 use Rattle.rule_modules.specs.Chain.{State, allocation_step, vote_step, evidence_step, set_step, maturing_step, unbondings_step, redelegations_step}
 use Rattle.rule_modules.specs.Effects.{create_validator, delegate, undelegate, begin_redelegate, cancel_unbonding}
-use Rattle.rule_modules.specs.Laws.{KeptByStep, KeptByMessages, next_block}
+use Rattle.rule_modules.specs.Laws.{next_block}
+use Rattle.rule_modules.specs.StepLaws.{KeptByStep, KeptByMessages}
 use Rattle.law_rewards.specs.States.{ReachedStays, NoneStartedHere}
 
 -- delegating keeps accounts reached

@@ -1,16 +1,16 @@
 -- What holds of each reached account, and what a reward in lists of coins is in one denomination.
-use Rattle.std.specs.Prelude.{ℕ, ◌+◌, ◌-◌, ◌*◌, ◌^◌, ◌≤◌, ◌<◌, ◌≡◌, Bool, true, false, List, [], filter, map, All, Some, None, Ok}
+use Rattle.std.specs.Prelude.{ℕ, ◌+◌, ◌-◌, ◌*◌, ◌^◌, ◌≤◌, ◌<◌, ◌≡◌, List, map, All, Some, None, Ok}
 use Rattle.base_decimals.specs.Fractions.{Fraction, fraction_of, IsAtMost, IsBelow}
 use Rattle.base_coins.specs.Coins.{Money, IsMoney, amount_of}
 use Rattle.base_shares.specs.Burns.{ratio_of, unit, plus}
 use Rattle.base_shares.specs.Shares.{value_cut_of, value_even_of, amount_out}
 use Rattle.base_roles.specs.declared.entities.StartingInfo.{StartingInfo}
 use Rattle.base_roles.specs.Log.{LogEntry}
-use Rattle.base_roles.specs.Log as log
 use Rattle.rule_modules.specs.Ideal.{Span, span_of, whole, ideal_reward, Brackets, overclaim_of}
 use Rattle.rule_modules.specs.Laws.{claims_of}
 use Rattle.rule_modules.specs.Periods.{Periods, ratio_at, last_ended, reward_of}
 use Rattle.law_rewards.specs.Account.{Account, Deed, Start, IsReached, AreFitting, new_account, account_of, reward_now, reward_in, increment_of}
+use Rattle.law_rewards.specs.Sharing.{shared_among}
 
 -- The reward of a start lies in the bracket of its span: at most the allocations since then, each shared at once by the
 -- ideal stake, and lower by at most the slack.
@@ -57,26 +57,6 @@ abbrev pub RemovalsLowerByHalfAUnit : Type 0
 RemovalsLowerByHalfAUnit =
     (tokens shares part : ℕ) → 0 < shares → part ≤ shares
     → IsAtMost (ratio_of ((shares - part) * tokens) shares) (plus (whole (tokens - amount_out tokens shares part)) (ratio_of 1 (2 * 10 ^ 18)))
-
--- an entry of which an ideal reward depends: an allocation or a slash
-abbrev pub is_shared : LogEntry → Bool
-is_shared log.made = false
-is_shared (log.allocated f r t) = true
-is_shared (log.ended p i t) = false
-is_shared (log.started d s t x k) = false
-is_shared (log.slashed b t f) = true
-is_shared log.left = false
-is_shared (log.withdrawn d p f o) = false
-is_shared (log.commission c) = false
-
--- such an entry, without what of an allocation is commission
-abbrev pub without_commission : LogEntry → LogEntry
-without_commission (log.allocated f r t) = log.allocated [] r t
-without_commission e = e
-
--- the allocations and slashes among entries
-abbrev pub shared_among : List LogEntry → List LogEntry
-shared_among es = map without_commission (filter is_shared es)
 
 -- When periods end, who starts and whose shares leave does not move an ideal reward, nor does
 -- commission: with the same allocations to delegators and slashes it is the same.

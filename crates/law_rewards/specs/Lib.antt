@@ -3,6 +3,7 @@ pub mod Changes
 pub mod Laws
 pub mod Payments
 pub mod Running
+pub mod Sharing
 pub mod States
 pub mod Withdrawals
 pub mod Worked

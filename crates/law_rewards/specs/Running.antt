@@ -6,7 +6,7 @@ use Rattle.base_roles.specs.Staked.{Staked, validator_at, delegation}
 use Rattle.rule_modules.specs.Chain.{State, shared_in}
 use Rattle.rule_modules.specs.Distribution.{Shared}
 use Rattle.rule_modules.specs.Ideal.{span_of, history_of}
-use Rattle.rule_modules.specs.Laws.{KeptByMessages, KeptByBlocks}
+use Rattle.rule_modules.specs.StepLaws.{KeptByMessages, KeptByBlocks}
 use Rattle.rule_modules.specs.Periods.{start_of}
 use Rattle.rule_modules.specs.Sound.{IsSound}
 use Rattle.law_rewards.specs.States.{AreReached}

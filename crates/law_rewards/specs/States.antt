@@ -15,7 +15,8 @@ use Rattle.rule_modules.specs.Chain.{State, with_shared, shared_in}
 use Rattle.rule_modules.specs.Distribution.{Shared, ended, reward_withdrawn}
 use Rattle.rule_modules.specs.Effects.{send, edit_validator, unjail, withdraw_reward, withdraw_commission, set_withdraw_address, fund_community_pool, community_pool_spend, fee_paid}
 use Rattle.rule_modules.specs.Ideal.{history_of, claimed, overclaim_of}
-use Rattle.rule_modules.specs.Laws.{KeptByStep, IsBracketed, HasShortfallWithin, next_block}
+use Rattle.rule_modules.specs.Laws.{IsBracketed, HasShortfallWithin, next_block}
+use Rattle.rule_modules.specs.StepLaws.{KeptByStep}
 use Rattle.rule_modules.specs.Periods.{Rewards, periods_of, ratio_at}
 use Rattle.rule_modules.specs.Purses.{Purses, purse_of}
 use Rattle.rule_modules.specs.Sound.{IsSound}

@@ -20,7 +20,7 @@ use Rattle.rule_modules.specs.Chain.{State, shared_in, vote_step, evidence_step}
 use Rattle.rule_modules.specs.Distribution.{Shared, ended, reward_due, reward_withdrawn, payee_of, paid_to}
 use Rattle.rule_modules.specs.Effects.{withdraw_reward}
 use Rattle.rule_modules.specs.Ideal.{Span, Brackets, span_of, history_of, ideal_reward, slack_of, is_left, overclaim_of}
-use Rattle.rule_modules.specs.Laws.{KeptByStep, KeptByMessages, KeptByBlocks}
+use Rattle.rule_modules.specs.StepLaws.{KeptByStep, KeptByMessages, KeptByBlocks}
 use Rattle.rule_modules.specs.Periods.{periods_of, ratio_at}
 use Rattle.rule_modules.specs.Purses.{purse_of, pooled_told}
 use Rattle.rule_modules.specs.Sound.{IsSound}

@@ -8,7 +8,7 @@ use Rattle.law_rewards.specs.States.{AreReached}
 use Rattle.law_rewards.proofs.Claims.{reached_is_bracketed, reached_has_shortfall_within}
 use Rattle.law_rewards.proofs.Holding.{outstanding_is_logged}
 use Rattle.law_rewards.proofs.Unstarted.{rewards_run_exactly_where_held}
-use Rattle.law_runs.specs.Runs.{RunsAreReached, RunsRunWhereHeld, RunsLogOutstanding}
+use Rattle.law_runs.specs.RunLaws.{RunsAreReached, RunsRunWhereHeld, RunsLogOutstanding}
 use Rattle.law_runs.proofs.Running.{runs_keep_reached}
 use Rattle.law_runs.proofs.Starts.{genesis_is_reached}
 use Rattle.law_runs.proofs.Unstarted.{runs_are_started}

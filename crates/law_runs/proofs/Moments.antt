@@ -19,7 +19,8 @@ use Rattle.law_rewards.proofs.Acts.{moments_do_not_matter}
 use Rattle.law_rewards.proofs.Finding.{in_turn_at}
 use Rattle.law_rewards.proofs.Paying.{fair_joined}
 use Rattle.law_runs.specs.Moments.{Agree, AreAlike, HaveOneIdeal, IsFair, LogsFairly, MomentsOfRunsDoNotMatter, RunsLogFairly, Withdrawal}
-use Rattle.law_runs.specs.Runs.{RunSaysFairly, SaysFairly}
+use Rattle.law_runs.specs.Runs.{SaysFairly}
+use Rattle.law_runs.specs.RunLaws.{RunSaysFairly}
 use Rattle.law_runs.proofs.Saying.{runs_say_fairly}
 
 -- ---- two spans

@@ -7,7 +7,8 @@ use Rattle.rule_machine.specs.Machine.{Step, step}
 use Rattle.rule_modules.specs.Chain.{State}
 use Rattle.law_rewards.specs.Withdrawals.{payments_in, AreSent}
 use Rattle.law_rewards.proofs.Finding.{payments_are_fairly_told}
-use Rattle.law_runs.specs.Runs.{SaysFairly, RunSaysFairly}
+use Rattle.law_runs.specs.Runs.{SaysFairly}
+use Rattle.law_runs.specs.RunLaws.{RunSaysFairly}
 use Rattle.law_runs.specs.Readers.{TellsFairly, RunTellsFairly, RunsTellFairly}
 use Rattle.law_runs.proofs.Saying.{runs_say_fairly}
 

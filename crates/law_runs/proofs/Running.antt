@@ -58,7 +58,7 @@ use Rattle.law_rewards.proofs.Maturing.{maturing_keeps_reached}
 use Rattle.law_rewards.proofs.Punishing.{votes_keep_reached, evidence_keeps_reached}
 use Rattle.law_rewards.proofs.Together.{messages_keep_reached}
 use Rattle.law_rewards.proofs.Undelegating.{undelegating_keeps_reached}
-use Rattle.law_runs.specs.Runs.{RunsKeepReached}
+use Rattle.law_runs.specs.RunLaws.{RunsKeepReached}
 
 -- ---- the fees of a block are coins
 

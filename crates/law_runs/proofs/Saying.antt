@@ -56,7 +56,8 @@ use Rattle.law_rewards.proofs.Punishing.{votes_keep_reached, evidence_keeps_reac
 use Rattle.law_rewards.proofs.Staking.{PaysIn}
 use Rattle.law_rewards.proofs.Telling.{messages_pay_fairly, undelegate_pays}
 use Rattle.law_rewards.proofs.Together.{messages_keep_reached}
-use Rattle.law_runs.specs.Runs.{SaysFairly, RunSaysFairly, BlocksSayFairly, RunsSayFairly}
+use Rattle.law_runs.specs.Runs.{SaysFairly}
+use Rattle.law_runs.specs.RunLaws.{RunSaysFairly, BlocksSayFairly, RunsSayFairly}
 use Rattle.law_runs.proofs.Running.{kept_at, both_if, message_kept, sound_at, tx_reached, votes_reached, allocation_reached, begin_reached, same_counts, block_reached}
 use Rattle.law_runs.proofs.Starts.{genesis_is_reached}
 

@@ -55,7 +55,7 @@ use Rattle.law_soundness.proofs.Standing.{own_place}
 use Rattle.law_soundness.proofs.Starting.{few_names, held_supplied, no_redelegations, no_unbondings, start_fits, validators_fit}
 use Rattle.law_soundness.proofs.Steps.{if_ok, on_then, weaker_if}
 use Rattle.rule_modules.proofs.GoingLemmas.{on_found}
-use Rattle.law_runs.specs.Runs.{GenesisIsReached}
+use Rattle.law_runs.specs.RunLaws.{GenesisIsReached}
 use Rattle.law_runs.proofs.Running.{both_if}
 
 -- ---- validators

@@ -8,7 +8,7 @@ use Rattle.base_roles.specs.Log.{Log}
 use Rattle.base_roles.specs.Log as log
 use Rattle.rule_modules.specs.Ideal.{Span, Brackets, span_of, history_of, ideal_reward, slack_of}
 use Rattle.rule_machine.specs.Promises.{Replayed, run_in}
-use Rattle.law_rewards.specs.Laws.{shared_among}
+use Rattle.law_rewards.specs.Sharing.{shared_among}
 use Rattle.law_rewards.specs.Withdrawals.{AreFair, IsFairReward}
 
 -- ---- two spans

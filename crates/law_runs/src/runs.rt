@@ -1,7 +1,7 @@
 //! Runs of blocks lead to reached accounts, whose rewards are bracketed: laws as functions that do nothing, whose contracts
 //! are the laws.
 
-ghost use Rattle.law_runs.specs.Runs.{RunsKeepReached, GenesisIsReached, RunsAreReached, RunsRunWhereHeld, RunsLogOutstanding, BlocksSayFairly, RunsSayFairly};
+ghost use Rattle.law_runs.specs.RunLaws.{RunsKeepReached, GenesisIsReached, RunsAreReached, RunsRunWhereHeld, RunsLogOutstanding, BlocksSayFairly, RunsSayFairly};
 ghost use Rattle.law_runs.specs.Going.{GenesisIsStarted, BlocksGoFairly, RunsGoFairly};
 ghost use Rattle.law_runs.specs.Moments.{RunsLogFairly, MomentsOfRunsDoNotMatter};
 ghost use Rattle.law_runs.specs.Payees.{PayeesAreOfTheMoment};

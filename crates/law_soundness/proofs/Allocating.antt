@@ -13,7 +13,7 @@ use Rattle.base_roles.specs.declared.entities.Purse.{Purse}
 use Rattle.base_roles.specs.declared.entities.Validator.{Validator}
 use Rattle.base_roles.specs.declared.messages.Vote.{Vote}
 use Rattle.base_roles.specs.declared.params.Params.{Params}
-use Rattle.base_roles.specs.Hooks.{Lists}
+use Rattle.base_roles.specs.Owing.{Lists}
 use Rattle.base_roles.specs.declared.facts.Fact.TheVariants as fact
 use Rattle.base_roles.specs.Log as log
 use Rattle.base_roles.specs.Log.{Log}
@@ -53,7 +53,7 @@ use Rattle.law_soundness.proofs.Purses.{HasJoined, PursesFit, enough_held, has_j
 use Rattle.law_soundness.proofs.Steps.{and_also, on_then, weaker_if, both_if}
 use Rattle.rule_modules.proofs.GoingLemmas.{on_bind}
 use Rattle.rule_modules.proofs.TotalLemmas.{total_put, total}
-use Rattle.law_soundness.specs.Kept.{AllocationKeepsSoundness, IsSoundAfter}
+use Rattle.law_soundness.specs.StepLaws.{AllocationKeepsSoundness, IsSoundAfter}
 use Rattle.rule_modules.proofs.OrderLemmas.{addr_total}
 use Rattle.rule_modules.proofs.SoundLemmas.{IsSoundAt}
 use Rattle.rule_modules.specs.Amounts.{in_units, is_empty}

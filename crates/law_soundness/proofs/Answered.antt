@@ -19,7 +19,8 @@ use Rattle.law_soundness.proofs.Running.{HasBegun, HaveCoins, StepFits, begun_fi
 use Rattle.law_soundness.proofs.Starting.{room, started_well}
 use Rattle.law_soundness.proofs.Steps.{from_if}
 use Rattle.law_soundness.proofs.Transactions.{without_facts_fits}
-use Rattle.law_soundness.specs.Kept.{AnsweredAlong, BlockIsAnswered, BlocksAreAnswered, RunsAreAnswered, begun_by}
+use Rattle.law_soundness.specs.Kept.{AnsweredAlong, BlockIsAnswered, RunsAreAnswered, begun_by}
+use Rattle.law_soundness.specs.StepLaws.{BlocksAreAnswered}
 use Rattle.rule_modules.specs.Chain.{State, end_block, maturing_step, redelegations_step, set_step, unbondings_step}
 
 module _ (P : List ℕ → Type 0) (T : List ℕ → ℕ) where

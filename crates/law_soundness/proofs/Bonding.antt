@@ -25,7 +25,8 @@ use Rattle.base_roles.proofs.HoldingLemmas.{balance-most}
 use Rattle.base_roles.specs.Entries.{at}
 use Rattle.base_roles.specs.Holdings.{IsBacked, balance_of, is_short}
 use Rattle.base_roles.specs.Orders.{pair_cmp, same_addr}
-use Rattle.base_roles.specs.Staked.{Staked, bonded_tokens, is_bonded, is_unbonded, lists_of, of_bond, other_tokens, validator_at}
+use Rattle.base_roles.specs.Staked.{Staked, bonded_tokens, is_bonded, is_unbonded, lists_of, other_tokens, validator_at}
+use Rattle.base_roles.specs.StakeChanges.{of_bond}
 use Rattle.law_soundness.proofs.Delegating.{bond_money, bond_moved, falls, has_enough, rises_to, same_sum, state_with, others}
 use Rattle.law_soundness.proofs.Lists.{all_put, looked_up, weaker}
 use Rattle.law_soundness.proofs.Maturing.{AllStand, operators_are, stand_still, values_stand}
@@ -36,7 +37,7 @@ use Rattle.law_soundness.proofs.Points.{GroundFits, IsRecorded, SharedFits, Stak
 use Rattle.law_soundness.proofs.Purses.{there_still}
 use Rattle.law_soundness.proofs.Standing.{relisted}
 use Rattle.law_soundness.proofs.Steps.{and_also, on_then, weaker_if}
-use Rattle.law_soundness.specs.Kept.{BondingKeepsSoundness}
+use Rattle.law_soundness.specs.StepLaws.{BondingKeepsSoundness}
 use Rattle.rule_modules.proofs.EntryLemmas.{ascend-put, at-put}
 use Rattle.rule_modules.proofs.OrderLemmas.{cons_total, same_back, same_is, same_itself}
 use Rattle.rule_modules.proofs.SoundLemmas.{IsSoundAt, exact_addr, found-put, sound-put}

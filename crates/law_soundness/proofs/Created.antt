@@ -29,7 +29,7 @@ use Rattle.law_soundness.proofs.Founding.{period_sure, pooled_at, sure_then}
 use Rattle.law_soundness.proofs.Hooking.{hook_gave}
 use Rattle.law_soundness.proofs.Points.{StateFits, to_fits}
 use Rattle.law_soundness.proofs.Refused.{wallet_refused, stop_known}
-use Rattle.law_soundness.specs.Kept.{CreationsNameConditions}
+use Rattle.law_soundness.specs.StepLaws.{CreationsNameConditions}
 use Rattle.rule_modules.proofs.RefusalLemmas.{mapped, stop_step}
 use Rattle.rule_modules.specs.Amounts.{bond_coins}
 use Rattle.rule_modules.specs.Chain.{Hooks, State, chain_told, staked_in, with_staked}

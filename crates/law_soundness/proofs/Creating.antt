@@ -9,7 +9,8 @@ use Rattle.base_roles.specs.declared.entities.StartingInfo.{StartingInfo}
 use Rattle.base_roles.specs.declared.entities.Validator.{Validator}
 use Rattle.base_roles.specs.declared.messages.CreateValidator.{CreateValidator}
 use Rattle.base_roles.specs.declared.refusal.Refusal.TheVariants.{WrongDenom, NonPositive, ValidatorExists, ConsKeyExists, CommissionRange, CommissionBelowMinimum, MinSelfNotPositive, SelfBelowMinimum, Overflow}
-use Rattle.base_roles.specs.Hooks.{Lists, with_operator}
+use Rattle.base_roles.specs.Hooks.{with_operator}
+use Rattle.base_roles.specs.Owing.{Lists}
 use Rattle.base_roles.specs.Flow.{◌>>=◌, stopping}
 use Rattle.base_roles.specs.World.{View, World, over_mine}
 use Rattle.base_roles.specs.World as hook
@@ -22,7 +23,8 @@ use Rattle.base_decimals.specs.declared.over.Over.{Over}
 use Rattle.base_roles.specs.Entries.{at, with}
 use Rattle.base_roles.specs.Items.{no_purse}
 use Rattle.base_roles.specs.Orders.{pair_cmp, same_addr}
-use Rattle.base_roles.specs.Staked.{Staked, is_bonded, is_unbonded, lists_of, of_bond, delegation, tokens_where, validator_by_cons, validator_at, put_validator}
+use Rattle.base_roles.specs.Staked.{Staked, is_bonded, is_unbonded, lists_of, delegation, tokens_where, validator_by_cons, validator_at, put_validator}
+use Rattle.base_roles.specs.StakeChanges.{of_bond}
 use Rattle.rule_machine.proofs.StakesLemmas.{new_is_sound, nobody_has}
 use Rattle.law_soundness.proofs.Delegating.{delegated_fits, state_with}
 use Rattle.law_soundness.proofs.Hooking.{hook_gave, on_hook, stake_hooks}
@@ -35,7 +37,7 @@ use Rattle.law_soundness.proofs.Standing.{stake_relisted}
 use Rattle.law_soundness.proofs.Steps.{and_also, on_then}
 use Rattle.rule_modules.proofs.GoingLemmas.{on_stop}
 use Rattle.rule_modules.proofs.TotalLemmas.{total_joined}
-use Rattle.law_soundness.specs.Kept.{CreatingKeepsSoundness}
+use Rattle.law_soundness.specs.StepLaws.{CreatingKeepsSoundness}
 use Rattle.rule_modules.proofs.EntryLemmas.{ascend-put, at-put, to_all}
 use Rattle.rule_modules.proofs.OrderLemmas.{addr_total, pair_total, same_back, same_is}
 use Rattle.rule_modules.proofs.SoundLemmas.{IsSoundAt, exact_addr, found_itself, sound-joined}

@@ -21,9 +21,11 @@ use Rattle.base_coins.specs.declared.coin.Coin.{Coin}
 use Rattle.base_decimals.specs.Decimals.{add_of}
 use Rattle.base_roles.proofs.AmountLemmas.{moves_by_amounts}
 use Rattle.base_roles.proofs.HoldingLemmas.{balance-most, first_enough}
-use Rattle.base_roles.specs.Hooks.{Lists, with_started}
+use Rattle.base_roles.specs.Hooks.{with_started}
+use Rattle.base_roles.specs.Owing.{Lists}
 use Rattle.base_roles.specs.Orders.{pair_cmp, same_addr}
-use Rattle.base_roles.specs.Staked.{Staked, bonded_tokens, is_bonded, lists_of, of_bond, other_tokens, delegation, validator_at, put_validator}
+use Rattle.base_roles.specs.Staked.{Staked, bonded_tokens, is_bonded, lists_of, other_tokens, delegation, validator_at, put_validator}
+use Rattle.base_roles.specs.StakeChanges.{of_bond}
 use Rattle.base_roles.specs.declared.params.Ctx.{Ctx}
 use Rattle.rule_machine.proofs.PointLemmas.{sound-more}
 use Rattle.rule_machine.proofs.PurseLemmas.{one-amount, one-money, one-rises}
@@ -36,7 +38,7 @@ use Rattle.law_soundness.proofs.Rewards.{pair_at, start_leaves}
 use Rattle.law_soundness.proofs.Standing.{own_place, stake_relisted}
 use Rattle.law_soundness.proofs.Steps.{on_then, weaker_if, and_also}
 use Rattle.rule_modules.proofs.GoingLemmas.{on_found, on_lifted, on_next, on_stop}
-use Rattle.law_soundness.specs.Kept.{DelegatingKeepsSoundness}
+use Rattle.law_soundness.specs.StepLaws.{DelegatingKeepsSoundness}
 use Rattle.rule_modules.proofs.EntryLemmas.{at-put}
 use Rattle.rule_modules.proofs.OrderLemmas.{pair_total, same_back, same_itself}
 use Rattle.rule_modules.proofs.SoundLemmas.{exact_addr}

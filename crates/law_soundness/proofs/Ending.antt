@@ -6,7 +6,7 @@ use Rattle.base_types.specs.declared.account.Module.TheVariants as holder
 use Rattle.base_roles.specs.declared.entities.UnbondingEntry.{UnbondingEntry}
 use Rattle.base_roles.specs.declared.entities.RedelegationEntry.{RedelegationEntry}
 use Rattle.base_roles.specs.declared.params.Ctx.{Ctx}
-use Rattle.base_roles.specs.Hooks.{Lists}
+use Rattle.base_roles.specs.Owing.{Lists}
 use Rattle.base_roles.specs.World.{View, World, sent, over_view}
 use Rattle.rule_modules.specs.Unbondings.{key_then, UnbondingLists, completed, is_mature, paid_back}
 use Rattle.rule_modules.specs.Redelegations.{RedelegationLists, redelegations_completed}
@@ -25,7 +25,7 @@ use Rattle.law_soundness.proofs.Moves.{ground_sent, keeps_fits}
 use Rattle.law_soundness.proofs.Points.{StakeFits, StateFits}
 use Rattle.law_soundness.proofs.Redelegating.{TripleFits, from_triples, to_triples}
 use Rattle.rule_modules.proofs.TotalLemmas.{total_more}
-use Rattle.law_soundness.specs.Kept.{RedelegationsStepKeepsSoundness, UnbondingsStepKeepsSoundness}
+use Rattle.law_soundness.specs.StepLaws.{RedelegationsStepKeepsSoundness, UnbondingsStepKeepsSoundness}
 use Rattle.rule_modules.proofs.OrderLemmas.{pair_total}
 use Rattle.rule_modules.specs.Amounts.{bond_coins}
 use Rattle.rule_modules.specs.Chain.{Hooks, State, redelegations_step, staked_in, unbondings_step}

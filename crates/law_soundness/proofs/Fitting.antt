@@ -1,7 +1,7 @@
 -- What rules of distribution need and leave, from its parts.
 use Rattle.std.proofs.Common.{◌≡◌, ℕ, List, Some, refl}
 use Rattle.base_roles.specs.Ground.{IsInOrder}
-use Rattle.base_roles.specs.Hooks.{Lists, HoldsOwed}
+use Rattle.base_roles.specs.Owing.{Lists, HoldsOwed}
 use Rattle.base_roles.specs.World.{View}
 use Rattle.law_soundness.proofs.Bank.{AreHeld}
 use Rattle.law_soundness.proofs.Burns.{total_in}

@@ -8,14 +8,14 @@ use Rattle.base_roles.specs.declared.entities.StartingInfo.{StartingInfo}
 use Rattle.base_roles.specs.declared.entities.UnbondingEntry.{UnbondingEntry}
 use Rattle.base_roles.specs.declared.entities.RedelegationEntry.{RedelegationEntry}
 use Rattle.rule_modules.proofs.SoundLemmas.{later}
-use Rattle.base_roles.specs.Hooks.{Lists}
+use Rattle.base_roles.specs.Owing.{Lists}
 use Rattle.base_roles.specs.Entries.{at}
 use Rattle.base_roles.specs.Ground.{end_of_blocks}
 use Rattle.base_roles.specs.Staked.{lists_of}
 use Rattle.law_soundness.proofs.Burns.{total_in}
 use Rattle.law_soundness.proofs.Lists.{weaker}
 use Rattle.law_soundness.proofs.Points.{EventFits, PeriodsFit, SharedFits, StartFits, StateFits, from_fits, to_fits}
-use Rattle.law_soundness.specs.Kept.{NextBlockKeepsSoundness}
+use Rattle.law_soundness.specs.StepLaws.{NextBlockKeepsSoundness}
 use Rattle.rule_modules.specs.Chain.{State}
 use Rattle.rule_modules.specs.Distribution.{Shared}
 use Rattle.rule_modules.specs.Laws.{next_block}

@@ -8,7 +8,7 @@ use Rattle.base_coins.proofs.Order.{rises_from_money}
 use Rattle.base_coins.specs.Coins.{Money, amount_of, coins_added, coins_taken, fractions, whole_coins}
 use Rattle.base_roles.proofs.HoldingLemmas.{balance-most}
 use Rattle.base_roles.specs.Entries.{at, without}
-use Rattle.base_roles.specs.Hooks.{Lists}
+use Rattle.base_roles.specs.Owing.{Lists}
 use Rattle.base_roles.specs.Items.{no_purse}
 use Rattle.base_roles.specs.Pair.{and_then, given_with}
 use Rattle.base_roles.specs.Staked.{Staked, is_unbonded, lists_of, validator_at}
@@ -33,7 +33,7 @@ use Rattle.rule_modules.proofs.SoundLemmas.{found_itself}
 use Rattle.rule_modules.specs.BondedSet.{HaveOwnOperators, difference_moved, joined_set, joining_of, leaving_of, left_set, matured, set_updated, tokens_of, validators_matured}
 use Rattle.rule_modules.specs.Chain.{Hooks, State, chain_told, maturing_step, set_step, staked_in, with_staked}
 use Rattle.rule_modules.specs.Distribution.{Shared, records_removed, told_of, unlogged}
-use Rattle.rule_modules.specs.Laws.{BlocksEnd}
+use Rattle.rule_modules.specs.StepLaws.{BlocksEnd}
 use Rattle.rule_modules.specs.Owed.{entry_balances}
 use Rattle.rule_modules.specs.Purses.{Purses, closed, due_at_last, pool_joined, purse_of}
 use Rattle.rule_modules.specs.Stakes.{changed, is_unbonding, without_validator}

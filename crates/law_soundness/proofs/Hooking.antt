@@ -9,7 +9,8 @@ use Rattle.base_roles.specs.declared.entities.Validator.{Validator}
 use Rattle.rule_modules.specs.Distribution.{Shared, distribution_told, told_of, left_by, unlogged, ended, reward_withdrawn}
 use Rattle.rule_modules.specs.Delegating.{hook_before}
 use Rattle.base_decimals.specs.declared.over.Over.{Over}
-use Rattle.base_roles.specs.Hooks.{Lists, with_started}
+use Rattle.base_roles.specs.Hooks.{with_started}
+use Rattle.base_roles.specs.Owing.{Lists}
 use Rattle.base_roles.specs.Orders.{same_addr}
 use Rattle.base_roles.specs.Staked.{Staked}
 use Rattle.law_soundness.proofs.Moves.{HooksFit, Leaves}

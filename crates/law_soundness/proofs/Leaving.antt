@@ -29,11 +29,11 @@ use Rattle.law_soundness.proofs.Standing.{own_place}
 use Rattle.law_soundness.proofs.Steps.{and_also, on_lifted_then, on_then, weaker_if}
 use Rattle.rule_modules.proofs.GoingLemmas.{on_found, on_lifted, on_stop}
 use Rattle.law_soundness.proofs.Unbonding.{HasUnbonded, unbonded_fits}
-use Rattle.law_soundness.specs.Kept.{CancellingKeepsSoundness, IsSoundAfter, UndelegatingKeepsSoundness}
+use Rattle.law_soundness.specs.StepLaws.{CancellingKeepsSoundness, IsSoundAfter, UndelegatingKeepsSoundness}
 use Rattle.rule_modules.specs.Amounts.{bond_coins}
 use Rattle.rule_modules.specs.Chain.{Hooks, State, chain_told, staked_in, with_staked}
 use Rattle.rule_modules.specs.Effects.{cancel_unbonding, undelegate}
-use Rattle.rule_modules.specs.Laws.{AreWhole}
+use Rattle.rule_modules.specs.StepLaws.{AreWhole}
 use Rattle.rule_modules.specs.Owed.{balances_of, entry_balances}
 use Rattle.rule_modules.specs.Sound.{RedelegationsAreSound, UnbondingIsSound, UnbondingsAreSound}
 use Rattle.rule_modules.specs.Unbonding.{shares_to_unbond, unbonded_shares}

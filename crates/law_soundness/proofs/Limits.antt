@@ -18,7 +18,7 @@ use Rattle.base_roles.specs.declared.refusal.Refusal.{Refusal}
 use Rattle.base_roles.specs.declared.refusal.Refusal.TheVariants.{Overflow}
 use Rattle.base_roles.proofs.HoldingLemmas.{balance-most}
 use Rattle.base_roles.specs.Entries.{at}
-use Rattle.base_roles.specs.Hooks.{Lists}
+use Rattle.base_roles.specs.Owing.{Lists}
 use Rattle.base_roles.specs.Items.{no_purse}
 use Rattle.base_roles.specs.Log.{Log}
 use Rattle.base_roles.specs.Log as log

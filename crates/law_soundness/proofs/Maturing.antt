@@ -7,7 +7,7 @@ use Rattle.base_types.specs.declared.status.BondStatus.TheVariants.{Bonded, Unbo
 use Rattle.base_types.specs.Orders.{addr_cmp}
 use Rattle.base_roles.specs.declared.entities.Validator.{Validator}
 use Rattle.base_roles.specs.declared.facts.Fact.TheVariants as fact
-use Rattle.base_roles.specs.Hooks.{Lists}
+use Rattle.base_roles.specs.Owing.{Lists}
 use Rattle.base_roles.specs.Flow.{each}
 use Rattle.base_roles.specs.World.{World, over_mine}
 use Rattle.std.specs.List.{AllByRecursion}
@@ -17,7 +17,8 @@ use Rattle.std.specs.Ordering.{is_eq}
 use Rattle.std.specs.declared.cmp.Ordering.TheVariants.{Less}
 use Rattle.base_roles.specs.Entries.{with}
 use Rattle.base_roles.specs.Orders.{same_addr}
-use Rattle.base_roles.specs.Staked.{Staked, is_bonded, lists_of, of_bond, tokens_where, validator_at, put_validator}
+use Rattle.base_roles.specs.Staked.{Staked, is_bonded, lists_of, tokens_where, validator_at, put_validator}
+use Rattle.base_roles.specs.StakeChanges.{of_bond}
 use Rattle.law_soundness.proofs.Burns.{quiet_behind}
 use Rattle.law_soundness.proofs.Delegating.{others, state_with}
 use Rattle.law_soundness.proofs.Lists.{all_put, mapped_all}
@@ -27,7 +28,7 @@ use Rattle.law_soundness.proofs.Purses.{there_still}
 use Rattle.law_soundness.proofs.Removing.{StakeLeft, removed_if_fits}
 use Rattle.law_soundness.proofs.Standing.{stake_relisted, stake_told}
 use Rattle.law_soundness.proofs.Steps.{and_also, on_then, weaker_if}
-use Rattle.law_soundness.specs.Kept.{MaturingKeepsSoundness}
+use Rattle.law_soundness.specs.StepLaws.{MaturingKeepsSoundness}
 use Rattle.rule_modules.proofs.EntryLemmas.{to_all}
 use Rattle.rule_modules.proofs.OrderLemmas.{addr_total, same_back}
 use Rattle.rule_modules.proofs.SoundLemmas.{IsSoundAt, exact_addr, found-put, found_itself, sound-put}

@@ -10,9 +10,10 @@ use Rattle.base_coins.specs.Coins.{Money, IsMoney}
 use Rattle.base_roles.specs.declared.params.Ctx.{Ctx}
 use Rattle.base_roles.specs.declared.refusal.Refusal.TheVariants.{InsufficientFunds, NonPositive, WithdrawFixed, FeeUnpaid}
 use Rattle.base_roles.specs.Holdings.{balance_of, is_short, supply_of}
-use Rattle.base_roles.specs.Hooks.{Lists, HoldsOwed}
+use Rattle.base_roles.specs.Owing.{Lists, HoldsOwed}
 use Rattle.base_roles.specs.Log.{Log}
-use Rattle.base_roles.specs.Staked.{Staked, bonded_tokens, other_tokens, of_bond, lists_of}
+use Rattle.base_roles.specs.Staked.{Staked, bonded_tokens, other_tokens, lists_of}
+use Rattle.base_roles.specs.StakeChanges.{of_bond}
 use Rattle.base_roles.specs.World.{View, World, sent, over_view}
 use Rattle.base_roles.proofs.HoldingLemmas.{backed-moved, balance-moved_elsewhere}
 use Rattle.base_roles.specs.declared.facts.Fact.{Fact}
@@ -20,14 +21,14 @@ use Rattle.rule_modules.specs.Amounts.{is_empty, over_facts}
 use Rattle.rule_modules.specs.Chain.{Hooks, State, with_shared, staked_in}
 use Rattle.rule_modules.specs.Distribution.{Shared}
 use Rattle.rule_modules.specs.Effects.{coins_sent, send, set_withdraw_address, fee_paid}
-use Rattle.rule_modules.specs.Laws.{KeptByStep, SupplyFallsByBurns}
+use Rattle.rule_modules.specs.StepLaws.{KeptByStep, SupplyFallsByBurns}
 use Rattle.rule_modules.specs.Owed.{owed_from_distribution}
 use Rattle.rule_modules.specs.Withdrawals.{payee_set}
 use Rattle.rule_modules.specs.Sound.{WindowIsSound, RedelegationsAreSound, UnbondingsAreSound}
 use Rattle.rule_modules.proofs.EntryLemmas.{ascend-put}
 use Rattle.rule_modules.proofs.OrderLemmas.{addr_total}
 use Rattle.rule_modules.proofs.SoundLemmas.{IsSoundAt}
-use Rattle.law_soundness.specs.Kept.{IsSoundAfter, FeesKeepSoundness, SendsKeepSoundness, PayeesKeepSoundness}
+use Rattle.law_soundness.specs.StepLaws.{IsSoundAfter, FeesKeepSoundness, SendsKeepSoundness, PayeesKeepSoundness}
 use Rattle.law_soundness.proofs.Bank.{held_moved, known_enough}
 use Rattle.law_soundness.proofs.Burns.{SayNoMore, total_in, total_sent}
 use Rattle.law_soundness.proofs.Points.{SharedFits, GroundFits, StakeFits, StateFits, to_fits, from_fits, StateLeft, WholeEntries}

@@ -11,7 +11,7 @@ use Rattle.base_roles.specs.declared.entities.SlashEvent.{SlashEvent}
 use Rattle.base_roles.specs.declared.entities.StartingInfo.{StartingInfo}
 use Rattle.base_roles.specs.declared.entities.Validator.{Validator}
 use Rattle.base_roles.specs.Entries.{at, with}
-use Rattle.base_roles.specs.Hooks.{Lists}
+use Rattle.base_roles.specs.Owing.{Lists}
 use Rattle.base_roles.specs.Flow.{◌>>=◌}
 use Rattle.std.specs.List.Sorted.{IsStrictlySortedBy}
 use Rattle.std.specs.Map.{keys_of}

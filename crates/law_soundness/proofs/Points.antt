@@ -18,9 +18,10 @@ use Rattle.base_roles.specs.declared.entities.UnbondingEntry.{UnbondingEntry}
 use Rattle.base_roles.specs.Entries.{at}
 use Rattle.base_roles.specs.Ground.{IsInOrder}
 use Rattle.base_roles.specs.Holdings.{balance_of, coins_of, IsBacked}
-use Rattle.base_roles.specs.Hooks.{Lists, HoldsOwed}
+use Rattle.base_roles.specs.Owing.{Lists, HoldsOwed}
 use Rattle.base_roles.specs.Orders.{pair_cmp, same_addr}
-use Rattle.base_roles.specs.Staked.{Staked, lists_of, bonded_tokens, other_tokens, of_bond, is_unbonded}
+use Rattle.base_roles.specs.Staked.{Staked, lists_of, bonded_tokens, other_tokens, is_unbonded}
+use Rattle.base_roles.specs.StakeChanges.{of_bond}
 use Rattle.base_roles.specs.World.{View, World}
 use Rattle.base_roles.proofs.HoldingLemmas.{balance-most}
 use Rattle.rule_modules.specs.Amounts.{bond_coins, count_where}

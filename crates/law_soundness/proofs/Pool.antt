@@ -18,7 +18,7 @@ use Rattle.base_roles.proofs.AmountLemmas.{moves_by_amounts}
 use Rattle.base_roles.proofs.HoldingLemmas.{balance-moved_elsewhere}
 use Rattle.base_roles.specs.Entries.{at}
 use Rattle.base_roles.specs.Holdings.{balance_of, is_short}
-use Rattle.base_roles.specs.Hooks.{HoldsOwed, Lists}
+use Rattle.base_roles.specs.Owing.{HoldsOwed, Lists}
 use Rattle.base_roles.specs.Orders.{same_addr}
 use Rattle.base_roles.specs.Staked.{lists_of}
 use Rattle.law_soundness.proofs.Burns.{quiet_behind, quiet_pooled}
@@ -31,7 +31,7 @@ use Rattle.law_soundness.proofs.Purses.{HasJoined, amounts_within, are_paid, has
 use Rattle.law_soundness.proofs.Steps.{on_lifted_then, on_then}
 use Rattle.rule_modules.proofs.GoingLemmas.{on_found, on_stop}
 use Rattle.rule_modules.proofs.TotalLemmas.{total, total_put}
-use Rattle.law_soundness.specs.Kept.{CommissionsKeepSoundness, FundingKeepsSoundness, SpendingKeepsSoundness}
+use Rattle.law_soundness.specs.StepLaws.{CommissionsKeepSoundness, FundingKeepsSoundness, SpendingKeepsSoundness}
 use Rattle.rule_modules.proofs.OrderLemmas.{addr_total}
 use Rattle.rule_modules.specs.Amounts.{in_units, is_empty, over_facts}
 use Rattle.rule_modules.specs.Chain.{State, with_shared}

@@ -7,7 +7,7 @@ use Rattle.base_roles.specs.declared.entities.RedelegationEntry.{RedelegationEnt
 use Rattle.base_roles.specs.declared.entities.Validator.{Validator}
 use Rattle.base_roles.specs.declared.facts.Fact.TheVariants as fact
 use Rattle.base_roles.specs.declared.params.Ctx.{Ctx}
-use Rattle.base_roles.specs.Hooks.{Lists}
+use Rattle.base_roles.specs.Owing.{Lists}
 use Rattle.base_roles.specs.Log.{Log}
 use Rattle.base_roles.specs.Log as log
 use Rattle.base_roles.specs.Flow.{◌>>=◌}
@@ -18,7 +18,8 @@ use Rattle.rule_modules.specs.Unbonding.{unbonded_shares, shares_unbonded, unbon
 use Rattle.std.specs.BTreeMap.{is_at}
 use Rattle.base_decimals.specs.declared.over.Over.{Over}
 use Rattle.base_roles.specs.Orders.{same_addr}
-use Rattle.base_roles.specs.Staked.{Staked, bonded_tokens, is_bonded, is_unbonded, lists_of, of_bond, other_tokens, delegation, validator_by_cons, validator_at, put_validator}
+use Rattle.base_roles.specs.Staked.{Staked, bonded_tokens, is_bonded, is_unbonded, lists_of, other_tokens, delegation, validator_by_cons, validator_at, put_validator}
+use Rattle.base_roles.specs.StakeChanges.{of_bond}
 use Rattle.base_roles.specs.declared.facts.Fact.{Fact}
 use Rattle.law_soundness.proofs.Burns.{IsQuiet, quiet_behind}
 use Rattle.law_soundness.proofs.Beside.{from_same, raised, raised_with, unbonded_same}

@@ -16,7 +16,7 @@ use Rattle.base_coins.proofs.Order.{Above, Rises, same_name, rises_from_money, a
 use Rattle.base_roles.specs.declared.entities.Purse.{Purse}
 use Rattle.base_roles.specs.Entries.{at, with}
 use Rattle.base_roles.specs.Holdings.{Holdings, balance_of, is_short}
-use Rattle.base_roles.specs.Hooks.{Lists, HoldsOwed}
+use Rattle.base_roles.specs.Owing.{Lists, HoldsOwed}
 use Rattle.base_roles.specs.World.{View, sent}
 use Rattle.base_roles.proofs.AmountLemmas.{moves_by_amounts}
 use Rattle.base_roles.proofs.HoldingLemmas.{balance-moved_elsewhere}

@@ -21,7 +21,7 @@ use Rattle.law_soundness.proofs.Standing.{own_place}
 use Rattle.law_soundness.proofs.Steps.{from_if}
 use Rattle.law_soundness.proofs.Unbonding.{HasUnbonded, unbonded_fits}
 use Rattle.law_soundness.proofs.Undelegated.{same_over, to_unbond_refused, unbonded_over}
-use Rattle.law_soundness.specs.Kept.{RedelegationsNameConditions}
+use Rattle.law_soundness.specs.StepLaws.{RedelegationsNameConditions}
 use Rattle.rule_modules.proofs.RefusalLemmas.{mapped, stop_step}
 use Rattle.rule_modules.specs.Chain.{Hooks, State, chain_told, staked_in, with_staked}
 use Rattle.rule_modules.specs.Conditions.{after_hook, are_above, first_of, goes_out, is_nothing, issue_over, over_in, when}

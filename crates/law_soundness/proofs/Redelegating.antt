@@ -29,7 +29,7 @@ use Rattle.law_soundness.proofs.Standing.{own_place}
 use Rattle.law_soundness.proofs.Steps.{on_lifted_then, on_then}
 use Rattle.rule_modules.proofs.GoingLemmas.{on_found, on_next, on_stop}
 use Rattle.law_soundness.proofs.Unbonding.{HasUnbonded, out_within, unbonded_fits}
-use Rattle.law_soundness.specs.Kept.{RedelegatingKeepsSoundness}
+use Rattle.law_soundness.specs.StepLaws.{RedelegatingKeepsSoundness}
 use Rattle.rule_modules.proofs.EntryLemmas.{ascend-put}
 use Rattle.rule_modules.proofs.OrderLemmas.{addr_total}
 use Rattle.rule_modules.proofs.SoundLemmas.{exact_pair, held_within, shares_at}

@@ -24,7 +24,8 @@ use Rattle.law_soundness.proofs.Running.{HasBegun, HaveCoins, StepFits, begun_fi
 use Rattle.law_soundness.proofs.Starting.{room, started_well}
 use Rattle.law_soundness.proofs.Steps.{from_if}
 use Rattle.law_soundness.proofs.Transactions.{WholeFits, message_fits, tx_fits, whole_without}
-use Rattle.law_soundness.specs.Kept.{InBlocks, InTurn, IsNamedAt, RefusalIsNamed, RefusalsAreNamed, RunsNameConditions, begun_by}
+use Rattle.law_soundness.specs.Kept.{InBlocks, InTurn, IsNamedAt, RefusalIsNamed, RefusalsAreNamed, begun_by}
+use Rattle.law_soundness.specs.StepLaws.{RunsNameConditions}
 use Rattle.rule_modules.specs.Chain.{State}
 use Rattle.rule_modules.specs.Effects.{fee_paid}
 use Rattle.rule_modules.specs.Laws.{next_block}

@@ -24,7 +24,7 @@ use Rattle.base_roles.specs.Flow.{◌>>=◌, ◌>>◌, or_stop, stop_if, stoppin
 use Rattle.base_roles.specs.World.{Told, View, World, call, exceeds, gives, hooked, modified, modifying, over_mine, over_view, sent}
 use Rattle.law_soundness.proofs.Burns.{total_in}
 use Rattle.law_soundness.proofs.Points.{StateFits, to_fits}
-use Rattle.law_soundness.specs.Kept.{CancellationsNameConditions, DelegationsNameConditions, RewardsNameConditions}
+use Rattle.law_soundness.specs.StepLaws.{CancellationsNameConditions, DelegationsNameConditions, RewardsNameConditions}
 use Rattle.rule_modules.proofs.RefusalLemmas.{mapped, stop_step}
 use Rattle.rule_modules.specs.Amounts.{bond_coins}
 use Rattle.rule_modules.specs.Chain.{Hooks, State, chain_told, staked_in, with_shared, with_staked}

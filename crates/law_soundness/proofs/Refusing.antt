@@ -19,7 +19,7 @@ use Rattle.law_soundness.proofs.Names.{units_known}
 use Rattle.rule_modules.proofs.PartLemmas.{amount_in_units}
 use Rattle.law_soundness.proofs.Points.{StateFits, to_fits}
 use Rattle.law_soundness.proofs.Purses.{amounts_within}
-use Rattle.law_soundness.specs.Kept.{FundsNameConditions}
+use Rattle.law_soundness.specs.StepLaws.{FundsNameConditions}
 use Rattle.rule_modules.specs.Amounts.{in_units, is_empty, over_facts}
 use Rattle.rule_modules.specs.Chain.{State, shared_in, with_shared}
 use Rattle.rule_modules.specs.Conditions.{first_of, when}

@@ -10,7 +10,8 @@ use Rattle.base_types.specs.Orders.{addr_cmp}
 use Rattle.base_roles.specs.declared.entities.Purse.{Purse}
 use Rattle.base_roles.specs.declared.entities.Validator.{Validator}
 use Rattle.base_roles.specs.declared.facts.Fact.TheVariants as fact
-use Rattle.base_roles.specs.Hooks.{Lists, with_operator}
+use Rattle.base_roles.specs.Hooks.{with_operator}
+use Rattle.base_roles.specs.Owing.{Lists}
 use Rattle.base_roles.specs.World.{View, World, over_view, over_mine, noted, call}
 use Rattle.base_roles.specs.World as hook
 use Rattle.std.specs.List.{AllByRecursion}
@@ -24,7 +25,8 @@ use Rattle.base_roles.specs.Entries.{at, number_at, without}
 use Rattle.base_roles.specs.Holdings.{balance_of}
 use Rattle.base_roles.specs.Items.{no_purse}
 use Rattle.base_roles.specs.Orders.{pair_cmp, same_addr}
-use Rattle.base_roles.specs.Staked.{Staked, is_bonded, is_unbonded, lists_of, of_bond, tokens_where, validator_at}
+use Rattle.base_roles.specs.Staked.{Staked, is_bonded, is_unbonded, lists_of, tokens_where, validator_at}
+use Rattle.base_roles.specs.StakeChanges.{of_bond}
 use Rattle.base_roles.specs.declared.facts.Fact.{Fact}
 use Rattle.law_soundness.proofs.Burns.{IsQuiet, quiet_behind, quiet_pooled}
 use Rattle.law_soundness.proofs.Hooking.{hook_gave, on_call, stake_hooks, unlogged_if}

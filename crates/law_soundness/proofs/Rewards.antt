@@ -12,7 +12,8 @@ use Rattle.base_roles.specs.declared.entities.Validator.{Validator}
 use Rattle.base_roles.specs.declared.facts.Fact.TheVariants as fact
 use Rattle.base_roles.specs.declared.refusal.Refusal.TheVariants.{NoValidator, NoDelegation, Overflow}
 use Rattle.base_roles.specs.Entries.{at, with}
-use Rattle.base_roles.specs.Hooks.{Lists, with_started}
+use Rattle.base_roles.specs.Hooks.{with_started}
+use Rattle.base_roles.specs.Owing.{Lists}
 use Rattle.base_roles.specs.Log.{Log}
 use Rattle.base_roles.specs.World.{View, noted}
 use Rattle.std.specs.List.Sorted.{IsStrictlySortedBy}
@@ -35,7 +36,7 @@ use Rattle.law_soundness.proofs.Standing.{own_place, relisted}
 use Rattle.law_soundness.proofs.Steps.{lifted_if, on_then, weaker_if}
 use Rattle.rule_modules.proofs.GoingLemmas.{on_bind, on_found}
 use Rattle.rule_modules.proofs.TotalLemmas.{total, total_put}
-use Rattle.law_soundness.specs.Kept.{RewardsKeepSoundness}
+use Rattle.law_soundness.specs.StepLaws.{RewardsKeepSoundness}
 use Rattle.rule_modules.proofs.EntryLemmas.{ascend-put, at-put, at-taken}
 use Rattle.rule_modules.proofs.OrderLemmas.{addr_total, pair_found, pair_total, same_back, same_is, same_itself}
 use Rattle.rule_modules.proofs.SoundLemmas.{exact_pair}

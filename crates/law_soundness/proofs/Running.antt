@@ -39,7 +39,7 @@ use Rattle.law_soundness.proofs.Steps.{on_lifted_then, on_then, weaker_if}
 use Rattle.rule_modules.proofs.GoingLemmas.{on_next}
 use Rattle.law_soundness.proofs.Transactions.{TxsFit, WholeFits, burned_by, renewed, txs_fit, without_facts_fits}
 use Rattle.law_soundness.proofs.Voting.{EvidenceLeft, VoteLeft, evidence_fits, own_record, vote_fits}
-use Rattle.law_soundness.specs.Kept.{RunsKeepSoundness, RunsLowerSupplies}
+use Rattle.law_soundness.specs.StepLaws.{RunsKeepSoundness, RunsLowerSupplies}
 use Rattle.rule_modules.specs.Allocation.{fees_allocated}
 use Rattle.rule_modules.specs.Chain.{State, allocation_step, begin_block, end_block, evidence_step, maturing_step, redelegations_step, set_step, staked_in, unbondings_step, vote_step}
 use Rattle.rule_modules.specs.Laws.{burned_in, next_block}

@@ -12,7 +12,7 @@ use Rattle.base_roles.specs.declared.entities.SlashEvent.{SlashEvent}
 use Rattle.base_roles.specs.declared.entities.UnbondingEntry.{UnbondingEntry}
 use Rattle.base_roles.specs.declared.entities.Validator.{Validator}
 use Rattle.base_roles.specs.declared.params.Ctx.{Ctx}
-use Rattle.base_roles.specs.Hooks.{Lists}
+use Rattle.base_roles.specs.Owing.{Lists}
 use Rattle.base_roles.specs.World.{View, World, burnt, over_view}
 use Rattle.base_roles.proofs.BurnLemmas.{burns_by_amounts}
 use Rattle.rule_modules.specs.EntrySlashes.{is_hit, part_of, burned_of, entry_slashed, entries_slashed}
@@ -22,7 +22,8 @@ use Rattle.std.specs.Map.{keys_of}
 use Rattle.base_roles.proofs.HoldingLemmas.{backed-burned}
 use Rattle.base_roles.specs.Holdings.{Holdings, IsBacked, balance_of, burned, coin_burned}
 use Rattle.base_roles.specs.Orders.{pair_cmp, same_addr}
-use Rattle.base_roles.specs.Staked.{Staked, bonded_tokens, of_bond, other_tokens}
+use Rattle.base_roles.specs.Staked.{Staked, bonded_tokens, other_tokens}
+use Rattle.base_roles.specs.StakeChanges.{of_bond}
 use Rattle.law_soundness.proofs.Burns.{total_burnt}
 use Rattle.law_soundness.proofs.Bank.{AreHeld, held_with, name_held}
 use Rattle.law_soundness.proofs.Ending.{under}

@@ -15,8 +15,9 @@ use Rattle.std.specs.List.Sorted.{IsStrictlySortedBy}
 use Rattle.std.specs.Map.{keys_of}
 use Rattle.base_decimals.specs.Decimals.{trunc_of}
 use Rattle.base_roles.specs.Entries.{with}
-use Rattle.base_roles.specs.Hooks.{Lists}
-use Rattle.base_roles.specs.Staked.{Staked, is_bonded, is_unbonded, lists_of, of_bond, delegation, tokens_where, validator_at, put_validator}
+use Rattle.base_roles.specs.Owing.{Lists}
+use Rattle.base_roles.specs.Staked.{Staked, is_bonded, is_unbonded, lists_of, delegation, tokens_where, validator_at, put_validator}
+use Rattle.base_roles.specs.StakeChanges.{of_bond}
 use Rattle.base_roles.specs.declared.facts.Fact.{Fact}
 use Rattle.law_soundness.proofs.Burns.{SayNoMore, quiet_behind}
 use Rattle.law_soundness.proofs.Lists.{all_put, looked_up}
@@ -25,7 +26,7 @@ use Rattle.law_soundness.proofs.Points.{IsRecorded, SharedFits, StakeFits, State
 use Rattle.law_soundness.proofs.Purses.{there_still}
 use Rattle.law_soundness.proofs.Steps.{on_then}
 use Rattle.rule_modules.proofs.GoingLemmas.{on_found, on_next, on_stop}
-use Rattle.law_soundness.specs.Kept.{EditsKeepSoundness, UnjailingKeepsSoundness}
+use Rattle.law_soundness.specs.StepLaws.{EditsKeepSoundness, UnjailingKeepsSoundness}
 use Rattle.rule_modules.proofs.SoundLemmas.{IsSoundAt, exact_addr, sound-put}
 use Rattle.rule_modules.proofs.TokenLemmas.{tokens-put, counted}
 use Rattle.rule_modules.specs.Amounts.{over_facts, seconds}

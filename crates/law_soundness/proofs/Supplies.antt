@@ -22,7 +22,7 @@ use Rattle.law_soundness.proofs.Steps.{weaker_if}
 use Rattle.law_soundness.proofs.Voting.{EvidenceLeft, VoteLeft, evidence_fits, vote_fits}
 use Rattle.rule_modules.specs.Chain.{State, allocation_step, evidence_step, maturing_step, redelegations_step, set_step, unbondings_step, vote_step}
 use Rattle.rule_modules.specs.Effects.{begin_redelegate, cancel_unbonding, community_pool_spend, create_validator, delegate, edit_validator, fee_paid, fund_community_pool, send, set_withdraw_address, undelegate, unjail, withdraw_commission, withdraw_reward}
-use Rattle.rule_modules.specs.Laws.{KeptByBlocks, KeptByMessages, OnlyBurnsLowerSupplies, SupplyFallsByBurns}
+use Rattle.rule_modules.specs.StepLaws.{KeptByBlocks, KeptByMessages, OnlyBurnsLowerSupplies, SupplyFallsByBurns}
 use Rattle.rule_modules.specs.Sound.{IsSound}
 
 -- what a step leaves of a sound state, and what was there with what was burned

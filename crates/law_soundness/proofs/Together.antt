@@ -1,6 +1,6 @@
 -- Every atomic step keeps a state sound.
-use Rattle.rule_modules.specs.Laws.{KeptByMessages, KeptByBlocks, SoundIsKept}
-use Rattle.law_soundness.specs.Kept.{IsSoundAfter}
+use Rattle.rule_modules.specs.StepLaws.{KeptByMessages, KeptByBlocks, SoundIsKept}
+use Rattle.law_soundness.specs.StepLaws.{IsSoundAfter}
 use Rattle.law_soundness.proofs.Moves.{fees_keep_soundness, sends_keep_soundness, payees_keep_soundness}
 use Rattle.law_soundness.proofs.Pool.{funding_keeps_soundness, spending_keeps_soundness, commissions_keep_soundness}
 use Rattle.law_soundness.proofs.Standing.{edits_keep_soundness, unjailing_keeps_soundness}

@@ -25,7 +25,7 @@ use Rattle.law_soundness.proofs.Redelegating.{redelegate_fits}
 use Rattle.law_soundness.proofs.Rewards.{reward_fits}
 use Rattle.law_soundness.proofs.Standing.{edit_fits, unjail_fits}
 use Rattle.law_soundness.proofs.Steps.{on_lifted_then, weaker_if}
-use Rattle.law_soundness.specs.Kept.{IsSoundAfter, MessagesKeepSoundness, TransactionsKeepSoundness}
+use Rattle.law_soundness.specs.StepLaws.{IsSoundAfter, MessagesKeepSoundness, TransactionsKeepSoundness}
 use Rattle.rule_modules.specs.Chain.{State}
 use Rattle.rule_modules.specs.Laws.{burned_in}
 use Rattle.rule_modules.specs.Effects.{after_fee, effects_of, fee_paid, stands_or_fee}

@@ -8,7 +8,8 @@ use Rattle.base_types.specs.Orders.{addr_cmp}
 use Rattle.base_shares.proofs.Values.{value_whole_most}
 use Rattle.base_roles.specs.declared.entities.Validator.{Validator}
 use Rattle.base_roles.specs.declared.facts.Fact.TheVariants as fact
-use Rattle.base_roles.specs.Hooks.{Lists, with_started}
+use Rattle.base_roles.specs.Hooks.{with_started}
+use Rattle.base_roles.specs.Owing.{Lists}
 use Rattle.base_roles.specs.Log.{Log}
 use Rattle.base_roles.specs.Log as log
 use Rattle.base_roles.specs.World.{View, World, over_mine, logged, call, modifying, modified}
@@ -19,7 +20,8 @@ use Rattle.std.specs.Map.{keys_of}
 use Rattle.base_decimals.specs.Decimals.{trunc_of}
 use Rattle.base_roles.specs.Entries.{at, number_at, with, with_number, without}
 use Rattle.base_roles.specs.Orders.{pair_cmp, same_addr}
-use Rattle.base_roles.specs.Staked.{Staked, bonded_tokens, is_bonded, is_unbonded, lists_of, of_bond, other_tokens, delegation, validator_at, put_validator}
+use Rattle.base_roles.specs.Staked.{Staked, bonded_tokens, is_bonded, is_unbonded, lists_of, other_tokens, delegation, validator_at, put_validator}
+use Rattle.base_roles.specs.StakeChanges.{of_bond}
 use Rattle.base_roles.specs.declared.params.Ctx.{Ctx}
 use Rattle.rule_modules.proofs.SoundLemmas.{found-put}
 use Rattle.law_soundness.proofs.Burns.{quiet_behind}

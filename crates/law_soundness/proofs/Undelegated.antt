@@ -27,7 +27,7 @@ use Rattle.law_soundness.proofs.Points.{StakeFits, StateFits, to_fits}
 use Rattle.law_soundness.proofs.Standing.{own_place}
 use Rattle.law_soundness.proofs.Steps.{from_if}
 use Rattle.law_soundness.proofs.Unbonding.{HasLeft, left_fits, less_of, lessened, lessened_fits, may_jail, now_of, stood_fits}
-use Rattle.law_soundness.specs.Kept.{UndelegationsNameConditions}
+use Rattle.law_soundness.specs.StepLaws.{UndelegationsNameConditions}
 use Rattle.rule_modules.proofs.RefusalLemmas.{mapped, stop_step}
 use Rattle.rule_modules.proofs.SoundLemmas.{found_itself}
 use Rattle.rule_modules.specs.Amounts.{bond_coins}

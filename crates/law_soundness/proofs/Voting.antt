@@ -25,7 +25,7 @@ use Rattle.law_soundness.proofs.Points.{IsRecorded, StateFits, from_fits, to_fit
 use Rattle.law_soundness.proofs.Punishing.{SlashLeft, slashed_fits}
 use Rattle.law_soundness.proofs.Standing.{stake_told, state_standing}
 use Rattle.law_soundness.proofs.Steps.{on_then, weaker_if}
-use Rattle.law_soundness.specs.Kept.{EvidenceKeepsSoundness, IsSoundAfter, VotesKeepSoundness}
+use Rattle.law_soundness.specs.StepLaws.{EvidenceKeepsSoundness, IsSoundAfter, VotesKeepSoundness}
 use Rattle.rule_modules.proofs.EntryLemmas.{ascend-put, at-put}
 use Rattle.rule_modules.proofs.OrderLemmas.{cons_total}
 use Rattle.rule_modules.proofs.SoundLemmas.{exact_addr}

@@ -1,9 +1,9 @@
 //! The parts of a block keep a state sound, and its faults have their causes: laws as functions that do nothing, whose contracts
 //! are the laws.
 
-ghost use Rattle.law_soundness.specs.Kept.{NextBlockKeepsSoundness, UnbondingsStepKeepsSoundness, RedelegationsStepKeepsSoundness, AllocationKeepsSoundness, MaturingKeepsSoundness, BondingKeepsSoundness, VotesKeepSoundness, EvidenceKeepsSoundness, RunsKeepSoundness, BlocksAreAnswered};
+ghost use Rattle.law_soundness.specs.StepLaws.{NextBlockKeepsSoundness, UnbondingsStepKeepsSoundness, RedelegationsStepKeepsSoundness, AllocationKeepsSoundness, MaturingKeepsSoundness, BondingKeepsSoundness, VotesKeepSoundness, EvidenceKeepsSoundness, RunsKeepSoundness, BlocksAreAnswered};
 ghost use Rattle.law_soundness.specs.Causes.{LimitsHaveCauses};
-ghost use Rattle.rule_modules.specs.Laws.{BlocksEnd};
+ghost use Rattle.rule_modules.specs.StepLaws.{BlocksEnd};
 
 /// The next block leaves a sound state sound.
 #[tactic(auto, using(crate::proofs::Following::next_block_keeps_soundness))]

@@ -3,7 +3,7 @@
 
 ghost use Rattle.rule_modules.specs.RefusalOrder.{RefusalsNameConditions};
 ghost use Rattle.rule_machine.specs.Promises.{MessagesNameConditions};
-ghost use Rattle.law_soundness.specs.Kept.{FeesKeepSoundness, SendsKeepSoundness, PayeesKeepSoundness, FundingKeepsSoundness, SpendingKeepsSoundness, CommissionsKeepSoundness, EditsKeepSoundness, UnjailingKeepsSoundness, RewardsKeepSoundness, DelegatingKeepsSoundness, CreatingKeepsSoundness, UndelegatingKeepsSoundness, CancellingKeepsSoundness, RedelegatingKeepsSoundness, MessagesKeepSoundness, TransactionsKeepSoundness, FundsNameConditions, RewardsNameConditions, DelegationsNameConditions, CancellationsNameConditions, UndelegationsNameConditions, CreationsNameConditions, RedelegationsNameConditions};
+ghost use Rattle.law_soundness.specs.StepLaws.{FeesKeepSoundness, SendsKeepSoundness, PayeesKeepSoundness, FundingKeepsSoundness, SpendingKeepsSoundness, CommissionsKeepSoundness, EditsKeepSoundness, UnjailingKeepsSoundness, RewardsKeepSoundness, DelegatingKeepsSoundness, CreatingKeepsSoundness, UndelegatingKeepsSoundness, CancellingKeepsSoundness, RedelegatingKeepsSoundness, MessagesKeepSoundness, TransactionsKeepSoundness, FundsNameConditions, RewardsNameConditions, DelegationsNameConditions, CancellationsNameConditions, UndelegationsNameConditions, CreationsNameConditions, RedelegationsNameConditions};
 
 /// A fee that is paid leaves a sound state sound.
 #[tactic(auto, using(crate::proofs::Moves::fees_keep_soundness))]

@@ -2,8 +2,9 @@
 //! laws as functions that do nothing, whose contracts are the laws.
 
 ghost use Rattle.law_soundness.specs.Ranges.{SoundIsInRange, RunsAreInRange};
-ghost use Rattle.law_soundness.specs.Kept.{RunsLowerSupplies, RunsNameConditions, RefusalsAreNamed, RunsAreAnswered};
-ghost use Rattle.rule_modules.specs.Laws.{SoundIsKept, OnlyBurnsLowerSupplies};
+ghost use Rattle.law_soundness.specs.Kept.{RefusalsAreNamed, RunsAreAnswered};
+ghost use Rattle.law_soundness.specs.StepLaws.{RunsLowerSupplies, RunsNameConditions};
+ghost use Rattle.rule_modules.specs.StepLaws.{SoundIsKept, OnlyBurnsLowerSupplies};
 ghost use Rattle.rule_machine.specs.Promises.{GenesisIsSound, RunsAreSound, AccountsHoldWhatIsOwed, SuppliesFallByBurns};
 
 /// Every atomic step keeps a state sound.

@@ -7,7 +7,8 @@ use Rattle.base_roles.specs.declared.faults.HookFault.{HookFault}
 use Rattle.base_roles.specs.declared.faults.HookFault.TheVariants as hook
 use Rattle.base_roles.specs.Answers.{Answers}
 use Rattle.base_roles.specs.declared.facts.Fact.{Fact}
-use Rattle.base_roles.specs.Hooks.{Lists, Tells, Stand, Ready, Lawful, Keeps}
+use Rattle.base_roles.specs.Hooks.{Tells, Stand, Ready, Lawful, Keeps}
+use Rattle.base_roles.specs.Owing.{Lists}
 use Rattle.base_roles.specs.Staked.{Staked, validator_at, put_validator, lists_of}
 use Rattle.base_roles.specs.World.{View, bonded}
 use Rattle.rule_modules.proofs.SoundLemmas.{to_points, found_itself}

@@ -9,8 +9,10 @@ use Rattle.base_types.specs.declared.status.BondStatus.TheVariants.{Unbonding}
 use Rattle.base_roles.specs.declared.entities.Validator.{Validator}
 use Rattle.base_roles.specs.declared.facts.Fact.TheVariants as fact
 use Rattle.base_roles.specs.Holdings.{IsBacked, balance_of}
-use Rattle.base_roles.specs.Hooks.{Lists, Tells, Stand, Keeps}
-use Rattle.base_roles.specs.Staked.{Staked, put_validator, lists_of, bonded_tokens, other_tokens, HoldsStake}
+use Rattle.base_roles.specs.Hooks.{Tells, Stand, Keeps}
+use Rattle.base_roles.specs.Owing.{Lists}
+use Rattle.base_roles.specs.Staked.{Staked, put_validator, lists_of, bonded_tokens, other_tokens}
+use Rattle.base_roles.specs.StakeChanges.{HoldsStake}
 use Rattle.base_roles.specs.World.{View, noted}
 use Rattle.base_roles.proofs.HookLemmas.{stand-noted}
 use Rattle.rule_modules.specs.BondedSet.{HaveOwnOperators, joining_of, leaving_of, tokens_of, difference_moved}

@@ -17,8 +17,10 @@ use Rattle.base_roles.specs.declared.faults.HookFault.{HookFault}
 use Rattle.base_roles.specs.declared.faults.HookFault.TheVariants as hook
 use Rattle.base_roles.specs.declared.params.Ctx.{Ctx}
 use Rattle.base_roles.specs.Holdings.{IsBacked, balance_of}
-use Rattle.base_roles.specs.Hooks.{Lists, Tells, Stand}
-use Rattle.base_roles.specs.Staked.{Staked, bonded_tokens, other_tokens, is_bonded, HoldsStake}
+use Rattle.base_roles.specs.Hooks.{Tells, Stand}
+use Rattle.base_roles.specs.Owing.{Lists}
+use Rattle.base_roles.specs.Staked.{Staked, bonded_tokens, other_tokens, is_bonded}
+use Rattle.base_roles.specs.StakeChanges.{HoldsStake}
 use Rattle.base_roles.specs.Flow.{◌>>=◌, each}
 use Rattle.base_roles.specs.World.{View, World, Hook, Told, sent, noted, over_view}
 use Rattle.rule_modules.specs.Amounts.{bond_coins}

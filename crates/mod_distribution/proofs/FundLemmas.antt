@@ -14,7 +14,8 @@ use Rattle.base_roles.specs.declared.refusal.Refusal.{Refusal}
 use Rattle.base_roles.specs.declared.refusal.Refusal.TheVariants.{InsufficientFunds, NonPositive, NotAuthority, Overflow, PoolTooSmall}
 use Rattle.base_roles.proofs.HoldingLemmas.{ascend-changed, backed-coin_moved, balance-changed, balance-most}
 use Rattle.base_roles.specs.Holdings.{Holdings, IsBacked, balance_of, coin_moved, is_short, with_balance}
-use Rattle.base_roles.specs.Hooks.{Lists, Stand}
+use Rattle.base_roles.specs.Hooks.{Stand}
+use Rattle.base_roles.specs.Owing.{Lists}
 use Rattle.base_roles.specs.Orders.{same_addr}
 use Rattle.base_roles.specs.World.{View}
 use Rattle.law_soundness.proofs.Bank.{each_within, known_enough}

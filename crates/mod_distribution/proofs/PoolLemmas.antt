@@ -19,7 +19,8 @@ use Rattle.base_roles.specs.Entries.{at}
 use Rattle.base_roles.proofs.AmountLemmas.{moves_by_amounts}
 use Rattle.base_roles.proofs.HoldingLemmas.{balance-most}
 use Rattle.base_roles.specs.Holdings.{IsBacked, balance_of, coins_of, is_short}
-use Rattle.base_roles.specs.Hooks.{Lists, Stand}
+use Rattle.base_roles.specs.Hooks.{Stand}
+use Rattle.base_roles.specs.Owing.{Lists}
 use Rattle.base_roles.specs.Log.{Log}
 use Rattle.base_roles.specs.Log as log
 use Rattle.base_roles.specs.Staked.{Staked}

@@ -8,7 +8,8 @@ use Rattle.base_types.specs.Orders.{addr_cmp}
 use Rattle.base_roles.proofs.HoldingLemmas.{balance-most}
 use Rattle.base_roles.specs.declared.entities.SlashEvent.{SlashEvent}
 use Rattle.base_roles.specs.Entries.{at}
-use Rattle.base_roles.specs.Hooks.{Lists, Stand}
+use Rattle.base_roles.specs.Hooks.{Stand}
+use Rattle.base_roles.specs.Owing.{Lists}
 use Rattle.base_roles.specs.Orders.{pair_cmp}
 use Rattle.base_roles.specs.World.{View}
 use Rattle.law_soundness.proofs.Periods.{some_unwrap}

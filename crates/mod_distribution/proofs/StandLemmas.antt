@@ -15,7 +15,8 @@ use Rattle.base_roles.specs.declared.refusal.Refusal.{Refusal}
 use Rattle.base_roles.specs.declared.refusal.Refusal.TheVariants.{NoCommission, WithdrawFixed}
 use Rattle.base_roles.specs.Answers.{Answers}
 use Rattle.base_roles.specs.Entries.{at, with}
-use Rattle.base_roles.specs.Hooks.{Lists, Stand, with_started}
+use Rattle.base_roles.specs.Hooks.{Stand, with_started}
+use Rattle.base_roles.specs.Owing.{Lists}
 use Rattle.base_roles.specs.Log.{Log}
 use Rattle.base_roles.specs.Orders.{same_addr}
 use Rattle.base_roles.specs.Staked.{Staked, validator_by_cons}

@@ -11,7 +11,8 @@ use Rattle.base_roles.specs.declared.faults.MessageFault.{MessageFault}
 use Rattle.base_roles.specs.declared.refusal.Refusal.{Refusal}
 use Rattle.base_roles.specs.Answers.{AsRuled, WantsMemory, ExceedsAs, StopsForMemory, RefusesAs}
 use Rattle.base_roles.specs.Holdings.{IsBacked}
-use Rattle.base_roles.specs.Hooks.{Lists, Stands}
+use Rattle.base_roles.specs.Hooks.{Stands}
+use Rattle.base_roles.specs.Owing.{Lists}
 use Rattle.base_roles.specs.Log.{Log}
 use Rattle.base_roles.specs.Log as log
 use Rattle.base_roles.specs.Flow.{◌>>=◌}

@@ -5,7 +5,8 @@ use Rattle.std.specs.Map.{values_of}
 use Rattle.std.proofs.lemmas.List.Elements.{All-from_recursion, recursion_from_All, All-contains_itself}
 use Rattle.base_types.specs.Orders.{addr_cmp}
 use Rattle.base_roles.specs.Entries.{at}
-use Rattle.base_roles.specs.Hooks.{Lists, Stand}
+use Rattle.base_roles.specs.Hooks.{Stand}
+use Rattle.base_roles.specs.Owing.{Lists}
 use Rattle.base_roles.specs.Holdings.{Balances}
 use Rattle.base_roles.specs.World.{View}
 use Rattle.law_soundness.proofs.Bank.{AreHeld}

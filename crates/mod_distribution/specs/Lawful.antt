@@ -13,7 +13,8 @@ use Rattle.base_roles.specs.declared.facts.Fact.{Fact}
 use Rattle.base_roles.specs.declared.facts.Fact.TheVariants as fact
 use Rattle.base_roles.proofs.HoldingLemmas.{balance-moved_elsewhere, supplies-moved}
 use Rattle.base_roles.specs.Holdings.{transfer_told}
-use Rattle.base_roles.specs.Hooks.{Lists, Needs, after, with_operator, with_started, Stand, Ready, Keeps, IsGiven, Lawful}
+use Rattle.base_roles.specs.Hooks.{Needs, after, with_operator, with_started, Stand, Ready, Keeps, IsGiven, Lawful}
+use Rattle.base_roles.specs.Owing.{Lists}
 use Rattle.base_roles.specs.Log.{Log}
 use Rattle.base_roles.specs.NoHooks.{Keeps-same}
 use Rattle.base_roles.specs.Orders.{place_cmp, same_addr}

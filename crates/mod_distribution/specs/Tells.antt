@@ -3,7 +3,8 @@ use Rattle.std.specs.Prelude.{◌≡◌, ℕ, max, true, false, List, [], ◌∷
 use Rattle.std.specs.List.Sorted.{IsStrictlySortedBy}
 use Rattle.std.specs.Map.{keys_of}
 use Rattle.base_types.specs.Orders.{addr_cmp}
-use Rattle.base_roles.specs.Hooks.{Lists, Tells}
+use Rattle.base_roles.specs.Hooks.{Tells}
+use Rattle.base_roles.specs.Owing.{Lists}
 use Rattle.rule_modules.specs.Distribution.{Shared, distribution_told}
 use Rattle.rule_modules.specs.Owed.{owed_from_distribution}
 use Rattle.rule_modules.specs.Periods.{Periods, Rewards, starts_of}

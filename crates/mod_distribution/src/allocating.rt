@@ -7,7 +7,7 @@ ghost use Rattle.base_roles.specs.declared.faults.HookFault.TheVariants.{NoMemor
 ghost use Rattle.base_roles.specs.Answers.{Answers};
 ghost use Rattle.base_roles.specs.Ground.{seen, CanBeUndone};
 ghost use Rattle.base_roles.specs.Holdings.{IsBacked, coins_of, is_short};
-ghost use Rattle.base_roles.specs.Hooks.{Lists};
+ghost use Rattle.base_roles.specs.Owing.{Lists};
 ghost use Rattle.base_roles.specs.World.{sent};
 ghost use Rattle.rule_modules.specs.Allocation.{fees_allocated};
 ghost use Rattle.rule_modules.specs.Distribution.{Shared, told_of};

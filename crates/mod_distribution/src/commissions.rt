@@ -4,7 +4,7 @@ ghost use Rattle.std.specs.Prelude.{◌≡◌, ◌++◌, ◌∷◌, [], OnOk, On
 ghost use Rattle.base_roles.specs.declared.facts.Fact.TheVariants as fact;
 ghost use Rattle.base_roles.specs.declared.faults.HookFault.TheVariants.{NoMemory};
 ghost use Rattle.base_roles.specs.Ground.{seen, CanBeUndone};
-ghost use Rattle.base_roles.specs.Hooks.{Lists};
+ghost use Rattle.base_roles.specs.Owing.{Lists};
 ghost use Rattle.base_roles.specs.World.{View};
 ghost use Rattle.rule_modules.specs.Distribution.{Shared};
 ghost use Rattle.rule_modules.specs.Withdrawals.{commission_withdrawn, payee_set};

@@ -3,7 +3,7 @@
 ghost use Rattle.std.specs.Prelude.{◌≡◌, [], OnOk};
 ghost use Rattle.base_roles.specs.Ground.{seen, CanBeUndone};
 ghost use Rattle.base_roles.specs.Holdings.{IsBacked};
-ghost use Rattle.base_roles.specs.Hooks.{Lists};
+ghost use Rattle.base_roles.specs.Owing.{Lists};
 ghost use Rattle.rule_modules.specs.Distribution.{Shared};
 ghost use Rattle.rule_modules.specs.Withdrawals.{pool_funded, pool_spent};
 ghost use Rattle.mod_allocation.specs.Owed.{IsMoved};

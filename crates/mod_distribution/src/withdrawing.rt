@@ -3,7 +3,8 @@
 ghost use Rattle.std.specs.Prelude.{◌≡◌, true, None, OnOk};
 ghost use Rattle.base_roles.specs.declared.refusal.Refusal.TheVariants.{Overflow};
 ghost use Rattle.base_roles.specs.Ground.{seen, CanBeUndone};
-ghost use Rattle.base_roles.specs.Hooks.{Lists, MayCall};
+ghost use Rattle.base_roles.specs.Hooks.{MayCall};
+ghost use Rattle.base_roles.specs.Owing.{Lists};
 ghost use Rattle.base_roles.specs.Flow.{stopping};
 ghost use Rattle.base_roles.specs.World.{modifying};
 ghost use Rattle.rule_modules.specs.Distribution.{Shared, reward_due, reward_withdrawn, reward_renewed};

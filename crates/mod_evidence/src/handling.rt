@@ -8,7 +8,8 @@ ghost use Rattle.base_roles.specs.Ground.{seen, CanBeUndone};
 ghost use Rattle.base_roles.specs.Hooks.{Stands};
 ghost use Rattle.base_roles.specs.Lent.{jail_told};
 ghost use Rattle.base_roles.specs.Log.{Log};
-ghost use Rattle.base_roles.specs.Staked.{validator_by_cons, lists_of, bonded_tokens, other_tokens, HoldsStake, StakeFalls};
+ghost use Rattle.base_roles.specs.Staked.{validator_by_cons, lists_of, bonded_tokens, other_tokens};
+ghost use Rattle.base_roles.specs.StakeChanges.{HoldsStake, StakeFalls};
 ghost use Rattle.rule_modules.specs.Evidence.{equivocation_handled, forever, is_too_old};
 ghost use Rattle.mod_evidence.specs.Calls.{lent_bans, accused, can_be_banned, is_punished, is_free, Handles};
 

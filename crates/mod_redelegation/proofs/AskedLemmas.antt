@@ -12,7 +12,8 @@ use Rattle.base_roles.specs.declared.refusal.Refusal.{Refusal}
 use Rattle.base_roles.specs.declared.refusal.Refusal.TheVariants.{WrongDenom, NonPositive, NoValidator, NoTokens, TooManyShares, SelfRedelegation, Transitive, RedelegationsFull, TinyRedelegation, Overflow}
 use Rattle.base_roles.specs.Answers.{AnswersAs}
 use Rattle.base_roles.specs.Orders.{same_addr}
-use Rattle.base_roles.specs.Staked.{Staked, validator_at, delegation, HasShares}
+use Rattle.base_roles.specs.Staked.{Staked, validator_at, delegation}
+use Rattle.base_roles.specs.StakeChanges.{HasShares}
 use Rattle.base_roles.specs.Flow.{◌>>=◌, ◌>>◌, stop_if, or_stop, stopping}
 use Rattle.base_roles.specs.World.{View, Hook, Told, World}
 use Rattle.rule_modules.specs.Delegating.{is_wrong, shares_given, pool, delegated}

@@ -12,9 +12,11 @@ use Rattle.base_roles.specs.declared.entities.Validator.{Validator}
 use Rattle.base_roles.specs.declared.params.Ctx.{Ctx}
 use Rattle.base_roles.specs.Ground.{AreInRange, IsInOrder, end_of_blocks}
 use Rattle.base_roles.specs.Holdings.{balance_of, supply_of, IsBacked}
-use Rattle.base_roles.specs.Hooks.{Lists, Tells, Stand, Keeps}
+use Rattle.base_roles.specs.Hooks.{Tells, Stand, Keeps}
+use Rattle.base_roles.specs.Owing.{Lists}
 use Rattle.base_roles.specs.Orders.{same_addr}
-use Rattle.base_roles.specs.Staked.{Staked, validator_at, is_bonded, is_unbonded, bonded_tokens, other_tokens, HoldsStake, of_bond, IsUnbonded, validator_left}
+use Rattle.base_roles.specs.Staked.{Staked, validator_at, is_bonded, is_unbonded, bonded_tokens, other_tokens}
+use Rattle.base_roles.specs.StakeChanges.{HoldsStake, of_bond, IsUnbonded, validator_left}
 use Rattle.base_roles.specs.World.{View, burnt}
 use Rattle.base_roles.proofs.BurnLemmas.{burns_by_amounts, burns_lower_supplies}
 use Rattle.base_roles.proofs.HoldingLemmas.{denom_total}

@@ -7,7 +7,8 @@ use Rattle.base_decimals.specs.declared.over.Over.{Over}
 use Rattle.base_decimals.specs.Decimals.{mul_even_of, quotient_over}
 use Rattle.base_decimals.specs.Rounding.{even}
 use Rattle.base_shares.proofs.Roundings.{even_most}
-use Rattle.base_roles.specs.Staked.{Staked, delegation, HasShares}
+use Rattle.base_roles.specs.Staked.{Staked, delegation}
+use Rattle.base_roles.specs.StakeChanges.{HasShares}
 
 -- a factor of at most one of a decimal is no more than it
 even_within : (a b : ℕ) → a ≤ 10 ^ 18 → even (a * b) (10 ^ 18) ≤ b

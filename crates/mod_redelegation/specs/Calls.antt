@@ -6,7 +6,8 @@ use Rattle.base_roles.specs.declared.entities.Validator.{Validator}
 use Rattle.base_roles.specs.declared.refusal.Refusal.{Refusal}
 use Rattle.base_roles.specs.declared.refusal.Refusal.TheVariants.{WrongDenom, NonPositive, NoValidator, SelfRedelegation, Transitive, RedelegationsFull, TinyRedelegation}
 use Rattle.base_roles.specs.Orders.{same_addr}
-use Rattle.base_roles.specs.Staked.{Staked, validator_at, delegation, bonded_tokens, other_tokens, HoldsStake}
+use Rattle.base_roles.specs.Staked.{Staked, validator_at, delegation, bonded_tokens, other_tokens}
+use Rattle.base_roles.specs.StakeChanges.{HoldsStake}
 use Rattle.base_roles.specs.Flow.{◌>>=◌, ◌>>◌, stop_if, or_stop}
 use Rattle.base_roles.specs.World.{View}
 use Rattle.rule_modules.specs.Delegating.{is_wrong, shares_given}

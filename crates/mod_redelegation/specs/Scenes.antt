@@ -3,7 +3,8 @@ use Rattle.std.specs.Prelude.{◌≡◌, ℕ}
 use Rattle.base_roles.specs.declared.bank.Ground.{Ground}
 use Rattle.base_roles.specs.Ground.{CanBeUndone}
 use Rattle.base_roles.specs.Hooks.{Tells, Stands}
-use Rattle.base_roles.specs.Staked.{Staked, lists_of, bonded_tokens, other_tokens, HoldsStake, StakeFalls, StillStand}
+use Rattle.base_roles.specs.Staked.{Staked, lists_of, bonded_tokens, other_tokens}
+use Rattle.base_roles.specs.StakeChanges.{HoldsStake, StakeFalls, StillStand}
 use Rattle.base_roles.specs.World.{View}
 use Rattle.rule_modules.specs.Redelegations.{RedelegationLists}
 use Rattle.mod_staking.specs.Scenes.{IsScene}

@@ -8,7 +8,8 @@ use Rattle.base_roles.specs.declared.faults.HookFault.TheVariants.{NoMemory}
 use Rattle.base_roles.specs.Answers.{Follows}
 use Rattle.base_roles.specs.Ground.{CanBeUndone}
 use Rattle.base_roles.specs.Lent.{jail_told}
-use Rattle.base_roles.specs.Staked.{validator_by_cons, StakeFalls}
+use Rattle.base_roles.specs.Staked.{validator_by_cons}
+use Rattle.base_roles.specs.StakeChanges.{StakeFalls}
 use Rattle.base_roles.specs.Flow.{◌>>=◌}
 use Rattle.base_roles.specs.World.{View, World}
 use Rattle.rule_modules.specs.Answers.{Leaves}

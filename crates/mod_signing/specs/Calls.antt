@@ -16,7 +16,8 @@ use Rattle.base_roles.specs.declared.refusal.Refusal.TheVariants.{SelfBelowMinim
 use Rattle.base_roles.specs.Answers.{AsRuled, WantsMemory, ExceedsAs}
 use Rattle.base_roles.specs.Ground.{CanBeUndone}
 use Rattle.base_roles.specs.Hooks.{Tells, Stands}
-use Rattle.base_roles.specs.Staked.{Staked, validator_by_cons, is_unbonded, lists_of, bonded_tokens, other_tokens, HoldsStake}
+use Rattle.base_roles.specs.Staked.{Staked, validator_by_cons, is_unbonded, lists_of, bonded_tokens, other_tokens}
+use Rattle.base_roles.specs.StakeChanges.{HoldsStake}
 use Rattle.base_roles.specs.Flow.{◌>>=◌, ◌>>◌, stop_if}
 use Rattle.base_roles.specs.World.{View, World}
 use Rattle.rule_modules.specs.Slashing.{Slashes, jail_lent}

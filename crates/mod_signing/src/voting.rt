@@ -3,7 +3,8 @@
 ghost use Rattle.std.specs.Prelude.{◌≡◌, ◌&&◌, nat_lt, ℕ, ◌+◌, ◌*◌, ◌^◌, ◌<◌, ◌≤◌, ◌%◌, ◌/◌, true, false, ◌∷◌, Some, OnOk};
 ghost use Rattle.base_roles.specs.Ground.{seen};
 ghost use Rattle.base_roles.specs.Log.{Log};
-ghost use Rattle.base_roles.specs.Staked.{validator_by_cons, bonded_tokens, other_tokens, StakeFalls};
+ghost use Rattle.base_roles.specs.Staked.{validator_by_cons, bonded_tokens, other_tokens};
+ghost use Rattle.base_roles.specs.StakeChanges.{StakeFalls};
 ghost use Rattle.rule_modules.specs.Answers.{Leaves};
 ghost use Rattle.rule_modules.specs.Window.{Signing, info_of, signing_of, vote_counted, voted};
 ghost use Rattle.mod_signing.specs.Kept.{Signed, signed_of};

@@ -14,10 +14,12 @@ use Rattle.base_roles.specs.declared.facts.Fact.TheVariants as fact
 use Rattle.base_roles.specs.declared.params.Ctx.{Ctx}
 use Rattle.base_roles.specs.Ground.{AreInRange, end_of_blocks}
 use Rattle.base_roles.specs.Holdings.{balance_of, supply_of, IsBacked}
-use Rattle.base_roles.specs.Hooks.{Lists, Tells, Stand, Ready, Keeps, Lawful}
+use Rattle.base_roles.specs.Hooks.{Tells, Stand, Ready, Keeps, Lawful}
+use Rattle.base_roles.specs.Owing.{Lists}
 use Rattle.base_roles.specs.Log as log
 use Rattle.base_roles.specs.Log.{Log}
-use Rattle.base_roles.specs.Staked.{Staked, validator_at, put_validator, is_bonded, bonded_tokens, other_tokens, HoldsStake, StakeFalls}
+use Rattle.base_roles.specs.Staked.{Staked, validator_at, put_validator, is_bonded, bonded_tokens, other_tokens}
+use Rattle.base_roles.specs.StakeChanges.{HoldsStake, StakeFalls}
 use Rattle.base_roles.specs.Flow.{◌>>=◌}
 use Rattle.base_roles.specs.World.{View, slashing, Told, gives, exceeds, World, hooked, noted, burnt, over_view, logged}
 use Rattle.base_roles.proofs.BurnLemmas.{burns_by_amounts, burns_lower_supplies}

@@ -8,7 +8,7 @@ use Rattle.base_types.specs.Orders.{denom_cmp}
 use Rattle.base_roles.specs.declared.params.Ctx.{Ctx}
 use Rattle.base_roles.specs.Holdings.{balance_of}
 use Rattle.base_roles.specs.Lent.{IsBurned}
-use Rattle.base_roles.specs.Staked.{of_bond, HoldsStake, StakeFalls}
+use Rattle.base_roles.specs.StakeChanges.{of_bond, HoldsStake, StakeFalls}
 use Rattle.base_roles.specs.World.{View}
 use Rattle.base_roles.proofs.HoldingLemmas.{denom_total}
 

@@ -4,7 +4,8 @@ use Rattle.std.specs.Prelude.{Option, Some, None, option_map, Result, Ok, Err, O
 use Rattle.base_types.specs.declared.status.BondStatus.{BondStatus}
 use Rattle.base_roles.specs.declared.entities.Validator.{Validator}
 use Rattle.base_roles.specs.Orders.{same_addr}
-use Rattle.base_roles.specs.Staked.{Staked, validator_at, validator_by_cons, put_validator, is_unbonded, but_jailed, StillStand, StillStandByCons, SameButJailed, SameButJailedByCons, IsJailed, lists_of, is_bonded, tokens_where, bonded_tokens, other_tokens}
+use Rattle.base_roles.specs.Staked.{Staked, validator_at, validator_by_cons, put_validator, is_unbonded, lists_of, is_bonded, tokens_where, bonded_tokens, other_tokens}
+use Rattle.base_roles.specs.StakeChanges.{but_jailed, StillStand, StillStandByCons, SameButJailed, SameButJailedByCons, IsJailed}
 use Rattle.mod_staking.specs.Calls.{IsSoundStake, with_if, changed_at}
 use Rattle.mod_staking.specs.Registered.{operator_by_cons}
 use Rattle.mod_staking.proofs.IndexLemmas.{by_cons-none, by_cons-some, found_by_cons, nobody_has}

@@ -13,7 +13,8 @@ use Rattle.base_roles.specs.Answers.{Answers, AnswersAs}
 use Rattle.base_roles.specs.Holdings.{balance_of, IsBacked}
 use Rattle.base_roles.specs.Hooks.{Tells, Stand, Keeps, Lawful, after}
 use Rattle.base_roles.specs.Log.{Log}
-use Rattle.base_roles.specs.Staked.{Staked, validator_at, delegation, put_validator, lists_of, is_bonded, bonded_tokens, other_tokens, HoldsStake}
+use Rattle.base_roles.specs.Staked.{Staked, validator_at, delegation, put_validator, lists_of, is_bonded, bonded_tokens, other_tokens}
+use Rattle.base_roles.specs.StakeChanges.{HoldsStake}
 use Rattle.base_roles.specs.Flow.{◌>>=◌, stopping}
 use Rattle.base_roles.specs.World.{View, Hook, Told, gives, exceeds, World, hooked, modified, over_view, over_mine, sent}
 use Rattle.rule_modules.specs.Amounts.{bond_coins}

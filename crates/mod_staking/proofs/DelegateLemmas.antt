@@ -13,9 +13,11 @@ use Rattle.base_roles.specs.declared.refusal.Refusal.TheVariants.{TinyDelegation
 use Rattle.base_roles.specs.Answers.{Answers}
 use Rattle.base_roles.specs.Entries.{with, without, with_number, number_at}
 use Rattle.base_roles.specs.Holdings.{balance_of, IsBacked}
-use Rattle.base_roles.specs.Hooks.{Lists, Tells, Stand, Ready, Keeps, Lawful, after}
+use Rattle.base_roles.specs.Hooks.{Tells, Stand, Ready, Keeps, Lawful, after}
+use Rattle.base_roles.specs.Owing.{Lists}
 use Rattle.base_roles.specs.Orders.{pair_cmp}
-use Rattle.base_roles.specs.Staked.{Staked, validator_at, delegation, put_validator, lists_of, is_bonded, tokens_where, bonded_tokens, other_tokens, HoldsStake}
+use Rattle.base_roles.specs.Staked.{Staked, validator_at, delegation, put_validator, lists_of, is_bonded, tokens_where, bonded_tokens, other_tokens}
+use Rattle.base_roles.specs.StakeChanges.{HoldsStake}
 use Rattle.base_roles.specs.Flow.{◌>>=◌, ◌>>◌, stop_if, stopping}
 use Rattle.base_roles.specs.World.{View, Hook, modified}
 use Rattle.base_roles.proofs.HookLemmas.{told-of_ok, Stand-after_ok}

@@ -18,9 +18,11 @@ use Rattle.base_roles.specs.declared.bank.Ground.{Ground}
 use Rattle.base_roles.specs.declared.facts.Fact.{Fact}
 use Rattle.base_roles.specs.Ground.{CanBeUndone}
 use Rattle.base_roles.specs.Holdings.{IsBacked, balance_of, moved, is_short}
-use Rattle.base_roles.specs.Hooks.{Lists, Tells, Stand, Keeps}
+use Rattle.base_roles.specs.Hooks.{Tells, Stand, Keeps}
+use Rattle.base_roles.specs.Owing.{Lists}
 use Rattle.base_roles.specs.declared.refusal.Refusal.TheVariants.{InsufficientFunds}
-use Rattle.base_roles.specs.Staked.{is_bonded, HoldsStake}
+use Rattle.base_roles.specs.Staked.{is_bonded}
+use Rattle.base_roles.specs.StakeChanges.{HoldsStake}
 use Rattle.base_roles.specs.Flow.{◌>>◌, stop_if}
 use Rattle.base_roles.specs.World.{View, sent}
 use Rattle.base_roles.proofs.HookLemmas.{Stand-after_send}

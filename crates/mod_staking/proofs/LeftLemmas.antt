@@ -8,7 +8,8 @@ use Rattle.base_roles.specs.declared.entities.Validator.{Validator}
 use Rattle.base_roles.specs.declared.facts.Fact.TheVariants.{Jailed}
 use Rattle.base_roles.specs.Answers.{Answers}
 use Rattle.base_roles.specs.Entries.{with, without, with_number, number_at}
-use Rattle.base_roles.specs.Hooks.{Lists, Tells, Stand, Ready, Keeps, Lawful, with_started}
+use Rattle.base_roles.specs.Hooks.{Tells, Stand, Ready, Keeps, Lawful, with_started}
+use Rattle.base_roles.specs.Owing.{Lists}
 use Rattle.base_roles.specs.Log.{Log}
 use Rattle.base_roles.specs.Orders.{pair_cmp}
 use Rattle.base_roles.specs.Staked.{Staked, validator_at, delegation, put_validator, lists_of}

@@ -7,7 +7,8 @@ use Rattle.std.specs.BTreeMap.{is_at}
 use Rattle.base_types.specs.Orders.{addr_cmp}
 use Rattle.base_roles.specs.declared.entities.Validator.{Validator}
 use Rattle.base_roles.specs.Entries.{at, with_number}
-use Rattle.base_roles.specs.Hooks.{Lists, with_operator, with_started, after}
+use Rattle.base_roles.specs.Hooks.{with_operator, with_started, after}
+use Rattle.base_roles.specs.Owing.{Lists}
 use Rattle.base_roles.specs.Orders.{pair_cmp, same_addr}
 use Rattle.base_roles.specs.Staked.{Staked, validator_at, put_validator, lists_of}
 use Rattle.base_roles.specs.World.{modified}

@@ -6,7 +6,8 @@ use Rattle.base_roles.specs.declared.entities.Validator.{Validator}
 use Rattle.base_roles.specs.declared.faults.HookFault.{HookFault}
 use Rattle.base_roles.specs.declared.faults.HookFault.TheVariants as hook
 use Rattle.base_roles.specs.Answers.{Answers}
-use Rattle.base_roles.specs.Hooks.{Lists, Tells, Stand, Ready, Lawful, IsGiven}
+use Rattle.base_roles.specs.Hooks.{Tells, Stand, Ready, Lawful, IsGiven}
+use Rattle.base_roles.specs.Owing.{Lists}
 use Rattle.base_roles.specs.Staked.{Staked, validator_at, lists_of}
 use Rattle.base_roles.specs.World.{View, Told, gives, exceeds, removed}
 use Rattle.rule_modules.proofs.SoundLemmas.{IsSoundAt}

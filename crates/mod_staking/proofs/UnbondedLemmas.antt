@@ -13,7 +13,8 @@ use Rattle.base_roles.specs.declared.facts.Fact.TheVariants.{Removed}
 use Rattle.base_roles.specs.Entries.{at, with_number}
 use Rattle.base_roles.specs.Log.{Log}
 use Rattle.base_roles.specs.Orders.{pair_cmp, same_addr}
-use Rattle.base_roles.specs.Staked.{Staked, validator_at, delegation, put_validator, is_bonded, is_unbonded, tokens_where, bonded_tokens, other_tokens, shares_left, validator_left, IsUnbonded}
+use Rattle.base_roles.specs.Staked.{Staked, validator_at, delegation, put_validator, is_bonded, is_unbonded, tokens_where, bonded_tokens, other_tokens}
+use Rattle.base_roles.specs.StakeChanges.{shares_left, validator_left, IsUnbonded}
 use Rattle.base_roles.specs.Flow.{◌>>=◌}
 use Rattle.base_roles.specs.World.{View, Hook, Told, gives, exceeds, World, hooked, removed, noted, over_view}
 use Rattle.rule_modules.specs.Answers.{Leaves}

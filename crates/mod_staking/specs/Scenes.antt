@@ -3,7 +3,8 @@ use Rattle.std.specs.Prelude.{◌≡◌, ℕ, true, None, Result, OnOk, IsErr}
 use Rattle.base_roles.specs.declared.bank.Ground.{Ground}
 use Rattle.base_roles.specs.Ground.{CanBeUndone}
 use Rattle.base_roles.specs.Hooks.{Tells, Stand, Stands, Keeps}
-use Rattle.base_roles.specs.Staked.{Staked, lists_of, bonded_tokens, other_tokens, HoldsStake}
+use Rattle.base_roles.specs.Staked.{Staked, lists_of, bonded_tokens, other_tokens}
+use Rattle.base_roles.specs.StakeChanges.{HoldsStake}
 use Rattle.base_roles.specs.World.{View}
 use Rattle.mod_staking.specs.Registered.{Registered, behind}
 use Rattle.mod_staking.specs.Calls.{IsSoundStake}

@@ -14,7 +14,8 @@ use Rattle.base_roles.specs.declared.params.Ctx.{Ctx}
 use Rattle.base_roles.specs.declared.refusal.Refusal.{Refusal}
 use Rattle.base_roles.specs.declared.refusal.Refusal.TheVariants.{WrongDenom, NonPositive, NoValidator, NoTokens, TooManyShares, UnbondingsFull, Overflow}
 use Rattle.base_roles.specs.Answers.{Follows}
-use Rattle.base_roles.specs.Staked.{Staked, validator_at, delegation, is_bonded, HasShares}
+use Rattle.base_roles.specs.Staked.{Staked, validator_at, delegation, is_bonded}
+use Rattle.base_roles.specs.StakeChanges.{HasShares}
 use Rattle.base_roles.specs.Flow.{◌>>=◌, ◌>>◌, stop_if, or_stop, stopping}
 use Rattle.base_roles.specs.World.{View, Hook, Told, World, sent, over_view}
 use Rattle.rule_modules.specs.Amounts.{bond_coins}

@@ -14,7 +14,8 @@ use Rattle.base_roles.specs.declared.refusal.Refusal.TheVariants.{WrongDenom, No
 use Rattle.base_roles.specs.Answers.{AnswersAs}
 use Rattle.base_roles.specs.Hooks.{Tells, Stand, Lawful}
 use Rattle.base_roles.specs.Log.{Log}
-use Rattle.base_roles.specs.Staked.{Staked, validator_at, delegation, put_validator, lists_of, bonded_tokens, other_tokens, HoldsStake}
+use Rattle.base_roles.specs.Staked.{Staked, validator_at, delegation, put_validator, lists_of, bonded_tokens, other_tokens}
+use Rattle.base_roles.specs.StakeChanges.{HoldsStake}
 use Rattle.base_roles.specs.Flow.{◌>>=◌, ◌>>◌, stop_if, or_stop, stopping}
 use Rattle.base_roles.specs.World.{View, Hook, Told, gives, exceeds, World, hooked, modified, over_view, over_mine}
 use Rattle.rule_modules.specs.Delegating.{Origin, is_wrong, pool, paid_in, hook_before, shares_given, delegated}

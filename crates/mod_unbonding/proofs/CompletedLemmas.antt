@@ -11,7 +11,7 @@ use Rattle.base_roles.specs.declared.params.Ctx.{Ctx}
 use Rattle.base_roles.specs.Ground.{AreInRange, IsInOrder, end_of_blocks}
 use Rattle.base_roles.specs.Holdings.{balance_of, IsBacked}
 use Rattle.base_roles.specs.Orders.{pair_cmp}
-use Rattle.base_roles.specs.Staked.{HoldsStake}
+use Rattle.base_roles.specs.StakeChanges.{HoldsStake}
 use Rattle.base_roles.specs.World.{View}
 use Rattle.rule_modules.specs.Amounts.{count_where}
 use Rattle.rule_modules.specs.EntrySlashes.{unbonding_made}

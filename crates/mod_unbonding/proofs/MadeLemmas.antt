@@ -10,8 +10,10 @@ use Rattle.base_roles.specs.declared.entities.UnbondingEntry.{UnbondingEntry}
 use Rattle.base_roles.specs.declared.entities.Validator.{Validator}
 use Rattle.base_roles.specs.declared.params.Ctx.{Ctx}
 use Rattle.base_roles.specs.Holdings.{balance_of, IsBacked}
-use Rattle.base_roles.specs.Hooks.{Lists, Tells, Stand, Keeps}
-use Rattle.base_roles.specs.Staked.{Staked, validator_at, is_bonded, bonded_tokens, other_tokens, HoldsStake, IsUnbonded}
+use Rattle.base_roles.specs.Hooks.{Tells, Stand, Keeps}
+use Rattle.base_roles.specs.Owing.{Lists}
+use Rattle.base_roles.specs.Staked.{Staked, validator_at, is_bonded, bonded_tokens, other_tokens}
+use Rattle.base_roles.specs.StakeChanges.{HoldsStake, IsUnbonded}
 use Rattle.base_roles.specs.World.{View}
 use Rattle.base_roles.proofs.HoldingLemmas.{balance-most}
 use Rattle.rule_modules.specs.Delegating.{pool}

@@ -5,7 +5,7 @@ use Rattle.base_types.specs.declared.account.Account.TheVariants as account
 use Rattle.base_types.specs.declared.account.Module.TheVariants as holder
 use Rattle.base_roles.specs.declared.entities.UnbondingEntry.{UnbondingEntry}
 use Rattle.base_roles.specs.Holdings.{balance_of, IsBacked}
-use Rattle.base_roles.specs.Staked.{HoldsStake}
+use Rattle.base_roles.specs.StakeChanges.{HoldsStake}
 use Rattle.base_roles.specs.World.{View, sent}
 use Rattle.base_roles.specs.declared.params.Ctx.{Ctx}
 use Rattle.rule_modules.specs.Amounts.{bond_coins, count_where}

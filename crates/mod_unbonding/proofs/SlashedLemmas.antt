@@ -15,7 +15,7 @@ use Rattle.base_roles.specs.Ground.{IsInOrder}
 use Rattle.base_roles.specs.Orders.{pair_cmp, same_addr}
 use Rattle.base_roles.specs.Holdings.{balance_of, IsBacked}
 use Rattle.base_roles.specs.Lent.{IsBurned}
-use Rattle.base_roles.specs.Staked.{of_bond, HoldsStake}
+use Rattle.base_roles.specs.StakeChanges.{of_bond, HoldsStake}
 use Rattle.base_roles.specs.World.{View, burnt}
 use Rattle.base_roles.specs.declared.params.Ctx.{Ctx}
 use Rattle.base_roles.proofs.HoldingLemmas.{account_total, denom_total}

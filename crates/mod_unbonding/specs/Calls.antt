@@ -8,7 +8,8 @@ use Rattle.base_roles.specs.declared.entities.UnbondingEntry.{UnbondingEntry}
 use Rattle.base_roles.specs.declared.entities.Validator.{Validator}
 use Rattle.base_roles.specs.declared.refusal.Refusal.{Refusal}
 use Rattle.base_roles.specs.declared.refusal.Refusal.TheVariants.{WrongDenom, NonPositive, NoValidator, RateInvalid, UnbondingsFull, Jailed, NoEntry, CancelTooMuch}
-use Rattle.base_roles.specs.Staked.{Staked, validator_at, delegation, bonded_tokens, HoldsStake}
+use Rattle.base_roles.specs.Staked.{Staked, validator_at, delegation, bonded_tokens}
+use Rattle.base_roles.specs.StakeChanges.{HoldsStake}
 use Rattle.base_roles.specs.Flow.{◌>>=◌, ◌>>◌, stop_if, or_stop}
 use Rattle.base_roles.specs.World.{View, sent}
 use Rattle.rule_modules.specs.Amounts.{bond_coins}

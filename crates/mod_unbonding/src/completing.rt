@@ -6,7 +6,7 @@ ghost use Rattle.base_types.specs.declared.account.Module.TheVariants as holder;
 ghost use Rattle.base_roles.specs.declared.faults.HookFault.TheVariants.{NoMemory};
 ghost use Rattle.base_roles.specs.Ground.{seen, IsInOrder, CanBeUndone};
 ghost use Rattle.base_roles.specs.Holdings.{balance_of, IsBacked};
-ghost use Rattle.base_roles.specs.Staked.{HoldsStake};
+ghost use Rattle.base_roles.specs.StakeChanges.{HoldsStake};
 ghost use Rattle.rule_modules.specs.Amounts.{count_where};
 ghost use Rattle.rule_modules.specs.EntrySlashes.{unbonding_made};
 ghost use Rattle.rule_modules.specs.Owed.{entry_balances};

@@ -20,6 +20,7 @@ pub mod RefusalOrder
 pub mod Slashing
 pub mod Sound
 pub mod Stakes
+pub mod StepLaws
 pub mod Ties
 pub mod Unbonding
 pub mod Unbondings

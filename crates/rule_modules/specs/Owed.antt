@@ -6,7 +6,7 @@ use Rattle.base_types.specs.declared.account.Module.TheVariants as holder
 use Rattle.base_coins.specs.Coins.{amount_of}
 use Rattle.base_roles.specs.declared.entities.UnbondingEntry.{UnbondingEntry}
 use Rattle.base_roles.specs.Holdings.{coins_of}
-use Rattle.base_roles.specs.Hooks.{HoldsOwed}
+use Rattle.base_roles.specs.Owing.{HoldsOwed}
 use Rattle.base_roles.specs.Staked.{Staked, bonded_tokens, other_tokens}
 use Rattle.rule_modules.specs.Amounts.{bond_coins}
 use Rattle.rule_modules.specs.Chain.{State, shared_in}

@@ -13,7 +13,7 @@ use Rattle.base_roles.specs.declared.entities.UnbondingEntry.{UnbondingEntry}
 use Rattle.base_roles.specs.declared.entities.Validator.{Validator}
 use Rattle.base_roles.specs.Entries.{sum_where}
 use Rattle.base_roles.specs.Ground.{IsInOrder}
-use Rattle.base_roles.specs.Hooks.{Lists}
+use Rattle.base_roles.specs.Owing.{Lists}
 use Rattle.base_roles.specs.Orders.{pair_cmp, triple_cmp, same_addr}
 use Rattle.base_roles.specs.Staked.{Staked, validator_at, lists_of, is_unbonded}
 use Rattle.rule_modules.specs.Chain.{State, shared_in, window_in}

@@ -1,7 +1,8 @@
 -- Answers of a chain to lines, from the states for which it stands.
 use Rattle.std.proofs.Common.{◌≡◌, ◌∙◌, inl, inr, ℕ, ◌≤◌, false, nat_lt, List, [], ◌++◌, length, Option, Some, None, Result, Ok, Err, OnOk, IfErr, IfSome, refl, sym, ap, subst, arith}
 use Rattle.std.proofs.lemmas.List.{append-nil}
-use Rattle.base_io.specs.Outside.{IsPart, AddsPart, Stays}
+use Rattle.base_io.specs.Outside.{IsPart}
+use Rattle.base_io.specs.Calls.{AddsPart, Stays}
 use Rattle.base_roles.specs.declared.facts.Fact.{Fact}
 use Rattle.base_roles.specs.declared.refusal.Refusal.{Refusal}
 use Rattle.base_coins.specs.Coins.{Money}

@@ -2,7 +2,7 @@
 use Rattle.std.proofs.Common.{◌⊎◌, inl, inr, ◌≡◌, ◌≢◌, ◌∙◌, ℕ, ◌+◌, ◌<◌, ◌≤◌, List, [], ◌∷◌, ◌++◌, length, Option, Some, None, Result, Err, IfSome, refl, sym, ap, append_assoc, arith, take, drop, length-append, ne_eqb, slice_index_or}
 use Rattle.std.specs.Prelude.{⊤}
 use Rattle.std.proofs.lemmas.List.{append-nil, take-append-drop, length-take-le}
-use Rattle.base_io.specs.Outside.{Takes, Stays}
+use Rattle.base_io.specs.Calls.{Takes, Stays}
 use Rattle.run_app.specs.declared.status.Status.{Status}
 use Rattle.run_app.specs.declared.status.Status.TheVariants.{Done, Usage, BadInput, Limit, ReadFault, WriteFault, KeepFault, NoMemory, BadStore, WrongStore, NotFound}
 use Rattle.run_app.specs.declared.status.LimitKind.TheVariants.{Line, Input, Ratio}
@@ -14,7 +14,8 @@ use Rattle.run_app.specs.Lines.{whole_from, rest_from, last_line, lines_from, li
 use Rattle.run_app.specs.Machine.{Standing, longest}
 use Rattle.run_app.specs.Runs.{Ran, before, ran_from, AreAnswered, Named, Reported, Lacking, Finished}
 use Rattle.run_app.specs.Outcome.{Ends, RunEnds, answer_from, most_bytes, AreEnded, IsUntroubled}
-use Rattle.run_app.specs.Parts.{Stands, Fed, Finishes, FinishAs, FinishEnds, FinishStops, FinishStatus, status_of, status_at_end, PartEnds, PartStops, lines_after, LongOnly, EndLongOnly}
+use Rattle.run_app.specs.Parts.{Stands, Fed, Finishes, FinishAs, FinishEnds, FinishStops, FinishStatus, status_at_end, PartEnds, PartStops, lines_after, LongOnly, EndLongOnly}
+use Rattle.run_app.specs.Ending.{status_of}
 use Rattle.run_app.proofs.CutLemmas.{whole-append, lines-append}
 use Rattle.run_app.proofs.RunLemmas.{fed-append, stops_along, named_along, wrote_along, unkept_along, held_along, ran-append, answered-append}
 use Rattle.run_app.proofs.PartLemmas.{too_long, none_fed}

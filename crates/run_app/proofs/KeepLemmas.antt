@@ -3,9 +3,11 @@ use Rattle.std.proofs.Common.{◌≡◌, ◌∙◌, ◌⊎◌, inl, inr, true, f
 use Rattle.std.specs.Prelude.{IsSome, ⊤}
 use Rattle.chain_whole.specs.Chained.{Chained}
 use Rattle.base_io.specs.declared.keeper.KeepFault.{KeepFault}
-use Rattle.base_io.specs.Rows.{LeavesRows, Makes, Pair}
+use Rattle.base_io.specs.Rows.{Makes, Pair}
+use Rattle.base_io.specs.Changes.{LeavesRows}
 use Rattle.base_roles.specs.declared.items.Item.{Item}
-use Rattle.store_commits.specs.Held.{Commits, Holds, items_at, rows_at}
+use Rattle.store_commits.specs.Held.{items_at, rows_at}
+use Rattle.store_commits.specs.Commits.{Commits, Holds}
 use Rattle.rule_machine.specs.Items.{items_of}
 use Rattle.chain_modules.specs.Kept.{StandsFor}
 use Rattle.rule_modules.specs.Chain.{State}

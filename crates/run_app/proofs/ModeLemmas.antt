@@ -26,7 +26,7 @@ use Rattle.base_io.specs.Rows.{Makes, Pair}
 use Rattle.run_app.specs.Kept.{AreLeft, AreSome, AreUntouched, IsUnbegun, UnlessKeepFault}
 use Rattle.run_app.specs.Modes.{HasFewBlocks, IsTried, Tries}
 use Rattle.run_app.specs.Outcome.{UnlessReadFault, UnlessWriteFault}
-use Rattle.run_app.specs.Parts.{status_of}
+use Rattle.run_app.specs.Ending.{status_of}
 use Rattle.run_app.specs.Writes.{Adds, IsWritten, Leaves, Writes, status_of_sink}
 
 -- ---- a text that is written

@@ -3,7 +3,8 @@ use Rattle.std.proofs.Common.{inl, inr, ◌≡◌, ◌∙◌, ℕ, ◌+◌, ◌<
 use Rattle.std.specs.Prelude.{⊤}
 use Rattle.std.proofs.lemmas.List.{append-nil, take-append-drop}
 use Rattle.memchr.specs.Find.{IsFirstByte, is_byte}
-use Rattle.base_io.specs.Outside.{IsPart, AddsPart}
+use Rattle.base_io.specs.Outside.{IsPart}
+use Rattle.base_io.specs.Calls.{AddsPart}
 use Rattle.line_json.specs.Genesis.{genesis_of}
 use Rattle.run_app.specs.declared.status.LineStop.{LineStop}
 use Rattle.run_app.specs.declared.status.LineStop.TheVariants.{BadInput, Long, Ratio, Write, Keep, NoMemory}

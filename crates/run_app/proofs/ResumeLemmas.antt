@@ -5,7 +5,8 @@ use Rattle.std.specs.Ordering.{match_ordering}
 use Rattle.chain_whole.specs.Chained.{Chained}
 use Rattle.run_generated.specs.Writing.{IsFront}
 use Rattle.base_io.specs.Outside.{Rose}
-use Rattle.base_io.specs.Rows.{LeavesRows, Makes, Pair, key_cmp, put}
+use Rattle.base_io.specs.Rows.{Makes, Pair, key_cmp, put}
+use Rattle.base_io.specs.Changes.{LeavesRows}
 use Rattle.base_roles.specs.declared.items.Item.{Item}
 use Rattle.rule_machine.specs.Items.{items_of}
 use Rattle.rule_machine.specs.Report.{report_of}
@@ -14,7 +15,8 @@ use Rattle.line_report.specs.declared.question.Query.{Query}
 use Rattle.line_report.specs.Asking.{answered_by}
 use Rattle.store_resuming.specs.declared.fault.RestoreFault.{RestoreFault}
 use Rattle.store_resuming.specs.declared.fault.RestoreFault.TheVariants as fault
-use Rattle.store_resuming.specs.Restored.{AreLoaded, AreOfNone, HaveSameRows, IsChainOf, IsStorable, IsUnrestored, UnlessFailed, rows_of}
+use Rattle.store_resuming.specs.Restored.{AreLoaded, AreOfNone, HaveSameRows, IsStorable, rows_of}
+use Rattle.store_resuming.specs.Restoring.{IsChainOf, IsUnrestored, UnlessFailed}
 use Rattle.store_rows.specs.Rows.{row_of}
 use Rattle.rule_modules.specs.Chain.{State}
 use Rattle.store_items.specs.Stored.{rows_in}

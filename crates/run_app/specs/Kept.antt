@@ -1,8 +1,10 @@
 -- What a run keeps in its keeper, and what it leaves there.
 use Rattle.std.specs.Prelude.{◌≡◌, ◌≢◌, ◌⊎◌, Bool, true, false, List, [], Option, Some, None, IfSome, IsSome}
 use Rattle.chain_whole.specs.Chained.{Chained}
-use Rattle.base_io.specs.Rows.{LeavesRows, Makes, Pair}
-use Rattle.store_commits.specs.Held.{Holds, items_at, rows_at}
+use Rattle.base_io.specs.Rows.{Makes, Pair}
+use Rattle.base_io.specs.Changes.{LeavesRows}
+use Rattle.store_commits.specs.Held.{items_at, rows_at}
+use Rattle.store_commits.specs.Commits.{Holds}
 use Rattle.store_items.specs.Stored.{AreStored}
 use Rattle.run_app.specs.declared.status.Status.{Status}
 use Rattle.run_app.specs.declared.status.Status.TheVariants.{Done, Usage, BadInput, Limit, ReadFault, WriteFault, KeepFault, NoMemory, BadStore, WrongStore, NotFound}

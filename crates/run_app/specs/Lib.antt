@@ -1,3 +1,4 @@
+pub mod Ending
 pub mod Kept
 pub mod Laws
 pub mod LineStops

@@ -13,7 +13,7 @@ use Rattle.run_app.specs.declared.status.Status.TheVariants.{NoMemory}
 use Rattle.run_app.specs.Kept.{AreLeft, AreSome, AreUntouched, IsUnbegun, LeftIn, on_none}
 use Rattle.run_app.specs.Machine.{not_applied}
 use Rattle.run_app.specs.Outcome.{IsUntroubled, RunEnds}
-use Rattle.run_app.specs.Parts.{status_of}
+use Rattle.run_app.specs.Ending.{status_of}
 use Rattle.run_app.specs.Resumes.{AsksCalmly, QueryEnds, ResumeEnds, ResumesCalmly}
 use Rattle.run_app.specs.Writes.{Adds, IsWritten, Leaves}
 

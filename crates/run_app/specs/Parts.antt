@@ -1,5 +1,5 @@
 -- What the parts of a run leave: a line, a piece of the input, the end of the input.
-use Rattle.std.specs.Prelude.{◌≡◌, ℕ, ◌+◌, ◌≤◌, ◌<◌, ◌==◌, ◌⊎◌, ⊤, false, List, [], ◌∷◌, ◌++◌, length, Option, Some, None, Result, Ok, Err}
+use Rattle.std.specs.Prelude.{◌≡◌, ℕ, ◌+◌, ◌≤◌, ◌<◌, ◌==◌, ◌⊎◌, ⊤, false, List, [], ◌∷◌, ◌++◌, length, Option, Some, Result, Ok, Err}
 use Rattle.base_io.specs.declared.keeper.KeepFault.{KeepFault as KeeperFault}
 use Rattle.base_io.specs.declared.keeper.KeepFault.TheVariants as keep
 use Rattle.run_app.specs.declared.status.Status.{Status}
@@ -11,15 +11,8 @@ use Rattle.run_app.specs.declared.status.EndStop.{EndStop}
 use Rattle.run_app.specs.declared.status.EndStop.TheVariants as end
 use Rattle.run_app.specs.Lines.{whole_from, rest_from, lines_from}
 use Rattle.run_app.specs.Machine.{Standing, Answer, longest, line_answer}
-use Rattle.run_app.specs.Runs.{ran_from, AreAnswered, Named, Wrote, Unkept, Held, Answered, Reported, Lacking, Finished}
-
-abbrev pub status_of : LineStop → Status
-status_of (stop.BadInput n fault) = BadInput n fault
-status_of (stop.Long n) = Limit n Line
-status_of (stop.Ratio n over) = Limit n (Ratio over)
-status_of stop.Write = WriteFault
-status_of stop.Keep = KeepFault
-status_of stop.NoMemory = NoMemory
+use Rattle.run_app.specs.Runs.{AreAnswered, Named, Wrote, Unkept, Held, Answered, Reported, Lacking, Finished}
+use Rattle.run_app.specs.Ending.{status_of}
 
 abbrev pub status_at_end : EndStop → Status
 status_at_end (end.Line stop) = status_of stop

@@ -1,5 +1,6 @@
 ghost use Rattle.std.specs.Prelude.{◌≡◌};
-ghost use Rattle.run_app.specs.Parts.{status_of, status_at_end};
+ghost use Rattle.run_app.specs.Parts.{status_at_end};
+ghost use Rattle.run_app.specs.Ending.{status_of};
 
 use base_decimals::Over;
 use base_messages::BlockFault;

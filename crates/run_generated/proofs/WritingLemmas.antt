@@ -1,7 +1,7 @@
 -- How what was written grows, line by line.
 use Rattle.std.proofs.Common.{◌≡◌, ◌∙◌, ap, sym, subst, refl, arith, ℕ, suc, ◌+◌, ◌-◌, ◌<◌, ◌≤◌, List, [], ◌∷◌, ◌++◌, map, append_assoc, append-nil, Option, Some}
 use Rattle.std.specs.Prelude.{IfSome, OnErr, OnOk, Result, Ok, Err, flat_map}
-use Rattle.base_io.specs.Outside.{AddsPart, Stays}
+use Rattle.base_io.specs.Calls.{AddsPart, Stays}
 use Rattle.run_generated.specs.Input.{block_drawn, blocks_of, first_genesis}
 use Rattle.run_generated.specs.Lines.{block_line, genesis_line}
 use Rattle.base_messages.specs.declared.block.Block.{Block}

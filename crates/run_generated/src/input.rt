@@ -1,6 +1,7 @@
 ghost use Rattle.std.specs.Prelude.{◌≡◌, ◌≤◌, ◌<◌, true, IfErr, IfOk, IsErrOf, OnErr, OnOk};
 ghost use Rattle.base_io.specs.Faults.{UnlessFailed};
-ghost use Rattle.base_io.specs.Outside.{Rose, Stays};
+ghost use Rattle.base_io.specs.Outside.{Rose};
+ghost use Rattle.base_io.specs.Calls.{Stays};
 ghost use Rattle.run_generated.specs.Input.{block_drawn, blocks_of, first_genesis};
 ghost use Rattle.run_generated.specs.Lines.{block_line, genesis_line};
 ghost use Rattle.run_generated.specs.Writing.{Grows, GrowsInPart, blocks_text, generated_text};

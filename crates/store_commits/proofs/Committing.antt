@@ -7,7 +7,8 @@ use Rattle.base_io.specs.declared.keeper.Change.{Change}
 use Rattle.base_io.specs.declared.keeper.Row.{Row}
 use Rattle.base_io.specs.declared.keeper.KeepFault.{KeepFault}
 use Rattle.base_io.specs.declared.keeper.KeepFault.TheVariants as fault
-use Rattle.base_io.specs.Rows.{ChangeRows, ChangesRows, HasDistinctKeys, LeavesRows, Makes, Pair, changed, pair_of}
+use Rattle.base_io.specs.Rows.{HasDistinctKeys, Makes, Pair}
+use Rattle.base_io.specs.Changes.{ChangeRows, ChangesRows, LeavesRows, changed, pair_of}
 use Rattle.base_roles.specs.declared.items.Item.{Item}
 use Rattle.base_roles.specs.Items.{AreChanges, IsOnce, key_of}
 use Rattle.rule_machine.specs.Items.{items_of}
@@ -15,9 +16,10 @@ use Rattle.store_rows.specs.Spelled.{HasRow, IsWritable}
 use Rattle.store_rows.proofs.KeyLemmas.{key_in_range}
 use Rattle.base_records.proofs.KindLemmas.{once-told}
 use Rattle.base_records.proofs.MemberLemmas.{Member, Once, contained, member, once}
-use Rattle.store_items.specs.Stored.{AreMade, AreStored, CanBeWritten, HasKeyInRange, HasRowIfPut, HaveOwnKeys, change_seen, item_change, item_put, rows_in}
+use Rattle.store_items.specs.Stored.{AreStored, HaveOwnKeys, rows_in}
+use Rattle.store_items.specs.Making.{AreMade, CanBeWritten, HasKeyInRange, HasRowIfPut, change_seen, item_change, item_put}
 use Rattle.rule_modules.specs.Chain.{State}
-use Rattle.store_commits.specs.Held.{Commits, Holds, IsCommit}
+use Rattle.store_commits.specs.Commits.{Commits, Holds, IsCommit}
 use Rattle.store_commits.proofs.Ranges.{has_row}
 
 -- ---- items that are stored

@@ -2,9 +2,11 @@ ghost use Rattle.std.specs.Prelude.{◌≡◌, ◌≢◌, ◌≤◌, [], List, O
 ghost use Rattle.base_io.specs.declared.keeper.Change.{Change};
 ghost use Rattle.base_io.specs.Keeping.{UnlessLost};
 ghost use Rattle.base_io.specs.Outside.{Rose};
-ghost use Rattle.base_io.specs.Rows.{LeavesRows, Makes, Pair};
+ghost use Rattle.base_io.specs.Rows.{Makes, Pair};
+ghost use Rattle.base_io.specs.Changes.{LeavesRows};
 ghost use Rattle.base_roles.specs.declared.items.Item.{Item};
-ghost use Rattle.store_commits.specs.Held.{Commits, Holds, IsCommit, TakesDistinct};
+ghost use Rattle.store_commits.specs.Held.{TakesDistinct};
+ghost use Rattle.store_commits.specs.Commits.{Commits, Holds, IsCommit};
 ghost use Rattle.rule_machine.specs.Items.{items_of};
 ghost use Rattle.chain_modules.specs.Kept.{StandsFor};
 ghost use Rattle.rule_modules.specs.Chain.{State};

@@ -6,12 +6,13 @@ use Rattle.std.proofs.lemmas.List.{map_more, map_push, take_more}
 use Rattle.std.proofs.lemmas.List.Elements.{All-push, recursion_from_All}
 use Rattle.base_io.specs.declared.keeper.Change.TheVariants.{Put}
 use Rattle.base_io.specs.declared.keeper.Row.{Row}
-use Rattle.base_io.specs.Rows.{Pair, pair_of}
+use Rattle.base_io.specs.Rows.{Pair}
+use Rattle.base_io.specs.Changes.{pair_of}
 use Rattle.base_roles.specs.declared.items.Item.{Item}
 use Rattle.store_rows.specs.declared.fault.RowFault.{RowFault}
 use Rattle.store_rows.specs.Rows.{row_of}
 use Rattle.store_rows.specs.Spelled.{HasRow}
-use Rattle.store_items.specs.Stored.{change_seen, item_put}
+use Rattle.store_items.specs.Making.{change_seen, item_put}
 
 -- one more of a list that goes beside another
 pub one_more : {A B C : Type 0} (f : A → C) (g : B → C) (xs more : List A) (x : A) (ys : List B) (i : ℕ) (y : B) → i < length ys → y ≡ get_or ys i y → map f xs ≡ map g (take i ys) → f x ≡ g y → more ≡ xs ++ x ∷ []

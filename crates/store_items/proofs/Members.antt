@@ -4,7 +4,8 @@ use Rattle.std.specs.Prelude.{Contains, slice_index_or}
 use Rattle.std.proofs.lemmas.Cmp.{tied_itself}
 use Rattle.std.proofs.lemmas.Map.Lookups.{exact_bytes}
 use Rattle.sqlite_rules.specs.Lists.{Has}
-use Rattle.base_io.specs.Rows.{Pair, Rises, key_cmp, put}
+use Rattle.base_io.specs.Rows.{Pair, key_cmp, put}
+use Rattle.base_io.specs.Changes.{Rises}
 use Rattle.base_roles.specs.declared.items.Item.{Item}
 use Rattle.store_rows.specs.Rows.{key_bytes, row_of}
 use Rattle.store_sqlite.proofs.Maps.{has_put, put_has, put_keeps, put_rises, total}

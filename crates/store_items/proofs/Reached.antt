@@ -10,7 +10,8 @@ use Rattle.sqlite_rules.proofs.ListLemmas.{all_from, all_has}
 use Rattle.base_io.specs.declared.keeper.Change.{Change}
 use Rattle.base_io.specs.declared.keeper.Change.TheVariants as change
 use Rattle.base_io.specs.declared.keeper.Row.{Row}
-use Rattle.base_io.specs.Rows.{ChangesRows, HasDistinctKeys, Pair, Rises, changed, key_cmp, pair_of, value_of}
+use Rattle.base_io.specs.Rows.{HasDistinctKeys, Pair, key_cmp}
+use Rattle.base_io.specs.Changes.{ChangesRows, Rises, changed, pair_of, value_of}
 use Rattle.base_io.specs.Rows as rows
 use Rattle.base_roles.specs.declared.items.Item.{Item}
 use Rattle.base_roles.specs.declared.items.Item.TheVariants as item
@@ -20,7 +21,8 @@ use Rattle.store_rows.specs.Spelled.{IsKeyInRange}
 use Rattle.store_rows.proofs.KeyLemmas.{keys_one_to_one, ranged_one_to_one}
 use Rattle.store_rows.proofs.WholeLemmas.{key_alone, one_to_one}
 use Rattle.store_sqlite.proofs.Maps.{same_members, total}
-use Rattle.store_items.specs.Stored.{AreMade, AreStored, HasKeyInRange, HaveOwnKeys, change_seen, item_change, rows_in}
+use Rattle.store_items.specs.Stored.{AreStored, HaveOwnKeys, rows_in}
+use Rattle.store_items.specs.Making.{AreMade, HasKeyInRange, change_seen, item_change}
 use Rattle.store_items.proofs.Members.{AreOnce, find_key, has_map, has_of, item_there, map_has, place_of, row_there, rows_rise, same_or_other, tied}
 use Rattle.store_items.proofs.Through.{IsFree, all_rise, kept_through, put_through, through_only}
 

@@ -9,8 +9,10 @@ ghost use Rattle.rule_modules.specs.Chain.{State};
 ghost use Rattle.rule_modules.specs.Sound.{IsSound};
 ghost use Rattle.std.specs.List.{AllByRecursion};
 ghost use Rattle.base_io.specs.declared.keeper.Change.{Change};
-ghost use Rattle.base_io.specs.Rows.{ChangesRows, HasDistinctKeys, changed};
-ghost use Rattle.store_items.specs.Stored.{AreMade, AreStored, HaveOwnKeys, rows_in};
+ghost use Rattle.base_io.specs.Rows.{HasDistinctKeys};
+ghost use Rattle.base_io.specs.Changes.{ChangesRows, changed};
+ghost use Rattle.store_items.specs.Stored.{AreStored, HaveOwnKeys, rows_in};
+ghost use Rattle.store_items.specs.Making.{AreMade};
 
 /// Of the items of a sound state no two have one key. Each can be written: no balance and no supply is 0, and no list has
 /// 2^32 elements.

@@ -1,11 +1,11 @@
 //! Lists of rows and of changes, one by one.
 
 ghost use Rattle.std.specs.Prelude.{◌≡◌, ◌≢◌, List, map, All, IfOk, IfErr, IsErrOf};
-ghost use Rattle.base_io.specs.Rows.{pair_of};
+ghost use Rattle.base_io.specs.Changes.{pair_of};
 ghost use Rattle.base_roles.specs.declared.items.Item.{Item};
 ghost use Rattle.store_rows.specs.Rows.{row_of};
 ghost use Rattle.store_rows.specs.Spelled.{HasRow, IsWritable};
-ghost use Rattle.store_items.specs.Stored.{CanBeWritten, HasKeyInRange, HasRowIfPut, change_seen, item_change, item_put};
+ghost use Rattle.store_items.specs.Making.{CanBeWritten, HasKeyInRange, HasRowIfPut, change_seen, item_change, item_put};
 
 use base_io::{Change, Row};
 use base_roles::Item;

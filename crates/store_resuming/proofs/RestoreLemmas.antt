@@ -8,7 +8,8 @@ use Rattle.chain_whole.specs.Chained.{Chained}
 use Rattle.chain_whole.specs.declared.fault.ChainFault.{ChainFault}
 use Rattle.chain_whole.specs.declared.fault.ChainFault.TheVariants as faults
 use Rattle.base_io.specs.declared.keeper.Row.{Row}
-use Rattle.base_io.specs.Rows.{Pair, Rises, pair_of}
+use Rattle.base_io.specs.Rows.{Pair}
+use Rattle.base_io.specs.Changes.{Rises, pair_of}
 use Rattle.base_roles.specs.declared.items.Item.{Item}
 use Rattle.base_roles.specs.Items.{IsOnce, key_of}
 use Rattle.rule_machine.specs.Items.{items_of}
@@ -24,7 +25,8 @@ use Rattle.store_items.specs.Stored.{AreStored, rows_in}
 use Rattle.store_items.proofs.Members.{has_map, has_of}
 use Rattle.store_resuming.specs.declared.fault.RestoreFault.{RestoreFault}
 use Rattle.store_resuming.specs.declared.fault.RestoreFault.TheVariants as fault
-use Rattle.store_resuming.specs.Restored.{AreLoaded, AreOfNone, HaveSameRows, InOrder, IsChainOf, IsNoChain, IsStorable, IsUnrestored, UnlessFailed, rows_of}
+use Rattle.store_resuming.specs.Restored.{AreLoaded, AreOfNone, HaveSameRows, IsStorable, rows_of}
+use Rattle.store_resuming.specs.Restoring.{InOrder, IsChainOf, IsNoChain, IsUnrestored, UnlessFailed}
 use Rattle.store_resuming.proofs.StoreLemmas.{AreApart, apart_of, apart_under, has_row, permuted_rows, rising_items_apart, rising_rows, rising_stored, rows_listed, same_rows_permuted}
 
 -- no two items have one key

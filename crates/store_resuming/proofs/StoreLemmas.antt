@@ -9,7 +9,8 @@ use Rattle.std.proofs.lemmas.List.Elements.{All-from_recursion, recursion_from_A
 use Rattle.std.proofs.lemmas.List.Sorted.{Contains-permutation, IsPermutation-cons, IsPermutation-refl, IsPermutation-swap, IsPermutation-sym, IsPermutation-trans}
 use Rattle.sqlite_rules.specs.Lists.{Has}
 use Rattle.sqlite_rules.proofs.ListLemmas.{all_from, all_has}
-use Rattle.base_io.specs.Rows.{Pair, Rises, key_cmp, put}
+use Rattle.base_io.specs.Rows.{Pair, key_cmp, put}
+use Rattle.base_io.specs.Changes.{Rises}
 use Rattle.base_roles.specs.declared.items.Item.{Item}
 use Rattle.base_roles.specs.Items.{IsOnce, key_of}
 use Rattle.store_rows.specs.Rows.{key_bytes, row_of}

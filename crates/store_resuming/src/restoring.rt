@@ -3,8 +3,10 @@
 ghost use Rattle.std.specs.Prelude.{◌≡◌, ◌≤◌, List, map, IfErr, IfOk, IsErrOf};
 ghost use Rattle.base_io.specs.declared.keeper.Change.{Change};
 ghost use Rattle.base_io.specs.Outside.{Rose};
-ghost use Rattle.base_io.specs.Rows.{LeavesRows, Makes, Pair, pair_of};
-ghost use Rattle.store_resuming.specs.Restored.{AreLoaded, InOrder, IsChainOf, IsNoChain, IsUnrestored, UnlessFailed};
+ghost use Rattle.base_io.specs.Rows.{Makes, Pair};
+ghost use Rattle.base_io.specs.Changes.{LeavesRows, pair_of};
+ghost use Rattle.store_resuming.specs.Restored.{AreLoaded};
+ghost use Rattle.store_resuming.specs.Restoring.{InOrder, IsChainOf, IsNoChain, IsUnrestored, UnlessFailed};
 
 use crate::fault::RestoreFault;
 use crate::from_items;

@@ -1,7 +1,7 @@
 //! The row of an item, and the item of a row.
 
 ghost use Rattle.std.specs.Prelude.{◌≡◌, ◌≢◌, ◌++◌, OnOk, IfOk, IfErr, IsErrOf};
-ghost use Rattle.base_io.specs.Rows.{pair_of};
+ghost use Rattle.base_io.specs.Changes.{pair_of};
 ghost use Rattle.base_roles.specs.declared.items.Item.{Item};
 ghost use Rattle.store_rows.specs.Reading.{Gives, item_of};
 ghost use Rattle.store_rows.specs.Rows.{key_bytes, key_fields, kind_in, row_of, value_bytes};

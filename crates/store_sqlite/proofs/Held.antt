@@ -19,7 +19,8 @@ use Rattle.sqlite_rules.proofs.ListLemmas.{all_has, all_from, some_from}
 use Rattle.sqlite_catalog.specs.Listing.{automatic}
 use Rattle.sqlite_schema.specs.declared.schema.Index.{Index}
 use Rattle.sqlite.specs.Effect.{Database}
-use Rattle.base_io.specs.Rows.{Pair, key_cmp, put, remove, Rises}
+use Rattle.base_io.specs.Rows.{Pair, key_cmp, put}
+use Rattle.base_io.specs.Changes.{remove, Rises}
 use Rattle.store_sqlite.specs.Kept.{kept, kept_schema, pair_in, map_of, IsHeld}
 use Rattle.store_sqlite.proofs.Maps.{total, has_put, put_has, put_keeps, put_rises, put_only, same_members, filter_rises, removed_has, has_removed}
 

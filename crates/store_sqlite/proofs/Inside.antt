@@ -7,7 +7,8 @@ use Rattle.sqlite.specs.declared.error.Error.{Error}
 use Rattle.sqlite.specs.declared.error.ErrorCode.TheVariants as code
 use Rattle.sqlite.specs.declared.error.Error.TheVariants.{SqliteFailure}
 use Rattle.sqlite.specs.State.{State, ExecutesInside}
-use Rattle.base_io.specs.Rows.{put, remove}
+use Rattle.base_io.specs.Rows.{put}
+use Rattle.base_io.specs.Changes.{remove}
 use Rattle.store_sqlite.specs.Kept.{map_of, IsHeld}
 use Rattle.store_sqlite.proofs.Texts.{put_text, delete_text}
 use Rattle.store_sqlite.proofs.Putting.{puts}

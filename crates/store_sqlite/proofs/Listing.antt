@@ -17,7 +17,8 @@ use Rattle.sqlite.proofs.Callers.{reads_as}
 use Rattle.sqlite_rules.specs.Lists.{Has}
 use Rattle.sqlite_rules.proofs.ListLemmas.{all_has, all_from, has_contained, contains_had}
 use Rattle.sqlite_rules.proofs.ProbeLemmas.{has_mapped, mapped_has}
-use Rattle.base_io.specs.Rows.{Pair, key_cmp, pair_of, Rises}
+use Rattle.base_io.specs.Rows.{Pair, key_cmp}
+use Rattle.base_io.specs.Changes.{pair_of, Rises}
 use Rattle.store_sqlite.specs.Kept.{AreInOrder, kept_schema, shown, shown_pair, pair_in, map_of, IsHeld}
 use Rattle.store_sqlite.proofs.Texts.{select_text, all_query, select_is, select_unlisted, select_plain}
 use Rattle.store_sqlite.proofs.Maps.{total, same_members}

@@ -24,7 +24,8 @@ use Rattle.sqlite_rules.specs.Probe.{AreFound}
 use Rattle.sqlite_rules.proofs.ProbeLemmas.{rowid_query, found_rowids}
 use Rattle.sqlite.specs.State.{State, mode_of, Executes}
 use Rattle.sqlite.proofs.Callers.{statement_of, runs_as, one_step}
-use Rattle.base_io.specs.Rows.{key_cmp, remove}
+use Rattle.base_io.specs.Rows.{key_cmp}
+use Rattle.base_io.specs.Changes.{remove}
 use Rattle.store_sqlite.specs.Kept.{kept, kept_schema, pair_in, map_of, IsHeld}
 use Rattle.store_sqlite.proofs.Texts.{delete_text, delete_query, delete_program, delete_is, delete_plain, name_is}
 use Rattle.store_sqlite.proofs.Held.{AreBlobs, are_blobs, are_named, blob_cmp, blob_not_null, equal_tied, equal_from, TakesName, maps_remove}

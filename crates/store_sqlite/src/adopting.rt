@@ -4,7 +4,7 @@ ghost use Rattle.sqlite_trees.specs.Tree.{IsTable, rowid};
 ghost use Rattle.sqlite_trees.specs.View.{is_int};
 ghost use Rattle.sqlite.specs.State.{HasCleanDisk, Opens, IsLive};
 ghost use Rattle.sqlite.specs.Held.{state};
-ghost use Rattle.base_io.specs.Rows.{LeavesRows};
+ghost use Rattle.base_io.specs.Changes.{LeavesRows};
 ghost use Rattle.store_sqlite.specs.Kept.{kept_schema, map_of, no_schema, IsKept, Leaves, told};
 
 use crate::schema::{is_empty, is_kept};

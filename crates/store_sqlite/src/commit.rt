@@ -1,7 +1,7 @@
 ghost use Rattle.std.specs.Prelude.{◌≡◌, false, IsTrue, OnOk, OnErr};
 ghost use Rattle.sqlite.specs.State.{HasCleanDisk, Survives};
 ghost use Rattle.sqlite.specs.Held.{state};
-ghost use Rattle.base_io.specs.Rows.{changed_by, changed};
+ghost use Rattle.base_io.specs.Changes.{changed_by, changed};
 ghost use Rattle.store_sqlite.specs.Kept.{IsHeld, map_of};
 
 use crate::rows::{put_row, remove_row};

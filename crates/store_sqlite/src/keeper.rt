@@ -1,7 +1,8 @@
 ghost use Rattle.std.specs.Prelude.{◌≡◌, ◌⊎◌, false, Some, [], List, map, IsTrue, IfOk, IfSome, IsSome, OnOk, OnErr};
 ghost use Rattle.sqlite.specs.State.{HasCleanDisk};
 ghost use Rattle.sqlite.specs.Held.{state};
-ghost use Rattle.base_io.specs.Rows.{Pair, pair_of, changed, LeavesRows, Makes, Rises};
+ghost use Rattle.base_io.specs.Rows.{Pair, Makes};
+ghost use Rattle.base_io.specs.Changes.{pair_of, changed, LeavesRows, Rises};
 ghost use Rattle.store_sqlite.specs.Kept.{IsKept, told, Leaves, map_of, kept_schema, no_schema};
 
 use crate::adopting::adopted;

@@ -5,7 +5,8 @@ ghost use Rattle.sqlite_trees.specs.Tree.{Trees};
 ghost use Rattle.sqlite_wal.specs.Files.{image_at};
 ghost use Rattle.sqlite.specs.Files.{file_state, HoldsDatabase};
 ghost use Rattle.sqlite.specs.State.{HasCleanDisk};
-ghost use Rattle.base_io.specs.Rows.{LeavesRows, Pair};
+ghost use Rattle.base_io.specs.Rows.{Pair};
+ghost use Rattle.base_io.specs.Changes.{LeavesRows};
 ghost use Rattle.store_sqlite.specs.Kept.{AreRowsOf, Leaves, told};
 
 use crate::keeper::SqlKeeper;

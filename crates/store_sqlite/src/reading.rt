@@ -1,6 +1,6 @@
 ghost use Rattle.std.specs.Prelude.{◌≡◌, ◌≤◌, ◌↔◌, map, IfOk};
 ghost use Rattle.base_io.specs.Outside.{Rose};
-ghost use Rattle.base_io.specs.Rows.{pair_of};
+ghost use Rattle.base_io.specs.Changes.{pair_of};
 ghost use Rattle.store_sqlite.specs.Kept.{AreInOrder, shown_pair};
 
 use base_io::{KeepFault, Row};

@@ -2,7 +2,8 @@ ghost use Rattle.std.specs.Prelude.{◌≡◌, false, map, IfOk, OnOk, IsTrue};
 ghost use Rattle.std.specs.List.Sorted.{IsPermutation};
 ghost use Rattle.sqlite.specs.State.{HasCleanDisk, Survives};
 ghost use Rattle.sqlite.specs.Held.{state};
-ghost use Rattle.base_io.specs.Rows.{put, remove};
+ghost use Rattle.base_io.specs.Rows.{put};
+ghost use Rattle.base_io.specs.Changes.{remove};
 ghost use Rattle.store_sqlite.specs.Kept.{IsHeld, IsKept, map_of, pair_in, shown_pair};
 
 use sqlite::{Alter, Connection, Error, Row, Transaction, params};

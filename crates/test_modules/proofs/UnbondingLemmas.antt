@@ -9,7 +9,8 @@ use Rattle.base_roles.specs.Items.{HasRoom}
 use Rattle.base_roles.specs.Ground.{AreInRange, IsInOrder, end_of_blocks}
 use Rattle.base_roles.specs.Holdings.{IsBacked}
 use Rattle.base_roles.specs.NoHooks.{nothing_told}
-use Rattle.base_roles.specs.Staked.{Staked, bonded_tokens, other_tokens, HoldsStake}
+use Rattle.base_roles.specs.Staked.{Staked, bonded_tokens, other_tokens}
+use Rattle.base_roles.specs.StakeChanges.{HoldsStake}
 use Rattle.base_roles.specs.World.{View}
 use Rattle.rule_modules.specs.Sound.{UnbondingIsSound}
 use Rattle.rule_modules.specs.Unbondings.{UnbondingLists}

@@ -1,6 +1,7 @@
 -- What the trials of the tests keep.
 use Rattle.base_roles.specs.Ground.{IsInOrder}
-use Rattle.base_roles.specs.Staked.{Staked, bonded_tokens, other_tokens, HoldsStake}
+use Rattle.base_roles.specs.Staked.{Staked, bonded_tokens, other_tokens}
+use Rattle.base_roles.specs.StakeChanges.{HoldsStake}
 use Rattle.base_roles.specs.World.{View}
 use Rattle.mod_staking.specs.Calls.{IsSoundStake}
 

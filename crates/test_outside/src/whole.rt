@@ -1,7 +1,7 @@
 //! A run of three blocks of which nothing fails, and what each front of its lines leaves.
 
 ghost use Rattle.std.specs.Prelude.{map};
-ghost use Rattle.base_io.specs.Rows.{pair_of, Rises};
+ghost use Rattle.base_io.specs.Changes.{pair_of, Rises};
 
 use base_io::{Keeper, Row, SureKeeper, SureSink, SureSource};
 use run_app::{InputFault, Status, run};

@@ -3,7 +3,7 @@
 ghost use Rattle.std.specs.Prelude.{◌≡◌, map, IsTrue};
 ghost use Rattle.std.specs.List.{AllByRecursion};
 ghost use Rattle.std.specs.Option.{option_map};
-ghost use Rattle.base_io.specs.Rows.{pair_of, value_of, ChangesRows};
+ghost use Rattle.base_io.specs.Changes.{pair_of, value_of, ChangesRows};
 
 use base_io::{Change, Keeper, Row};
 use std::cmp::Ordering;

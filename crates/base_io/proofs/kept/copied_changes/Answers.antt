@@ -1,6 +1,7 @@
 use Rattle.std.proofs.Common.{◌∙◌, ◌+◌, List, ap, arith, drop}
 use Rattle.base_io.specs.declared.keeper.Change.{Change}
-use Rattle.base_io.specs.Rows.{Pair, changed}
+use Rattle.base_io.specs.Rows.{Pair}
+use Rattle.base_io.specs.Changes.{changed}
 use Rattle.base_io.proofs.RowLemmas.{changed_one_more, next_change}
 use Rattle.base_io.proofs.kept.copied_changes.Goals as goal
 

@@ -1,5 +1,6 @@
 use Rattle.std.proofs.Common.{◌≡◌, List, drop, vec_len}
-use Rattle.base_io.specs.Rows.{Pair, changed}
+use Rattle.base_io.specs.Rows.{Pair}
+use Rattle.base_io.specs.Changes.{changed}
 use Rattle.base_io.proofs.kept.copied_changes.Given as goal
 
 abbrev pub invariant-loop-change : goal.invariant-loop-change

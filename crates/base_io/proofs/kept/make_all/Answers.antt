@@ -1,6 +1,6 @@
 use Rattle.std.proofs.Common.{◌∙◌, ◌∷◌, [], ap, arith, map, sym}
 use Rattle.std.proofs.lemmas.List.{length-append}
-use Rattle.base_io.specs.Rows.{changed_by, pair_of}
+use Rattle.base_io.specs.Changes.{changed_by, pair_of}
 use Rattle.base_io.proofs.RowLemmas.{changed_one_more}
 use Rattle.base_io.proofs.kept.make_all.Goals as goal
 

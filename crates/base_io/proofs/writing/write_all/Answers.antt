@@ -1,7 +1,7 @@
 use Rattle.std.proofs.Common.{rules, arith, ◌≡◌, ◌∙◌, ◌++◌, sym, ap, Some, List, ℕ, take, drop, append_assoc, length, ◌-◌, ◌+◌, ◌≤◌, ◌<◌}
 use Rattle.std.proofs.lemmas.List.{take-append-drop, take_all, length-drop}
 use Rattle.std.proofs.Math.Seq.{take-add}
-use Rattle.base_io.specs.Outside.{AddsPart}
+use Rattle.base_io.specs.Calls.{AddsPart}
 use Rattle.base_io.proofs.writing.write_all.Goals as goal
 
 -- `&text[at..]` is all that lies behind the place

@@ -2,7 +2,7 @@ use Rattle.std.proofs.Common.{◌≤◌, ◌+◌, Ok, Err, [], drop, length, ari
 use Rattle.std.proofs.lemmas.List.Elements.{All-head}
 use Rattle.std.proofs.lemmas.Result.{err_from_is_err_and}
 use Rattle.rule_modules.specs.Chain.{shared_in, vote_step, window_in}
-use Rattle.rule_modules.specs.Laws.{CountsBelow, IsPower}
+use Rattle.rule_modules.specs.StepLaws.{CountsBelow, IsPower}
 use Rattle.chain_modules.specs.declared.modules.Modules.{Modules}
 use Rattle.chain_modules.proofs.MarkLemmas.{then_on}
 use Rattle.chain_modules.proofs.SceneLemmas.{window_kept}

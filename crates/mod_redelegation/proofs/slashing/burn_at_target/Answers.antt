@@ -2,7 +2,8 @@ use Rattle.std.proofs.Common.{◌≡◌, ◌∙◌, refl, sym, ap, subst}
 use Rattle.std.specs.Prelude.{Ok}
 use Rattle.base_roles.specs.Ground.{seen}
 use Rattle.base_roles.specs.Lent.{Unbonds}
-use Rattle.base_roles.specs.Staked.{validator_at, HasShares}
+use Rattle.base_roles.specs.Staked.{validator_at}
+use Rattle.base_roles.specs.StakeChanges.{HasShares}
 use Rattle.rule_modules.specs.Answers.{Leaves}
 use Rattle.rule_modules.specs.EntrySlashes.{burned_at_target}
 use Rattle.mod_staking.specs.Calls.{behind_log}

@@ -5,7 +5,8 @@ use Rattle.base_types.specs.declared.account.Module.{Module}
 use Rattle.base_roles.specs.Ground.{seen}
 use Rattle.base_roles.specs.Holdings.{balance_of}
 use Rattle.base_roles.specs.Hooks.{Stand}
-use Rattle.base_roles.specs.Staked.{StillStand, lists_of}
+use Rattle.base_roles.specs.Staked.{lists_of}
+use Rattle.base_roles.specs.StakeChanges.{StillStand}
 use Rattle.base_roles.specs.World.{burnt}
 use Rattle.mod_staking.specs.Calls.{with_if}
 use Rattle.mod_staking.proofs.ListLemmas.{lists-put}

@@ -2,7 +2,7 @@ use Rattle.std.proofs.Common.{◌≡◌, ◌∙◌, ap, sym, subst}
 use Rattle.run_trial.specs.Trial.{trial_of}
 use Rattle.run_app.specs.Machine.{not_applied}
 use Rattle.run_app.specs.Modes.{Tries}
-use Rattle.run_app.specs.Parts.{status_of}
+use Rattle.run_app.specs.Ending.{status_of}
 use Rattle.run_app.proofs.ModeLemmas.{busy_so, cause_so, clean_so, keep_so, quiet_so, read_so, tried, tried_at_block, tried_without_memory, written_so}
 use Rattle.run_app.proofs.generating.write_trial.Goals as goal
 

@@ -1,4 +1,4 @@
-use Rattle.store_items.specs.Stored.{HasKeyInRange, HasRowIfPut, change_seen, item_change}
+use Rattle.store_items.specs.Making.{HasKeyInRange, HasRowIfPut, change_seen, item_change}
 use Rattle.store_items.proofs.Loops.{all_more, one_more}
 use Rattle.store_items.proofs.lists.changes_of.Goals as goal
 

@@ -1,5 +1,5 @@
 use Rattle.std.proofs.Common.{◌≡◌, All, map, take}
-use Rattle.store_items.specs.Stored.{HasKeyInRange, HasRowIfPut, change_seen, item_change}
+use Rattle.store_items.specs.Making.{HasKeyInRange, HasRowIfPut, change_seen, item_change}
 use Rattle.store_items.proofs.lists.changes_of.Given as goal
 
 abbrev pub invariant-loop-change : goal.invariant-loop-change

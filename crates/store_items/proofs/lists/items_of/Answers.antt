@@ -1,7 +1,7 @@
 use Rattle.std.proofs.Common.{All, List, subst, sym}
 use Rattle.std.proofs.lemmas.Result.{err_from_is_err_and}
 use Rattle.std.proofs.lemmas.List.Elements.{All-push}
-use Rattle.base_io.specs.Rows.{pair_of}
+use Rattle.base_io.specs.Changes.{pair_of}
 use Rattle.base_roles.specs.declared.items.Item.{Item}
 use Rattle.store_rows.specs.Rows.{row_of}
 use Rattle.store_rows.specs.Spelled.{HasRow}

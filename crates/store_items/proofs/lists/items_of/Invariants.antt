@@ -1,5 +1,5 @@
 use Rattle.std.proofs.Common.{◌≡◌, All, map, take}
-use Rattle.base_io.specs.Rows.{pair_of}
+use Rattle.base_io.specs.Changes.{pair_of}
 use Rattle.store_rows.specs.Rows.{row_of}
 use Rattle.store_rows.specs.Spelled.{HasRow}
 use Rattle.store_items.proofs.lists.items_of.Given as goal

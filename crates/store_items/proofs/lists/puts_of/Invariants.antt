@@ -1,6 +1,6 @@
 use Rattle.std.proofs.Common.{◌≡◌, All, map, take}
 use Rattle.store_rows.specs.Spelled.{HasRow}
-use Rattle.store_items.specs.Stored.{change_seen, item_put}
+use Rattle.store_items.specs.Making.{change_seen, item_put}
 use Rattle.store_items.proofs.lists.puts_of.Given as goal
 
 abbrev pub invariant-loop-item : goal.invariant-loop-item

@@ -5,7 +5,7 @@ use Rattle.sqlite.specs.Tree.{Trees}
 use Rattle.sqlite.specs.State.{HasCleanDisk, Survives}
 use Rattle.sqlite.specs.Held.{state}
 use Rattle.sqlite.proofs.StateLemmas.{survives_then}
-use Rattle.base_io.specs.Rows.{changed}
+use Rattle.base_io.specs.Changes.{changed}
 use Rattle.store_sqlite.specs.Kept.{IsHeld, map_of}
 use Rattle.store_sqlite.proofs.Ending.{fails_to_commit, commit_open}
 use Rattle.store_sqlite.proofs.commit.commit_all.Goals as goal

@@ -1,7 +1,7 @@
 use Rattle.std.proofs.Common.{◌≡◌, IsTrue, drop}
 use Rattle.sqlite.specs.State.{HasCleanDisk, Survives}
 use Rattle.sqlite.specs.Held.{state}
-use Rattle.base_io.specs.Rows.{changed}
+use Rattle.base_io.specs.Changes.{changed}
 use Rattle.store_sqlite.specs.Kept.{IsHeld, map_of}
 use Rattle.store_sqlite.proofs.commit.commit_all.Given as goal
 

@@ -5,7 +5,7 @@ use Rattle.sqlite.specs.State.{HasCleanDisk}
 use Rattle.sqlite.specs.Held.{state}
 use Rattle.sqlite.specs.Order.{Row}
 use Rattle.store_sqlite.specs.Kept.{AreInOrder, map_of, shown_pair}
-use Rattle.base_io.specs.Rows.{pair_of, Rises}
+use Rattle.base_io.specs.Changes.{pair_of, Rises}
 use Rattle.store_sqlite.proofs.Held.{are_named, map_rises}
 use Rattle.store_sqlite.proofs.Listing.{in_order}
 use Rattle.store_sqlite.proofs.Telling.{kept_back, where_told, settles, told_still}

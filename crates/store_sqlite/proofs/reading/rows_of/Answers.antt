@@ -4,7 +4,8 @@ use Rattle.std.specs.List.Sorted.{IsPermutation}
 use Rattle.std.specs.Ordering.{is_lt}
 use Rattle.std.proofs.lemmas.List.Sorted.{answers_always, IsPermutation-map, ranks_by}
 use Rattle.base_io.specs.declared.keeper.Row.{Row}
-use Rattle.base_io.specs.Rows.{key_cmp, pair_of}
+use Rattle.base_io.specs.Rows.{key_cmp}
+use Rattle.base_io.specs.Changes.{pair_of}
 use Rattle.store_sqlite.specs.Kept.{shown_pair}
 use Rattle.store_sqlite.proofs.Listing.{sorted_pairs}
 use Rattle.store_sqlite.proofs.Maps.{total}

@@ -4,7 +4,7 @@ use Rattle.std.proofs.lemmas.Bool.Decides.{nat_tests}
 use Rattle.std.proofs.lemmas.Result.{err_from_is_err_and}
 use Rattle.base_coins.specs.Coins.{amount_of}
 use Rattle.base_roles.specs.Ground.{seen}
-use Rattle.base_roles.specs.Hooks.{Lists}
+use Rattle.base_roles.specs.Owing.{Lists}
 use Rattle.base_roles.specs.World.{View}
 use Rattle.rule_modules.specs.Allocation.{fees_allocated}
 use Rattle.rule_modules.specs.Distribution.{told_of}

@@ -1,7 +1,7 @@
 use Rattle.std.proofs.Common.{sym, ap, subst, refl}
 use Rattle.std.specs.Prelude.{OnOk}
 use Rattle.base_roles.specs.Ground.{seen}
-use Rattle.base_roles.specs.Hooks.{Lists}
+use Rattle.base_roles.specs.Owing.{Lists}
 use Rattle.base_roles.specs.Holdings.{balance_of}
 use Rattle.base_types.specs.declared.account.Account.TheVariants as account
 use Rattle.base_records.proofs.KindLemmas.{is_ok}

@@ -4,7 +4,8 @@ use Rattle.base_roles.specs.declared.faults.HookFault.{HookFault}
 use Rattle.base_roles.specs.Answers.{Answers}
 use Rattle.base_roles.specs.Ground.{seen}
 use Rattle.base_roles.specs.Hooks.{Stand}
-use Rattle.base_roles.specs.Staked.{lists_of, bonded_tokens, other_tokens, HoldsStake}
+use Rattle.base_roles.specs.Staked.{lists_of, bonded_tokens, other_tokens}
+use Rattle.base_roles.specs.StakeChanges.{HoldsStake}
 use Rattle.base_roles.specs.World.{created}
 use Rattle.base_roles.proofs.HookLemmas.{Stand-after_ok, picked}
 use Rattle.rule_modules.proofs.SoundLemmas.{IsSoundAt, to_points, from_points}

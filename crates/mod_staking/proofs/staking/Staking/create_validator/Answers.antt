@@ -1,7 +1,8 @@
 use Rattle.std.proofs.Common.{◌≡◌, ◌∙◌, ap, sym, subst}
 use Rattle.base_roles.specs.Ground.{seen}
 use Rattle.base_roles.specs.Hooks.{Stand}
-use Rattle.base_roles.specs.Staked.{validator_at, put_validator, lists_of, bonded_tokens, other_tokens, HoldsStake}
+use Rattle.base_roles.specs.Staked.{validator_at, put_validator, lists_of, bonded_tokens, other_tokens}
+use Rattle.base_roles.specs.StakeChanges.{HoldsStake}
 use Rattle.base_roles.specs.World.{created}
 use Rattle.std.specs.Prelude.{Ok, Err}
 use Rattle.base_roles.specs.Answers.{AnswersAs}

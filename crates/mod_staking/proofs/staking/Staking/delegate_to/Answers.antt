@@ -3,7 +3,8 @@ use Rattle.std.proofs.lemmas.Grind.{common_steps}
 use Rattle.std.specs.Prelude.{Ok, ◌+◌}
 use Rattle.base_roles.specs.Ground.{seen}
 use Rattle.base_roles.specs.Hooks.{Stand, after}
-use Rattle.base_roles.specs.Staked.{lists_of, put_validator, bonded_tokens, other_tokens, HoldsStake}
+use Rattle.base_roles.specs.Staked.{lists_of, put_validator, bonded_tokens, other_tokens}
+use Rattle.base_roles.specs.StakeChanges.{HoldsStake}
 use Rattle.base_roles.specs.World.{modified}
 use Rattle.base_roles.proofs.HookLemmas.{Stand-after_ok, picked}
 use Rattle.rule_modules.specs.Delegating.{hook_before}

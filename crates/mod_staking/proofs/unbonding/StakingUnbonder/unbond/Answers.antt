@@ -4,7 +4,8 @@ use Rattle.std.specs.Option.{option_copied}
 use Rattle.base_table.proofs.WalkLemmas.{is_some-map}
 use Rattle.base_roles.specs.Answers.{Follows}
 use Rattle.base_roles.specs.Ground.{seen}
-use Rattle.base_roles.specs.Staked.{validator_at, IsUnbonded}
+use Rattle.base_roles.specs.Staked.{validator_at}
+use Rattle.base_roles.specs.StakeChanges.{IsUnbonded}
 use Rattle.rule_modules.specs.Unbonding.{shares_unbonded}
 use Rattle.rule_modules.proofs.SoundLemmas.{to_points}
 use Rattle.mod_staking.specs.Calls.{over}
