@@ -1,3 +1,5 @@
+//! The traits of what bytes are read from and written to, with their errors.
+
 ghost use Rattle.std.specs.Prelude.{◌≡◌, ◌≤◌, ◌<◌, ◌++◌, ℕ, Bool, true, false, List, Option, Some, [], length, take, IfOk, IfSome, OnOk, OnErr, IsErrOf};
 ghost use Rattle.base_io.specs.Outside.{Rose, Takes, Stays};
 ghost use Rattle.base_io.specs.Faults.{UnlessFailed};

@@ -1,3 +1,5 @@
+//! One read from a source, of at most so many bytes.
+
 ghost use Rattle.std.specs.Prelude.{◌≡◌, ◌≤◌, ◌<◌, Ok, IfOk, IfSome, OnOk, OnErr, length, drop, []};
 ghost use Rattle.base_io.specs.Outside.{Rose, Takes, Stays};
 

@@ -1,3 +1,5 @@
+//! A whole text written to a sink.
+
 ghost use Rattle.std.specs.Prelude.{◌≡◌, ◌≤◌, ◌++◌, Some, IfSome, OnOk, OnErr, IsErrOf};
 ghost use Rattle.base_io.specs.Outside.{Rose, AddsPart};
 ghost use Rattle.base_io.specs.Faults.{UnlessFailed};

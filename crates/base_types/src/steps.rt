@@ -1,3 +1,5 @@
+//! Steps: the count, for proofs alone, by which contracts bound the work of calls.
+
 ghost use Rattle.std.specs.Prelude.{◌≡◌, ◌+◌, ◌<◌};
 
 use std::marker::Model;
