@@ -1,3 +1,5 @@
+//! Lists of decimal coins (Cosmos SDK: `DecCoins` of `types`).
+
 ghost use Rattle.std.specs.Prelude.{◌≡◌, ℕ, ◌^◌, ◌<◌, map, length, List, [], IfOk, IfErr, None, Ok, true, false, slice_get};
 ghost use Rattle.std.specs.Option.{option_map};
 ghost use Rattle.base_coins.specs.Answers.{IsOverOf, IsShortAt};

@@ -1,3 +1,5 @@
+//! Sums, differences and minima of lists of coins, sorting and look-up: for whole and for decimal amounts.
+
 ghost use Rattle.std.specs.Prelude.{◌≡◌, ℕ, ◌+◌, ◌-◌, ◌*◌, ◌^◌, ◌<◌, map, min, All, IfOk, IfErr, Option, Some, None, Ok, true, false, ◌++◌, []};
 ghost use Rattle.std.specs.Option.{option_map};
 ghost use Rattle.std.specs.Map.{lookup};

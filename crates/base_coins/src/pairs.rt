@@ -1,3 +1,5 @@
+//! Two lists of coins walked side by side, one denomination after the other.
+
 ghost use Rattle.std.specs.Prelude.{◌≡◌, ℕ, ◌+◌, ◌==◌, ◌^◌, ◌<◌, [], ◌∷◌, map, length, if◌then◌else◌, MatchOption, IfSome};
 ghost use Rattle.base_coins.specs.Coins.{IsMoney};
 ghost use Rattle.base_coins.specs.Pairs.{pair_of, side_by_side};

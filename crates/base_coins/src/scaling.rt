@@ -1,3 +1,5 @@
+//! Lists of coins times or divided by a decimal; whole amounts as decimals, and the parts of decimals.
+
 ghost use Rattle.std.specs.Prelude.{◌≡◌, ℕ, ◌^◌, ◌<◌, map, IfOk, IfErr, Ok};
 ghost use Rattle.base_coins.specs.Answers.{IsOverOf};
 ghost use Rattle.base_coins.specs.Coins.{IsMoney, as_decimals, by_coin, fractions, whole_coins};

@@ -1,3 +1,5 @@
+//! Decimals of 18 places and their arithmetic (Cosmos SDK: `LegacyDec` of `math`).
+
 ghost use Rattle.std.specs.Prelude.{◌≡◌, ◌-◌, ◌*◌, ◌^◌, ◌<◌, ◌≤◌, ◌↔◌, IsSome, IfSome};
 ghost use Rattle.base_decimals.specs.Decimals.{below, quotient_over as quotient_over_of, add_of, whole_of, mul_even_of, mul_cut_of, quo_even_of, quo_cut_of, quo_up_of, mul_int_quo_even_of, mul_int_quo_cut_of, mul_int_quo_int_of, trunc_of, round_int_of};
 
@@ -43,7 +45,8 @@ impl Dec {
 
     /// The decimal of a whole number.
     ///
-    /// Over has kind Quotient and the operands `n`, 10^18 and 1.
+    /// `Over` comes exactly where that is 10^38 units or more; it has kind Quotient and the operands `n`, 10^18
+    /// and 1.
     pub fn of_whole(n: u128) -> Result<Dec, Over>
         ensures { result ≡ whole_of n }
     {
@@ -54,7 +57,7 @@ impl Dec {
 
     /// The sum.
     ///
-    /// Over has kind Sum and the two raw numbers.
+    /// `Over` comes exactly where that is 10^38 units or more; it has kind Sum and the two raw numbers.
     pub fn add(self, other: Dec) -> Result<Dec, Over>
         ensures { result ≡ add_of self other }
     {
@@ -79,7 +82,8 @@ impl Dec {
 
     /// The product, rounded half to even (`Mul` of the SDK).
     ///
-    /// Over has kind Quotient, the two raw numbers and 10^18.
+    /// `Over` comes exactly where that is 10^38 units or more; it has kind Quotient, the two raw numbers and
+    /// 10^18.
     pub fn mul_even(self, other: Dec) -> Result<Dec, Over>
         ensures { result ≡ mul_even_of self other }
     {
@@ -90,7 +94,7 @@ impl Dec {
 
     /// The product, cut (`MulTruncate` of the SDK).
     ///
-    /// Over is that of [`Dec::mul_even`].
+    /// `Over` comes exactly where that is 10^38 units or more, with what [`Dec::mul_even`] gives it.
     pub fn mul_cut(self, other: Dec) -> Result<Dec, Over>
         ensures { result ≡ mul_cut_of self other }
     {
@@ -102,7 +106,8 @@ impl Dec {
     /// The quotient, rounded half to even from its 36 digits behind the point (`Quo` of the SDK); `other` is
     /// above 0.
     ///
-    /// Over has kind Quotient, the raw number of this, 10^18 and the raw number of `other`.
+    /// `Over` comes exactly where that is 10^38 units or more; it has kind Quotient, the raw number of this,
+    /// 10^18 and the raw number of `other`.
     pub fn quo_even(self, other: Dec) -> Result<Dec, Over>
         requires { 0 < other }
         ensures { result ≡ quo_even_of self other }
@@ -112,7 +117,7 @@ impl Dec {
 
     /// The quotient, cut from its 36 digits behind the point (`QuoTruncate` of the SDK); `other` is above 0.
     ///
-    /// Over is that of [`Dec::quo_even`].
+    /// `Over` comes exactly where that is 10^38 units or more, with what [`Dec::quo_even`] gives it.
     pub fn quo_cut(self, other: Dec) -> Result<Dec, Over>
         requires { 0 < other }
         ensures { result ≡ quo_cut_of self other }
@@ -121,9 +126,9 @@ impl Dec {
     }
 
     /// The quotient, rounded upward from its 36 digits behind the point (`QuoRoundUp` of the SDK); `other` is
-    /// above 0.
+    /// above 0. What lies behind the 36th digit does not count.
     ///
-    /// What lies behind the 36th digit does not count. Over is that of [`Dec::quo_even`].
+    /// `Over` comes exactly where that is 10^38 units or more, with what [`Dec::quo_even`] gives it.
     #[tactic(auto, using(crate::proofs::Quotients::cut_36))]
     pub fn quo_up(self, other: Dec) -> Result<Dec, Over>
         requires { 0 < other }
@@ -134,10 +139,11 @@ impl Dec {
         checked(upward(whole, places, ONE), over)
     }
 
-    /// `self * n / other`, rounded half to even from its 36 digits behind the point (`MulInt`, then `Quo`).
+    /// `self * n / other`, rounded half to even from its 36 digits behind the point (`MulInt`, then `Quo`). `n`
+    /// is a whole number of at most 10^20, and `other` is above 0.
     ///
-    /// `n` is a whole number of at most 10^20, and `other` is above 0. Over has kind Quotient, the raw
-    /// number of this, `n * 10^18` and the raw number of `other`.
+    /// `Over` comes exactly where that is 10^38 units or more; it has kind Quotient, the raw number of this,
+    /// `n * 10^18` and the raw number of `other`.
     #[tactic(auto, using(crate::proofs::Quotients::cut_36_of_factor, crate::proofs::Quotients::digits_of_factor))]
     pub fn mul_int_quo_even(self, n: u128, other: Dec) -> Result<Dec, Over>
         requires factor { n ≤ 10 ^ 20 }
@@ -150,9 +156,10 @@ impl Dec {
         checked(nearest(whole, places, ONE), over)
     }
 
-    /// `self * n / other`, cut from its 36 digits behind the point (`MulInt`, then `QuoTruncate`).
+    /// `self * n / other`, cut from its 36 digits behind the point (`MulInt`, then `QuoTruncate`). Its needs
+    /// are those of [`Dec::mul_int_quo_even`].
     ///
-    /// Its needs and its Over are those of [`Dec::mul_int_quo_even`].
+    /// `Over` comes exactly where that is 10^38 units or more, with what [`Dec::mul_int_quo_even`] gives it.
     #[tactic(auto, using(crate::proofs::Quotients::cut_36_of_factor, crate::proofs::Quotients::digits_of_factor))]
     pub fn mul_int_quo_cut(self, n: u128, other: Dec) -> Result<Dec, Over>
         requires factor { n ≤ 10 ^ 20 }
@@ -167,7 +174,8 @@ impl Dec {
 
     /// `self * n / m` for whole numbers, cut (`MulInt`, then `QuoInt`); `m` is above 0 and below 10^38.
     ///
-    /// Over has kind Quotient, the raw number of this, `n` and `m`.
+    /// `Over` comes exactly where that is 10^38 units or more; it has kind Quotient, the raw number of this,
+    /// `n` and `m`.
     pub fn mul_int_quo_int(self, n: u128, m: u128) -> Result<Dec, Over>
         requires positive { 0 < m }
         requires below_limit { m < 10 ^ 38 }

@@ -1,3 +1,5 @@
+//! Products divided in numbers of 128 bits, with the limit and the unit of decimals.
+
 ghost use Rattle.std.specs.Prelude.{◌≡◌, ◌+◌, ◌*◌, ◌/◌, ◌%◌, ◌^◌, ◌<◌, ◌≤◌, IfSome, IfNone};
 ghost use Rattle.base_decimals.specs.Decimals.{mul_div_of};
 ghost use Rattle.base_decimals.specs.Rounding.{IsOver};

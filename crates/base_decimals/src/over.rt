@@ -1,3 +1,5 @@
+//! The error of an operation that goes past the limit: its kind and its operands.
+
 /// Which kind of operation went past the limit.
 #[derive(Clone, Copy, Debug, PartialEq, Eq, PartialOrd, Ord, Hash)]
 pub enum OverKind {

@@ -1,3 +1,5 @@
+//! Quotients rounded half to even, or upward.
+
 ghost use Rattle.std.specs.Prelude.{◌≡◌, ◌+◌, ◌*◌, ◌^◌, ◌<◌};
 ghost use Rattle.base_decimals.specs.Rounding.{up, even};
 

@@ -1,3 +1,5 @@
+//! The trait of what keeps rows between runs, with its rows, its changes and its errors.
+
 ghost use Rattle.std.specs.Prelude.{◌≡◌, ◌⊎◌, ℕ, ◌≤◌, Bool, false, List, [], map, Option, Some, None, IsErrOf, IfOk, IfSome, IsSome, OnOk, OnErr};
 ghost use Rattle.base_io.specs.declared.keeper.Change.{Change};
 ghost use Rattle.base_io.specs.Keeping.{UnlessLost};

@@ -1,3 +1,5 @@
+//! Keepers in memory: one of which no call fails, and one of which listed calls fail.
+
 ghost use Rattle.std.specs.Prelude.{◌≡◌, ◌↔◌, Some, List, [], map, IfOk, IfErr, OnOk, OnErr, IsErrOf, IsOk, IsOkAnd};
 ghost use Rattle.base_io.specs.Memory.{IsDue, after_failure, after_success};
 ghost use Rattle.base_io.specs.Rows.{Pair, HasDistinctKeys};

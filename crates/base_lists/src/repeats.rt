@@ -8,7 +8,8 @@ ghost use Rattle.base_coins.specs.Coins.{has_repeats};
 use std::alloc::{AllocError, Global};
 use std::collections::BTreeSet;
 
-/// Adds a key to a set; false where it was there already.
+/// Adds a key to a set; false where it was there already. The only error is `AllocError`: memory is
+/// wanting.
 pub fn add_key<K: Ord + Copy>(seen: &mut BTreeSet<K>, key: K) -> Result<bool, AllocError>
     ensures new { IfOk result (λ new. new ≡ not (list_any (is_at (K.cmp key)) seen.old.keys)) }
     ensures added { IfOk result (λ new. new ≡ true → (test : K → Bool)
@@ -21,7 +22,7 @@ pub fn add_key<K: Ord + Copy>(seen: &mut BTreeSet<K>, key: K) -> Result<bool, Al
     }
 }
 
-/// Whether a key stands twice.
+/// Whether a key stands twice. The only error is `AllocError`: memory for a set of the keys is wanting.
 pub fn has_repeat<K: Ord + Copy>(alloc: Global, keys: &[K]) -> Result<bool, AllocError>
     ensures { IfOk result (λ again. again ≡ has_repeats K.cmp keys.now) }
 {
@@ -34,7 +35,8 @@ pub fn has_repeat<K: Ord + Copy>(alloc: Global, keys: &[K]) -> Result<bool, Allo
     Ok(false)
 }
 
-/// Whether all of these keys stand among others.
+/// Whether all of these keys stand among others. The only error is `AllocError`: memory for a set of the
+/// others is wanting.
 pub fn are_among<K: Ord + Copy>(alloc: Global, keys: &[K], others: &[K]) -> Result<bool, AllocError>
     ensures { IfOk result (λ among. among ≡ not
         (list_any (λ key. not (list_any (λ other. is_at (K.cmp other) key) others.now)) keys.now)) }

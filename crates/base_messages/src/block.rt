@@ -1,3 +1,5 @@
+//! Blocks with their votes, evidence and transactions (Cosmos SDK: what `BeginBlock` and `DeliverTx` are given).
+
 use crate::message::Msg;
 use base_coins::Coins;
 use base_roles::{Evidence, Listed, Vote};

@@ -1,3 +1,5 @@
+//! The errors of lines that are read or printed, and of blocks that are not applied.
+
 ghost use Rattle.std.specs.Prelude.{◌≡◌};
 
 use base_decimals::Over;

@@ -1,3 +1,5 @@
+//! The genesis of a chain: its parameters, accounts, validators and delegations.
+
 ghost use Rattle.std.specs.Prelude.{⊤};
 
 use base_coins::Coins;

@@ -1,3 +1,5 @@
+//! The messages of transactions (Cosmos SDK: those of `x/bank`, `x/staking`, `x/slashing` and `x/distribution`).
+
 ghost use Rattle.std.specs.Prelude.{⊤};
 
 use base_coins::{Coin, Coins};

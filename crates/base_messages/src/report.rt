@@ -1,3 +1,5 @@
+//! Reports of blocks and their transactions, and what a delegation's pending rewards are.
+
 use base_coins::DecCoins;
 use base_roles::{Facts, Listed, Refusal};
 use base_types::{Addr, Moment};

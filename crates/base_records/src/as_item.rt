@@ -1,3 +1,5 @@
+//! The trait by which the records of a table are items of the state.
+
 ghost use Rattle.std.specs.Prelude.{◌≡◌, Bool, Option, IfOk};
 ghost use Rattle.base_roles.specs.declared.items.Item.{Item};
 ghost use Rattle.base_records.specs.Items.{IsRowed};
@@ -28,7 +30,7 @@ pub trait AsItem {
     // the key and the value of an item of this kind
     ghost entry_of: { Item → Option (Self.Key × Self.Value) };
 
-    /// The item of a key and a value.
+    /// The item of a key and a value, or an error where memory is wanting.
     fn item(key: &Self::Key, value: &Self::Value) -> Result<Item, TableFault>
         ensures { IfOk result (λ item. item ≡ item_of key.now value.now) };
 

@@ -1,3 +1,5 @@
+//! The bank as other modules use it (Cosmos SDK: what `x/staking` and `x/distribution` expect of `x/bank`).
+
 ghost use Rattle.std.specs.Prelude.{◌≡◌, ℕ, ◌+◌, ◌≤◌, Bool, true, length, OnOk, IfOk, IfErr, Err};
 ghost use Rattle.base_roles.specs.Answers.{Sends, Burns};
 ghost use Rattle.base_roles.specs.Holdings.{Holdings, IsBacked, balance_of, supply_of, coins_of};

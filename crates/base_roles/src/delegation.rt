@@ -1,3 +1,5 @@
+//! Delegations as they are kept: their shares (Cosmos SDK: `stakingtypes.Delegation`).
+
 ghost use Rattle.std.specs.Prelude.{◌≡◌, ⊤};
 
 use base_decimals::Dec;

@@ -1,3 +1,5 @@
+//! The records of `x/staking`, `x/distribution` and `x/slashing`: validators, entries, rewards and signing infos.
+
 ghost use Rattle.std.specs.Prelude.{⊤};
 
 use base_coins::DecCoins;

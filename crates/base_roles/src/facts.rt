@@ -1,3 +1,5 @@
+//! Facts: what happened in a block, in its order, as printed lines tell it (Cosmos SDK: events).
+
 ghost use Rattle.std.specs.Prelude.{◌≡◌, ◌≤◌, ◌++◌, ◌∷◌, [], length, take, slice_get, OnOk, OnErr};
 ghost use Rattle.std.specs.Option.{option_copied};
 

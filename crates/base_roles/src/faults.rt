@@ -1,3 +1,5 @@
+//! The errors of records, banks, hooks and messages, and which error of a deeper call becomes which of them.
+
 ghost use Rattle.std.specs.Prelude.{◌≡◌};
 
 use crate::refusal::Refusal;

@@ -1,3 +1,6 @@
+//! The hooks of staking: what it calls as validators and delegations change (Cosmos SDK: `StakingHooks` of
+//! `x/staking`).
+
 ghost use Rattle.std.specs.Prelude.{◌≡◌, ℕ, ◌+◌, ◌≤◌};
 ghost use Rattle.base_roles.specs.Answers.{Answers};
 ghost use Rattle.base_roles.specs.Ground.{seen, CanBeUndone};
@@ -19,6 +22,8 @@ use std::sync::ledger::Ledger;
 /// for several plain values: a call answers what is told of each of them, and leaves what stands for what is
 /// told; or memory is wanting. Its needs are those of `MayCall`, for some plain value and some lists of
 /// operators and of started delegations; its laws are `Lawful`, and speak of plain values alone.
+///
+/// The errors of each call are `NoMemory` and `Over`, which comes exactly where that is told.
 pub trait StakingHooks {
     /// A plain value: all that they were told.
     ghost Held: { Type 0 };

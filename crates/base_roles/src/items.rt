@@ -1,3 +1,5 @@
+//! Items: the rows of the state of all modules, each a key with its value.
+
 use crate::entities::{
     Historical, Purse, RedelegationEntry, SigningInfo, SlashEvent, StartingInfo, UnbondingEntry,
     Validator,

@@ -1,3 +1,5 @@
+//! Lists of values that stand in records and messages.
+
 ghost use Rattle.std.specs.Prelude.{◌≡◌, [], length, slice_get, map};
 ghost use Rattle.std.specs.Option.{option_copied};
 

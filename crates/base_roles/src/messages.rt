@@ -1,3 +1,6 @@
+//! Votes and evidence as blocks bring them (CometBFT), and the messages that create and edit validators
+//! (`x/staking`).
+
 ghost use Rattle.std.specs.Prelude.{⊤};
 
 use base_coins::Coin;

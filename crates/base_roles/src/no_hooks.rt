@@ -1,3 +1,5 @@
+//! Hooks that do nothing: staking without other modules.
+
 ghost use Rattle.base_roles.specs.NoHooks.{nothing_told, nothing_lawful};
 
 use crate::bank::{Bank, Ground};

@@ -1,3 +1,5 @@
+//! Two hooks as one (Cosmos SDK: `MultiStakingHooks` of `x/staking`).
+
 ghost use Rattle.base_roles.specs.Pair.{pair_tells, pair_lawful};
 
 use crate::bank::{Bank, Ground};

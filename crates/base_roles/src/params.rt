@@ -1,3 +1,6 @@
+//! The parameters of a chain, and the context of a call: height, time and parameters (Cosmos SDK: `Params`,
+//! `Context`).
+
 ghost use Rattle.std.specs.Prelude.{⊤};
 
 use base_decimals::Dec;

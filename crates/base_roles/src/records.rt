@@ -1,3 +1,5 @@
+//! The records of a module as every module keeps them: marks to go back to, items, changes, and loading.
+
 ghost use Rattle.std.specs.Prelude.{◌≡◌, ◌≢◌, ◌++◌, ◌∷◌, [], List, Bool, true, false, IsErr, OnOk, IfOk, OnErr};
 ghost use Rattle.base_roles.specs.declared.items.Item.{Item};
 ghost use Rattle.base_roles.specs.Items.{IsOnce, HasRoom, IsAdded, AreChanges};
@@ -41,7 +43,8 @@ pub trait Records {
     fn ordered(&self)
         ensures { AreInOrder (kept self.now) };
 
-    /// Opens a mark.
+    /// Opens a mark. The only error is `NoMemory`, which also comes where memory was wanting in a change; no mark
+    /// is opened then.
     fn mark<L: Ledger>(&mut self, alloc: Global, steps: &mut Steps<L>) -> Result<(), RecordFault>
         ensures opened { OnOk result (marks self.new ≡ marks self.old ++ kept self.old ∷ []) }
         ensures err { OnErr result (marks self.new ≡ marks self.old) }

@@ -1,3 +1,5 @@
+//! Why messages and transactions are refused, with the numbers of the reasons (Cosmos SDK: the modules' errors).
+
 ghost use Rattle.std.specs.Prelude.{◌≡◌};
 ghost use Rattle.base_roles.specs.Refusals.{refusal_number};
 

@@ -1,3 +1,5 @@
+//! Slashing of validators and of entries, jailing, and banning of signers (Cosmos SDK: `Slash`, `Jail`, `Tombstone`).
+
 ghost use Rattle.std.specs.Prelude.{◌≡◌, ℕ, ◌+◌, ◌*◌, ◌^◌, ◌≤◌, List, ◌++◌, Option, Some, None, Result, OnOk, IfOk, IfErr, IsSome};
 ghost use Rattle.std.specs.Option.{option_copied};
 ghost use Rattle.base_decimals.specs.declared.over.Over.{Over};
@@ -103,7 +105,8 @@ pub trait RedelegationSlash {
 
     /// Slashes the entries from an operator that were made at the infraction's height or later and are not
     /// mature, by a factor of at most one: unbonds shares at their targets, and burns what goes out. Answers
-    /// what was counted, and 10^18 where that is more. `Over` comes exactly where an unbonding exceeds.
+    /// what was counted, and 10^18 where that is more. The errors are `NoMemory` and `Over`, which comes exactly
+    /// where an unbonding exceeds.
     fn slash_redelegations<B: Bank, H: StakingHooks, D: Unbonder, L: Ledger>(
         &mut self,
         alloc: Global,
@@ -188,7 +191,8 @@ pub trait Slasher: ValidatorView {
 
     /// Slashes the validator of a consensus address for an infraction at a height, by the power that it had
     /// then and a factor of at most one. Answers what was burned from the validator itself; an unknown address
-    /// or an unbonded validator is not slashed. `Over` comes exactly where a hook or an unbonding exceeds.
+    /// or an unbonded validator is not slashed. The errors are `NoMemory` and `Over`, which comes exactly where a
+    /// hook or an unbonding exceeds.
     fn slash<B: Bank, H: StakingHooks, L: Ledger>(
         &mut self,
         alloc: Global,

@@ -1,3 +1,5 @@
+//! Validators as other modules look them up, and delegations that can be unbonded (`x/staking`: `Unbond`).
+
 ghost use Rattle.std.specs.Prelude.{◌≡◌, ℕ, ◌+◌, ◌≤◌, List, Option, Some, None, Result, OnOk, IfOk, IfSome};
 ghost use Rattle.std.specs.Option.{option_copied};
 ghost use Rattle.base_decimals.specs.declared.over.Over.{Over};
@@ -70,7 +72,8 @@ pub trait Unbonder: ValidatorView {
         ensures { result ≡ delegation (stake (held self.now)) delegator.now operator.now };
 
     /// Takes shares out of a delegation, and answers the tokens that go out with them, in units of the bond
-    /// denomination. The coins stay where they are. `Over` comes exactly where a hook exceeds.
+    /// denomination. The coins stay where they are. The errors are `NoMemory` and `Over`, which comes exactly
+    /// where a hook exceeds.
     fn unbond<B: Bank, H: StakingHooks, L: Ledger>(
         &mut self,
         alloc: Global,

@@ -24,6 +24,9 @@ use std::alloc::Global;
 use std::sync::ledger::Ledger;
 
 /// Sends coins between two hooks, over any bank and any hooks.
+///
+/// It is refused as `Overflow` where a hook exceeds, and as `InsufficientFunds` where the bank is short,
+/// whichever comes first. The only other error is `NoMemory`.
 pub fn send_between_hooks<B: Bank, H: StakingHooks, L: Ledger>(
     alloc: Global,
     g: &mut Ground<B>,
@@ -61,6 +64,8 @@ pub fn send_between_hooks<B: Bank, H: StakingHooks, L: Ledger>(
 }
 
 /// What a vote does that jails: a slash, and jailing. Then it slashes once more.
+///
+/// The errors are those of the slasher: `NoMemory` and `Over`, which comes where a slash exceeds.
 pub fn slash_jail_and_slash<B: Bank, H: StakingHooks, S: Slasher, L: Ledger>(
     alloc: Global,
     g: &mut Ground<B>,
@@ -192,6 +197,8 @@ pub fn slash_through_entries<
 
 /// What a slash does with two redelegation entries of one delegation: it unbonds a part, and then more of the
 /// rest, behind the log of the part. Answers the tokens that go out with the last.
+///
+/// The errors are `NoMemory` and `Over`, which comes where an unbonding exceeds.
 pub fn unbond_twice<B: Bank, H: StakingHooks, D: Unbonder, L: Ledger>(
     alloc: Global,
     g: &mut Ground<B>,

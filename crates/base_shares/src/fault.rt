@@ -1,3 +1,5 @@
+//! The errors of calls on shares.
+
 use base_decimals::Over;
 
 /// Why a number of shares has no answer.

@@ -1,3 +1,5 @@
+//! Shares issued for tokens, what shares are worth, and shares taken out (Cosmos SDK: `stakingtypes.Validator`).
+
 ghost use Rattle.std.specs.Prelude.{◌≡◌, ◌+◌, ◌*◌, ◌^◌, ◌<◌, ◌≤◌, ◌↔◌};
 ghost use Rattle.base_shares.specs.Shares.{HasInvalidRate, issued_shares, value_even_of, value_cut_of, shares_for_amount, removed};
 
@@ -7,9 +9,11 @@ use base_decimals::Dec;
 /// The shares that `amount` more tokens issue where `shares` have `tokens`, which are at most 10^18.
 ///
 /// The first shares equal the amount; later ones are `shares * amount / tokens`, cut
-/// (`Validator.AddTokensFromDel`). RateInvalid comes exactly where there are shares and no tokens (`Validator.InvalidExRate`). Over has
-/// the operands of the product: the amount, 10^18 and 1 for the first shares, and then the raw number of
-/// `shares`, the amount and the tokens.
+/// (`Validator.AddTokensFromDel`).
+///
+/// `RateInvalid` comes exactly where there are shares and no tokens (`Validator.InvalidExRate`). `Over` comes
+/// exactly where the new shares would be 10^38 units or more; it has the operands of the product: the amount,
+/// 10^18 and 1 for the first shares, and then the raw number of `shares`, the amount and the tokens.
 pub fn issue(tokens: u128, shares: Dec, amount: u128) -> Result<Dec, ShareFault>
     requires { tokens ≤ 10 ^ 18 }
     ensures value { result ≡ issued_shares tokens shares amount }
@@ -54,11 +58,11 @@ pub fn value_cut(tokens: u128, shares: Dec, part: Dec) -> Dec
     part.mul_int_quo_cut(tokens, shares).unwrap()
 }
 
-/// The shares that `amount` of the tokens has, `shares * amount / tokens`, cut
-/// (`Validator.SharesFromTokens`); there are at most 10^18 tokens.
+/// The shares that `amount` of the tokens has, `shares * amount / tokens`, cut (`Validator.SharesFromTokens`);
+/// there are at most 10^18 tokens.
 ///
-/// NoTokens comes exactly where there are no tokens. Over has the raw number of `shares`, the amount and
-/// the tokens.
+/// `NoTokens` comes exactly where there are no tokens. `Over` comes exactly where the shares would be 10^38
+/// units or more; it has the raw number of `shares`, the amount and the tokens.
 pub fn shares_for(tokens: u128, shares: Dec, amount: u128) -> Result<Dec, ShareFault>
     requires { tokens ≤ 10 ^ 18 }
     ensures value { result ≡ shares_for_amount tokens shares amount }

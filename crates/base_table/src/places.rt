@@ -121,7 +121,8 @@ impl<K: Ord + Copied, V: Copied> Places<K, V> {
         }
     }
 
-    /// The same, whatever stands at the place of the key, if it has one.
+    /// Puts a value under a key, whatever stands at the place of the key, if it has one. Where memory is
+    /// wanting, nothing changes.
     fn insert_elsewhere(&mut self, key: &K, value: V) -> Result<(), TableFault>
         ensures ok { OnOk result (self.new
             ≡ record self.old { entries = insert_entry K.cmp self.old.entries key.now value }) }

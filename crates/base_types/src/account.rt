@@ -1,3 +1,5 @@
+//! Accounts: the addresses of users, and the modules that hold coins (Cosmos SDK: module accounts).
+
 ghost use Rattle.std.specs.Prelude.{◌≡◌, ℕ, List, ◌∷◌, [], Some, None, nat_eq};
 ghost use Rattle.std.specs.Cmp.Lexicographic.{bytes_decides, pointwise};
 ghost use Rattle.std.specs.Cmp.Rules.{comparing};

@@ -1,3 +1,5 @@
+//! Accounts, addresses of users and consensus addresses, read from text and printed.
+
 ghost use Rattle.std.specs.Prelude.{◌≡◌, Some, None, IfOk, IfErr, string_bytes};
 ghost use Rattle.base_types.specs.Address.{address_of, address_text, user_of};
 ghost use Rattle.base_types.specs.Accounts.{account_of, account_text};

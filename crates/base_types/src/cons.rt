@@ -1,3 +1,5 @@
+//! Consensus addresses of validators (Cosmos SDK: `types.ConsAddress`).
+
 ghost use Rattle.std.specs.Prelude.{◌≡◌, ◌∷◌, [], nat_eq};
 ghost use Rattle.std.specs.Cmp.Lexicographic.{bytes_decides, pointwise};
 ghost use Rattle.std.specs.Cmp.Rules.{comparing};

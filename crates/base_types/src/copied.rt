@@ -1,3 +1,5 @@
+//! Values that can be copied, as tables need them, and the errors of tables.
+
 ghost use Rattle.std.specs.Prelude.{◌≡◌, ⊤, Ok, IfOk, IfErr};
 
 use crate::account::{Account, Addr, Module};

@@ -1,3 +1,5 @@
+//! The errors of texts that are read or printed.
+
 use std::alloc::AllocError;
 use thiserror::Error;
 

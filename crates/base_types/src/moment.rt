@@ -1,3 +1,5 @@
+//! Moments: block times and the like, in nanoseconds of Unix time.
+
 ghost use Rattle.std.specs.Prelude.{◌≡◌, ◌<◌};
 ghost use Rattle.base_types.specs.Calendar.{end_of_time};
 ghost use Rattle.base_types.specs.Moment.{moment_from};

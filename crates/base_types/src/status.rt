@@ -1,3 +1,5 @@
+//! The status of a validator: bonded, unbonding or unbonded.
+
 /// Whether a validator votes (Cosmos SDK: `stakingtypes.BondStatus`).
 #[derive(Clone, Copy, Debug, PartialEq, Eq, PartialOrd, Ord, Hash)]
 pub enum BondStatus {

@@ -1,47 +1,48 @@
 //! Messages that change stakes, and the parts of a block, keep accounts reached: laws as functions that do nothing, whose
-//! contracts are the laws.
+//! contracts are the laws. They are of steps from sound states that meet no limit.
 
 ghost use Rattle.law_rewards.specs.Changes.{DelegatingKeepsReached, CancellingKeepsReached, UndelegatingKeepsReached, CreatingKeepsReached, UnbondingsStepKeepsReached, RedelegationsStepKeepsReached, BondedSetKeepsReached, MaturingKeepsReached, RedelegatingKeepsReached, MessagesKeepReached, VotesKeepReached, EvidenceKeepsReached, NoneStartedInNext, AllocationKeepsReached, BlockBeginKeepsReached};
 
-/// Delegating keeps accounts reached, and so does cancelling an unbonding.
+/// Delegating keeps accounts reached, and so does cancelling an unbonding, each where it is not refused.
 pub fn delegating_keeps_reached()
     ensures delegated { DelegatingKeepsReached }
     ensures cancelled { CancellingKeepsReached }
 {}
 
-/// So does undelegating, where also a validator may go.
+/// Undelegating, by which also a validator may go, keeps accounts reached, where it is not refused.
 pub fn undelegating_keeps_reached()
     ensures { UndelegatingKeepsReached }
 {}
 
-/// So does redelegating, where the source may go.
+/// Redelegating, by which the source may go, keeps accounts reached, where it is not refused.
 pub fn redelegating_keeps_reached()
     ensures { RedelegatingKeepsReached }
 {}
 
-/// So does creating a validator.
+/// Creating a validator keeps accounts reached, where it is not refused.
 pub fn creating_keeps_reached()
     ensures { CreatingKeepsReached }
 {}
 
-/// So each message keeps accounts reached where it is not refused, and so does the fee.
+/// Each message keeps accounts reached where it is not refused, and so does the fee.
 #[tactic(auto, using(crate::proofs::Together::messages_keep_reached))]
 pub fn messages_keep_reached()
     ensures { MessagesKeepReached }
 {}
 
-/// So do the mature entries of a block: unbondings that are paid, and redelegations that go.
+/// The mature entries of a block keep accounts reached: unbondings that are paid, and redelegations that go.
 pub fn mature_entries_keep_reached()
     ensures unbondings { UnbondingsStepKeepsReached }
     ensures redelegations { RedelegationsStepKeepsReached }
 {}
 
-/// So does making the bonded set anew.
+/// Making the bonded set anew keeps accounts reached.
 pub fn bonded_set_keeps_reached()
     ensures { BondedSetKeepsReached }
 {}
 
-/// So do validators whose unbonding is mature: they are unbonded, and go where they have no shares.
+/// Validators whose unbonding is mature keep accounts reached as they become unbonded, and go where they have no
+/// shares.
 pub fn maturing_keeps_reached()
     ensures { MaturingKeepsReached }
 {}
@@ -54,8 +55,8 @@ pub fn allocation_keeps_reached()
     ensures begun { BlockBeginKeepsReached }
 {}
 
-/// So do a vote and a piece of evidence, each with the slash and the jailing that it may bring: of the validator, and of
-/// what was redelegated from it, at each target.
+/// A vote and a piece of evidence keep accounts reached, each with the slash and the jailing that it may bring: of the
+/// validator, and of what was redelegated from it, at each target.
 pub fn punishing_keeps_reached()
     ensures voted { VotesKeepReached }
     ensures weighed { EvidenceKeepsReached }

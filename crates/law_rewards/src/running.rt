@@ -9,14 +9,15 @@ pub fn rewards_run_from_starts()
     ensures blocks { BlocksKeepStarted }
 {}
 
-/// So in a sound state no delegator's rewards run under an operator without a validator: who had a delegation to a validator
-/// that went has withdrawn.
+/// In a sound state whose rewards run only from starts, no delegator's rewards run, by the log, under an operator
+/// without a validator: who had a delegation to a validator that went has withdrawn.
 #[tactic(auto, using(crate::proofs::Unstarted::none_runs_without_validator))]
 pub fn none_runs_without_validator()
     ensures { NoneRunsWithoutValidator }
 {}
 
-/// Where accounts are reached too, a delegator's rewards run exactly where it has a delegation, under every operator.
+/// In a sound state whose accounts are reached and whose rewards run only from starts, a delegator's rewards run, by
+/// the log, exactly where it has a delegation, under every operator.
 #[tactic(auto, using(crate::proofs::Unstarted::rewards_run_exactly_where_held))]
 pub fn rewards_run_exactly_where_held()
     ensures { RewardsRunExactlyWhereHeld }

@@ -25,17 +25,19 @@ pub fn steps_keep_reached()
     ensures withdrawn { WithdrawalKeepsReached }
 {}
 
-/// So does each message that withdraws a reward, where it is not refused.
+/// From a sound state each message that withdraws a reward keeps accounts reached, where it is not refused.
 pub fn reward_messages_keep_reached()
     ensures { RewardMessagesKeepReached }
 {}
 
-/// So do messages that move coins, name a payee, fund or spend from the pool, or withdraw commission.
+/// From a sound state the fee, and each message that moves coins, names a payee, funds or spends from the pool, or
+/// withdraws commission, keeps accounts reached, where it is not refused.
 pub fn quiet_messages_keep_reached()
     ensures { QuietMessagesKeepReached }
 {}
 
-/// So do messages that edit a validator or free it from jail.
+/// From a sound state each message that edits a validator or frees it from jail keeps accounts reached, where it is not
+/// refused.
 pub fn standing_messages_keep_reached()
     ensures { StandingMessagesKeepReached }
 {}

@@ -17,7 +17,8 @@ pub fn fair_payments_are_close()
     ensures { FairPaymentsAreClose }
 {}
 
-/// In such a state the rewards of a delegator run, by the log, exactly where it has a delegation.
+/// In a sound state whose accounts are reached, the rewards of a delegator at a validator run, by the log, exactly
+/// where it has a delegation to it.
 #[tactic(auto, using(crate::proofs::Resting::rewards_run_where_held))]
 pub fn rewards_run_where_held()
     ensures { RewardsRunWhereHeld }
@@ -29,21 +30,23 @@ pub fn outstanding_is_logged()
     ensures { OutstandingIsLogged }
 {}
 
-/// So from such a state each withdrawal that a message logs is fair, by the log up to it, whether the message asks for it or
-/// changes a delegation; no start is made of rewards that run; the payments that are told are those that are logged; and
-/// right before each its coins are sent to the payee.
+/// From a sound state whose accounts are reached, each withdrawal that a message logs is fair, by the log up to it,
+/// whether the message asks for it or changes a delegation; no start is made of rewards that run; the payments that are
+/// told are those that are logged; and right before each its coins are sent to the payee.
 #[tactic(auto, using(crate::proofs::Telling::messages_pay_fairly))]
 pub fn messages_pay_fairly()
     ensures { MessagesPayFairly }
 {}
 
-/// So is each that a vote or a piece of evidence logs, whose slash unbonds what was redelegated.
+/// From a sound state whose accounts are reached, each withdrawal that a vote or a piece of evidence logs, whose slash
+/// unbonds what was redelegated, is fair, and is told and sent as [`messages_pay_fairly`] says.
 pub fn punishing_pays_fairly()
     ensures voted { VotesPayFairly }
     ensures weighed { EvidencePaysFairly }
 {}
 
-/// So is each that any part of a block logs.
+/// From a sound state whose accounts are reached, each withdrawal that any part of a block logs is fair, and is told
+/// and sent as [`messages_pay_fairly`] says.
 #[tactic(auto, using(crate::proofs::Closing::blocks_pay_fairly))]
 pub fn blocks_pay_fairly()
     ensures { BlocksPayFairly }
@@ -55,9 +58,9 @@ pub fn rewards_are_told()
     ensures { RewardsAreTold }
 {}
 
-/// So a reader of the facts finds, for each payment of a reward among them, a fair withdrawal that was logged: it was sent
-/// right before, is at most the ideal reward, and above it less the slack and one whole coin where what was outstanding was
-/// not exhausted.
+/// Where the payments of rewards among facts are those of fair entries of the log, and are sent, a reader of the facts
+/// finds for each of them a fair withdrawal that was logged: it was sent right before, is at most the ideal reward, and
+/// above it less the slack and one whole coin where what was outstanding was not exhausted.
 #[tactic(auto, using(crate::proofs::Finding::payments_are_fairly_told))]
 pub fn payments_are_fairly_told()
     ensures { PaymentsAreFairlyTold }

@@ -20,7 +20,7 @@ pub fn genesis_is_reached()
     ensures { GenesisIsReached }
 {}
 
-/// So wherever blocks lead to from a good genesis, the accounts are reached.
+/// Wherever blocks lead to from a good genesis, the accounts are reached.
 #[tactic(auto, using(crate::proofs::Ends::runs_are_reached))]
 pub fn runs_are_reached()
     ensures { RunsAreReached }
@@ -39,18 +39,20 @@ pub fn runs_run_where_held()
     ensures { RunsRunWhereHeld }
 {}
 
-/// And what is outstanding for each validator is what its history comes to.
+/// Wherever a good genesis and blocks lead to, what is outstanding for each validator is what its history comes to.
 #[tactic(auto, using(crate::proofs::Ends::runs_log_outstanding))]
 pub fn runs_log_outstanding()
     ensures { RunsLogOutstanding }
 {}
 
-/// There the reward that a withdrawal of a delegation would come to lies between the ideal one and that less the slack.
+/// Wherever a good genesis and blocks lead to, the reward that a withdrawal of a delegation would come to lies between
+/// the ideal one and that less the slack.
 pub fn claims_are_bracketed()
     ensures { ClaimsAreBracketed }
 {}
 
-/// And what is outstanding for a validator lies below all claims by at most the overclaim.
+/// Wherever a good genesis and blocks lead to, what is outstanding for a validator lies below all claims by at most the
+/// overclaim.
 #[tactic(auto, using(crate::proofs::Ends::shortfalls_are_bounded))]
 pub fn shortfalls_are_bounded()
     ensures { ShortfallsAreBounded }
@@ -64,29 +66,32 @@ pub fn blocks_say_fairly()
     ensures { BlocksSayFairly }
 {}
 
-/// So it is with all blocks of a run, from a good genesis on.
+/// Each withdrawal that a block of a run logs, from a good genesis on, is fair by the log up to it; no start is made of
+/// rewards that run; the payments of rewards that the block tells are those of the withdrawals, one for one; and right
+/// before each its coins are sent to the payee.
 #[tactic(auto, using(crate::proofs::Saying::runs_say_fairly))]
 pub fn runs_say_fairly()
     ensures { RunsSayFairly }
 {}
 
-/// So a reader finds, for each payment of a reward that a block of a run tells, a fair withdrawal that the block logs: its coins
-/// were sent right before, are at most the ideal reward, and above it less the slack and one whole coin where what was
-/// outstanding was not exhausted.
+/// For each payment of a reward that a block of a run tells, a reader finds a fair withdrawal that the block logs: its
+/// coins were sent right before, are at most the ideal reward, and above it less the slack and one whole coin where
+/// what was outstanding was not exhausted.
 #[tactic(auto, using(crate::proofs::Reading::runs_tell_fairly))]
 pub fn runs_tell_fairly()
     ensures { RunsTellFairly }
 {}
 
-/// Each block, from a sound state whose accounts are reached and whose rewards run only from starts, says fairly what it pays,
-/// as before; and it leaves accounts that are reached, by which its log has the delegations' shares and the validators' tokens,
-/// and rewards that run, by the log, exactly where delegations stand; and it makes validators only where none run.
+/// Each block, from a sound state whose accounts are reached and whose rewards run only from starts, says fairly what
+/// it pays, as [`blocks_say_fairly`] has it; and it leaves accounts that are reached, by which its log has the
+/// delegations' shares and the validators' tokens, and rewards that run, by the log, exactly where delegations stand;
+/// and it makes validators only where none run.
 #[tactic(auto, using(crate::proofs::Going::blocks_go_fairly))]
 pub fn blocks_go_fairly()
     ensures { BlocksGoFairly }
 {}
 
-/// So it is with all blocks of a run, from a good genesis on.
+/// Each block of a run, from a good genesis on, says fairly what it pays, and leaves what [`blocks_go_fairly`] says.
 #[tactic(auto, using(crate::proofs::Going::runs_go_fairly))]
 pub fn runs_go_fairly()
     ensures { RunsGoFairly }

@@ -11,38 +11,42 @@ pub fn next_block_keeps_soundness()
     ensures { NextBlockKeepsSoundness }
 {}
 
-/// So do paying unbondings that are mature, and taking redelegations away that are.
+/// Paying the unbondings that are mature leaves a sound state sound, and so does taking away the redelegations that
+/// are.
 #[tactic(auto, using(crate::proofs::Ending::unbondings_step_keeps_soundness, crate::proofs::Ending::redelegations_step_keeps_soundness))]
 pub fn mature_entries_keep_soundness()
     ensures unbondings { UnbondingsStepKeepsSoundness }
     ensures redelegations { RedelegationsStepKeepsSoundness }
 {}
 
-/// So does allocating the fees of a block among its votes.
+/// Allocating the fees of a block among its votes leaves a sound state sound, unless it meets a limit, where each vote
+/// is of a validator that stands, none is there twice, and all their power is within the limit.
 #[tactic(auto, using(crate::proofs::Allocating::allocation_keeps_soundness))]
 pub fn allocation_keeps_soundness()
     ensures { AllocationKeepsSoundness }
 {}
 
-/// So do validators whose unbonding is mature: they are unbonded, and go where they have no shares.
+/// A sound state stays sound as validators whose unbonding is mature become unbonded, and go where they have no shares.
 #[tactic(auto, using(crate::proofs::Maturing::maturing_keeps_soundness))]
 pub fn maturing_keeps_soundness()
     ensures { MaturingKeepsSoundness }
 {}
 
-/// So does making the bonded set anew.
+/// Making the bonded set anew leaves a sound state sound.
 #[tactic(auto, using(crate::proofs::Bonding::bonding_keeps_soundness))]
 pub fn bonding_keeps_soundness()
     ensures { BondingKeepsSoundness }
 {}
 
-/// So does a vote, with the slash that it may bring.
+/// A vote, with the slash that it may bring, leaves a sound state sound, unless it meets a limit, where its power is
+/// within the limit and fewer votes of its validator were counted than the height is.
 #[tactic(auto, using(crate::proofs::Voting::votes_keep_soundness))]
 pub fn votes_keep_soundness()
     ensures { VotesKeepSoundness }
 {}
 
-/// So does a piece of evidence, with its slash.
+/// A piece of evidence, with its slash, leaves a sound state sound, unless it meets a limit, where its power is within
+/// the limit, its height is at least 1 and an earlier one, and its time is not later.
 #[tactic(auto, using(crate::proofs::Voting::evidence_keeps_soundness))]
 pub fn evidence_keeps_soundness()
     ensures { EvidenceKeepsSoundness }

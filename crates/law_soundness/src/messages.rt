@@ -11,75 +11,77 @@ pub fn fees_keep_soundness()
     ensures { FeesKeepSoundness }
 {}
 
-/// So does a send.
+/// A send that is not refused leaves a sound state sound.
 #[tactic(auto, using(crate::proofs::Moves::sends_keep_soundness))]
 pub fn sends_keep_soundness()
     ensures { SendsKeepSoundness }
 {}
 
-/// So does naming a payee.
+/// Naming a payee leaves a sound state sound, where it is not refused.
 #[tactic(auto, using(crate::proofs::Moves::payees_keep_soundness))]
 pub fn payees_keep_soundness()
     ensures { PayeesKeepSoundness }
 {}
 
-/// So do funding the community pool and spending from it.
+/// Funding the community pool and spending from it leave a sound state sound, where they are not refused.
 #[tactic(auto, using(crate::proofs::Pool::funding_keeps_soundness, crate::proofs::Pool::spending_keeps_soundness))]
 pub fn pool_keeps_soundness()
     ensures funded { FundingKeepsSoundness }
     ensures spent { SpendingKeepsSoundness }
 {}
 
-/// So does withdrawing commission.
+/// Withdrawing commission leaves a sound state sound, where it is not refused.
 #[tactic(auto, using(crate::proofs::Pool::commissions_keep_soundness))]
 pub fn commissions_keep_soundness()
     ensures { CommissionsKeepSoundness }
 {}
 
-/// So do edits of a validator.
+/// An edit of a validator that is not refused leaves a sound state sound.
 #[tactic(auto, using(crate::proofs::Standing::edits_keep_soundness))]
 pub fn edits_keep_soundness()
     ensures { EditsKeepSoundness }
 {}
 
-/// So does leaving jail.
+/// Leaving jail leaves a sound state sound, where it is not refused.
 #[tactic(auto, using(crate::proofs::Standing::unjailing_keeps_soundness))]
 pub fn unjailing_keeps_soundness()
     ensures { UnjailingKeepsSoundness }
 {}
 
-/// So does withdrawing a reward.
+/// Withdrawing a reward leaves a sound state sound, where it is not refused.
 #[tactic(auto, using(crate::proofs::Rewards::rewards_keep_soundness))]
 pub fn rewards_keep_soundness()
     ensures { RewardsKeepSoundness }
 {}
 
-/// So does delegating.
+/// Delegating leaves a sound state sound, where it is not refused.
 #[tactic(auto, using(crate::proofs::Delegating::delegating_keeps_soundness))]
 pub fn delegating_keeps_soundness()
     ensures { DelegatingKeepsSoundness }
 {}
 
-/// So does creating a validator.
+/// Creating a validator leaves a sound state sound, where it is not refused.
 #[tactic(auto, using(crate::proofs::Creating::creating_keeps_soundness))]
 pub fn creating_keeps_soundness()
     ensures { CreatingKeepsSoundness }
 {}
 
-/// So does undelegating, where no entry that was made at this height lost anything, and cancelling an unbonding.
+/// Undelegating leaves a sound state sound, where it is not refused and no entry that was made at this height lost
+/// anything; cancelling an unbonding does, where it is not refused.
 #[tactic(auto, using(crate::proofs::Leaving::undelegating_keeps_soundness, crate::proofs::Leaving::cancelling_keeps_soundness))]
 pub fn unbondings_keep_soundness()
     ensures undelegated { UndelegatingKeepsSoundness }
     ensures cancelled { CancellingKeepsSoundness }
 {}
 
-/// So does redelegating.
+/// Redelegating leaves a sound state sound, where it is not refused.
 #[tactic(auto, using(crate::proofs::Redelegating::redelegating_keeps_soundness))]
 pub fn redelegating_keeps_soundness()
     ensures { RedelegatingKeepsSoundness }
 {}
 
-/// So does each message of the machine, and each transaction, also one that is refused.
+/// Where no entry that was made at this height lost anything, each message of the machine that is not refused leaves a
+/// sound state sound, and so does each transaction, also one that is refused.
 #[tactic(auto, using(crate::proofs::Transactions::messages_keep_soundness, crate::proofs::Transactions::transactions_keep_soundness))]
 pub fn transactions_keep_soundness()
     ensures messages { MessagesKeepSoundness }
@@ -93,7 +95,8 @@ pub fn funds_name_conditions()
     ensures { FundsNameConditions }
 {}
 
-/// So are withdrawing a reward, delegating and cancelling an unbonding, which run hooks.
+/// From a sound state each of the messages that withdraw a reward, delegate and cancel an unbonding, which run hooks,
+/// is refused by the first of its conditions that holds, and accepted where none does.
 #[tactic(auto, using(crate::proofs::Refused::rewards_refused, crate::proofs::Refused::delegations_refused, crate::proofs::Refused::cancellations_refused))]
 pub fn delegators_name_conditions()
     ensures rewards { RewardsNameConditions }
@@ -101,19 +104,22 @@ pub fn delegators_name_conditions()
     ensures cancellations { CancellationsNameConditions }
 {}
 
-/// So is undelegating: unbonding is over only where the hook before it is.
+/// From a sound state undelegating is refused by the first of its conditions that holds, and accepted where none does:
+/// unbonding is over only where the hook before it is.
 #[tactic(auto, using(crate::proofs::Undelegated::undelegations_refused))]
 pub fn undelegations_name_conditions()
     ensures { UndelegationsNameConditions }
 {}
 
-/// So is creating a validator: its first period has nothing to share out, so no hook is over.
+/// From a sound state creating a validator is refused by the first of its conditions that holds, and accepted where
+/// none does: its first period has nothing to share out, so no hook is over.
 #[tactic(auto, using(crate::proofs::Created::creations_refused))]
 pub fn creations_name_conditions()
     ensures { CreationsNameConditions }
 {}
 
-/// So is redelegating: the hook of the target is over in the same cases before and after shares leave the source.
+/// From a sound state redelegating is refused by the first of its conditions that holds, and accepted where none does:
+/// the hook of the target is over in the same cases before and after shares leave the source.
 #[tactic(auto, using(crate::proofs::Redelegated::redelegations_refused))]
 pub fn redelegations_name_conditions()
     ensures { RedelegationsNameConditions }

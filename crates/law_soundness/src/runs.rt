@@ -54,7 +54,8 @@ pub fn runs_name_conditions()
     ensures { RunsNameConditions }
 {}
 
-/// So does each refusal that blocks lead to from a good genesis.
+/// Wherever blocks lead to from a good genesis, each refusal names the first condition that held of the state before
+/// its message, which is sound.
 #[tactic(auto, using(crate::proofs::Refusals::refusals_are_named))]
 pub fn refusals_are_named()
     ensures { RefusalsAreNamed }

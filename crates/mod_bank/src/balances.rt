@@ -1,3 +1,5 @@
+//! The bank over its tables: balances and supplies, and the message that sends coins (`x/bank`: `MsgSend`).
+
 ghost use Rattle.std.specs.Prelude.{◌≡◌, ℕ, true, Err, ◌++◌, ◌∷◌, [], length, OnOk, OnErr, IfOk, IfErr};
 ghost use Rattle.base_roles.specs.Holdings.{IsBacked};
 ghost use Rattle.base_roles.specs.declared.facts.Fact.TheVariants as fact;
@@ -32,7 +34,7 @@ impl Model for BankBalances {
 }
 
 impl BankBalances {
-    /// A book that holds nothing. Takes no memory.
+    /// A bank that holds nothing. Takes no memory.
     pub fn new(alloc: Global) -> BankBalances
         ensures { result ≡ new_book }
     {
@@ -42,7 +44,7 @@ impl BankBalances {
         }
     }
 
-    /// A book in which each account holds its coins, and the supplies are their sums, as a chain's genesis
+    /// A bank in which each account holds its coins, and the supplies are their sums, as a chain's genesis
     /// gives them. Of no denomination may there be more than 10^18. Nothing of it is settled yet, and no
     /// mark is open. The only error is `NoMemory`.
     pub fn start<L: Ledger>(

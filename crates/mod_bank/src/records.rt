@@ -1,4 +1,4 @@
-//! What a book keeps, as items of the state.
+//! What a bank keeps, as items of the state.
 
 ghost use Rattle.base_roles.specs.Holdings.{Holdings};
 ghost use Rattle.mod_bank.specs.Booked.{AreInOrder};

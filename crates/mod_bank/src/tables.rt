@@ -1,4 +1,4 @@
-//! The two tables of a book: they are marked together, and each change is of one entry.
+//! The two tables of a bank: they are marked together, and each change is of one entry.
 
 ghost use Rattle.std.specs.Prelude.{◌≡◌, ◌+◌, [], ◌<◌, length, true, OnOk, OnErr};
 ghost use Rattle.std.specs.List.Sorted.{IsStrictlySortedBy};

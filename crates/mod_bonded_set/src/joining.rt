@@ -20,7 +20,7 @@ use std::sync::ledger::Ledger;
 
 /// A validator joins the bonded set, and its hook is called (`bondValidator`: `AfterValidatorBonded`).
 ///
-/// `Over` comes exactly where the hook exceeds, which sure hooks never do.
+/// The errors are `NoMemory` and `Over`, which comes exactly where the hook exceeds, which sure hooks never do.
 pub(crate) fn join<B: Bank, H: StakingHooks, L: Ledger>(
     alloc: Global,
     g: &mut Ground<B>,

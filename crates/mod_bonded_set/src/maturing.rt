@@ -27,7 +27,7 @@ use std::sync::ledger::Ledger;
 /// (`UnbondAllMatureValidators`). Where all that are mature have shares, that takes at most twelve steps for
 /// each, and two more.
 ///
-/// `Over` comes exactly where a hook exceeds, which sure hooks never do.
+/// The errors are `NoMemory` and `Over`, which comes exactly where a hook exceeds, which sure hooks never do.
 pub fn mature_validators<B: Bank, H: StakingHooks, L: Ledger>(
     alloc: Global,
     g: &mut Ground<B>,
@@ -65,7 +65,10 @@ pub fn mature_validators<B: Bank, H: StakingHooks, L: Ledger>(
     mature_all(alloc, g, hooks, staking, due.as_slice(), steps)
 }
 
-/// The same, of the validators of these operators.
+/// The validators of these operators, which are all that are mature, become unbonded in this order, and go
+/// where they have no shares.
+///
+/// The errors are those of [`mature_validators`].
 fn mature_all<B: Bank, H: StakingHooks, L: Ledger>(
     alloc: Global,
     g: &mut Ground<B>,
@@ -128,7 +131,8 @@ fn who_matures<L: Ledger>(
     Ok(due)
 }
 
-/// The same in the order of the queue.
+/// The operators of the unbonding validators whose time has come, in the order of the queue. The only error
+/// is `NoMemory`.
 fn queued<L: Ledger>(
     alloc: Global,
     staking: &Staking,

@@ -33,7 +33,7 @@ use std::sync::ledger::Ledger;
 /// them leave it, by rising operator; last, the difference of their tokens moves between the two staking
 /// accounts.
 ///
-/// `Over` comes exactly where a hook exceeds, which sure hooks never do.
+/// The errors are `NoMemory` and `Over`, which comes exactly where a hook exceeds, which sure hooks never do.
 pub fn update<B: Bank, H: StakingHooks, L: Ledger>(
     alloc: Global,
     g: &mut Ground<B>,

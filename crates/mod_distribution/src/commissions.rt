@@ -111,7 +111,8 @@ fn tell_commission(
     Ok(())
 }
 
-/// The same, where there are any coins.
+/// Tells that a validator's commission was paid, where there are any coins. Where memory is wanting,
+/// nothing is told.
 pub(crate) fn tell_some_commission(
     facts: &mut Facts,
     operator: &Addr,

@@ -1,3 +1,5 @@
+//! The records of distribution: periods and starts, purses and the pool, and withdraw addresses (`x/distribution`).
+
 ghost use Rattle.std.specs.Prelude.{◌≡◌, ◌+◌, true, OnOk, OnErr};
 ghost use Rattle.rule_modules.specs.Distribution.{nothing_shared};
 ghost use Rattle.mod_distribution.specs.Kept.{new_distributed, keeping, payee_in, with_payee, behind};

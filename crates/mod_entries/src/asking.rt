@@ -14,6 +14,10 @@ use base_types::Moment;
 use std::cmp::Ordering;
 
 /// All shares of a delegation, and those that an amount stands for (`ValidateUnbondAmount`).
+///
+/// It is refused as `NoDelegation` where there is none, else as `NoTokens` where the validator has no
+/// tokens, else as `TooManyShares` where the amount stands for 10^38 units of shares or more, or for more
+/// than the delegation has.
 pub fn shares_to_unbond(
     held: &Option<Dec>,
     v: &Validator,

@@ -1,3 +1,5 @@
+//! Lists of unbonding or redelegation entries by key, with the queue of what completes first (`x/staking`).
+
 ghost use Rattle.std.specs.Prelude.{◌≡◌, ◌≢◌, ◌+◌, ◌≤◌, [], true, if◌then◌else◌, is_some, option_map, IfOk, OnOk, OnErr, IsErr, length};
 ghost use Rattle.std.specs.List.Sorted.{IsStrictlySortedBy};
 ghost use Rattle.std.specs.Map.{keys_of};
@@ -79,6 +81,9 @@ impl<K: EntryKey, E: Entry> Entries<K, E> {
     }
 
     /// Puts entries under a key, also none.
+    ///
+    /// The errors are `NoMemory`, where memory is wanting, and `Spent`, where it was wanting in an earlier
+    /// change. Then the entries stay, and each later change answers an error.
     pub fn put<L: Ledger>(
         &mut self,
         key: &K,
@@ -104,7 +109,10 @@ impl<K: EntryKey, E: Entry> Entries<K, E> {
         }
     }
 
-    /// Puts a copy of entries.
+    /// Puts a copy of entries under a key, also of none.
+    ///
+    /// The errors are those of [`Entries::put`]; `NoMemory` comes also where there is no memory for the
+    /// copy.
     pub fn put_copy<L: Ledger>(
         &mut self,
         key: &K,
@@ -127,6 +135,8 @@ impl<K: EntryKey, E: Entry> Entries<K, E> {
     }
 
     /// Takes the entries of a key out.
+    ///
+    /// The errors are those of [`Entries::put`].
     pub fn take<L: Ledger>(&mut self, key: &K, steps: &mut Steps<L>) -> Result<(), TableFault>
         ensures ok { OnOk result
             (self.new ≡ holding (without K.cmp self.old.lists key.now) self.old) }
@@ -147,6 +157,8 @@ impl<K: EntryKey, E: Entry> Entries<K, E> {
     }
 
     /// Keeps entries under a key, which goes where they are none.
+    ///
+    /// The errors are those of [`Entries::put`].
     pub fn set<L: Ledger>(
         &mut self,
         key: &K,
@@ -207,7 +219,8 @@ impl<K: EntryKey, E: Entry> Entries<K, E> {
         self.lists.seek(from, steps)
     }
 
-    /// The keys that have a mature entry, in their order. It takes a step for each, and one more.
+    /// The keys that have a mature entry, in their order. It takes a step for each, and one more. The only
+    /// error is `NoMemory`.
     pub fn due<L: Ledger>(
         &self,
         alloc: Global,
@@ -222,7 +235,7 @@ impl<K: EntryKey, E: Entry> Entries<K, E> {
         due(alloc, &self.lists, &self.queue, now, steps)
     }
 
-    /// The entries of a key that are not mature, also none.
+    /// The entries of a key that are not mature, also none. The only error is `NoMemory`.
     pub fn unmatured_at<L: Ledger>(
         &self,
         alloc: Global,
@@ -240,7 +253,8 @@ impl<K: EntryKey, E: Entry> Entries<K, E> {
         }
     }
 
-    /// The keys of entries from an operator, in their order. It takes a step for each key.
+    /// The keys of entries from an operator, in their order. It takes a step for each key. The only error
+    /// is `NoMemory`.
     pub fn keys_from<L: Ledger>(
         &self,
         alloc: Global,
@@ -255,6 +269,9 @@ impl<K: EntryKey, E: Entry> Entries<K, E> {
     }
 
     /// Opens a mark.
+    ///
+    /// The errors are `Spent`, where memory was wanting in an earlier change, and `NoMemory`, where as many
+    /// marks are open as a `usize` counts. Then nothing changes.
     pub fn mark(&mut self) -> Result<(), TableFault>
         ensures ok { OnOk result (self.new ≡ with_mark self.old) }
         ensures err { OnErr result (self.new ≡ self.old) }

@@ -1,3 +1,5 @@
+//! What unbonding and redelegation entries, and their keys, have in common (`x/staking`).
+
 ghost use Rattle.std.specs.Prelude.{◌≡◌, ℕ, List};
 ghost use Rattle.rule_modules.specs.EntrySlashes.{Made, unbonding_made, redelegation_made};
 ghost use Rattle.mod_entries.specs.Exact.{exact_pair, exact_triple};
@@ -36,7 +38,7 @@ pub trait EntryKey: Ord + Hash + Copied + Copy {
     /// What every key is.
     ghost fits: { Self → Type 0 };
 
-    /// It tells so. It does nothing.
+    /// It tells that this key is what every key is. It does nothing.
     fn known(&self)
         ensures { fits self.now };
 

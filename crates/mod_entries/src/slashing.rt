@@ -71,7 +71,7 @@ pub fn counted_of<E: Entry>(entries: &[E], infraction: u64, factor: Dec, now: Mo
     sum
 }
 
-/// The same, if so.
+/// What a slash counts of entries where `is_one` says so, and else 0.
 fn counted_if<E: Entry>(
     is_one: bool,
     entries: &[E],

@@ -1,3 +1,6 @@
+//! Evidence of double signing: its validator is slashed, jailed and tombstoned (`x/evidence`:
+//! `HandleEquivocationEvidence`).
+
 ghost use Rattle.std.specs.Prelude.{◌≡◌, ℕ, ◌+◌, ◌*◌, ◌^◌, ◌≤◌, ◌++◌, false, List, Some, None, IsSome, if◌then◌else◌, OnOk, IfOk, IfErr};
 ghost use Rattle.std.specs.Option.{option_copied};
 ghost use Rattle.base_types.specs.Orders.{cons_cmp};
@@ -27,7 +30,7 @@ use std::sync::ledger::Ledger;
 /// infraction one height back; it is jailed, where it is not jailed then; it is banned for ever, which is told
 /// by a fact. Evidence that is ignored takes at most three steps.
 ///
-/// `Over` comes exactly where the slash exceeds.
+/// The errors are `NoMemory` and `Over`, which comes exactly where the slash exceeds.
 pub fn equivocation<B: Bank, H: StakingHooks, S: Slasher, N: Signers, L: Ledger>(
     alloc: Global,
     g: &mut Ground<B>,

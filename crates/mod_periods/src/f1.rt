@@ -1,3 +1,6 @@
+//! The records of F1 fee distribution: periods, starts and slash events, and the rewards that follow
+//! (`x/distribution`).
+
 ghost use Rattle.std.specs.Prelude.{◌≡◌, ℕ, List, ◌+◌, ◌*◌, ◌≤◌, ◌≢◌, ◌^◌, true, [], ◌∷◌, ◌++◌, length, is_some, Some, None, All, OnOk, OnErr, IfOk, IfErr, IsErr};
 ghost use Rattle.base_roles.specs.declared.faults.HookFault.TheVariants.{NoMemory};
 ghost use Rattle.base_roles.specs.declared.facts.Fact.TheVariants as fact;

@@ -1,3 +1,5 @@
+//! Keys of periods and slash events, which begin with an operator.
+
 ghost use Rattle.std.specs.Prelude.{◌≡◌, ℕ, List};
 ghost use Rattle.mod_periods.specs.Grouped.{IsGrouped};
 ghost use Rattle.mod_periods.specs.GroupedKeys.{periods_are_grouped, events_are_grouped};

@@ -1,3 +1,5 @@
+//! Slash events as they are kept: the part that a slash took (`x/distribution`: `ValidatorSlashEvent`).
+
 ghost use Rattle.std.specs.Prelude.{◌≡◌, ⊤};
 
 use base_decimals::Dec;

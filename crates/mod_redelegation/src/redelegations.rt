@@ -1,3 +1,5 @@
+//! The redelegation entries, by delegator, source and target (`x/staking`: `RedelegationEntry`).
+
 ghost use Rattle.std.specs.Prelude.{◌≡◌};
 ghost use Rattle.base_roles.specs.Orders.{triple_cmp};
 ghost use Rattle.mod_entries.specs.Kept.{nothing_kept};

@@ -1,3 +1,5 @@
+//! Signing infos as they are kept, each with the length of its ring (`x/slashing`: `ValidatorSigningInfo`).
+
 use base_roles::SigningInfo;
 use base_types::{Copied, TableFault};
 

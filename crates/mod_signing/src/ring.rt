@@ -1,3 +1,5 @@
+//! Rings: the last votes of a consensus address within the window (`x/slashing`).
+
 ghost use Rattle.std.specs.Prelude.{◌≡◌, ◌<◌, ◌+◌, ◌≤◌, length, slice_get, Some};
 ghost use Rattle.rule_modules.specs.Amounts.{count_where};
 ghost use Rattle.mod_signing.specs.Calls.{ring_at};

@@ -1,3 +1,5 @@
+//! The signing records of all consensus addresses: infos, and rings of the last votes (`x/slashing`).
+
 ghost use Rattle.std.specs.Prelude.{◌≡◌, ℕ, [], ◌+◌, ◌≤◌, option_map};
 ghost use Rattle.mod_signing.specs.Kept.{new_window, signed_of};
 ghost use Rattle.mod_signing.specs.Stands.{KeepsSignings};

@@ -1,3 +1,5 @@
+//! What slashing works on: validators and delegations with the unbonding and redelegation entries (`x/staking`).
+
 ghost use Rattle.std.specs.Prelude.{refl};
 
 use base_roles::{RedelegationSlash, UnbondingSlash, Validator, ValidatorView};

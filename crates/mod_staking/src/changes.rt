@@ -145,7 +145,8 @@ impl Staking {
     /// Takes the validator of an operator out, which is unbonded and has no shares, then calls its last hook,
     /// and tells it (`RemoveValidator`).
     ///
-    /// `Over` comes exactly where the hook exceeds, which sure hooks never do.
+    /// The errors are `NoMemory` and `Over`, which comes exactly where the hook exceeds, which sure hooks never
+    /// do.
     pub fn remove_validator<B: Bank, H: StakingHooks, L: Ledger>(
         &mut self,
         alloc: Global,
@@ -181,7 +182,10 @@ impl Staking {
         self.remove(alloc, g, hooks, &v, steps)
     }
 
-    /// The same, of this validator.
+    /// Takes this validator out, which stands and has no shares, then calls its last hook, and tells it.
+    ///
+    /// The errors are `NoMemory` and `Over`, which comes exactly where the hook exceeds, which sure hooks
+    /// never do.
     pub(crate) fn remove<B: Bank, H: StakingHooks, L: Ledger>(
         &mut self,
         alloc: Global,

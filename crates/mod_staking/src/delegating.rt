@@ -112,7 +112,8 @@ impl Staking {
         self.delegate_to(alloc, g, hooks, &v, delegator, coin.amount, origin, steps)
     }
 
-    /// The same, to this validator.
+    /// Delegates a positive amount to this validator, which stands: the work of [`Staking::delegate`],
+    /// whose answers and refusals it has.
     pub(crate) fn delegate_to<B: Bank, H: StakingHooks, L: Ledger>(
         &mut self,
         alloc: Global,

@@ -306,7 +306,8 @@ fn write<L: Ledger>(
     }
 }
 
-/// The same, over open marks of the lists. Where memory is wanting, the lists may have changed.
+/// Writes a validator under an operator, or none, with the lists, over open marks of the lists. Where
+/// memory is wanting, the lists may have changed.
 fn write_all<L: Ledger>(
     records: &mut Table<Addr, Validator>,
     lists: &mut Lists,

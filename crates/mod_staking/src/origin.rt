@@ -1,3 +1,5 @@
+//! Where the coins of a delegation come from: a wallet, or an account of staking.
+
 use base_types::BondStatus;
 
 /// Where the coins of a delegation come from.

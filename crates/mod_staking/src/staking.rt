@@ -1,3 +1,5 @@
+//! The validators and the delegations, and how they are looked up (`x/staking`).
+
 ghost use Rattle.std.specs.Prelude.{◌≡◌, ℕ, ◌+◌, ◌≤◌, ◌^◌, List, Option, Some, None, true, [], OnOk, OnErr, IsErr, option_map};
 ghost use Rattle.std.specs.List.Sorted.{IsStrictlySortedBy};
 ghost use Rattle.std.specs.Map.{keys_of};

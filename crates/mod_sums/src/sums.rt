@@ -22,7 +22,8 @@ pub fn sum_of(alloc: Global, coins: &DecCoins, more: &DecCoins) -> Result<DecCoi
     }
 }
 
-/// Each amount times a decimal, cut.
+/// Each amount times a decimal, cut. The errors are `NoMemory` and `Over`, which comes exactly where some
+/// product reaches 10^38.
 pub fn product_cut(alloc: Global, coins: &DecCoins, by: Dec) -> Result<DecCoins, HookFault>
     ensures product { IfOk result (λ product. coins_mul_cut coins.now by ≡ Ok product) }
     ensures fault { IfErr result (IsExcessOf (coins_mul_cut coins.now by)) }
@@ -33,7 +34,8 @@ pub fn product_cut(alloc: Global, coins: &DecCoins, by: Dec) -> Result<DecCoins,
     }
 }
 
-/// Each amount times a decimal, rounded half to even.
+/// Each amount times a decimal, rounded half to even. The errors are `NoMemory` and `Over`, which comes
+/// exactly where some product reaches 10^38.
 pub fn product_even(alloc: Global, coins: &DecCoins, by: Dec) -> Result<DecCoins, HookFault>
     ensures product { IfOk result (λ product. coins_mul_even coins.now by ≡ Ok product) }
     ensures fault { IfErr result (IsExcessOf (coins_mul_even coins.now by)) }
@@ -92,7 +94,8 @@ pub fn tell_pooled(facts: &mut Facts, coins: DecCoins) -> Result<(), HookFault>
     Ok(())
 }
 
-/// The part of one token in coins, cut.
+/// The part of one token in coins, cut. The errors are `NoMemory` and `Over`, which comes exactly where
+/// some part reaches 10^38.
 pub fn per_token(alloc: Global, coins: &DecCoins, tokens: u128) -> Result<DecCoins, HookFault>
     requires some { 0 < tokens }
     requires most { tokens ≤ 10 ^ 18 }

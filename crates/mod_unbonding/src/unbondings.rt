@@ -1,3 +1,5 @@
+//! The unbonding entries, by delegator and operator (`x/staking`: `UnbondingDelegationEntry`).
+
 ghost use Rattle.std.specs.Prelude.{◌≡◌, ◌+◌, ◌≤◌, true, OnOk, OnErr, IsErr};
 ghost use Rattle.std.specs.Option.{option_copied};
 ghost use Rattle.base_roles.specs.Entries.{at};

@@ -1,3 +1,5 @@
+//! Moments printed as text (a profile of RFC 3339).
+
 ghost use Rattle.std.specs.Prelude.{◌≡◌, ◌≤◌, ◌<◌, ◌^◌, ◌++◌, ◌∷◌, ◌+◌, [], OnOk, IfOk, IfErr, string_bytes};
 ghost use Rattle.base_types.specs.Calendar.{end_of_time, last_day, date_of};
 ghost use Rattle.base_types.specs.Moment.{two, digits, fraction_text, date_text, clock_text, moment_text};

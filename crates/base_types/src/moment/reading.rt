@@ -1,3 +1,5 @@
+//! Moments read from text (a profile of RFC 3339).
+
 ghost use Rattle.std.specs.Prelude.{◌≡◌, ◌≤◌, ◌<◌, ◌+◌, ◌-◌, ◌*◌, ◌^◌, IfSome, IfNone, IfErr, IfOk, Some, None, length};
 ghost use Rattle.base_types.specs.Calendar.{end_of_time, last_day, day_of, second_of};
 ghost use Rattle.base_types.specs.Moment.{pair, pair_at, digits_of, fraction_of, day_at, second_at, has_marks, moment_of};
@@ -18,7 +20,7 @@ fn pair(a: u8, b: u8) -> Option<u32>
     }
 }
 
-/// The same, of the digits at a place.
+/// The number that two digits at a place spell.
 fn pair_at(text: &[u8], i: usize) -> Option<u32>
     requires { i + 1 < length text.now }
     ensures value { result ≡ pair_at text.now i }
