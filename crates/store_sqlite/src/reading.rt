@@ -1,3 +1,5 @@
+//! What the database answers, as a keeper tells it: rows in the order of their keys, and errors as faults.
+
 ghost use Rattle.std.specs.Prelude.{◌≡◌, ◌≤◌, ◌↔◌, map, IfOk};
 ghost use Rattle.base_io.specs.Outside.{Rose};
 ghost use Rattle.base_io.specs.Rows.{pair_of};
@@ -40,7 +42,7 @@ pub(crate) fn kind(error: Error) -> KeepFault
     }
 }
 
-/// The same, and a fault is counted.
+/// Tells what an error is to a keeper, and counts each but want of memory as a fault.
 pub(crate) fn note(faults: &mut u64, error: Error) -> KeepFault
     ensures named { (result ≡ KeepFault.NoMemory)
         ↔ (error ≡ Error.SqliteFailure ErrorCode.OutOfMemory) }
