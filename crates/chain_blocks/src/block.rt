@@ -22,7 +22,11 @@ use std::sync::ledger::{Blank, Ledger};
 
 /// Applies a block, and tells what it did.
 ///
-/// After a fault the modules keep what they kept, under no mark; where memory was wanting, some of them may be
+/// # Errors
+/// `BadHeight`, `BadTime`, `UnknownVote`, `RepeatedVote`, `BadPower` and `BadEvidence`, where the block may not follow:
+/// of its height, its time, its votes in order and its evidence in order the first that is at fault. `RatioLimit` with
+/// the operands, where a result of its beginning would be 10^38 units or more, or a period that it ends is 10^18; and
+/// `NoMemory`. The modules then keep what they kept, under no mark; where memory was wanting, some of them may be
 /// spent.
 pub fn apply<L: Ledger>(
     alloc: Global,

@@ -34,6 +34,9 @@ pub(crate) fn end<L: Ledger>(
 }
 
 /// Makes the bonded set anew, also of a genesis that has not bonded anybody yet.
+///
+/// # Errors
+/// `Over` with the operands, exactly where a hook exceeds, and `NoMemory`. Some of it may stand then.
 pub fn update_set<L: Ledger>(
     alloc: Global,
     modules: &mut Modules,

@@ -1,3 +1,5 @@
+//! The fault of a block, by that of a hook or of a module's records in it.
+
 ghost use Rattle.std.specs.Prelude.{◌≡◌};
 ghost use Rattle.chain_blocks.specs.Answers.{fault_of_hook, fault_of_record};
 

@@ -11,7 +11,7 @@ use std::alloc::Global;
 use std::sync::ledger::Ledger;
 
 impl Modules {
-    /// Opens a mark of all modules, or of none.
+    /// Opens a mark of all modules, or of none. The only error is `NoMemory`.
     pub fn mark<L: Ledger>(
         &mut self,
         alloc: Global,

@@ -1,3 +1,5 @@
+//! The modules of a chain over one ground, as one value (`x/bank`, `x/staking`, `x/slashing` and `x/distribution`).
+
 ghost use Rattle.std.specs.Prelude.{◌≤◌, ◌^◌};
 ghost use Rattle.chain_modules.specs.Kept.{IsNewOver};
 

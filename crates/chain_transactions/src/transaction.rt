@@ -173,8 +173,8 @@ fn apply_transaction<L: Ledger>(
     Ok(TxReport { facts, outcome })
 }
 
-/// Applies the transactions of a block, one after the other (`DeliverTx`), over modules that have told nothing
-/// yet. After an error some may have been applied.
+/// Applies the transactions of a block, one after the other (`DeliverTx`), over modules that have told nothing yet. The
+/// only error is `NoMemory`; some may have been applied then.
 pub fn apply_transactions<L: Ledger>(
     alloc: Global,
     modules: &mut Modules,

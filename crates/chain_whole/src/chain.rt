@@ -1,3 +1,6 @@
+//! A chain: a genesis starts it (`InitGenesis`), blocks lead it on, and it lists its items, what changed of them, its
+//! supplies, the community pool and pending rewards.
+
 ghost use Rattle.std.specs.Prelude.{◌≡◌, ◌<◌, ◌^◌, All, None, false, IfOk, IfErr, OnOk};
 ghost use Rattle.std.specs.List.Sorted.{IsPermutation};
 ghost use Rattle.base_roles.specs.Items.{AreChanges};

@@ -1,3 +1,5 @@
+//! Why a genesis or items give no chain, or a chain gives no list.
+
 ghost use Rattle.std.specs.Prelude.{◌≡◌};
 
 use base_roles::RecordFault;

@@ -25,6 +25,10 @@ impl FromTree for Coin {
 }
 
 /// The member of this name, a list of coins in any order.
+///
+/// # Errors
+/// `BadShape` with the given number, where the member is missing or no list, or where a denomination stands twice; with
+/// 32, 33 or 0, where an element is not of the form of a coin; and `NoMemory`.
 #[tactic(auto, unfolding(crate::specs::Coin::coins_at))]
 pub fn coins_at<N: Tree>(
     alloc: Global,

@@ -250,7 +250,7 @@ fn of_validator<'a>(
     push_line(alloc, out, &members)
 }
 
-/// Appends the line of a fact of a block of this height.
+/// Appends the line of a fact of a block of this height. The only error is `NoMemory`.
 pub fn push_fact(
     alloc: Global,
     out: &mut Vec<u8>,

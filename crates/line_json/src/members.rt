@@ -173,7 +173,8 @@ impl Scalar for ConsAddr {
     }
 }
 
-/// The member of this name.
+/// The member of this name. The only error is `BadShape` with the given number, exactly where the member is missing or
+/// not of its form.
 pub fn member_at<T: Scalar, N: Tree>(number: u16, name: &str, tree: &N) -> Result<T, LineFault>
     ensures { result ≡ member_at T.form number name.now (N.seen tree.now) }
 {
@@ -183,7 +184,8 @@ pub fn member_at<T: Scalar, N: Tree>(number: u16, name: &str, tree: &N) -> Resul
     }
 }
 
-/// The member of this name, which may be missing.
+/// The member of this name, which may be missing. The only error is `BadShape` with the given number, exactly where it
+/// is there and not of its form.
 pub fn optional_at<T: Scalar, N: Tree>(
     number: u16,
     name: &str,
@@ -200,7 +202,8 @@ pub fn optional_at<T: Scalar, N: Tree>(
     }
 }
 
-/// Nothing, where the member of this name is the string of this word.
+/// Nothing, where the member of this name is the string of this word. The only error is `BadShape` with the given
+/// number, exactly where it is not.
 pub fn word_at<N: Tree>(number: u16, name: &str, word: &str, tree: &N) -> Result<(), LineFault>
     ensures { result ≡ word_at number name.now word.now (N.seen tree.now) }
 {
@@ -213,7 +216,8 @@ pub fn word_at<N: Tree>(number: u16, name: &str, word: &str, tree: &N) -> Result
     }
 }
 
-/// Nothing, where the tree is an object with no member of another name.
+/// Nothing, where the tree is an object with no member of another name. The only error is `BadShape` with 0, exactly
+/// where it is not.
 pub fn only_named<N: Tree>(names: &[&str], tree: &N) -> Result<(), LineFault>
     ensures { result ≡ only_named (texts_of names.now) (N.seen tree.now) }
 {

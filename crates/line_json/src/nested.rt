@@ -19,6 +19,10 @@ pub trait FromTree: Drop {
 }
 
 /// The member of this name, an object.
+///
+/// # Errors
+/// `BadShape` with the given number, where the member is missing; the error of its form, where it is not of that; and
+/// `NoMemory`.
 pub fn object_at<T: FromTree, N: Tree>(
     alloc: Global,
     number: u16,
@@ -47,6 +51,10 @@ fn each<T: FromTree, N: Tree>(alloc: Global, elements: N::Elements) -> Result<Ve
 }
 
 /// The member of this name, a list, with every element.
+///
+/// # Errors
+/// `BadShape` with the given number, where the member is missing or no list; the error of the first element that is not
+/// of its form; and `NoMemory`.
 pub fn list_at<T: FromTree, N: Tree>(
     alloc: Global,
     number: u16,

@@ -135,7 +135,7 @@ fn push_refused(
     }
 }
 
-/// Appends the line of how the transaction at this place of a block of this height ended.
+/// Appends the line of how the transaction at this place of a block of this height ended. The only error is `NoMemory`.
 pub fn push_outcome(
     alloc: Global,
     out: &mut Vec<u8>,

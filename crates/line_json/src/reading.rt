@@ -55,6 +55,10 @@ fn read_by_tape<T: FromTree>(
 }
 
 /// What a line gives: by its tape, and by its tree where the tape is not plain. The scratch is used by the tape.
+///
+/// # Errors
+/// `NotJson`, exactly where `serde_json` reads no value from the line for another cause than memory; the error of the
+/// form, where the tree is not of it; and `NoMemory`.
 pub fn read_line<T: FromTree>(
     alloc: Global,
     scratch: &mut Scratch,

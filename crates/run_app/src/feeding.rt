@@ -1,3 +1,5 @@
+//! The input in pieces, as a source gives them: a piece is cut into lines, and each line that has ended is answered.
+
 ghost use Rattle.std.specs.Prelude.{◌≡◌, ◌≤◌, ◌<◌, ◌^◌, ◌+◌, ◌∷◌, ◌++◌, [], List, ℕ, IfErr, IfSome, IfNone, OnOk, OnErr, IsErrOf, length, take, drop, slice_index};
 ghost use Rattle.base_io.specs.Outside.{Rose};
 ghost use Rattle.run_app.specs.Lines.{whole_from};
@@ -117,7 +119,13 @@ fn end_line<K: Sink, D: Keeper>(
     Ok(())
 }
 
-/// Takes the next bytes of the source.
+/// Takes the next bytes of the source: each line that ends in them is answered, and what is behind the last end begins
+/// the next.
+///
+/// # Errors
+/// Those of `take_line`, at the first line that is not answered, with its number; and `Long` also where that line has
+/// no end yet. The texts of the lines before it were written. `Keep` comes only where the keeper's count of faults
+/// rose, and `Write` only where the sink's did.
 pub fn feed<K: Sink, D: Keeper>(
     alloc: Global,
     buffers: &mut Buffers,

@@ -1,3 +1,5 @@
+//! The end of the output: the answer to a last line that came without its end, then the report, then the flush.
+
 ghost use Rattle.std.specs.Prelude.{◌≡◌, ◌≤◌, ◌⊎◌, true, IfErr, OnOk, IsErrOf, []};
 ghost use Rattle.base_io.specs.Outside.{Rose};
 ghost use Rattle.run_app.specs.Lines.{last_line};
@@ -48,6 +50,11 @@ fn report<K: Sink>(alloc: Global, sink: &mut K, chain: &Option<Chain>) -> Result
 
 /// Answers the last line, which came without its end, where there is one; then the report and
 /// the flush.
+///
+/// # Errors
+/// `Line` with the stop of `take_line`, where the last line is not answered. `Lacking`, where there is neither a chain
+/// nor a line, so that the genesis is missing. `Report` and `Flush`, where the sink failed at the report or at the
+/// flush, and only where its count of faults rose. `NoMemory`, where memory was wanting for the report.
 pub fn finish<K: Sink, D: Keeper>(
     alloc: Global,
     buffers: &mut Buffers,

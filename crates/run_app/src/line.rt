@@ -1,3 +1,6 @@
+//! One line of the input: a genesis where no chain stands yet (`InitGenesis`), else a block (`BeginBlock`, `DeliverTx`,
+//! `EndBlock`). What it leads to is committed, and then its text is written.
+
 ghost use Rattle.std.specs.Prelude.{◌≡◌, ◌≤◌, ◌<◌, ◌∷◌, [], Some, None, List, ℕ, Ok, Err, IfOk, IfErr, IfSome, OnOk, IsErrOf, length};
 ghost use Rattle.base_io.specs.Outside.{Rose};
 ghost use Rattle.line_json.specs.Genesis.{genesis_of};
@@ -271,6 +274,12 @@ fn answer<D: Keeper>(
 }
 
 /// Answers one line, commits what it leads to, and writes its text.
+///
+/// # Errors
+/// `Long`, exactly where the line has more than 4,194,304 bytes; `BadInput` and `Ratio`, only where the machine answers
+/// the line so; each with the line's number. `Keep`, only where the keeper's count of faults rose, and `Write`, only
+/// where the sink's did; and `NoMemory`. Nothing was written then, but for `Write` and `NoMemory`, at which a front of
+/// the line's text may have been.
 pub fn take_line<K: Sink, D: Keeper>(
     alloc: Global,
     buffers: &mut Buffers,

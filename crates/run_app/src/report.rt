@@ -1,3 +1,5 @@
+//! The report at the end of a run: what the chain keeps, with the pending rewards of its delegations, as a text.
+
 ghost use Rattle.std.specs.Prelude.{◌≡◌, Ok, Some, IfOk, IfErr};
 ghost use Rattle.run_app.specs.Machine.{report_of};
 ghost use Rattle.chain_modules.specs.Kept.{StandsFor};

@@ -1,3 +1,5 @@
+//! How a run ends: its statuses, and why a line of the input, or the end of the output, stopped it.
+
 ghost use Rattle.std.specs.Prelude.{◌≡◌};
 ghost use Rattle.run_app.specs.Parts.{status_at_end};
 ghost use Rattle.run_app.specs.Ending.{status_of};

@@ -1,3 +1,5 @@
+//! What is drawn of a transaction of the generated input.
+
 /// What is drawn of a transaction, whatever its kind is.
 #[derive(Clone, Copy, Debug, PartialEq, Eq)]
 pub struct Choices {

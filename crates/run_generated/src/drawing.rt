@@ -1,3 +1,4 @@
+//! The generator from which the input is drawn: linear congruential, modulo 2^64; a draw gives its upper 31 bits.
 ghost use Rattle.std.specs.Prelude.{◌≡◌, ◌<◌, ◌/◌, ◌%◌, ◌^◌};
 ghost use Rattle.run_generated.specs.Drawing.{next};
 

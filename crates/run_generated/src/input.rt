@@ -1,3 +1,4 @@
+//! The generated input, or a text, written to a sink.
 ghost use Rattle.std.specs.Prelude.{◌≡◌, ◌≤◌, ◌<◌, true, IfErr, IfOk, IsErrOf, OnErr, OnOk};
 ghost use Rattle.base_io.specs.Faults.{UnlessFailed};
 ghost use Rattle.base_io.specs.Outside.{Rose};

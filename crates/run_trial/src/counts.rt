@@ -1,3 +1,5 @@
+//! The counts of a trial: its blocks, its transactions that were carried out or not, and what was burned.
+
 /// What the reports of blocks come to.
 #[derive(Clone, Copy, Debug, PartialEq, Eq)]
 pub struct Counts {

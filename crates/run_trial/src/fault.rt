@@ -1,3 +1,5 @@
+//! The faults of a trial.
+
 use base_messages::BlockFault;
 
 /// Why there is no summary.

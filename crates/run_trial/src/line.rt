@@ -1,3 +1,5 @@
+//! The line of a summary: the counts of a trial, and the supplies and the community pool at its end.
+
 ghost use Rattle.std.specs.Prelude.{◌≡◌, ◌++◌, IfErr, OnOk};
 ghost use Rattle.line_json.specs.Line.{line_of};
 ghost use Rattle.run_trial.specs.Summary.{summary_data};

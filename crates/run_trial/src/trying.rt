@@ -1,3 +1,5 @@
+//! A trial: blocks of the generated input are drawn, applied to a chain one after another, and summed up.
+
 ghost use Rattle.std.specs.Prelude.{◌≡◌, ◌≤◌, ◌<◌, ◌+◌, ◌^◌, Err, IfErr, IfOk, Ok, OnOk};
 ghost use Rattle.line_json.specs.Line.{line_of};
 ghost use Rattle.rule_modules.specs.Chain.{State, shared_in};

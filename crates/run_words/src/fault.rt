@@ -1,3 +1,4 @@
+//! The faults of reading the words of a command line.
 use std::alloc::AllocError;
 
 /// Why words ask for nothing.

@@ -1,3 +1,4 @@
+//! The commands, each with what its words say: `replay`, `resume`, `query`, `gen` and `trial`.
 use line_report::Query;
 
 /// What the words ask for.

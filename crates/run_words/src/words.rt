@@ -1,3 +1,4 @@
+//! The words of a command line, read as a command.
 ghost use Rattle.std.specs.Prelude.{◌≡◌, ◌≤◌, length, map, string_bytes, slice_get, option_map, Some, None, false, codes, IfErr, IfOk};
 ghost use Rattle.std.specs.List.{list_any};
 ghost use Rattle.clap.specs.Simple.{app_of};

@@ -1,4 +1,5 @@
-//! The worked row of the summary of `run_trial`, computed from the definitions. It stands apart so that nothing waits for it.
+//! Worked rows of the summaries of `run_trial`, computed from the definitions. They stand apart so that nothing waits
+//! for them.
 #![tactic(auto)]
 
 pub mod worked;

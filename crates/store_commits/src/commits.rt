@@ -1,3 +1,5 @@
+//! Commits of a chain to a keeper: all of its rows at the genesis, and at each block those that changed.
+
 ghost use Rattle.std.specs.Prelude.{◌≡◌, ◌≢◌, ◌≤◌, [], List, Ok, IsErrOf, IfErr, IfOk, IfSome, IsSome, OnErr, OnOk, true, false};
 ghost use Rattle.base_io.specs.declared.keeper.Change.{Change};
 ghost use Rattle.base_io.specs.Keeping.{UnlessLost};

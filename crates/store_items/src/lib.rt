@@ -1,10 +1,11 @@
-//! The items of a sound state: no two have one key, and each can be written as a row. So they can be kept.
+//! The items of a state as the rows of a keeper, and changes of items as changes of rows.
 //!
-//! Lists of items as the rows of a keeper, and changes of items as changes of rows.
+//! [`items_of`] reads the rows that a keeper loaded; [`puts_of`] writes what a first commit is to put, and
+//! [`changes_of`] what a later one is to change.
 //!
-//! [`items_of`] reads the rows that a keeper loaded, and [`changes_of`] writes what a commit is to make of
-//! them, and [`puts_of`] what a first one is to put. [`commits_reach_new_rows`] says that a commit of the changes from old items to new ones leaves
-//! just the rows of the new ones.
+//! Two laws say that this keeps a state: of the items of a sound one no two have one key, and each has a row
+//! ([`items_can_be_kept`]); and a commit of the changes from old items to new ones leaves just the rows of the new ones
+//! ([`commits_reach_new_rows`]).
 #![tactic(auto)]
 
 pub mod laws;

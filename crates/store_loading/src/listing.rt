@@ -17,7 +17,7 @@ use std::collections::BTreeMap;
 use std::mem;
 use store_records::{PlainLists, PlainRecords, PlainShared, Signed};
 
-/// The items of records, kind by kind, each kind in ascending order of its keys.
+/// The items of records, kind by kind, each kind in ascending order of its keys. The only error is want of memory.
 pub fn items_of(alloc: Global, records: PlainRecords) -> Result<Vec<Item>, AllocError>
     ensures { IfOk result (λ items. items.items ≡ listed (seen records)) }
 {

@@ -224,7 +224,7 @@ fn gather(alloc: Global, items: Vec<Item>) -> Result<Option<Gathering>, AllocErr
 }
 
 /// The records of which these are the items, in any order; None where a key stands twice, and where not exactly
-/// one head, one set of parameters and one pool stand.
+/// one head, one set of parameters and one pool stand. The only error is want of memory.
 pub fn records_of(alloc: Global, items: Vec<Item>) -> Result<Option<PlainRecords>, AllocError>
     ensures { IfOk result (λ records. records_in items.items ≡ option_map seen records) }
 {

@@ -1,3 +1,5 @@
+//! The records of a state, as maps by their keys (`x/bank`, `x/staking`, `x/slashing` and `x/distribution`).
+
 use base_coins::DecCoins;
 use base_decimals::Dec;
 use base_roles::{

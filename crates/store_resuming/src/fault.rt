@@ -1,3 +1,5 @@
+//! The faults of restoring a chain from a keeper's rows.
+
 /// Why no chain comes of a keeper.
 #[derive(Clone, Copy, Debug, PartialEq, Eq)]
 pub enum RestoreFault {

@@ -1,3 +1,5 @@
+//! The faults of reading and writing rows.
+
 use std::alloc::{AllocError, AllocFailed};
 use thiserror::Error;
 

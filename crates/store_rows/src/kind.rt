@@ -1,3 +1,5 @@
+//! The kinds of items, such as balances, validators and delegations, each by the byte with which its keys begin.
+
 ghost use Rattle.std.specs.Prelude.{◌≡◌};
 ghost use Rattle.store_rows.specs.Kinds.{kind_of, prefix_of};
 

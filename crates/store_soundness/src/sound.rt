@@ -74,7 +74,7 @@ fn are_others_sound(records: &PlainRecords) -> bool
         && are_redelegations_sound(height, &lists.redelegations)
 }
 
-/// Whether the records are those of a sound state.
+/// Whether the records are those of a sound state. The only error is want of memory.
 pub fn is_sound(alloc: Global, records: &PlainRecords) -> Result<bool, AllocError>
     ensures { IfOk result (λ sound. sound ≡ is_sound (seen records.now)) }
 {

@@ -1,3 +1,5 @@
+//! A database that a keeper takes: one without tables gets the one table, and one of another schema is refused.
+
 ghost use Rattle.std.specs.Prelude.{◌≡◌, ◌≢◌, ◌⊎◌, false, [], Some, IsTrue, IfOk, OnOk};
 ghost use Rattle.std.specs.List.{AllByRecursion};
 ghost use Rattle.sqlite_trees.specs.Tree.{IsTable, rowid};

@@ -1,3 +1,5 @@
+//! The keeper over a connection of `sqlite`: it loads the rows of the one table, and commits changes of them.
+
 ghost use Rattle.std.specs.Prelude.{◌≡◌, ◌⊎◌, false, Some, [], List, map, IsTrue, IfOk, IfSome, IsSome, OnOk, OnErr};
 ghost use Rattle.sqlite.specs.State.{HasCleanDisk};
 ghost use Rattle.sqlite.specs.Held.{state};

@@ -1,3 +1,5 @@
+//! The three statements over the table: one puts a row, one removes a row, and one reads all.
+
 ghost use Rattle.std.specs.Prelude.{◌≡◌, false, map, IfOk, OnOk, IsTrue};
 ghost use Rattle.std.specs.List.Sorted.{IsPermutation};
 ghost use Rattle.sqlite.specs.State.{HasCleanDisk, Survives};
@@ -55,8 +57,8 @@ pub(crate) fn remove_row<S: Alter>(tx: &mut Transaction<'_, S>, name: &[u8]) -> 
     tx.execute("DELETE FROM kept WHERE name = ?1", params![name])
 }
 
-/// All rows, as they stand: by name each would cost a search of its own, and its page would be read again. The
-/// statement is prepared first, so that what it may do is known as it runs.
+/// All rows, as they stand: in the order of their names each would cost a search of its own, and some pages, not all,
+/// would be read again. The statement is prepared first, so that what it may do is known as it runs.
 pub(crate) fn all_rows<S: Alter>(conn: &mut Connection<S>) -> Result<Vec<Row>, Error>
     requires { IsKept (state S.Store conn.old) }
     ensures rows { HasCleanDisk (state S.Store conn.new) → IfOk result

@@ -1,3 +1,5 @@
+//! Runs of the worked input: in pieces of any size, over readers and writers of `std`, and with nothing kept.
+
 ghost use Rattle.std.specs.Prelude.{◌≤◌};
 
 use crate::samples::*;

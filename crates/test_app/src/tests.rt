@@ -1,3 +1,5 @@
+//! Words that are no command, and a line as long as one may be.
+
 use crate::samples::*;
 use base_io::{SureKeeper, SureSink, SureSource};
 use run_app::{InputFault, LimitKind, Status, run};

@@ -1,8 +1,5 @@
-//! Tests of `run_generated`. They stand apart so that they are proved without it, and nothing waits for them.
-//!
-//! Tests of `run_trial`. They stand apart so that they are proved without it, and nothing waits for them.
-//!
-//! Tests of `run_trial`. They stand apart so that they are proved without it, and nothing waits for them.
+//! Tests of the generated input (`run_generated`), and of its trial and the summary of that (`run_trial`). They stand
+//! apart so that they are proved without these, and nothing waits for them.
 #![tactic(auto)]
 
 #[cfg(test)]

@@ -1,3 +1,5 @@
+//! The counts of a report, and the line of a summary.
+
 use base_coins::{Coin, Coins, DecCoin, DecCoins};
 use base_decimals::Dec;
 use base_messages::{BlockReport, Outcome, TxReport};

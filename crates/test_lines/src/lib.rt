@@ -1,6 +1,5 @@
-//! Tests of `line_json`. They stand apart so that they are proved without it, and nothing waits for them.
-//!
-//! Tests of `line_report`. They stand apart so that they are proved without it, and nothing waits for them.
+//! Tests of the lines of inputs and outputs (`line_json`), and of reports and of answers to questions (`line_report`).
+//! They stand apart so that they are proved without these, and nothing waits for them.
 #![tactic(auto)]
 
 #[cfg(test)]

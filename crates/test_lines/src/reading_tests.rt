@@ -1,3 +1,5 @@
+//! A genesis and blocks read from lines, and the faults of lines that spell neither, by the numbers of members.
+
 use base_messages::{Block, LineFault, Msg};
 use json::Scratch;
 use line_json::{read_block, read_genesis};

@@ -1,3 +1,5 @@
+//! The report of a state with an item of each kind, and the answers to questions about it.
+
 use base_coins::{DecCoin, DecCoins};
 use base_decimals::Dec;
 use base_messages::Pending;

@@ -1,3 +1,5 @@
+//! Lines of a block: of the largest numbers, and of results that are over the limit of decimals.
+
 use base_decimals::{Dec, Over, OverKind};
 use base_messages::{BlockReport, Outcome, TxReport};
 use base_roles::{Fact, Facts, Listed, Refusal};

@@ -1,3 +1,5 @@
+//! The bank, over a scene of two accounts: a message that sends coins, marks, items and changes.
+
 ghost use Rattle.std.specs.Prelude.{◌≡◌, ℕ, ◌<◌, ◌≤◌, [], List, IfOk, OnOk};
 ghost use Rattle.base_coins.specs.Coins.{amount_of};
 ghost use Rattle.base_roles.specs.Holdings.{IsBacked};

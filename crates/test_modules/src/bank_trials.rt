@@ -1,3 +1,5 @@
+//! The test of the bank, trial by trial, each over a scene of its own.
+
 ghost use Rattle.std.specs.Prelude.{◌≡◌, ◌<◌, []};
 ghost use Rattle.base_roles.specs.Holdings.{IsBacked};
 ghost use Rattle.mod_bank.specs.Booked.{new_book};

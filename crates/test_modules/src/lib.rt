@@ -1,10 +1,6 @@
-//! Tests of `mod_bank`. They stand apart so that they are proved without it, and nothing waits for them.
-//!
-//! Tests of `mod_staking` over the bank of `mod_bank`. They stand apart so that neither waits for the other.
-//!
-//! Tests of `mod_periods`. They stand apart so that they are proved without it, and nothing waits for them.
-//!
-//! Tests of `mod_unbonding` over the bank of `mod_bank`. They stand apart so that neither waits for the other.
+//! Tests of modules: of the bank (`mod_bank`), of staking and of unbonding entries over that bank (`mod_staking` and
+//! `mod_unbonding`), and of F1 (`mod_periods`). They stand apart so that they are proved without these, no module waits
+//! for another, and nothing waits for them.
 #![tactic(auto)]
 
 #[cfg(test)]

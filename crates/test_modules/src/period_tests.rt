@@ -1,3 +1,5 @@
+//! F1 against a program that keeps everything: how many refer to each period, and rewards.
+
 ghost use Rattle.std.specs.Prelude.{◌≡◌, OnOk};
 ghost use Rattle.mod_periods.specs.Stands.{IsKept};
 

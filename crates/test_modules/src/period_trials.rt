@@ -1,3 +1,5 @@
+//! The test of F1, trial by trial, each over records of its own.
+
 ghost use Rattle.std.specs.Prelude.{◌≡◌, ◌<◌};
 ghost use Rattle.mod_periods.specs.Stands.{IsKept};
 

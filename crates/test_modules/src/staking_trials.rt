@@ -1,3 +1,5 @@
+//! The test of staking, trial by trial, each over a ground of its own.
+
 ghost use Rattle.std.specs.Prelude.{◌≡◌, ◌<◌, []};
 ghost use Rattle.base_roles.specs.Ground.{seen};
 ghost use Rattle.mod_staking.specs.Registered.{no_stake};

@@ -1,3 +1,5 @@
+//! The scene of the tests of unbonding: one validator has all coins; entries are made, cancelled and compared.
+
 ghost use Rattle.std.specs.Prelude.{◌≡◌, ℕ, List, [], ◌<◌, ◌≤◌, ◌^◌, OnOk, IfOk};
 ghost use Rattle.base_coins.specs.Coins.{amount_of};
 ghost use Rattle.base_roles.specs.Ground.{seen, AreInRange};

@@ -1,3 +1,5 @@
+//! The test of unbonding entries, trial by trial, each over a ground of its own.
+
 ghost use Rattle.std.specs.Prelude.{◌≡◌, ◌<◌, []};
 ghost use Rattle.base_roles.specs.Ground.{seen};
 ghost use Rattle.test_modules.specs.UnbondingTrials.{IsFit};

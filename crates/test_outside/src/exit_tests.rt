@@ -1,3 +1,5 @@
+//! Runs of which one call of the source, the sink or the keeper fails: the status, the text and the rows they leave.
+
 use crate::whole::{
     Fronts, LINES, WHOLE, are_behind, behind, command_behind, input_behind, lines_within,
     make_fronts, text_of,

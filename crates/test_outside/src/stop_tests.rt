@@ -1,3 +1,5 @@
+//! Runs over a database whose files stop after some calls: what is left there, and how a run goes on from it.
+
 ghost use Rattle.store_commits.specs.Held.{TakesDistinct};
 
 use crate::whole::{

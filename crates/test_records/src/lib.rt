@@ -1,9 +1,6 @@
-//! Tests of `store_loading`. They stand apart so that they are proved without it, and nothing waits for them.
-//!
-//! Tests of `store_records` and `store_soundness`, and worked rows of their definitions. They stand apart so that they are proved without it, and
-//! nothing waits for them.
-//!
-//! Tests of `store_resuming`. They stand apart so that they are proved without it, and nothing waits for them.
+//! Tests of records: out of items (`store_records`), by the tests of a sound state (`store_soundness`), put into
+//! modules (`store_loading`), and as a chain that goes on (`store_resuming`). [`worked`] holds worked rows of the
+//! definitions of the first two. They stand apart so that they are proved without these, and nothing waits for them.
 #![tactic(auto)]
 
 #[cfg(test)]

@@ -1,3 +1,5 @@
+//! An item of each kind, loaded into the modules of a chain and listed again.
+
 ghost use Rattle.std.specs.Prelude.{◌≡◌, ◌<◌};
 
 use base_coins::{DecCoin, DecCoins};

@@ -1,3 +1,5 @@
+//! Records out of items: a supply is the sum of its balances, and a key stands once.
+
 use base_coins::DecCoins;
 use base_decimals::Dec;
 use base_roles::{Item, Params};

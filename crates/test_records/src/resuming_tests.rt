@@ -1,3 +1,5 @@
+//! A chain out of the items of another, which goes on alike, and items that give none.
+
 ghost use Rattle.std.specs.Prelude.{◌<◌, ◌^◌};
 
 use base_messages::Block;

@@ -1,3 +1,5 @@
+//! Keepers in memory, also one that fails at listed calls, and one that keeps nothing.
+
 ghost use Rattle.std.specs.Prelude.{IfOk};
 ghost use Rattle.base_io.specs.Rows.{HasDistinctKeys};
 

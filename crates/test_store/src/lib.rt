@@ -1,9 +1,6 @@
-//! Tests of `base_io`. They stand apart so that they are proved without it, and nothing waits for them.
-//!
-//! Tests of `store_rows`. They stand apart so that they are proved without it, and nothing waits for them.
-//!
-//! Tests of `store_sqlite` and `store_items`. They stand apart so that they are proved without these, and nothing
-//! waits for them.
+//! Tests of what a run reads from, writes to and keeps: of sources, sinks and keepers (`base_io`), of items as rows
+//! (`store_rows` and `store_items`), and of the keeper over a database (`store_sqlite`). They stand apart so that they
+//! are proved without these, and nothing waits for them.
 #![tactic(auto)]
 
 #[cfg(test)]

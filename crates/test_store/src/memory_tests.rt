@@ -1,3 +1,5 @@
+//! Sources and sinks in memory, which fail at listed calls, or at none.
+
 use base_io::{
     Failed, MemSink, MemSource, Sink, SinkFault, Source, SureSink, SureSource, read_at_most,
     write_all,

@@ -1,3 +1,5 @@
+//! Rows of every kind, read and written again, and rows of no item.
+
 ghost use Rattle.store_rows.specs.Spelled.{IsWritable};
 
 use base_decimals::Dec;

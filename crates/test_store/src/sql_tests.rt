@@ -1,3 +1,5 @@
+//! The keeper over a database: the order of its rows, another schema, and files that are opened again.
+
 ghost use Rattle.std.specs.Prelude.{IfOk, IsTrue};
 ghost use Rattle.base_io.specs.Rows.{HasDistinctKeys};
 

@@ -1,3 +1,5 @@
+//! Sources and sinks over readers and writers of `std`, of which calls are interrupted or fail.
+
 use base_io::{Failed, Sink, SinkFault, Source, StdSink, StdSource, read_at_most, write_all};
 use std::io;
 use std::io::{ErrorKind, Read, Write};

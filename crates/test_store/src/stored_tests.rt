@@ -1,3 +1,5 @@
+//! Lists of items as rows, and changes of items as changes of rows.
+
 use base_io::{Change, Row};
 use base_roles::Item;
 use base_types::{Addr, Moment};

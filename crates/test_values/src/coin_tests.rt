@@ -1,3 +1,5 @@
+//! Coins and decimal coins: sorted, added, taken apart, multiplied, divided and copied.
+
 use crate::decimals::dec;
 use base_coins::{Coin, CoinFault, Coins, DecCoin, DecCoins};
 use base_decimals::{LIMIT, Over, OverKind};

@@ -1,3 +1,5 @@
+//! Decimals against exact arithmetic outside the program, quotients with their rest, and texts.
+
 ghost use Rattle.std.specs.Prelude.{◌≡◌, ◌<◌};
 
 use crate::decimal_cases::CASES;

@@ -1,3 +1,5 @@
+//! Decimals of so many units, for the tests.
+
 ghost use Rattle.std.specs.Prelude.{◌≡◌};
 
 use base_decimals::Dec;

@@ -1,12 +1,8 @@
-//! Tests of `base_decimals`, `base_types`, `base_coins` and `base_shares`. They stand apart so that they are proved without
-//! these, and nothing waits for them.
-//!
-//! Tests of `base_table` and `base_records`. They stand apart so that they are proved without these, and nothing waits
-//! for them.
-//!
-//! Tests of `base_roles`, `base_roles_example`, `base_messages` and `run_words`: of records, facts, lists, messages, blocks and
-//! faults, the plain values that all share, of small values of the roles, and of words. They stand apart so that they
-//! are proved without these, and nothing waits for them.
+//! Tests of the values that all crates share, and of words: of decimals, coins and shares, of denominations, accounts
+//! and moments (`base_decimals`, `base_types`, `base_coins` and `base_shares`); of tables, and of records in them
+//! (`base_table` and `base_records`); of facts, messages, blocks and faults, and of the roles over small values
+//! (`base_roles`, `base_roles_example` and `base_messages`); and of the words of commands (`run_words`). They stand
+//! apart so that they are proved without these, and nothing waits for them.
 #![tactic(auto)]
 
 #[cfg(test)]

@@ -1,3 +1,5 @@
+//! Copies of messages, blocks and a genesis, and want of memory as a fault.
+
 use crate::values::{atom, coins, dec, moment, params, user};
 use base_coins::{Coin, Coins};
 use base_messages::{

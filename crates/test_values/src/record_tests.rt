@@ -1,3 +1,5 @@
+//! Facts, refusals, lists and the values of records: their copies, and faults that become those of callers.
+
 use crate::values::{atom, dec, moment, params, user, validator};
 use base_coins::{Coin, DecCoin, DecCoins};
 use base_decimals::{Over, OverKind};

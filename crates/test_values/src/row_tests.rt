@@ -1,3 +1,5 @@
+//! Records of two kinds, listed together as items and as changes.
+
 ghost use Rattle.std.specs.Prelude.{◌≡◌, ◌<◌};
 
 use crate::row_kinds::{PeriodKind, SupplyKind};

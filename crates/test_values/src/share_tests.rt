@@ -1,3 +1,5 @@
+//! Shares of a validator: those issued for tokens, and the tokens that shares are worth.
+
 use crate::decimals::dec;
 use base_decimals::{Over, OverKind};
 use base_shares::{ShareFault, issue, remove, shares_for, value_cut, value_even};

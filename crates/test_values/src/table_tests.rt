@@ -1,3 +1,5 @@
+//! Tables: marks that nest and are gone back to or forgotten, and keys that were touched.
+
 ghost use Rattle.std.specs.Prelude.{◌≡◌, ◌<◌};
 
 use base_table::Table;

@@ -1,3 +1,5 @@
+//! Addresses, accounts, denominations and moments: read, printed, compared as keys, and copied.
+
 ghost use Rattle.std.specs.Prelude.{◌≡◌, ◌<◌};
 
 use base_types::{
