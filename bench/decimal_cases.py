@@ -121,7 +121,7 @@ for call, compute in CALLS.items():
 
 file = pathlib.Path(__file__).parent.parent / "crates/test_values/src/decimal_cases.rt"
 with open(file, "w") as out:
-    print("// Written by bench/decimal_cases.py.", file=out)
+    print("//! Calls of decimals and their answers, written by bench/decimal_cases.py from exact integers.\n", file=out)
     print(f'pub static CASES: &str = "\\', file=out)
     for call, *operands, want in rows:
         print(call, *operands, want, file=out)

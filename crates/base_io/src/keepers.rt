@@ -21,7 +21,7 @@ pub struct SureKeeper {
 impl Model for SureKeeper {
     ghost use Rattle.std.specs.Prelude.{List, map};
     ghost use Rattle.base_io.specs.Rows.{Pair};
-        ghost use Rattle.base_io.specs.Changes.{pair_of, Rises};
+    ghost use Rattle.base_io.specs.Changes.{pair_of, Rises};
 
     ghost Value = { List Pair };
 

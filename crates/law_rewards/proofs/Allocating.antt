@@ -33,7 +33,8 @@ use Rattle.rule_modules.specs.Laws.{next_block}
 use Rattle.rule_modules.specs.Periods.{Periods, starts_of}
 use Rattle.rule_modules.specs.Purses.{Purses}
 use Rattle.rule_modules.specs.Sound.{IsSound, StartIsSound, PeriodsAreSound}
-use Rattle.law_rewards.specs.States.{AreReached, ReachedStays, NoneStartedHere}
+use Rattle.law_rewards.specs.States.{AreReached}
+use Rattle.law_rewards.specs.StateLaws.{ReachedStays, NoneStartedHere}
 use Rattle.law_rewards.specs.Changes.{NoneStartedInNext, AllocationKeepsReached, BlockBeginKeepsReached}
 use Rattle.law_rewards.proofs.Lists.{all_at}
 use Rattle.law_rewards.proofs.Denominations.{step_parts}

@@ -29,7 +29,8 @@ use Rattle.rule_modules.specs.Sound.{IsSound}
 use Rattle.rule_modules.specs.Withdrawals.{reward_taken}
 use Rattle.law_rewards.specs.Account.{Start, Account, IsReached, counted_shares, account_after}
 use Rattle.law_rewards.specs.Account as deed
-use Rattle.law_rewards.specs.States.{starts_in, account_in, AreReached, ReachedStays, RewardMessagesKeepReached}
+use Rattle.law_rewards.specs.States.{starts_in, account_in, AreReached}
+use Rattle.law_rewards.specs.StateLaws.{ReachedStays, RewardMessagesKeepReached}
 use Rattle.law_rewards.proofs.Lists.{all_at, sum_remove}
 use Rattle.law_rewards.proofs.Following.{own_addr, other_addr}
 use Rattle.law_rewards.proofs.Denominations.{step_parts}

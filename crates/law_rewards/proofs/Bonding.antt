@@ -20,7 +20,8 @@ use Rattle.rule_modules.specs.Chain.{Hooks, State, chain_told, staked_in, with_s
 use Rattle.rule_modules.specs.Sound.{IsSound}
 use Rattle.rule_modules.specs.Stakes.{changed}
 use Rattle.rule_modules.specs.Unbondings.{completion}
-use Rattle.law_rewards.specs.States.{AreReached, ReachedStays}
+use Rattle.law_rewards.specs.States.{AreReached}
+use Rattle.law_rewards.specs.StateLaws.{ReachedStays}
 use Rattle.law_rewards.specs.Changes.{BondedSetKeepsReached}
 use Rattle.law_rewards.proofs.Denominations.{step_parts}
 use Rattle.law_rewards.proofs.Entries.{addr_is, put_there, put_elsewhere}

@@ -39,7 +39,8 @@ use Rattle.rule_modules.specs.Sound.{IsSound}
 use Rattle.law_rewards.specs.Account.{Start, Account, IsReached, increment_of, lost_of, period_closed, reward_now}
 use Rattle.law_rewards.specs.Account as deed
 use Rattle.law_rewards.specs.Laws.{IsStartBracketed, CoversClaims, overclaim}
-use Rattle.law_rewards.specs.States.{starts_in, account_in, AreReached, ReachedIsBracketed, ReachedHasShortfallWithin}
+use Rattle.law_rewards.specs.States.{starts_in, account_in, AreReached}
+use Rattle.law_rewards.specs.StateLaws.{ReachedIsBracketed, ReachedHasShortfallWithin}
 use Rattle.law_rewards.proofs.Following.{own_addr}
 use Rattle.law_rewards.proofs.Denominations.{step_parts, money_at, reward_goes}
 use Rattle.law_rewards.proofs.Entries.{pair_is, put_there, one_passes, history_behind}

@@ -7,7 +7,8 @@ use Rattle.base_coins.proofs.Order.{rises_from_money}
 use Rattle.base_coins.proofs.Results.{smaller_is_money}
 use Rattle.base_roles.specs.Log.{Log}
 use Rattle.rule_modules.specs.Ideal.{Brackets, ideal_reward, slack_of}
-use Rattle.law_rewards.specs.Withdrawals.{IsFairReward, reward_paid, coins_paid, IsCloseToIdeal, FairPaymentsAreClose}
+use Rattle.law_rewards.specs.Withdrawals.{IsFairReward, reward_paid, coins_paid, IsCloseToIdeal}
+use Rattle.law_rewards.specs.WithdrawalLaws.{FairPaymentsAreClose}
 use Rattle.law_rewards.proofs.Rounding.{floor_low, floor_high}
 use Rattle.law_rewards.proofs.Unfair.{smaller_amount}
 

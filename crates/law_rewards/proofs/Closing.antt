@@ -32,7 +32,7 @@ use Rattle.rule_modules.specs.Purses.{Purses, pool_joined, pooled_told, share_jo
 use Rattle.rule_modules.specs.Stakes.{changed, is_unbonding}
 use Rattle.rule_modules.specs.Unbonding.{removed_if_empty}
 use Rattle.rule_modules.specs.Unbondings.{UnbondingLists, is_mature, paid_back, completed}
-use Rattle.law_rewards.specs.Withdrawals.{BlocksPayFairly}
+use Rattle.law_rewards.specs.WithdrawalLaws.{BlocksPayFairly}
 use Rattle.law_rewards.proofs.Beginnings.{if_ok}
 use Rattle.law_rewards.proofs.Paying.{Pays, pays_then, pays_nothing, pays_logged, pays_noted, pays_sent, pays_pooled}
 use Rattle.law_rewards.proofs.Staking.{PaysIn, pays_emptied}

@@ -29,7 +29,8 @@ use Rattle.rule_modules.specs.Periods.{initial_records, start_of}
 use Rattle.rule_modules.specs.Sound.{IsSound}
 use Rattle.rule_modules.specs.Validators.{new_validator, are_out_of_range, stored, created}
 use Rattle.law_rewards.specs.Account.{Account, Start, IsReached, new_account}
-use Rattle.law_rewards.specs.States.{account_in, AreReached, ReachedStays}
+use Rattle.law_rewards.specs.States.{account_in, AreReached}
+use Rattle.law_rewards.specs.StateLaws.{ReachedStays}
 use Rattle.law_rewards.specs.Changes.{CreatingKeepsReached}
 use Rattle.law_rewards.proofs.Lists.{all_at}
 use Rattle.law_rewards.proofs.Denominations.{step_parts}

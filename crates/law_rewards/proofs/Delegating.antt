@@ -16,7 +16,8 @@ use Rattle.rule_modules.specs.Delegating.{Origin, wallet, pool, is_wrong, delega
 use Rattle.rule_modules.specs.Effects.{delegate, cancel_unbonding}
 use Rattle.rule_modules.specs.Sound.{IsSound}
 use Rattle.rule_modules.specs.Unbondings.{UnbondingLists, entries_of, with_entries, lowered, can_be_cancelled, is_mature, cancelled, completed, paid_back}
-use Rattle.law_rewards.specs.States.{account_in, AreReached, ReachedStays}
+use Rattle.law_rewards.specs.States.{account_in, AreReached}
+use Rattle.law_rewards.specs.StateLaws.{ReachedStays}
 use Rattle.law_rewards.specs.Account.{IsReached}
 use Rattle.law_rewards.specs.Changes.{DelegatingKeepsReached, CancellingKeepsReached, UnbondingsStepKeepsReached, RedelegationsStepKeepsReached}
 use Rattle.law_rewards.proofs.Denominations.{step_parts}

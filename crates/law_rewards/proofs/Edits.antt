@@ -23,7 +23,8 @@ use Rattle.rule_modules.specs.Sound.{IsSound}
 use Rattle.rule_modules.specs.Validators.{edit_formed, rate_edited, minimum_edited, edited}
 use Rattle.rule_modules.specs.Window.{unjailed, may_leave, signing_of}
 use Rattle.law_rewards.specs.Account.{Account, IsReached}
-use Rattle.law_rewards.specs.States.{starts_in, account_in, AreReached, ReachedStays, StandingMessagesKeepReached}
+use Rattle.law_rewards.specs.States.{starts_in, account_in, AreReached}
+use Rattle.law_rewards.specs.StateLaws.{ReachedStays, StandingMessagesKeepReached}
 use Rattle.law_rewards.proofs.Denominations.{step_parts}
 use Rattle.law_rewards.proofs.Entries.{addr_is, put_there, put_elsewhere}
 use Rattle.law_rewards.proofs.Endings.{same_some}

@@ -24,7 +24,8 @@ use Rattle.rule_modules.specs.Sound.{IsSound}
 use Rattle.law_rewards.specs.Account.{Start, Account, IsReached, period_closed, reward_now}
 use Rattle.law_rewards.specs.Account as deed
 use Rattle.law_rewards.specs.Laws.{IsCutWithin, overclaim}
-use Rattle.law_rewards.specs.States.{starts_in, account_in, AreReached, IsClaimCutWithin, ReachedIsCutWithin, NextBlockKeepsReached, EndKeepsReached}
+use Rattle.law_rewards.specs.States.{starts_in, account_in, AreReached}
+use Rattle.law_rewards.specs.StateLaws.{IsClaimCutWithin, ReachedIsCutWithin, NextBlockKeepsReached, EndKeepsReached}
 use Rattle.law_rewards.proofs.Following.{own_addr, other_addr}
 use Rattle.law_rewards.proofs.Entries.{addr_is, put_there, put_elsewhere, history_elsewhere}
 use Rattle.law_rewards.proofs.Reached.{deeds_lead_on, cut_is_bounded}

@@ -31,7 +31,7 @@ use Rattle.rule_modules.specs.Unbonding.{unbonded_shares, unbonded_of, shares_un
 use Rattle.rule_modules.specs.Unbondings.{UnbondingLists}
 use Rattle.rule_modules.specs.Window.{Signing, Window, signing_of, is_downtime, reset_at, vote_counted}
 use Rattle.law_rewards.specs.States.{AreReached}
-use Rattle.law_rewards.specs.Withdrawals.{VotesPayFairly, EvidencePaysFairly}
+use Rattle.law_rewards.specs.WithdrawalLaws.{VotesPayFairly, EvidencePaysFairly}
 use Rattle.law_rewards.proofs.Denominations.{step_parts}
 use Rattle.law_rewards.proofs.Quiet.{same_ok, viewed_reached}
 use Rattle.law_rewards.proofs.Fits.{ready_fits}

@@ -9,7 +9,8 @@ use Rattle.rule_modules.specs.Slashing.{slash_fraction}
 use Rattle.law_rewards.specs.Account.{Start, Account, Deed, IsReached, IsFitting, AreFitting, account_after, account_of, new_account, period_closed, owner_of, full_of, payment_of}
 use Rattle.law_rewards.specs.Account as deed
 use Rattle.law_rewards.specs.States.{account_in}
-use Rattle.law_rewards.specs.Withdrawals.{Outstanding, none_outstanding, outstanding_after, outstanding_over, outstanding_in, OutstandingIsLogged}
+use Rattle.law_rewards.specs.Withdrawals.{Outstanding, none_outstanding, outstanding_after, outstanding_over, outstanding_in}
+use Rattle.law_rewards.specs.WithdrawalLaws.{OutstandingIsLogged}
 
 -- one more entry
 outstanding_behind : (d : List ℕ) (o : Outstanding) (es : List LogEntry) (e : LogEntry) → outstanding_over d o (es ++ e ∷ []) ≡ outstanding_after d (outstanding_over d o es) e

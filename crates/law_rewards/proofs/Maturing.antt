@@ -28,7 +28,8 @@ use Rattle.rule_modules.specs.Distribution.{Shared, distribution_told}
 use Rattle.rule_modules.specs.Sound.{IsSound}
 use Rattle.rule_modules.specs.Stakes.{changed, is_unbonding, without_validator}
 use Rattle.rule_modules.specs.Unbonding.{removed_if_empty, validator_removed}
-use Rattle.law_rewards.specs.States.{AreReached, ReachedStays}
+use Rattle.law_rewards.specs.States.{AreReached}
+use Rattle.law_rewards.specs.StateLaws.{ReachedStays}
 use Rattle.law_rewards.specs.Changes.{MaturingKeepsReached}
 use Rattle.law_rewards.proofs.Denominations.{step_parts}
 use Rattle.law_rewards.proofs.Entries.{put_elsewhere}

@@ -25,7 +25,8 @@ use Rattle.rule_modules.specs.Ideal.{span_of, history_of}
 use Rattle.rule_modules.specs.Periods.{Periods, periods_of, with_periods, period_ended, last_ended}
 use Rattle.rule_modules.specs.Purses.{Purses, purse_of, pooled_told}
 use Rattle.law_rewards.specs.States.{AreReached}
-use Rattle.law_rewards.specs.Withdrawals.{IsFairEntry, AreInTurn, AreFair, IsFairReward, IsFairWithdrawal, reward_paid, coins_paid, paid_by, payments_of, is_payment, payments_in, IsSent, AreSent}
+use Rattle.law_rewards.specs.Withdrawals.{IsFairEntry, AreInTurn, AreFair, IsFairReward, reward_paid, coins_paid, paid_by, payments_of, is_payment, payments_in, IsSent, AreSent}
+use Rattle.law_rewards.specs.WithdrawalLaws.{IsFairWithdrawal}
 use Rattle.law_rewards.proofs.Following.{now_is, own_addr}
 use Rattle.law_rewards.proofs.Denominations.{step_parts}
 use Rattle.law_rewards.proofs.Claims.{IsReady}

@@ -29,7 +29,8 @@ use Rattle.rule_modules.specs.Periods.{Rewards, periods_of, start_of, without_st
 use Rattle.rule_modules.specs.Purses.{Purses, purse_of, with_purse, pool_joined, paid_out, pooled_told}
 use Rattle.law_rewards.specs.Account.{Start, Account, IsReached, reward_now, owner_of, full_of, payment_of, account_after}
 use Rattle.law_rewards.specs.Account as deed
-use Rattle.law_rewards.specs.States.{starts_in, account_in, AreReached, WithdrawalKeepsReached}
+use Rattle.law_rewards.specs.States.{starts_in, account_in, AreReached}
+use Rattle.law_rewards.specs.StateLaws.{WithdrawalKeepsReached}
 use Rattle.law_rewards.proofs.Following.{own_addr, other_addr}
 use Rattle.law_rewards.proofs.Denominations.{step_parts}
 use Rattle.law_rewards.proofs.Entries.{addr_is, pair_is, put_there, put_elsewhere, history_behind, history_elsewhere, IsGoneFrom, gone_from, kept_by}

@@ -35,7 +35,8 @@ use Rattle.rule_modules.specs.Stakes.{pool_of}
 use Rattle.rule_modules.specs.Unbonding.{unbonded_shares, unbonded_of, shares_unbonded}
 use Rattle.rule_modules.specs.Unbondings.{UnbondingLists}
 use Rattle.rule_modules.specs.Window.{Signing, Window, signing_of, is_downtime, reset_at, vote_counted, voted}
-use Rattle.law_rewards.specs.States.{AreReached, ReachedStays}
+use Rattle.law_rewards.specs.States.{AreReached}
+use Rattle.law_rewards.specs.StateLaws.{ReachedStays}
 use Rattle.law_rewards.specs.Changes.{VotesKeepReached, EvidenceKeepsReached}
 use Rattle.law_rewards.proofs.Denominations.{step_parts}
 use Rattle.law_rewards.proofs.Beginnings.{if_ok}

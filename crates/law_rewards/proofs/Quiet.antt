@@ -39,7 +39,8 @@ use Rattle.rule_modules.specs.Sound.{IsSound, PurseIsSound}
 use Rattle.rule_modules.specs.Withdrawals.{is_module, commission_withdrawn, payee_set, pool_funded, pool_spent}
 use Rattle.law_rewards.specs.Account.{Account, IsReached, account_after}
 use Rattle.law_rewards.specs.Account as deed
-use Rattle.law_rewards.specs.States.{starts_in, account_in, ReachedStays, QuietMessagesKeepReached}
+use Rattle.law_rewards.specs.States.{starts_in, account_in}
+use Rattle.law_rewards.specs.StateLaws.{ReachedStays, QuietMessagesKeepReached}
 use Rattle.law_rewards.proofs.Rounding.{floor_low}
 use Rattle.law_rewards.proofs.Following.{own_addr, other_addr}
 use Rattle.law_rewards.proofs.Denominations.{step_parts}

@@ -16,7 +16,8 @@ use Rattle.rule_modules.specs.Effects.{begin_redelegate}
 use Rattle.rule_modules.specs.Redelegations.{RedelegationLists, redelegations_of, is_transitive, begin_info, appended, redelegated}
 use Rattle.rule_modules.specs.Sound.{IsSound}
 use Rattle.rule_modules.specs.Unbonding.{shares_to_unbond, unbonded_shares}
-use Rattle.law_rewards.specs.States.{AreReached, ReachedStays}
+use Rattle.law_rewards.specs.States.{AreReached}
+use Rattle.law_rewards.specs.StateLaws.{ReachedStays}
 use Rattle.law_rewards.specs.Changes.{RedelegatingKeepsReached}
 use Rattle.law_rewards.proofs.Denominations.{step_parts}
 use Rattle.law_rewards.proofs.Beginnings.{found_is, went_on, if_ok, under_own}

@@ -17,7 +17,7 @@ use Rattle.rule_modules.specs.Slashing.{slash_fraction}
 use Rattle.law_rewards.specs.Account.{Start, Account, Deed, IsReached, IsFitting, AreFitting, account_after, account_of, new_account, period_closed, start_made, owner_of}
 use Rattle.law_rewards.specs.Account as deed
 use Rattle.law_rewards.specs.States.{starts_in, account_in, AreReached}
-use Rattle.law_rewards.specs.Withdrawals.{RewardsRunWhereHeld}
+use Rattle.law_rewards.specs.WithdrawalLaws.{RewardsRunWhereHeld}
 use Rattle.law_rewards.proofs.Lists.{all_put_back, all_before, some_at}
 use Rattle.law_rewards.proofs.Following.{now_is, own_addr, other_addr}
 use Rattle.law_rewards.proofs.Reached.{reached_spans}

@@ -42,7 +42,8 @@ use Rattle.rule_modules.specs.Purses.{Purses, purse_of, with_purse, pool_joined,
 use Rattle.rule_modules.specs.Sound.{IsSound, PurseIsSound}
 use Rattle.law_rewards.specs.Account.{Start, Account, IsReached, account_after}
 use Rattle.law_rewards.specs.Account as deed
-use Rattle.law_rewards.specs.States.{account_in, AreReached, NoneStartedHere, SharingKeepsReached}
+use Rattle.law_rewards.specs.States.{account_in, AreReached}
+use Rattle.law_rewards.specs.StateLaws.{NoneStartedHere, SharingKeepsReached}
 use Rattle.law_rewards.proofs.Lists.{all_at}
 use Rattle.law_rewards.proofs.Following.{own_addr, other_addr}
 use Rattle.law_rewards.proofs.Denominations.{step_parts}

@@ -39,7 +39,7 @@ use Rattle.rule_modules.specs.Validators.{new_validator, are_out_of_range, creat
 use Rattle.rule_modules.specs.Window.{may_leave, signing_of, unjailed}
 use Rattle.rule_modules.specs.Withdrawals.{reward_taken, commission_withdrawn, payee_set, pool_funded, pool_spent, is_module}
 use Rattle.law_rewards.specs.States.{AreReached}
-use Rattle.law_rewards.specs.Withdrawals.{PaysFairly, PaysWhereReached, MessagesPayFairly}
+use Rattle.law_rewards.specs.WithdrawalLaws.{PaysFairly, PaysWhereReached, MessagesPayFairly}
 use Rattle.law_rewards.proofs.Claims.{ready_in}
 use Rattle.law_rewards.proofs.Beginnings.{if_ok, under_own}
 use Rattle.law_rewards.proofs.Entries.{put_there}

@@ -1,6 +1,6 @@
 -- Every message keeps accounts reached.
 use Rattle.law_rewards.specs.Changes.{MessagesKeepReached}
-use Rattle.law_rewards.specs.States.{QuietMessagesKeepReached, StandingMessagesKeepReached}
+use Rattle.law_rewards.specs.StateLaws.{QuietMessagesKeepReached, StandingMessagesKeepReached}
 use Rattle.law_rewards.proofs.Beginnings.{reward_messages_keep_reached}
 use Rattle.law_rewards.proofs.Quiet.{quiet_messages_keep_reached}
 use Rattle.law_rewards.proofs.Edits.{standing_messages_keep_reached}

@@ -10,7 +10,7 @@ use Rattle.rule_modules.specs.Distribution.{payee_of, paid_to, reward_withdrawn,
 use Rattle.rule_modules.specs.Periods.{periods_of, last_ended}
 use Rattle.rule_modules.specs.Purses.{pooled_told}
 use Rattle.rule_modules.specs.Withdrawals.{reward_taken}
-use Rattle.law_rewards.specs.Withdrawals.{TellsPayment, RewardsAreTold}
+use Rattle.law_rewards.specs.WithdrawalLaws.{TellsPayment, RewardsAreTold}
 use Rattle.law_rewards.proofs.Beginnings.{under_own}
 use Rattle.law_rewards.proofs.Telling.{on_then, lifted_if}
 use Rattle.rule_modules.proofs.GoingLemmas.{on_bind, on_found}

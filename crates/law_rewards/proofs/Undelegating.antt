@@ -37,7 +37,8 @@ use Rattle.rule_modules.specs.Stakes.{put_delegation, without_shares}
 use Rattle.rule_modules.specs.Unbonding.{shares_to_unbond, put_in_jail, falls_below_minimum, left_standing, unbonded_shares, removed_if_empty}
 use Rattle.rule_modules.specs.Unbondings.{UnbondingLists, entries_of, with_entries, grown, completion, undelegated}
 use Rattle.law_rewards.specs.Account.{IsReached, counted_shares}
-use Rattle.law_rewards.specs.States.{account_in, AreReached, ReachedStays}
+use Rattle.law_rewards.specs.States.{account_in, AreReached}
+use Rattle.law_rewards.specs.StateLaws.{ReachedStays}
 use Rattle.law_rewards.specs.Changes.{UndelegatingKeepsReached}
 use Rattle.law_rewards.proofs.Lists.{all_at}
 use Rattle.law_rewards.proofs.Denominations.{step_parts}

@@ -26,7 +26,8 @@ use Rattle.law_rewards.specs.Account.{Start, Account, IsReached, reward_now}
 use Rattle.law_rewards.specs.Account as deed
 use Rattle.law_rewards.specs.Laws.{IsStartBracketed, IsCutWithin, overclaim}
 use Rattle.law_rewards.specs.States.{starts_in, account_in, AreReached}
-use Rattle.law_rewards.specs.Withdrawals.{raised_in, outstanding_in, IsFairWithdrawal, IsFairReward, WithdrawalsAreFair}
+use Rattle.law_rewards.specs.Withdrawals.{raised_in, outstanding_in, IsFairReward}
+use Rattle.law_rewards.specs.WithdrawalLaws.{IsFairWithdrawal, WithdrawalsAreFair}
 use Rattle.law_rewards.proofs.Denominations.{step_parts}
 use Rattle.law_rewards.proofs.Reached.{deeds_lead_on, rewards_are_bracketed, cut_is_bounded}
 use Rattle.law_rewards.proofs.Claims.{IsReady, ready_in, IsEnded, closed_account, closed_history, closed_full, due_parts, some_of, start_with, own_start}

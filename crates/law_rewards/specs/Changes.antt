@@ -14,7 +14,7 @@ use Rattle.rule_modules.specs.Chain.{State, allocation_step, vote_step, evidence
 use Rattle.rule_modules.specs.Effects.{create_validator, delegate, undelegate, begin_redelegate, cancel_unbonding}
 use Rattle.rule_modules.specs.Laws.{next_block}
 use Rattle.rule_modules.specs.StepLaws.{KeptByStep, KeptByMessages}
-use Rattle.law_rewards.specs.States.{ReachedStays, NoneStartedHere}
+use Rattle.law_rewards.specs.StateLaws.{ReachedStays, NoneStartedHere}
 
 -- delegating keeps accounts reached
 abbrev pub DelegatingKeepsReached : Type 0

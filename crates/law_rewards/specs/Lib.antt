@@ -4,6 +4,8 @@ pub mod Laws
 pub mod Payments
 pub mod Running
 pub mod Sharing
+pub mod StateLaws
 pub mod States
+pub mod WithdrawalLaws
 pub mod Withdrawals
 pub mod Worked

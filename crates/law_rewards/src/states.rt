@@ -1,6 +1,6 @@
 //! What the laws of accounts say of a whole state: laws as functions that do nothing, whose contracts are the laws.
 
-ghost use Rattle.law_rewards.specs.States.{ReachedIsBracketed, ReachedHasShortfallWithin, ReachedIsCutWithin, NextBlockKeepsReached, EndKeepsReached, WithdrawalKeepsReached, RewardMessagesKeepReached, QuietMessagesKeepReached, StandingMessagesKeepReached, SharingKeepsReached};
+ghost use Rattle.law_rewards.specs.StateLaws.{ReachedIsBracketed, ReachedHasShortfallWithin, ReachedIsCutWithin, NextBlockKeepsReached, EndKeepsReached, WithdrawalKeepsReached, RewardMessagesKeepReached, QuietMessagesKeepReached, StandingMessagesKeepReached, SharingKeepsReached};
 
 /// In a sound state whose accounts are reached, the claim of each delegation, in each denomination, is bracketed.
 pub fn reached_is_bracketed()

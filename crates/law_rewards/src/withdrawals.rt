@@ -1,6 +1,6 @@
 //! Withdrawals as they happen: laws as functions that do nothing, whose contracts are the laws.
 
-ghost use Rattle.law_rewards.specs.Withdrawals.{WithdrawalsAreFair, FairPaymentsAreClose, RewardsRunWhereHeld, OutstandingIsLogged, MessagesPayFairly, VotesPayFairly, EvidencePaysFairly, BlocksPayFairly, RewardsAreTold};
+ghost use Rattle.law_rewards.specs.WithdrawalLaws.{WithdrawalsAreFair, FairPaymentsAreClose, RewardsRunWhereHeld, OutstandingIsLogged, MessagesPayFairly, VotesPayFairly, EvidencePaysFairly, BlocksPayFairly, RewardsAreTold};
 ghost use Rattle.law_rewards.specs.Payments.{PaymentsAreFairlyTold};
 
 /// In a sound state whose accounts are reached, the full reward of each withdrawal is bracketed, an exhausted outstanding

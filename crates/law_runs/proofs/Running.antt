@@ -49,7 +49,8 @@ use Rattle.law_soundness.proofs.Steps.{on_lifted_then, on_then}
 use Rattle.rule_modules.proofs.GoingLemmas.{on_next}
 use Rattle.law_soundness.proofs.Transactions.{TxsFit, WholeFits, message_fits, tx_fits, txs_fit, whole_without, without_facts_fits}
 use Rattle.law_soundness.proofs.Voting.{EvidenceLeft, VoteLeft, evidence_fits, own_record, vote_fits}
-use Rattle.law_rewards.specs.States.{AreReached, ReachedStays, NoneStartedHere}
+use Rattle.law_rewards.specs.States.{AreReached}
+use Rattle.law_rewards.specs.StateLaws.{ReachedStays, NoneStartedHere}
 use Rattle.law_rewards.proofs.Allocating.{none_started_in_next, allocation_keeps_reached}
 use Rattle.law_rewards.proofs.Bonding.{bonded_set_keeps_reached}
 use Rattle.law_rewards.proofs.Delegating.{unbondings_step_keeps_reached, redelegations_step_keeps_reached}

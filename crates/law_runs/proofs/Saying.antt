@@ -45,8 +45,10 @@ use Rattle.law_soundness.specs.Kept.{begun_by}
 use Rattle.rule_modules.proofs.GoingLemmas.{on_next}
 use Rattle.law_soundness.proofs.Transactions.{WholeFits, message_fits, tx_fits, whole_without, without_facts_fits}
 use Rattle.law_soundness.proofs.Voting.{EvidenceLeft, VoteLeft, evidence_fits, own_record, vote_fits}
-use Rattle.law_rewards.specs.States.{AreReached, NoneStartedHere}
-use Rattle.law_rewards.specs.Withdrawals.{AreFair, payments_in, payments_of, IsSent, AreSent, PaysFairly, PaysWhereReached}
+use Rattle.law_rewards.specs.States.{AreReached}
+use Rattle.law_rewards.specs.StateLaws.{NoneStartedHere}
+use Rattle.law_rewards.specs.Withdrawals.{AreFair, payments_in, payments_of, IsSent, AreSent}
+use Rattle.law_rewards.specs.WithdrawalLaws.{PaysFairly, PaysWhereReached}
 use Rattle.law_rewards.proofs.Allocating.{none_started_in_next}
 use Rattle.law_rewards.proofs.Closing.{allocation_pays, maturing_pays, redelegations_pay, set_pays, unbondings_pay}
 use Rattle.law_rewards.proofs.Endings.{next_block_keeps_reached}

@@ -30,7 +30,8 @@ use Rattle.rule_modules.specs.Delegating.{delegated, pool}
 use Rattle.rule_modules.specs.Periods.{Periods, initial_records}
 use Rattle.rule_modules.specs.Validators.{new_validator}
 use Rattle.law_rewards.specs.Account.{Account, Start as Begun, IsReached, new_account}
-use Rattle.law_rewards.specs.States.{account_in, AreReached, ReachedStays}
+use Rattle.law_rewards.specs.States.{account_in, AreReached}
+use Rattle.law_rewards.specs.StateLaws.{ReachedStays}
 use Rattle.law_rewards.proofs.Bonding.{bonded_set_keeps_reached}
 use Rattle.law_rewards.proofs.Claims.{IsReady, AreLists}
 use Rattle.law_rewards.proofs.Creating.{state_made, made_other}

@@ -126,6 +126,7 @@ module _ (who : Account) (coins : Money) (start : Booked) (bounded : (d : List â
       }
 
   module _ (here : Booked) (rest : Money) (r : rest â‰¡ []) (m : Giving who coins start here rest) where
+
 -- ---- accounts on their way
 
 -- some accounts are given their coins, and these are left

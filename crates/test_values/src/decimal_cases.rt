@@ -1,4 +1,5 @@
-// Written by bench/decimal_cases.py.
+//! Calls of decimals and their answers, written by bench/decimal_cases.py from exact integers.
+
 pub static CASES: &str = "\
 Add 0 0 0 0
 Add 99999999999999999999999999999999999999 0 0 99999999999999999999999999999999999999
