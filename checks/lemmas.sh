@@ -15,6 +15,7 @@ def indent(line):
     return len(line) - len(line.lstrip())
 
 
+CLAUSE = re.compile(r"\s=(\s|$)")
 uses = collections.Counter()
 declared = []
 for path in sorted(pathlib.Path("crates").glob("*/**/*")):
@@ -35,7 +36,7 @@ for path in sorted(pathlib.Path("crates").glob("*/**/*")):
         names = re.findall(NAME, line)
         # the lines of a lemma's own clauses begin with its name, as far to the right as its head
         head = HEAD.match(line)
-        begins = names and line.lstrip().startswith(names[0]) and own.get(names[0]) == indent(line)
+        begins = names and line.lstrip().startswith(names[0]) and own.get(names[0]) == indent(line) and CLAUSE.search(line)
         first = head[1] if head else names[0] if begins else None
         for at, name in enumerate(names):
             if name == first and at <= (1 if head else 0):

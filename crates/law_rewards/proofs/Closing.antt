@@ -91,6 +91,10 @@ each_pays f one (v ∷ vs) y =
     on_then (f v y) _ (PaysIn y) _ (one v y) (λ z k.
     on_then_more (each f vs z) z k (each_pays f one vs z))
   where
+    on_then_more : (r : Result (World Staked Hooks) Over) (z : World Staked Hooks) → PaysIn y z → IfOk r (PaysIn z) → IfOk r (PaysIn y)
+    on_then_more (Ok t) z k h = pays_then y.log z.log t.log y.view.facts z.view.facts t.view.facts k h
+    on_then_more (Err e) z k h = tt
+
 joined_pays : (v : Validator) (y : World Staked Hooks) → IfOk (joined_set chain_told v y) (PaysIn y)
 joined_pays v y =
     let x : World Staked Hooks = changed v Bonded y in

@@ -90,3 +90,5 @@ total_burnt from e n v backed le d =
     let less : supply_of (burned (account.Module from) e n v.bank) d + cond (is_at (denom_cmp d) e) n 0 ≡ supply_of v.bank d = burns_lower_supplies v.bank (account.Module from) e n backed le d in
     balanced _ _ _ _ _ less (burn_said from e n v.facts d)
   where
+    balanced : (a b c x y : ℕ) → a + c ≡ b → y ≡ x + c → a + y ≡ b + x
+    balanced a b c x y p q = omega (arith, p, q)

@@ -125,8 +125,6 @@ module _ (who : Account) (coins : Money) (start : Booked) (bounded : (d : List â
         rises = rises.3;
       }
 
-  module _ (here : Booked) (rest : Money) (r : rest â‰¡ []) (m : Giving who coins start here rest) where
-
 -- ---- accounts on their way
 
 -- some accounts are given their coins, and these are left

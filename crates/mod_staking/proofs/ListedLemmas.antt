@@ -106,27 +106,8 @@ module _ {K : Type 0} (cmp : K → K → Ordering) (place_of : Validator → Opt
   Is records list = IsListed cmp place_of records list
 
   module _ (records records2 : Tabled (List ℕ) Validator) (list list2 : Tabled K (List ℕ)) (h : Is records list) where
-    }
-
     listed-with : records2.marks ≡ records.marks → list2.marks ≡ list.marks → list2.entries ≡ of records2.entries → Is records2 list2
     listed-with m n e = record { entries = e; marks = n ∙ h.marks ∙ ap (map of) (sym m) }
-
-    -- as many marks are open
-    depth : length list.marks ≡ length records.marks
-    depth = ap length h.marks ∙ length-map records.marks of
-
--- ---- the three lists
-
-module _ (n : ℕ) (records records2 : Tabled (List ℕ) Validator) (lists lists2 : Lists) (h : AreListed n records lists) where
-  }
-
-  }
-
-  }
-
-  }
-
-  )
 
 -- ---- a change
 
