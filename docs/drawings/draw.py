@@ -186,7 +186,7 @@ def layers():
 # ---- a block
 
 CHECKS = ["its height is the next,", "its time is not earlier,", "each vote names a", "validator, once,",
-          "evidence is of earlier", "heights, powers in range"]
+          "evidence is of earlier", "heights, and powers fit"]
 BEGIN = [("allocate", "the fees of the last block", "mod_distribution"),
          ("votes", "one by one; downtime", "mod_signing, mod_slashing"),
          ("evidence", "one by one; double signing", "mod_evidence, mod_slashing")]
@@ -264,7 +264,7 @@ def block():
     picture.box(720, 472, 300, 96, GREEN)
     picture.text(732, 494, "Done", size=12, bold=True)
     picture.lines(732, 512, ["forget the mark; the report has the facts", "of the beginning, of each transaction and",
-                             "of the end; then store_commits settles"], size=12)
+                             "of the end; then the changes are committed"], size=12)
     return picture
 
 
