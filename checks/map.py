@@ -1,9 +1,11 @@
 #!/usr/bin/env python3
 """The nearest dependencies of each crate: those of the repository's crates that no other of its dependencies reaches.
 
-  checks/map.py           prints NAME: NEAREST ..
-  checks/map.py --check   compares them with the rows of the code map in docs/ARCHITECTURE.md, looks whether the page's
-                          invariants between groups of crates hold of crates.txt, and ends with 1 at a difference
+  checks/map.py                prints NAME: NEAREST ..
+  checks/map.py --above NAME   prints the crates that reach a crate: a change in it proves them anew
+  checks/map.py --check        compares the nearest with the rows of the code map in docs/ARCHITECTURE.md, looks whether
+                               the page's invariants between groups of crates hold of crates.txt, and ends with 1 at a
+                               difference
 
 A row of the map is `| NAME | what it does | NEAREST, .. |`, a crate with no dependency having an empty last cell.
 """
@@ -22,7 +24,8 @@ INVARIANTS = [
     ("Definitions know no modules", "rule_", ONLY, "base_ rule_", {"rule_worked": "law_rewards"}),
     ("Laws know no chain", "law_", NEVER, "chain_ line_ run_", {}),
     ("Only the laws of records know modules", "law_", NEVER, "mod_ store_",
-     {"law_records": "mod_sums mod_staking mod_periods mod_allocation mod_signing mod_distribution store_records store_soundness"}),
+     {"law_records": "mod_sums mod_staking mod_periods mod_allocation mod_signing mod_distribution store_records "
+                     "store_soundness"}),
     ("Modules know no lines", "mod_", NEVER, "line_ run_ store_ chain_", {}),
     ("Modules know roles and not the bank", "mod_", NEVER, "mod_bank", {}),
     ("Distribution and evidence know no staking", "mod_distribution mod_periods mod_allocation mod_evidence", NEVER,
@@ -104,7 +107,14 @@ def rows_of_page(graph, text, say):
 def main():
     graph = crates()
     wanted = nearest(graph)
-    if sys.argv[1:] != ["--check"]:
+    if sys.argv[1:2] == ["--above"] and len(sys.argv) == 3 and sys.argv[2] in graph:
+        known = {}
+        print(*[name for name in graph if sys.argv[2] in reached(graph, name, known)])
+        return 0
+    if len(sys.argv) > 1 and sys.argv[1:] != ["--check"]:
+        print(__doc__, file=sys.stderr)
+        return 2
+    if len(sys.argv) == 1:
         for name, deps in wanted.items():
             print(f"{name}: {' '.join(deps)}".rstrip())
         return 0
@@ -117,7 +127,8 @@ def main():
             continue
         place, told = rows[name]
         if sorted(told) != deps:
-            faults.append(f"{PAGE}:{place} {name} has {', '.join(told) or 'nothing'}; its nearest are {', '.join(deps) or 'none'}")
+            faults.append(f"{PAGE}:{place} {name} has {', '.join(told) or 'nothing'}; "
+                          f"its nearest are {', '.join(deps) or 'none'}")
     faults += broken(graph)
     for title, *_ in INVARIANTS:
         if f"**{title}.**" not in text:
