@@ -448,8 +448,8 @@ def stop():
         for x, cell in zip(columns, [name, when, rows, text, ahead]):
             picture.text(x, y, cell, size=12, colour=STRONG[RED] if x == 30 else INK, bold=x == 30)
     picture.note(30, 450, [
-        "A stop is the end of the process at any moment, or of the power while the disk keeps its word. A commit is all "
-        "of its changes or none.",
+        "A stop is the end of the process at any moment, or of the power while the disk keeps its word. A commit is "
+        "all of its changes or none.",
         "So the store has each line of which a byte was written, and at most one more."])
     return picture
 
