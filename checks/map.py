@@ -37,7 +37,8 @@ INVARIANTS = [
     ("Rows know no state", "store_rows store_sqlite", ONLY, "base_", {}),
     ("Only run_app joins lines, chain and store", "line_ chain_ run_words run_generated run_trial", NEVER,
      "store_items store_commits store_loading store_resuming", {}),
-    ("The program needs no examples", "stakeplay", NEVER, "base_roles_example rule_worked rule_histories run_worked", {}),
+    ("The program needs no examples", "stakeplay", NEVER,
+     "base_roles_example rule_worked rule_histories run_worked", {}),
     ("Nothing stands on tests", "base_ rule_ law_ mod_ chain_ line_ store_ run_ stakeplay test_", NEVER, "test_", {}),
 ]
 
