@@ -391,7 +391,7 @@ def bracket():
     picture.note(30, 538, [
         "No payment is above the ideal reward. The slack grows with the periods crossed; the overclaim with how often "
         "shares left the validator",
-        "(one unit of 10^-18 times the last ratio for each). docs/PROOFS.md has both in words."])
+        "(one unit of 10^-18 times the last ratio for each). docs/BRACKET.md has both in words."])
     return picture
 
 
