@@ -15,7 +15,18 @@ RUNS = int(sys.argv[1]) if len(sys.argv) > 1 else 5
 HERE = pathlib.Path(__file__).resolve().parent
 TOP = HERE.parents[1]
 WORK = pathlib.Path(tempfile.mkdtemp(prefix="periods-"))
-CRATES = ("base_decimals", "base_types", "base_coins", "base_shares", "base_table", "base_roles", "base_records", "rule_modules", "mod_sums", "mod_periods")
+CRATES = (
+    "base_decimals",
+    "base_types",
+    "base_coins",
+    "base_shares",
+    "base_table",
+    "base_roles",
+    "base_records",
+    "rule_modules",
+    "mod_sums",
+    "mod_periods",
+)
 
 INVARIANT = """
 use Rattle.std.proofs.Common.{◌≡◌, []}
@@ -28,7 +39,13 @@ invariant-loop-VAR g l = IsKept l.f.kept × (l.f.marks ≡ [])
 """
 
 # loops keep what the tables stand for
-LOOPS = {"begun": "operator", "end_round": "operator", "end_rounds": "round", "turn_round": "operator", "turn_rounds": "round"}
+LOOPS = {
+    "begun": "operator",
+    "end_round": "operator",
+    "end_rounds": "round",
+    "turn_round": "operator",
+    "turn_rounds": "round",
+}
 
 GHOSTS = """
 use Rattle.period_bench.proofs.NAME.Given as goal
@@ -240,8 +257,12 @@ def build_rattle():
         shutil.copytree(TOP / "crates" / name, top / "crates" / name, ignore=shutil.ignore_patterns("must-fail", "out"))
     bench = top / "crates/period_bench"
     proofs = {"fresh/Answers.antt": FRESH}
-    proofs |= {f"{name}/Invariants.antt": INVARIANT.replace("NAME", name).replace("VAR", var) for name, var in LOOPS.items()}
-    proofs |= {f"{test}/Invariants.antt": GHOSTS.replace("NAME", test).replace("CALL", call) for test, call in TESTS.items()}
+    proofs |= {
+        f"{name}/Invariants.antt": INVARIANT.replace("NAME", name).replace("VAR", var) for name, var in LOOPS.items()
+    }
+    proofs |= {
+        f"{test}/Invariants.antt": GHOSTS.replace("NAME", test).replace("CALL", call) for test, call in TESTS.items()
+    }
     for path, text in proofs.items():
         (bench / "proofs" / path).parent.mkdir(parents=True, exist_ok=True)
         (bench / "proofs" / path).write_text(text.lstrip())
@@ -259,7 +280,9 @@ def build_rattle():
 
 def build_stock():
     (WORK / "stock.rs").write_text(STOCK.lstrip())
-    subprocess.run(["rustc", "-O", "-C", "target-cpu=x86-64-v2", "-o", str(WORK / "stock"), str(WORK / "stock.rs")], check=True)
+    subprocess.run(
+        ["rustc", "-O", "-C", "target-cpu=x86-64-v2", "-o", str(WORK / "stock"), str(WORK / "stock.rs")], check=True
+    )
     return str(WORK / "stock")
 
 
