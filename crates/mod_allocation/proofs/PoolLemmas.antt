@@ -232,24 +232,6 @@ module _ (who : List ℕ) (coins : Money) (d : Shared) (v : View) where
         ap (λ b. stop_if b NonPositive >> funded_second) some ∙ ap (λ b. stop_if b InsufficientFunds >> funded_third) e
         ∙ ap (λ r. stopping Overflow r >>= funded_last) joins
 
--- where coins joined, the user had them, and they moved
-module _ (who : List ℕ) (coins : Money) (d : Shared) (v : View) where
-  rule_of : Bool → Bool → Result Purses Over → Result (⊤ × Shared × View) Refusal
-  rule_of nothing short joins = stop_if nothing NonPositive >> (stop_if short InsufficientFunds >> (stopping Overflow joins >>= funded_last who coins d v))
-
-  bank_of : Result (⊤ × Shared × View) Refusal → Holdings
-  bank_of (Ok z) = z.2.bank
-  bank_of (Err why) = v.bank
-
-  unfolding bank_of rule_of
-  funded_parts s w e = by (is_empty coins) (is_short v.bank (account.User who) coins) (pool_joined (in_units coins) d.purses) e
-    where
-      by : (nothing short : Bool) (joins : Result Purses Over) → rule_of nothing short joins ≡ Ok (tt, s, w) → (short ≡ false) × (w.bank ≡ moved (account.User who) (account.Module holder.Distribution) coins v.bank)
-      by true short joins f = absurd cc
-      by false true joins f = absurd cc
-      by false false (Err over) f = absurd cc
-      by false false (Ok p) f = (refl, ap bank_of (sym f))
-
 -- coins that a user has
 pub user-has : (h : Holdings) (who : List ℕ) (coins : Money) → is_short h (account.User who) coins ≡ false → (d : List ℕ) → amount_of coins d ≤ balance_of h (account.User who) d
 user-has h who coins e d = within_all (balance_of h (account.User who)) coins e d

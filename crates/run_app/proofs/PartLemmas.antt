@@ -65,11 +65,6 @@ write_stops L n s line a w w' h left adds = λ old told. let x = adds old told i
 pub full_stops : (L : Standing → Standing → Type 0) (n : ℕ) (s : Standing) (line : List ℕ) (a : Answer) (w w' : Option (List ℕ)) → line_answer n s line ≡ Ok a → L a.standing a.standing → AddsPart w w' a.text → PartStops L n s (λ (more : List (List ℕ)). line ∷ more) (line ∷ []) w w' NoMemory
 full_stops L n s line a w w' h left adds = λ old told. let x = adds old told in (x.0, x.2, inl (wrote_first L n s line a x.0 h left x.1))
 
-unfolding line_answer
-first_answered n s line a none short is =
-    let fits : nat_lt longest (length line) ≡ false = grind (arith, short) in
-    rw none (rw fits is)
-
 -- ---- a line that is too long
 
 pub answer_long : (n : ℕ) (s : Standing) (line : List ℕ) → longest < length line → line_answer n s line ≡ Err (Long n)

@@ -1,5 +1,5 @@
 use Rattle.mod_unbonding.proofs.ItemLemmas.{unbonding-rowed}
-use Rattle.mod_unbonding.proofs.items.UnbondingKindRow.told.Goals as goal
+use Rattle.mod_unbonding.proofs.items.UnbondingKindAsItem.told.Goals as goal
 
 pub returns : goal.returns
 returns c = unbonding-rowed
