@@ -11,6 +11,7 @@ from __future__ import annotations
 
 import base64
 import binascii
+import functools
 import hashlib
 import json
 import os
@@ -109,6 +110,7 @@ def bech32(prefix: str, address: bytes) -> str:
     return prefix + "1" + "".join(LETTERS[value] for value in values)
 
 
+@functools.lru_cache(maxsize=1 << 16)
 def from_bech32(text: str) -> tuple[str, bytes] | None:
     """The prefix and the bytes of a text; nothing where it is no bech32 in small letters."""
     prefix, mark, rest = text.rpartition("1")
@@ -167,10 +169,14 @@ class Prefix:
 
 # ---- numbers, times, coins
 
-_DECIMAL = re.compile(r"([0-9]{1,60})(?:\.([0-9]{1,18}))?", re.ASCII)
-_SECONDS = re.compile(r"([0-9]{1,30})(?:\.([0-9]{1,9}))?s", re.ASCII)
-_MOMENT = re.compile(r"([0-9]{4}-[0-9]{2}-[0-9]{2}T[0-9]{2}:[0-9]{2}:[0-9]{2})(?:\.([0-9]{1,9}))?Z", re.ASCII)
-_COIN = re.compile(r"([0-9]{1,60})([a-zA-Z][a-zA-Z0-9/:._-]{1,127})", re.ASCII)
+_DECIMAL = re.compile(r"([0-9]{1,60})(?:\.([0-9]{1,18}))?")
+_SECONDS = re.compile(r"([0-9]{1,30})(?:\.([0-9]{1,9}))?s")
+_MOMENT = re.compile(r"([0-9]{4}-[0-9]{2}-[0-9]{2}T[0-9]{2}:[0-9]{2}:[0-9]{2})(?:\.([0-9]{1,9}))?Z")
+_COIN = re.compile(r"([0-9]{1,60})([a-zA-Z][a-zA-Z0-9/:._-]{2,127})")
+_NUMBER = re.compile("[0-9]{1,19}")
+_AMOUNT = re.compile("[0-9]{1,78}")
+_DENOM = re.compile("[a-zA-Z][a-zA-Z0-9/:._-]{2,127}")
+_HEX_ADDRESS = re.compile("[0-9A-Fa-f]{40}")
 _EPOCH = datetime(1970, 1, 1)
 
 
@@ -238,31 +244,34 @@ def coins_json(coins: Coins, text: Callable[[int], str] = str) -> list[dict[str,
 
 # ---- documents
 
-@dataclass(frozen=True)
 class Value:
     """A JSON value, where it stands (`export.json: app_state.staking`), and the prefix of its chain's addresses."""
-    raw: Any
-    place: str
-    prefix: Prefix
+    __slots__ = "raw", "prefix", "step", "above"
+
+    def __init__(self, raw: Any, prefix: Prefix, step: str | int, above: Value | None = None):
+        self.raw, self.prefix, self.step, self.above = raw, prefix, step, above
+
+    @property
+    def place(self) -> str:
+        """The file, and the names and places that lead to the value."""
+        if self.above is None:
+            return f"{self.step}:"
+        place = self.above.place
+        if isinstance(self.step, int):
+            return f"{place}[{self.step}]"
+        return f"{place}{' ' if place.endswith(':') else '.'}{self.step}"
 
     def fail(self, what: str, code: str = "shape") -> NoReturn:
         """Refuses the document because of this value."""
         stop(code, f"{self.place} {what}")
-
-    def below(self, raw: Any, step: str) -> Value:
-        """A value that stands below this one."""
-        return Value(raw, self.place + step, self.prefix)
 
     def member(self, name: str) -> Value:
         """The member of an object, which must be there."""
         if not isinstance(self.raw, dict):
             self.fail("is no object")
         if name not in self.raw:
-            self.below(None, self._step(name)).fail("is missing")
-        return self.below(self.raw[name], self._step(name))
-
-    def _step(self, name: str) -> str:
-        return ("" if self.place.endswith(": ") else ".") + name
+            Value(None, self.prefix, name, self).fail("is missing")
+        return Value(self.raw[name], self.prefix, name, self)
 
     def at(self, path: str) -> Value:
         """The member at the end of names that are joined by points."""
@@ -287,7 +296,7 @@ class Value:
             return []
         if not isinstance(self.raw, list):
             self.fail("is no list")
-        return [self.below(raw, f"[{place}]") for place, raw in enumerate(self.raw)]
+        return [Value(raw, self.prefix, place, self) for place, raw in enumerate(self.raw)]
 
     def list_at(self, path: str) -> list[Value]:
         """The elements of the list at the end of names that are joined by points."""
@@ -313,13 +322,13 @@ class Value:
 
     def number(self) -> int:
         """A whole number of 64 bits, a string of digits."""
-        if not isinstance(self.raw, str) or not re.fullmatch("[0-9]{1,19}", self.raw) or int(self.raw) >= 2 ** 63:
+        if not isinstance(self.raw, str) or not _NUMBER.fullmatch(self.raw) or int(self.raw) >= 2 ** 63:
             self.fail("is no string of a whole number from 0 on, below 2^63")
         return int(self.raw)
 
     def amount(self) -> int:
         """An amount, a string of digits."""
-        if not isinstance(self.raw, str) or not re.fullmatch("[0-9]{1,78}", self.raw):
+        if not isinstance(self.raw, str) or not _AMOUNT.fullmatch(self.raw):
             self.fail("is no string of an amount from 0 on")
         if int(self.raw) > MOST_WHOLE:
             self.fail("is above 10^18", "limit")
@@ -363,7 +372,8 @@ class Value:
         """The address of an account, or with the kind `valoper` of an operator; one of 32 bytes is cut, and told."""
         address = self.prefix.bytes_of(self.text(), kind)
         if address is None:
-            self.fail(f"is no bech32 text of {self.prefix.account or ''}{kind}1.. and 20 or 32 bytes: {self.raw}", "address")
+            prefix = f"{self.prefix.account or ''}{kind}1.."
+            self.fail(f"is no bech32 text of {prefix} and 20 or 32 bytes: {self.raw}", "address")
         if len(address) == 32:
             address = hash_address(address)
             look("long-address", f"{self.place}: {self.raw} has 32 bytes; {address.hex()} stands for it")
@@ -391,7 +401,7 @@ class Value:
 
     def hex_address(self) -> bytes:
         """An address of CometBFT, 40 hexadecimal digits."""
-        if not re.fullmatch("[0-9A-Fa-f]{40}", self.text()):
+        if not _HEX_ADDRESS.fullmatch(self.text()):
             self.fail(f"is no address of 40 hexadecimal digits: {self.raw}", "address")
         return bytes.fromhex(self.raw)
 
@@ -410,7 +420,7 @@ class Value:
 
     def denom(self) -> str:
         """A denomination."""
-        if not re.fullmatch("[a-zA-Z][a-zA-Z0-9/:._-]{2,127}", self.text()):
+        if not _DENOM.fullmatch(self.text()):
             self.fail(f"is no denomination: {self.raw!r}")
         return self.raw
 
@@ -433,16 +443,20 @@ class Value:
         return self.coins(Value.decimal)
 
 
+def _refuse_constant(name: str) -> NoReturn:
+    raise ValueError(f"{name} is no number of JSON")
+
+
 def read_document(path: str, prefix: Prefix | None = None) -> Value:
     """The document of a file."""
     try:
         with open(path, encoding="utf-8") as file:
-            raw = json.load(file)
+            raw = json.load(file, parse_constant=_refuse_constant)
     except OSError as fault:
         stop("file", f"{path}: {fault.strerror}")
     except (ValueError, RecursionError) as fault:
         stop("json", f"{path} is no JSON: {fault}")
-    return Value(raw, f"{os.path.basename(path)}: ", prefix or Prefix())
+    return Value(raw, prefix or Prefix(), os.path.basename(path))
 
 
 def read_answer(path: str, prefix: Prefix | None = None) -> Value:
