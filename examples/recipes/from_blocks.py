@@ -16,6 +16,7 @@ is read. Memory does not grow with the range.
 from __future__ import annotations
 
 import argparse
+import gc
 import json
 import shutil
 import sys
@@ -23,7 +24,7 @@ import tempfile
 import time
 from typing import Any, Iterator
 
-from node_answers import Answers, Folder
+from node_answers import Answers, Folder, Pages
 from node_data import Value, look, moment_text, run, stop, told
 from node_flows import Beginning, Json, beginning, end
 from node_messages import transactions
@@ -32,28 +33,58 @@ MOST_BYTES = 4_194_304  # of a line
 ABSENT, COMMIT, NIL = 1, 2, 3
 
 
+def compact(value: Json) -> str:
+    """A value as a text of JSON."""
+    return json.dumps(value, separators=(",", ":"))
+
+
 # ---- votes and evidence
 
-def votes(answers: Answers) -> list[Json]:
-    """The votes for the block before: signature by signature, with the validators of its height."""
+class Voters:
+    """A validator set as votes need it; the one before is kept, since few blocks change it."""
+
+    def __init__(self) -> None:
+        self.raw: list[Any] = []                    # address and power of each, as the node spells them
+        self.votes: list[tuple[str, str, str]] = []     # address, the text of a vote that is signed, and of one that is not
+
+    def follow(self, validators: Pages) -> None:
+        """Goes on to the set of the next block."""
+        raw = [(one.get("address"), one.get("voting_power")) if isinstance(one, dict) else one for one in validators.raw]
+        if raw != self.raw:
+            self.votes, self.raw = [texts_of_votes(one) for one in validators.elements()], raw
+
+
+def texts_of_votes(validator: Value) -> tuple[str, str, str]:
+    """A validator's address, and the texts of its vote, signed and not."""
+    address, power = validator.member("address"), validator.member("voting_power").number()
+    signed, absent = (compact({"cons": address.hex_address().hex(), "power": power, "signed": flag}) for flag in (True, False))
+    return address.raw, signed, absent
+
+
+def votes(answers: Answers, voters: Voters) -> str:
+    """The list of votes for the block before: signature by signature, with the validators of its height."""
+    voters.follow(answers.validators)
     signatures = answers.block.at("last_commit.signatures")
-    count, known = len(signatures.elements(or_null=True)), len(answers.validators.raw)
-    if count != known:
-        signatures.fail(f"has {count} signatures, and height {answers.height - 1} has {known} validators", "votes")
-    return [vote(signature, validator)
-            for signature, validator in zip(signatures.elements(or_null=True), answers.validators.elements())]
+    given = signatures.raw if isinstance(signatures.raw, list) else signatures.elements(or_null=True)
+    if len(given) != len(voters.votes):
+        signatures.fail(f"has {len(given)} signatures, and height {answers.height - 1} has {len(voters.votes)} validators",
+                        "votes")
+    return f"[{','.join([vote(signatures, place, voter) for place, voter in enumerate(voters.votes)])}]"
 
 
-def vote(signature: Value, validator: Value) -> Json:
-    """A vote: all but an absent one is signed, one for nil too."""
-    flag, address = signature.member("block_id_flag"), signature.member("validator_address")
+def vote(signatures: Value, place: int, voter: tuple[str, str, str]) -> str:
+    """The text of a vote: all but an absent one is signed, one for nil too."""
+    raw, (address, signed, absent) = signatures.raw[place], voter
+    if isinstance(raw, dict) and raw.get("block_id_flag") == COMMIT and raw.get("validator_address") == address:
+        return signed
+    signature = signatures.elements()[place]
+    flag, told = signature.member("block_id_flag"), signature.member("validator_address")
     if flag.small() not in (ABSENT, COMMIT, NIL):
         flag.fail(f"is {flag.raw}, which is no flag", "votes")
-    wanted = "" if flag.raw == ABSENT else validator.member("address").text()
-    if address.text() != wanted:
-        address.fail(f"is {address.raw or 'empty'}, and the validator of its place is {wanted or 'absent'}", "votes")
-    return {"cons": validator.member("address").hex_address().hex(), "power": validator.member("voting_power").number(),
-            "signed": flag.raw != ABSENT}
+    wanted = "" if flag.raw == ABSENT else address
+    if told.text() != wanted:
+        told.fail(f"is {told.raw or 'empty'}, and has to be {wanted or 'empty'}", "votes")
+    return absent if flag.raw == ABSENT else signed
 
 
 def evidence(block: Value) -> Iterator[Json]:
@@ -90,7 +121,7 @@ def block_transactions(answers: Answers) -> Iterator[Json]:
         yield from transactions(tx, result)
 
 
-def block_line(answers: Answers, own: Beginning, following: Beginning | None) -> Json:
+def block_line(answers: Answers, voters: Voters, own: Beginning, following: Beginning | None) -> str:
     """The line of a block; what the next block mints is paid at its end, since no line can do so at a beginning."""
     header = answers.block.member("header")
     txs = list(own.fee("at the beginning of this line")) if answers.height == 1 else []
@@ -99,8 +130,9 @@ def block_line(answers: Answers, own: Beginning, following: Beginning | None) ->
     txs += end(answers.results).transactions()
     if following:
         txs += following.fee(f"at the end of line {answers.height}")
-    return {"kind": "block", "height": answers.height, "time": moment_text(header.member("time").moment()),
-            "votes": votes(answers), "evidence": list(evidence(answers.block)), "txs": txs}
+    front = compact({"kind": "block", "height": answers.height, "time": moment_text(header.member("time").moment())})
+    rest = compact({"evidence": list(evidence(answers.block)), "txs": txs})
+    return f'{front[:-1]},"votes":{votes(answers, voters)},{rest[1:]}'
 
 
 class EvidenceParameters:
@@ -120,7 +152,7 @@ class EvidenceParameters:
 
 def lines(folder: Folder, first: int, last: int) -> Iterator[str]:
     """The lines of a range of blocks, each without its end."""
-    parameters = EvidenceParameters()
+    parameters, voters = EvidenceParameters(), Voters()
     if before := folder.results(first - 1):
         parameters.follow(before)
     results = folder.results(first)
@@ -130,7 +162,7 @@ def lines(folder: Folder, first: int, last: int) -> Iterator[str]:
         parameters.follow(answers.results)
         results = folder.results(height + 1)
         following = beginning(results) if results else None
-        text = json.dumps(block_line(answers, own, following), separators=(",", ":"))
+        text = block_line(answers, voters, own, following)
         if len(text) > MOST_BYTES:
             stop("limit", f"block_{height}.json: its line has {len(text)} bytes, and may have {MOST_BYTES}")
         yield text
@@ -150,6 +182,7 @@ def arguments() -> argparse.Namespace:
 
 
 def main() -> None:
+    gc.disable()  # answers have no cycles, and looking for them takes a third of the time
     words = arguments()
     folder = Folder(words.folder)
     first, last = words.heights or folder.heights()

@@ -6,16 +6,15 @@ machine does by itself at a block's beginning and end is passed over.
 """
 from __future__ import annotations
 
-from collections import Counter
+from collections import Counter, defaultdict
 from dataclasses import dataclass, field
 from typing import Any, Iterator, NoReturn
 
 from node_data import (AUTHORITY, BONDED, COLLECTOR, DISTRIBUTION, MODULE_ACCOUNTS, MODULES, NOT_BONDED, RESERVE, Coins,
-                       Value, coins_json, coins_text, look, note, stop)
-from node_events import BANK_EVENTS, Moved, attribute, bank_event, is_mint, moves
+                       Value, coins_json, coins_text, look, note)
+from node_events import BANK_KINDS, Moved, attributes, bank_event, is_mint, moves
 
 Json = dict[str, Any]
-BANK_KINDS = tuple(BANK_EVENTS)
 
 
 def transaction(payer: bytes, fee: Coins, messages: list[Json]) -> Json:
@@ -28,25 +27,22 @@ def send(giver: bytes, taker: bytes, coins: Coins) -> Json:
     return {"kind": "send", "from": giver.hex(), "to": taker.hex(), "coins": coins_json(coins)}
 
 
-def picked(events: Value, kinds: tuple[str, ...]) -> list[Value]:
-    """Those of a list of events that are of some types, and those that are no events."""
+def picked(events: Value, kinds: frozenset[str]) -> list[Value]:
+    """Those of a list of events that are of some types."""
     if events.raw is None:
         return []
-    if not isinstance(events.raw, list):
-        events.fail("is no list")
-    chosen = []
-    for place, raw in enumerate(events.raw):
-        kind = raw.get("type") if isinstance(raw, dict) else None
-        if kind in kinds or not isinstance(kind, str):
-            chosen.append(events.below(raw, f"[{place}]"))
-    return chosen
+    try:
+        found = [raw["type"] in kinds for raw in events.raw]
+    except (KeyError, TypeError):   # no list, or one of them is no event
+        found = [event.member("type").text() in kinds for event in events.elements()]
+    return [Value(events.raw[place], events.prefix, place, events) for place, is_of in enumerate(found) if is_of]
 
 
 class Flows:
     """What each account gained less what it lost, of each denomination."""
 
     def __init__(self) -> None:
-        self.net: Counter[tuple[bytes, str]] = Counter()
+        self.net: dict[tuple[bytes, str], int] = defaultdict(int)
 
     def add(self, account: bytes, coins: Coins, sign: int) -> None:
         """Adds coins that an account gained (the sign is 1) or lost (-1)."""
@@ -62,7 +58,7 @@ class Flows:
         """Adds what a pair of events tells, in which none of the four modules may be."""
         for account, sign in ((move.giver, -1), (move.taker, 1)):
             if account in MODULE_ACCOUNTS and move.coins:
-                refuse_flow(account, move.coins, move.place)
+                refuse_flow(account, move.coins, move.event)
             if account is not None:
                 self.add(account, move.coins, sign)
 
@@ -77,7 +73,7 @@ class Flows:
             del self.net[account, denom]
         return gain
 
-    def sends(self, place: str) -> list[Json]:
+    def sends(self, where: Value) -> list[Json]:
         """Messages that do the same by way of the reserve; none may be of the four modules."""
         gains: dict[bytes, Coins] = {}
         losses: dict[bytes, Coins] = {}
@@ -86,23 +82,23 @@ class Flows:
                 (gains if amount > 0 else losses).setdefault(account, {})[denom] = abs(amount)
         for account in gains | losses:
             if account in MODULE_ACCOUNTS:
-                refuse_flow(account, self.of(account), place)
+                refuse_flow(account, self.of(account), where)
             if account == RESERVE:
-                stop("reserve", f"{place}: the chain has an account with the address of the reserve, {RESERVE.hex()}")
+                where.fail(f"moves coins of the account that stands for other modules here, {RESERVE.hex()}", "reserve")
         return ([send(account, RESERVE, coins) for account, coins in losses.items()]
                 + [send(RESERVE, account, coins) for account, coins in gains.items()])
 
 
-def refuse_flow(account: bytes, coins: Coins, place: str) -> NoReturn:
+def refuse_flow(account: bytes, coins: Coins, where: Value) -> NoReturn:
     """Refuses coins of one of the four modules which no line can move."""
     module = MODULES[MODULE_ACCOUNTS.index(account)]
-    stop("module-flow", f"{place}: {module} has {coins_text(coins)} more or less, by what no line can say")
+    where.fail(f"moves {coins_text(coins)} of {module}, which no line can do", "module-flow")
 
 
-def flow_transaction(flows: Flows, place: str, code: str) -> Iterator[Json]:
+def flow_transaction(flows: Flows, where: Value, code: str) -> Iterator[Json]:
     """What moved, as a transaction of the reserve without a fee; nothing where nothing moved."""
-    if sends := flows.sends(place):
-        note(code, f"{place}: {len(sends)} sends by way of the reserve")
+    if sends := flows.sends(where):
+        note(code, f"{where.place}: {len(sends)} sends by way of the reserve")
         yield transaction(RESERVE, {}, sends)
 
 
@@ -120,25 +116,25 @@ BEGINNING_BY_ITSELF = {(COLLECTOR, DISTRIBUTION), (DISTRIBUTION, "other"), (BOND
 @dataclass
 class Beginning:
     """What other modules did at the beginning of a block."""
-    place: str
+    events: Value
     minted: Coins = field(default_factory=dict)     # what reached the fee collector, and is paid ahead
     flows: Flows = field(default_factory=Flows)
 
     def transactions(self) -> Iterator[Json]:
         """What moved between other accounts."""
-        return flow_transaction(self.flows, self.place, "begin-flow")
+        return flow_transaction(self.flows, self.events, "begin-flow")
 
     def fee(self, when: str) -> Iterator[Json]:
         """What was minted, as a fee of the reserve."""
         if self.minted:
-            note("mint", f"{self.place}: {coins_text(self.minted)}, a fee of the reserve {when}")
+            note("mint", f"{self.events.place}: {coins_text(self.minted)}, a fee of the reserve {when}")
             yield transaction(RESERVE, self.minted, [])
 
 
 def beginning(results: Value) -> Beginning:
     """What other modules did at the beginning of the block of these results."""
     events = results.member("begin_block_events")
-    found, minted = Beginning(events.place), Counter()
+    found, minted = Beginning(events), Counter()
     for move in moves(picked(events, BANK_KINDS)):
         if is_mint(move):
             minted.update(move.coins)
@@ -158,7 +154,7 @@ PROPOSAL = "active_proposal"
 @dataclass
 class End:
     """What other modules did at the end of a block."""
-    place: str
+    events: Value
     flows: Flows = field(default_factory=Flows)
     spends: list[Moved] = field(default_factory=list)   # of the community pool
 
@@ -174,9 +170,9 @@ class End:
 
     def transactions(self) -> Iterator[Json]:
         """What moved between other accounts, and then each spend of the pool."""
-        yield from flow_transaction(self.flows, self.place, "end-flow")
+        yield from flow_transaction(self.flows, self.events, "end-flow")
         for spend in self.spends:
-            note("pool-spend", f"{spend.place}: {coins_text(spend.coins)} of the community pool")
+            note("pool-spend", f"{spend.event.place}: {coins_text(spend.coins)} of the community pool")
             yield transaction(AUTHORITY, {}, [{"kind": "community_pool_spend", "authority": AUTHORITY.hex(),
                                                "recipient": spend.taker.hex(), "coins": coins_json(spend.coins)}])
 
@@ -184,15 +180,15 @@ class End:
 def end(results: Value) -> End:
     """What other modules did at the end of the block of these results; proposals that passed are looked at."""
     events = results.member("end_block_events")
-    found, before = End(events.place), []
-    for event in picked(events, (*BANK_KINDS, PROPOSAL)):
+    found, before = End(events), []
+    for event in picked(events, BANK_KINDS | {PROPOSAL}):
         if event.raw["type"] != PROPOSAL:
             before.append(event)
             continue
-        outcome = attribute(event, "proposal_result")
-        if outcome is None:
+        outcome = attributes(event).get("proposal_result")
+        if not isinstance(outcome, str):
             event.fail("has no proposal_result in plain text", "events")
-        is_passed = outcome.raw == "proposal_passed"
+        is_passed = outcome == "proposal_passed"
         if not found.add(before, is_passed) and is_passed:
             look("proposal", f"{event.place}: a proposal passed that moved no coins of the community pool")
         before = []

@@ -10,8 +10,8 @@ from typing import Any, Callable
 
 from node_data import (AUTHORITY, COLLECTOR, RESERVE, Coins, Value, coins_json, coins_of, coins_text, decimal_text, note,
                        stop)
-from node_events import attribute
-from node_flows import BANK_KINDS, Flows, Json, picked, transaction
+from node_events import BANK_KINDS, attribute, attributes
+from node_flows import Flows, Json, picked, transaction
 
 Places = tuple[int, ...]    # the place of a message within the message that carries it out, and so on inwards
 
@@ -169,7 +169,7 @@ class Passed:
             flows.add_event(event)
         for denom, amount in flows.take_gain(COLLECTOR).items():
             self.to_collector[denom] = self.to_collector.get(denom, 0) + amount
-        sends = flows.sends(message.place)
+        sends = flows.sends(message)
         note("foreign-message", f"{message.place}: {message.raw['@type']} stands as {len(sends)} sends")
         self.messages += sends
 
@@ -183,26 +183,28 @@ def is_within(event: Value, places: Places) -> bool:
     return told[:len(places)] == places
 
 
-TX_KINDS = (*BANK_KINDS, "message", "tx")
+TX_KINDS = BANK_KINDS | {"message", "tx"}
 IN_BASE64 = ("ZmVl", "ZmVlX3BheWVy", "YWNjX3NlcQ==", "c2lnbmF0dXJl")  # fee, fee_payer, acc_seq, signature
 
 
 def fee_of(events: list[Value]) -> tuple[bytes, Coins] | None:
     """Who paid the fee of a transaction, and how much; nothing where the chain took none and did nothing."""
     for event in events:
-        if event.raw["type"] == "tx":
-            payer, fee = attribute(event, "fee_payer"), attribute(event, "fee")
-            if payer is not None and fee is not None:
-                paid = coins_of(fee.text())
-                if paid is None:
-                    fee.fail(f"is no text of coins: {fee.raw!r}", "events")
-                return known(payer, payer.user()), paid
-            if any(attribute(event, key) for key in IN_BASE64):
-                event.fail("has its keys in base64, as before CometBFT 0.37", "events")
+        if event.raw["type"] != "tx":
+            continue
+        told = attributes(event)
+        if "fee_payer" in told:
+            paid = coins_of(fee) if isinstance(fee := told.get("fee"), str) else None
+            if paid is None:
+                event.fail(f"has no text of coins as its fee: {fee!r}", "events")
+            payer = attribute(event, "fee_payer")
+            return known(payer, payer.user()), paid
+        if not told.keys().isdisjoint(IN_BASE64):
+            event.fail("has its keys in base64, as before CometBFT 0.37", "events")
     return None
 
 
-def check_ante(events: list[Value], paid: tuple[bytes, Coins] | None, place: str) -> None:
+def check_ante(events: list[Value], paid: tuple[bytes, Coins] | None, result: Value) -> None:
     """What comes before the messages may move the fee, and nothing else."""
     flows = Flows()
     for event in events:
@@ -210,8 +212,9 @@ def check_ante(events: list[Value], paid: tuple[bytes, Coins] | None, place: str
     if paid:
         flows.add(paid[0], paid[1], 1)
         flows.add(COLLECTOR, paid[1], -1)
-    if moved := {who.hex() for (who, _), amount in flows.net.items() if amount}:
-        stop("ante-flow", f"{place}: before the messages more than the fee moved, at {', '.join(sorted(moved))}")
+    if any(flows.net.values()):
+        moved = sorted({account.hex() for (account, _), amount in flows.net.items() if amount})
+        result.fail(f"moves more than the fee before its messages, at {', '.join(moved)}", "ante-flow")
 
 
 def split(messages: list[Value], events: list[Value]) -> list[list[Value]]:
@@ -230,7 +233,7 @@ def split(messages: list[Value], events: list[Value]) -> list[list[Value]]:
 
 def is_action(event: Value, kind: str) -> bool:
     """Whether the events of a message of this type begin here."""
-    return event.raw["type"] == "message" and (action := attribute(event, "action")) is not None and action.raw == kind
+    return event.raw["type"] == "message" and attributes(event).get("action") == kind
 
 
 def transactions(tx: Value, result: Value) -> list[Json]:
@@ -243,14 +246,14 @@ def transactions(tx: Value, result: Value) -> list[Json]:
     if paid and (asked := info.at("fee.amount").coins()) != paid[1]:
         info.at("fee.amount").fail(f"is {coins_text(asked)}, and {coins_text(paid[1])} was paid", "fee")
     if code:
-        check_ante(events, paid, result.place)
+        check_ante(events, paid, result)
         note("failed", f"{tx.place}: code {code}")
         return [transaction(*(paid or (RESERVE, {})), [])]
     if paid is None:
         result.fail("passed, and has no event `tx` that tells the fee", "events")
     messages = tx.at("body.messages").elements()
     ante, *parts = split(messages, events)
-    check_ante(ante, paid, result.place)
+    check_ante(ante, paid, result)
     passed = Passed([], {})
     for message, part in zip(messages, parts):
         passed.add(message, part)
