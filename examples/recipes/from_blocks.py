@@ -22,7 +22,7 @@ import shutil
 import sys
 import tempfile
 import time
-from typing import Any, Iterator
+from typing import Any, Iterable, Iterator, TextIO
 
 from node_answers import Answers, Folder, Pages
 from node_data import Value, look, moment_text, run, stop, told
@@ -181,24 +181,45 @@ def arguments() -> argparse.Namespace:
     return words
 
 
+def watched(texts: Iterator[str], most: int) -> Iterator[str]:
+    """The same lines; each thousandth tells how far it is."""
+    began = time.monotonic()
+    for count, text in enumerate(texts, 1):
+        yield text
+        if count % 1000 == 0:
+            speed = count / (time.monotonic() - began)
+            print(f"from_blocks.py: {count} of {most} blocks, {speed:.0f} a second", file=sys.stderr)
+
+
+def write(texts: Iterable[str], sink: TextIO) -> None:
+    """Writes lines; what the disk refuses ends the recipe."""
+    try:
+        for text in texts:
+            sink.write(text + "\n")
+        sink.flush()
+    except BrokenPipeError:
+        raise
+    except OSError as fault:
+        stop("file", f"what is written: {fault.strerror}")
+
+
 def main() -> None:
-    gc.disable()  # answers have no cycles, and looking for them takes a third of the time
     words = arguments()
     folder = Folder(words.folder)
     first, last = words.heights or folder.heights()
-    began, sink = time.monotonic(), sys.stdout if words.at_once else tempfile.TemporaryFile("w+")
-    for height, text in enumerate(lines(folder, first, last), first):
-        print(text, file=sink)
-        if (count := height - first + 1) % 1000 == 0:
-            speed = count / (time.monotonic() - began)
-            print(f"from_blocks.py: {count} of {last - first + 1} blocks, {speed:.0f} a second", file=sys.stderr)
-    if not words.at_once:
-        sink.seek(0)
-        shutil.copyfileobj(sink, sys.stdout)
+    texts = watched(lines(folder, first, last), last - first + 1)
+    if words.at_once:
+        write(texts, sys.stdout)
+    else:
+        with tempfile.TemporaryFile("w+") as held:
+            write(texts, held)
+            held.seek(0)
+            shutil.copyfileobj(held, sys.stdout)
     for (word, code), count in sorted(told.items()):
         if word == "note":
             print(f"total {code} {count}", file=sys.stderr)
 
 
 if __name__ == "__main__":
+    gc.disable()    # answers have no cycles, and looking for some takes a third of the time
     run(main)

@@ -16,6 +16,7 @@ from typing import Any, Callable
 
 from node_data import Prefix, Value, read_answer, read_document, stop
 
+BLOCK_VERSION = "11"
 _BLOCK_FILE = re.compile(r"block_([1-9][0-9]{0,18})\.json")
 
 
@@ -88,6 +89,8 @@ class Folder:
         if not os.path.exists(path):
             return None
         results = read_answer(path, self.prefix)
+        if results.has("finalize_block_events"):
+            results.fail("is an answer of CometBFT 0.38 or a later one, not of 0.37", "version")
         told = results.member("height")
         if told.number() != height:
             told.fail(f"is {told.raw}, not {height}", "results")
@@ -96,17 +99,19 @@ class Folder:
     def answers(self, height: int, results: Value | None) -> Answers:
         """What there is of a block, whose results were read before."""
         answer = read_answer(self.there("block", height), self.prefix)
+        if results is None:
+            stop("height", f"block_results_{height}.json: is missing")
         block, block_hash = answer.member("block"), answer.at("block_id.hash").text()
         is_first = self.follow(height, block.member("header"), block_hash)
-        if results is None:
-            self.there("block_results", height)
-        assert results is not None
         validators = Pages([]) if is_first else self.validators(height - 1)
         return Answers(height, block, results, validators, self.transactions(height, block_hash))
 
     def follow(self, height: int, header: Value, block_hash: str) -> bool:
         """Holds a block against the one before it; whether it is the first of its chain."""
         told, chain, before = header.member("height"), header.member("chain_id"), header.at("last_block_id.hash")
+        version = header.at("version.block")
+        if version.raw != BLOCK_VERSION:
+            version.fail(f"is {version.raw}, not {BLOCK_VERSION}, which CometBFT 0.37 writes", "version")
         if told.number() != height:
             told.fail(f"is {told.raw}, not {height}", "height")
         if chain.text() != (self.chain_id or chain.raw):

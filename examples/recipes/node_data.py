@@ -270,11 +270,12 @@ class Value:
 
     def member(self, name: str) -> Value:
         """The member of an object, which must be there."""
-        if not isinstance(self.raw, dict):
-            self.fail("is no object")
-        if name not in self.raw:
+        try:
+            return Value(self.raw[name], self.prefix, name, self)
+        except (KeyError, TypeError):
+            if not isinstance(self.raw, dict):
+                self.fail("is no object")
             Value(None, self.prefix, name, self).fail("is missing")
-        return Value(self.raw[name], self.prefix, name, self)
 
     def at(self, path: str) -> Value:
         """The member at the end of names that are joined by points."""

@@ -6,7 +6,7 @@ from __future__ import annotations
 from collections import Counter
 from typing import Any, Iterator, NamedTuple
 
-from node_data import COLLECTOR, MODULE_ACCOUNTS, Coins, Value, coins_of
+from node_data import COLLECTOR, MODULE_ACCOUNTS, MOST_WHOLE, Coins, Value, coins_of
 
 
 class Moved(NamedTuple):
@@ -52,6 +52,8 @@ def bank_event(event: Value) -> tuple[str, bytes, Coins] | None:
     coins = coins_of(amount)
     if coins is None:
         event.fail(f"has no text of coins as its amount: {amount!r}", "events")
+    if coins and max(coins.values()) > MOST_WHOLE:
+        event.fail(f"has an amount above 10^18: {amount}", "limit")
     known = event.prefix.seen.get(("", account))
     return kind, attribute(event, role).account() if known is None else known, coins
 
