@@ -15,7 +15,7 @@ from __future__ import annotations
 
 import argparse
 
-from node_data import (COLLECTOR, MODULE_ACCOUNTS, RESERVE, Coins, Value, coins_text, look, note, read_answer,
+from node_data import (COLLECTOR, MODULE_ACCOUNTS, RESERVE, Coins, Value, coins_text, is_denom, look, note, read_answer,
                        read_document, run, stop)
 from node_events import minted
 from node_export import read_balances, read_export
@@ -41,6 +41,8 @@ def read_words() -> argparse.Namespace:
     if not words.genesis and not (words.store and words.head):
         reader.error("a STORE and --head BLOCK are needed, or --genesis")
     words.reserve = [denom for denom in words.reserve.split(",") if denom]
+    if faulty := [denom for denom in words.reserve if not is_denom(denom)]:
+        reader.error(f"no denomination: {faulty[0]}")
     return words
 
 
@@ -100,7 +102,7 @@ def tell_account(entry: Value, balances: dict[bytes, Coins]) -> None:
     """Tells of one account: that it is vesting, or the plain account of another module that has coins."""
     kind = entry.member("@type").text()
     if kind.startswith("/cosmos.vesting."):
-        address = entry.at("base_vesting_account.base_account.address")
+        address = (entry.maybe("base_vesting_account") or entry).at("base_account.address")
         look("vesting-account", f"{address.text()} is a plain account here: its locks are not kept")
     elif kind == "/cosmos.auth.v1beta1.ModuleAccount":
         address = entry.at("base_account.address")
@@ -133,9 +135,8 @@ def main() -> None:
     words = read_words()
     if words.genesis:
         document = read_document(words.export)
-        line = genesis_line(document, words.power_reduction, words.reserve)
         tell_accounts(document)
-        print(line)
+        print(genesis_line(document, words.power_reduction, words.reserve))
     else:
         make_store(words)
 

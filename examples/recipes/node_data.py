@@ -77,48 +77,61 @@ def run(main: Callable[[], int | None]) -> NoReturn:
     except BrokenPipeError:
         os.dup2(os.open(os.devnull, os.O_WRONLY), 1)
         sys.exit(1)
+    except OSError as fault:
+        print(f"stop file: {fault.filename or 'the output'}: {fault.strerror}", file=sys.stderr)
+        sys.exit(2)
     sys.exit(max(status, 1 if _looked else 0))
 
 
 # ---- bech32 (BIP 173)
 
 LETTERS = "qpzry9x8gf2tvdw0s3jn54khce6mua7l"
-_VALUE_OF = {letter: value for value, letter in enumerate(LETTERS)}
+_VALUES = bytes.maketrans(LETTERS.encode(), bytes(range(32)))
+_BECH32 = re.compile(f"([!-@\\[-~]{{1,83}})1([{LETTERS}]{{6,}})")
 _GENERATOR = 0x3B6A57B2, 0x26508E6D, 0x1EA119FA, 0x3D4233DD, 0x2A1462B3
 
 
-def _checksum(values: list[int]) -> int:
+def _sum_of(top: int) -> int:
+    total = 0
+    for place, term in enumerate(_GENERATOR):
+        total ^= term if top >> place & 1 else 0
+    return total
+
+
+_SUMS = [_sum_of(top) for top in range(32)]
+
+
+def _checksum(values: bytes) -> int:
     check = 1
     for value in values:
-        top, check = check >> 25, (check & 0x1FFFFFF) << 5 ^ value
-        for place, term in enumerate(_GENERATOR):
-            check ^= term if top >> place & 1 else 0
+        check = (check & 0x1FFFFFF) << 5 ^ value ^ _SUMS[check >> 25]
     return check
 
 
-def _expanded(prefix: str) -> list[int]:
-    return [ord(letter) >> 5 for letter in prefix] + [0] + [ord(letter) & 31 for letter in prefix]
+@functools.lru_cache(maxsize=64)
+def _expanded(prefix: str) -> bytes:
+    return bytes([ord(letter) >> 5 for letter in prefix] + [0] + [ord(letter) & 31 for letter in prefix])
+
+
+def _fives(number: int, count: int) -> bytes:
+    return bytes(number >> 5 * place & 31 for place in reversed(range(count)))
 
 
 def bech32(prefix: str, address: bytes) -> str:
     """The text of an address."""
     bits = int.from_bytes(address, "big") << -len(address) * 8 % 5
-    count = -(-len(address) * 8 // 5)
-    values = [bits >> 5 * place & 31 for place in reversed(range(count))]
-    check = _checksum(_expanded(prefix) + values + [0] * 6) ^ 1
-    values += [check >> 5 * place & 31 for place in reversed(range(6))]
+    values = _fives(bits, -(-len(address) * 8 // 5))
+    values += _fives(_checksum(_expanded(prefix) + values + bytes(6)) ^ 1, 6)
     return prefix + "1" + "".join(LETTERS[value] for value in values)
 
 
 @functools.lru_cache(maxsize=1 << 16)
 def from_bech32(text: str) -> tuple[str, bytes] | None:
     """The prefix and the bytes of a text; nothing where it is no bech32 in small letters."""
-    prefix, mark, rest = text.rpartition("1")
-    if not mark or not prefix or len(rest) < 6 or len(text) > 1023 or any(not "!" <= letter <= "~" for letter in prefix):
+    found = _BECH32.fullmatch(text)
+    if not found:
         return None
-    if text != text.lower() or any(letter not in _VALUE_OF for letter in rest):
-        return None
-    values = [_VALUE_OF[letter] for letter in rest]
+    prefix, values = found[1], found[2].encode().translate(_VALUES)
     if _checksum(_expanded(prefix) + values) != 1:
         return None
     count, bits = len(values) - 6, 0
@@ -150,6 +163,7 @@ RESERVE = hash_address(b"stakeplay/reserve")    # holds what other modules of th
 class Prefix:
     """The chain's bech32 prefix: where it is not told, that of the first address which is read."""
     account: str | None = None
+    tells_long: bool = True     # whether a person must look at an address that is cut
 
     def bytes_of(self, text: str, kind: str = "") -> bytes | None:
         """The bytes of the text of an address; its kind is empty, `valoper` or `valcons`. Nothing where it has another."""
@@ -219,6 +233,11 @@ def moment_text_of_state(moment: int) -> str:
     while part.endswith("000"):
         part = part[:-3]
     return f"{_second_text(moment)}{'.' if part else ''}{part}Z"
+
+
+def is_denom(text: str) -> bool:
+    """Whether a text is a denomination."""
+    return bool(_DENOM.fullmatch(text))
 
 
 def coins_of(text: str) -> Coins | None:
@@ -376,7 +395,7 @@ class Value:
             self.fail(f"is no bech32 text of {prefix} and 20 or 32 bytes: {self.raw}", "address")
         if len(address) == 32:
             address = hash_address(address)
-            look("long-address", f"{self.place}: {self.raw} has 32 bytes; {address.hex()} stands for it")
+            (look if self.prefix.tells_long else note)("long-address", f"{self.place}: {self.raw} has 32 bytes; {address.hex()} stands for it")
         elif address in CHAIN_OF_HERE:
             self.fail(f"has the bytes that stand for a module here: {self.raw}", "address")
         return HERE_OF_CHAIN.get(address, address)
@@ -420,7 +439,7 @@ class Value:
 
     def denom(self) -> str:
         """A denomination."""
-        if not _DENOM.fullmatch(self.text()):
+        if not is_denom(self.text()):
             self.fail(f"is no denomination: {self.raw!r}")
         return self.raw
 

@@ -8,7 +8,7 @@ from __future__ import annotations
 from collections import Counter
 from typing import Iterable, NoReturn
 
-from node_data import BONDED, DISTRIBUTION, NOT_BONDED, ONE, RESERVE, Coins, Value, coins_text, look, stop
+from node_data import BONDED, DISTRIBUTION, NOT_BONDED, ONE, RESERVE, SECOND, Coins, Value, coins_text, look, stop
 from node_export import Export, powers_of
 from node_state import BONDED_STATUS, UNBONDED_STATUS, Entry, Params, Signing, State, Validator
 
@@ -16,7 +16,7 @@ MOST_HEIGHT = 2 ** 63 - 1
 MOST_SECONDS = 10 ** 9
 MOST_PERIOD = 10 ** 18
 MOST_ENTRIES = 100
-LAST_MOMENT = 250_249_910_400 * 10 ** 9   # the beginning of the year 9900
+END_OF_BLOCKS = 250_246_627_200 * SECOND   # the year 9900
 STAKE_MARGIN = 3                          # by so many units of 10^-18 the chain lets a stake be above its shares' worth
 FRACTIONS = "min_commission_rate community_tax min_signed_per_window slash_fraction_double_sign slash_fraction_downtime".split()
 RANGES = {
@@ -33,7 +33,7 @@ def ask_ranges(params: Params, time: int, name: str) -> None:
         if not least <= value <= most:
             unit = " units of 10^-18" if param in FRACTIONS else ""
             stop("range", f"{name}: {param} is {value}{unit}, and not from {least} to {most}")
-    if time >= LAST_MOMENT:
+    if time >= END_OF_BLOCKS:
         stop("limit", f"{name}: the time is past the year 9899")
 
 

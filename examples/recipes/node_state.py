@@ -13,13 +13,14 @@ import tempfile
 from dataclasses import dataclass, field, fields
 from typing import Any, Callable, Iterator
 
-from node_data import Coins, stop
+from node_data import SECOND, Coins, stop
 
 Address = bytes           # 20 bytes
 Denom = str               # a byte of length and its letters
 Byte = int
 Short = int               # 8 bytes: a height, a period, a number that is counted
-Wide = int                # 16 bytes: an amount, the units of a decimal, a time, a count of references
+Wide = int                # 16 bytes: an amount, the units of a decimal, a count of references
+Moment = int              # 16 bytes: nanoseconds since 1970
 Status = int              # 1 byte: the place in STATUSES
 Ring = list[bool]         # a length, and eight places in a byte
 Row = tuple[bytes, bytes]
@@ -27,6 +28,7 @@ Row = tuple[bytes, bytes]
 STATUSES = "BOND_STATUS_BONDED", "BOND_STATUS_UNBONDING", "BOND_STATUS_UNBONDED"
 BONDED_STATUS, UNBONDING_STATUS, UNBONDED_STATUS = range(3)
 ROW_FORM = 1              # the first byte of the head's row
+END_OF_TIME = 253_402_300_800 * SECOND     # the year 10000
 
 
 @dataclass
@@ -34,7 +36,7 @@ class Head:
     """The last block."""
     form: Byte
     height: Short
-    time: Wide
+    time: Moment
 
 
 @dataclass
@@ -69,17 +71,17 @@ class Validator:
     rate: Wide
     max_rate: Wide
     max_change_rate: Wide
-    update_time: Wide
+    update_time: Moment
     min_self_delegation: Wide
     unbonding_height: Short
-    unbonding_time: Wide
+    unbonding_time: Moment
 
 
 @dataclass
 class Entry:
     """A part of an unbonding, or of a redelegation; what is left of it is a balance, or shares."""
     created: Short
-    completes: Wide
+    completes: Moment
     initial: Wide
     left: Wide
 
@@ -90,7 +92,7 @@ class Signing:
     start: Short
     counted: Short
     missed: Short
-    jailed_until: Wide
+    jailed_until: Moment
     tombstoned: bool
     ring: Ring
 
@@ -210,6 +212,13 @@ def _below(bound: int) -> Callable[[Bytes], int]:
     return read
 
 
+def _read_moment(data: Bytes) -> int:
+    moment = data.number(16)
+    if moment >= END_OF_TIME:
+        raise BadRow
+    return moment
+
+
 def _write_denom(denom: str) -> bytes:
     return bytes([len(denom)]) + denom.encode("ascii")
 
@@ -244,6 +253,7 @@ def _read_ring(data: Bytes) -> list[bool]:
 SPELLINGS: dict[str, tuple[Callable[[Any], bytes], Callable[[Bytes], Any]]] = {
     "Address": (bytes, lambda data: data.take(20)),
     "Byte": _number(1), "Short": _number(8), "Wide": _number(16),
+    "Moment": (_number(16)[0], _read_moment),
     "Status": (lambda status: bytes([status]), _below(3)),
     "bool": (lambda truth: bytes([truth]), lambda data: bool(_below(2)(data))),
     "Denom": (_write_denom, _read_denom),
@@ -287,7 +297,7 @@ def state_of(rows: dict[bytes, bytes]) -> State:
         data = Bytes(rows.get(bytes([first]), b"\0\0\0\0" if first == POOL else b""))
         single[first] = _read_body(form, data)
         data.end()
-    if single[HEAD].form != ROW_FORM:
+    if single[HEAD].form != ROW_FORM or not single[PARAMS].power_reduction:
         raise BadRow
     state = State(single[HEAD].height, single[HEAD].time, single[PARAMS], single[POOL])
     for name, body in rows.items():
