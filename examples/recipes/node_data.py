@@ -18,7 +18,7 @@ import os
 import re
 import sys
 from collections import Counter
-from dataclasses import dataclass
+from dataclasses import dataclass, field
 from datetime import datetime, timedelta
 from typing import Any, Callable, NoReturn
 
@@ -164,6 +164,7 @@ class Prefix:
     """The chain's bech32 prefix: where it is not told, that of the first address which is read."""
     account: str | None = None
     tells_long: bool = True     # whether a person must look at an address that is cut
+    seen: dict[tuple[str, str], bytes] = field(default_factory=dict, repr=False)  # addresses of 20 bytes that were read
 
     def bytes_of(self, text: str, kind: str = "") -> bytes | None:
         """The bytes of the text of an address; its kind is empty, `valoper` or `valcons`. Nothing where it has another."""
@@ -242,13 +243,15 @@ def is_denom(text: str) -> bool:
 
 def coins_of(text: str) -> Coins | None:
     """The coins of a text as `12aaa,345uatom`; an empty one has none. A denomination that stands twice is added up."""
-    coins: Counter[str] = Counter()
-    for part in text.split(",") if text else []:
+    coins: Coins = {}
+    for part in text.split(",") if text else ():
         found = _COIN.fullmatch(part)
         if not found:
             return None
-        coins[found[2]] += int(found[1])
-    return {denom: amount for denom, amount in coins.items() if amount}
+        amount, denom = found.groups()
+        if amount := int(amount):
+            coins[denom] = coins.get(denom, 0) + amount
+    return coins
 
 
 def coins_text(coins: Coins) -> str:
@@ -389,16 +392,22 @@ class Value:
 
     def account(self, kind: str = "") -> bytes:
         """The address of an account, or with the kind `valoper` of an operator; one of 32 bytes is cut, and told."""
-        address = self.prefix.bytes_of(self.text(), kind)
+        prefix, key = self.prefix, (kind, self.text())
+        if (seen := prefix.seen.get(key)) is not None:
+            return seen
+        address = prefix.bytes_of(self.raw, kind)
         if address is None:
-            prefix = f"{self.prefix.account or ''}{kind}1.."
-            self.fail(f"is no bech32 text of {prefix} and 20 or 32 bytes: {self.raw}", "address")
+            self.fail(f"is no bech32 text of {prefix.account or ''}{kind}1.. and 20 or 32 bytes: {self.raw}", "address")
         if len(address) == 32:
             address = hash_address(address)
-            (look if self.prefix.tells_long else note)("long-address", f"{self.place}: {self.raw} has 32 bytes; {address.hex()} stands for it")
-        elif address in CHAIN_OF_HERE:
+            (look if prefix.tells_long else note)(
+                "long-address", f"{self.raw} has 32 bytes; {address.hex()} stands for it")
+            return address
+        if address in CHAIN_OF_HERE:
             self.fail(f"has the bytes that stand for a module here: {self.raw}", "address")
-        return HERE_OF_CHAIN.get(address, address)
+        if len(prefix.seen) >= 1 << 16:
+            prefix.seen.clear()
+        return prefix.seen.setdefault(key, HERE_OF_CHAIN.get(address, address))
 
     def user(self, kind: str = "") -> bytes:
         """The address of an account that is none of the four modules'."""
@@ -466,11 +475,14 @@ def _refuse_constant(name: str) -> NoReturn:
     raise ValueError(f"{name} is no number of JSON")
 
 
+_DECODER = json.JSONDecoder(parse_constant=_refuse_constant)
+
+
 def read_document(path: str, prefix: Prefix | None = None) -> Value:
     """The document of a file."""
     try:
-        with open(path, encoding="utf-8") as file:
-            raw = json.load(file, parse_constant=_refuse_constant)
+        with open(path, "rb") as file:
+            raw = _DECODER.decode(file.read().decode())
     except OSError as fault:
         stop("file", f"{path}: {fault.strerror}")
     except (ValueError, RecursionError) as fault:

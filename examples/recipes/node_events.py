@@ -4,19 +4,17 @@ take a chain's own data.
 from __future__ import annotations
 
 from collections import Counter
-from dataclasses import dataclass
-from typing import Iterator
+from typing import Any, Iterator, NamedTuple
 
-from node_data import COLLECTOR, MODULE_ACCOUNTS, Coins, Value, coins_of, stop
+from node_data import COLLECTOR, MODULE_ACCOUNTS, Coins, Value, coins_of
 
 
-@dataclass(frozen=True)
-class Moved:
+class Moved(NamedTuple):
     """Coins that went from one account to another; from nowhere where they were minted, to nowhere where burned."""
     giver: bytes | None
     taker: bytes | None
     coins: Coins
-    place: str
+    event: Value    # the second of the two that tell it
 
 
 def attribute(event: Value, key: str) -> Value | None:
@@ -32,44 +30,53 @@ def attribute(event: Value, key: str) -> Value | None:
     return None
 
 
+def attributes(event: Value) -> dict[str, Any]:
+    """The values of an event's attributes, of each key the first."""
+    try:
+        return {pair["key"]: pair["value"] for pair in reversed(event.raw["attributes"])}
+    except (KeyError, TypeError):   # none, or one that is not of its form
+        pairs = event.member("attributes").elements(or_null=True)
+        return {pair.member("key").text(): pair.member("value").raw for pair in reversed(pairs)}
+
+
 BANK_EVENTS = {"coin_spent": "spender", "coin_received": "receiver", "coinbase": "minter", "burn": "burner"}
+BANK_KINDS = frozenset(BANK_EVENTS)
 
 
 def bank_event(event: Value) -> tuple[str, bytes, Coins] | None:
     """The type, account and coins of an event that tells a change of a balance; nothing of another event."""
-    kind = event.member("type").text()
+    kind = event.raw.get("type") if isinstance(event.raw, dict) else None
+    if not isinstance(kind, str):
+        event.member("type").text()     # refuses it
     if kind not in BANK_EVENTS:
         return None
-    account, amount = attribute(event, BANK_EVENTS[kind]), attribute(event, "amount")
-    if account is None or amount is None:
-        event.fail(f"has no {BANK_EVENTS[kind]} or no amount in plain text", "events")
-    coins = coins_of(amount.text())
+    role, told = BANK_EVENTS[kind], attributes(event)
+    account, amount = told.get(role), told.get("amount")
+    if not isinstance(account, str) or not isinstance(amount, str):
+        event.fail(f"has no {role} or no amount in plain text", "events")
+    coins = coins_of(amount)
     if coins is None:
-        amount.fail(f"is no text of coins: {amount.raw!r}", "events")
-    return kind, account.account(), coins
+        event.fail(f"has no text of coins as its amount: {amount!r}", "events")
+    known = event.prefix.seen.get(("", account))
+    return kind, attribute(event, role).account() if known is None else known, coins
+
+
+PAIRS = {("coin_spent", "coin_received"), ("coin_received", "coinbase"), ("coin_spent", "burn")}
 
 
 def moves(events: list[Value]) -> Iterator[Moved]:
     """The pairs of events of a block's beginning or end: who gave which coins to whom."""
-    pairs = {("coin_spent", "coin_received"), ("coin_received", "coinbase"), ("coin_spent", "burn")}
-    first: tuple[str, bytes, Coins] | None = None
-    for event in events:
-        second = bank_event(event)
-        if second is None:
-            continue
-        if first is None:
-            first = second
-            continue
-        kind = first[0], second[0]
-        if kind not in pairs or first[2] != second[2] or kind[0] != "coin_spent" and first[1] != second[1] \
-                or kind[1] == "burn" and first[1] != second[1]:
-            event.fail(f"is {second[0]}, and no pair with the {first[0]} before it", "events")
-        giver = first[1] if kind[0] == "coin_spent" else None
-        yield Moved(giver, second[1] if kind[1] == "coin_received" else first[1] if giver is None else None,
-                    first[2], event.place)
-        first = None
-    if first is not None:
-        stop("events", f"{events[-1].place}: a {first[0]} before it has no pair")
+    told = [(event, found) for event in events if (found := bank_event(event))]
+    for (_, first), (event, second) in zip(told[::2], told[1::2]):
+        (kind, account, coins), (other_kind, other, other_coins) = first, second
+        is_pair = (kind, other_kind) in PAIRS and coins == other_coins
+        if not is_pair or other_kind != "coin_received" and account != other:
+            event.fail(f"is {other_kind}, and no pair with the {kind} before it", "events")
+        giver, taker = None if other_kind == "coinbase" else account, None if other_kind == "burn" else other
+        yield Moved(giver, taker, coins, event)
+    if len(told) % 2:
+        event, (kind, _, _) = told[-1]
+        event.fail(f"is {kind}, and has no pair", "events")
 
 
 def is_mint(move: Moved) -> bool:
