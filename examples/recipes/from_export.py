@@ -3,10 +3,10 @@
 
 Who wants it: whoever has a node of a chain of Cosmos SDK v0.47, and wants its accounts here from some height on.
 One command:  python3 from_export.py export.json chain.db --head block_1000.json
-EXPORT is what `simd export --height N` wrote, BLOCK the node's answer to /block?height=N, since an export has no time of
-its last block. With --next, the answer to /block_results?height=N+1, the coins that are minted at the beginning of the
-next block are paid ahead. --reserve names the denominations whose coins other modules make or burn: for these an account
-holds what lacks to a supply of 10^18. `to_export.py` writes such an export of a store, which is read here too.
+EXPORT is what `simd export --height N` wrote, BLOCK the node's answer to /block?height=N, since an export has no time
+of its last block. With --next, the answer to /block_results?height=N+1, the coins that are minted at the beginning of
+the next block are paid ahead. --reserve names the denominations whose coins other modules make or burn: of these an
+account, the reserve, holds what lacks to a supply of 10^18. What `to_export.py` writes of a store is read here too.
     python3 from_export.py genesis.json --genesis > genesis.jsonl
 What is told on standard error: `note`, something became something else; `look`, a person must look at this point.
 Status: 0, or 1 after a `look`, or 2 where the input is refused: then nothing is written.
@@ -31,7 +31,8 @@ def read_words() -> argparse.Namespace:
     reader.add_argument("store", metavar="STORE", nargs="?", help="the file of the store, which must not be there")
     reader.add_argument("--head", metavar="BLOCK", help="the node's /block of the last height")
     reader.add_argument("--next", metavar="RESULTS", help="the node's /block_results of the height behind it")
-    reader.add_argument("--reserve", metavar="DENOM,..", default="", help="denominations of which the reserve holds coins")
+    reader.add_argument("--reserve", metavar="DENOM,..", default="",
+                        help="the denominations of which the reserve holds coins")
     reader.add_argument("--power-reduction", metavar="N", type=int, default=1_000_000,
                         help="the tokens of one unit of power, a constant of the chain's program (1000000)")
     reader.add_argument("--genesis", action="store_true", help="write the genesis line of a chain that has not begun")

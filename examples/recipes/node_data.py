@@ -1,11 +1,11 @@
-"""What a node of a Cosmos SDK chain writes: its spellings, read and written, for the recipes that take a chain's own data.
+"""What a node of a Cosmos SDK chain writes: its spellings, read and written, for recipes that take a chain's own data.
 
-`Value` walks a JSON document and knows where it stands: what is missing or not of its form ends the recipe with one line
-that names the file and the member. Addresses are bytes here, amounts and times (nanoseconds since 1970) whole numbers,
-decimals whole numbers of units of 10^-18, coins a dictionary from denomination to one of both.
+`Value` walks a JSON document and knows where it stands: what is missing or not of its form ends the recipe with one
+line that names the file and the member. Addresses are bytes here, amounts and times (nanoseconds since 1970) whole
+numbers, decimals whole numbers of units of 10^-18, coins a dictionary from denomination to one of both.
 
-What is told goes to standard error, a line each: `note` (something was turned into something else), `look` (a person must
-look; the recipe ends with status 1), `stop` (refused, status 2, nothing is written).
+What is told goes to standard error, a line each: `note` (something was turned into something else), `look` (a person
+must look; the recipe ends with status 1), `stop` (refused, status 2, nothing is written).
 """
 from __future__ import annotations
 
@@ -146,7 +146,7 @@ def from_bech32(text: str) -> tuple[str, bytes] | None:
 # ---- addresses
 
 def hash_address(text: bytes) -> bytes:
-    """The first 20 bytes of SHA-256: how the address of a module comes of its name, and of an ed25519 key of its bytes."""
+    """The first 20 bytes of SHA-256: of a module's name its address, and of the bytes of an ed25519 key its own."""
     return hashlib.sha256(text).digest()[:20]
 
 
@@ -167,7 +167,7 @@ class Prefix:
     seen: dict[tuple[str, str], bytes] = field(default_factory=dict, repr=False)  # addresses of 20 bytes that were read
 
     def bytes_of(self, text: str, kind: str = "") -> bytes | None:
-        """The bytes of the text of an address; its kind is empty, `valoper` or `valcons`. Nothing where it has another."""
+        """The bytes of an address's text, whose kind is empty, `valoper` or `valcons`; nothing of another text."""
         prefix, address = from_bech32(text) or ("", b"")
         if not prefix.endswith(kind) or len(address) not in (20, 32):
             return None

@@ -5,7 +5,7 @@ import json
 from dataclasses import dataclass, fields
 from typing import Any
 
-from node_data import (CHAIN_OF_HERE, COLLECTOR, BONDED, DISTRIBUTION, MOST_WHOLE, NOT_BONDED, ONE, RESERVE, Coins,
+from node_data import (BONDED, CHAIN_OF_HERE, COLLECTOR, DISTRIBUTION, MOST_WHOLE, NOT_BONDED, ONE, RESERVE, Coins,
                        Value, coins_json, coins_text, decimal_text, look, moment_text, stop)
 from node_export import keyed, read_balances, read_params, read_validator
 from node_sound import FRACTIONS, ask_ranges, commission_fault
@@ -95,7 +95,8 @@ class Genesis:
             value.fail("has no delegation", "shares")
         if validator.update_time != self.time:
             look("update-time", f"{value.place}.commission.update_time is not the genesis time, which the line takes")
-        self.add_validator(value, operator, Founder(**{part.name: getattr(validator, part.name) for part in fields(Founder)}))
+        founder = Founder(**{part.name: getattr(validator, part.name) for part in fields(Founder)})
+        self.add_validator(value, operator, founder)
         return validator.shares
 
     def ask_not_bonded(self) -> None:
@@ -134,9 +135,9 @@ class Genesis:
         operator = message.member("validator_address").operator()
         if operator in self.validators:
             message.fail("creates a validator that is there already", "gen-tx")
-        rates = {name: message.member("commission").member(name).decimal() for name in ("rate", "max_rate", "max_change_rate")}
-        self.add_validator(message, operator, Founder(message.member("pubkey").key_address(), **rates,
-                                                      min_self_delegation=message.member("min_self_delegation").amount()))
+        rates = [message.at(f"commission.{name}").decimal() for name in ("rate", "max_rate", "max_change_rate")]
+        founder = Founder(message.member("pubkey").key_address(), *rates, message.member("min_self_delegation").amount())
+        self.add_validator(message, operator, founder)
         self.delegate(message.member("value"), operator)
 
     def delegate(self, value: Value, operator: bytes) -> None:
@@ -181,7 +182,7 @@ def ask_not_begun(document: Value, balances: dict[bytes, Coins]) -> None:
         pool.fail("is not empty", "in-flight")
     for account in (COLLECTOR, BONDED, DISTRIBUTION):
         if balances.get(account):
-            app_state.at("bank.balances").fail(f"has coins of the module {document.prefix.text_of(account)}", "in-flight")
+            app_state.at("bank.balances").fail(f"has coins of {document.prefix.text_of(account)}, a module", "in-flight")
 
 
 def params_json(params: Params) -> dict[str, Any]:

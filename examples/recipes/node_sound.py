@@ -18,7 +18,8 @@ MOST_PERIOD = 10 ** 18
 MOST_ENTRIES = 100
 END_OF_BLOCKS = 250_246_627_200 * SECOND   # the year 9900
 STAKE_MARGIN = 3                          # by so many units of 10^-18 the chain lets a stake be above its shares' worth
-FRACTIONS = "min_commission_rate community_tax min_signed_per_window slash_fraction_double_sign slash_fraction_downtime".split()
+FRACTIONS = ("min_commission_rate", "community_tax", "min_signed_per_window", "slash_fraction_double_sign",
+             "slash_fraction_downtime")
 RANGES = {
     "power_reduction": (1, 10 ** 18), "unbonding_time": (1, MOST_SECONDS), "max_validators": (1, 1000),
     "max_entries": (1, 100), "signed_blocks_window": (1, 100_000), "downtime_jail_duration": (0, MOST_SECONDS),
@@ -94,7 +95,8 @@ class Judge:
 
     def fail_start(self, code: str, key: tuple[bytes, bytes], what: str) -> NoReturn:
         operator, delegator = key
-        self.fail(code, f"distribution.delegator_starting_infos[{self.account(delegator)}/{self.operator(operator)}]", what)
+        names = f"{self.account(delegator)}/{self.operator(operator)}"
+        self.fail(code, f"distribution.delegator_starting_infos[{names}]", what)
 
     def fail_historical(self, code: str, key: tuple[bytes, int], what: str) -> NoReturn:
         self.fail(code, f"distribution.validator_historical_rewards[{self.operator(key[0])}/{key[1]}]", what)
@@ -138,7 +140,7 @@ class Judge:
             shares[operator] += amount
         for operator, validator in self.state.validators.items():
             if shares[operator] != validator.shares or validator.tokens and not validator.shares:
-                self.fail_validator("shares", operator, "has not the shares of its delegations, or tokens without shares")
+                self.fail_validator("shares", operator, "has not the shares of its delegations, or tokens and no shares")
 
     def ask_entries(self) -> None:
         """Entries are no more than they began with, and were made at a height that was."""
@@ -216,7 +218,8 @@ class Judge:
             is_before = period < self.state.periods.get(operator, 0)
             is_later = last is None or last[0] != operator or last[1] < period
             if fraction > ONE or height > self.state.height or not is_before or not is_later:
-                self.fail("slash-event", f"distribution.validator_slash_events[{self.operator(operator)}/{height}/{period}]",
+                names = f"{self.operator(operator)}/{height}/{period}"
+                self.fail("slash-event", f"distribution.validator_slash_events[{names}]",
                           "takes more than all, or is above the last height, or its period is not in its place")
             last = operator, period
 

@@ -88,7 +88,7 @@ class Entry:
 
 @dataclass
 class Signing:
-    """The signing record of a consensus address; the ring has a place for each vote of the window, true where missed."""
+    """The signing record of a consensus address; its ring has a place for each vote of the window, true where missed."""
     start: Short
     counted: Short
     missed: Short
@@ -153,7 +153,7 @@ class State:
 
 
 HEAD, PARAMS, POOL = 0x01, 0x02, 0x41
-TABLES: dict[int, tuple[str, tuple[str, ...], Any]] = {  # by a row's first byte: its table, the fields of its key, its value
+TABLES: dict[int, tuple[str, tuple[str, ...], Any]] = {  # by the first byte: the table, the key's fields, the value
     0x10: ("balances", ("Address", "Denom"), "Wide"),
     0x11: ("supply", ("Denom",), "Wide"),
     0x20: ("validators", ("Address",), Validator),
@@ -232,7 +232,8 @@ def _write_list(elements: list[bytes]) -> bytes:
 
 
 def _write_coins(coins: Coins | None) -> bytes:
-    return _write_list([_write_denom(denom) + amount.to_bytes(16, "big") for denom, amount in sorted((coins or {}).items())])
+    return _write_list([_write_denom(denom) + amount.to_bytes(16, "big")
+                        for denom, amount in sorted((coins or {}).items())])
 
 
 def _read_coins(data: Bytes) -> Coins:
