@@ -19,29 +19,28 @@ from node_data import Prefix, read_document, run
 from node_export import Json, Writer, read_export
 from to_export import export_of
 
-VALIDATOR, DELEGATION = ("validator_address",), ("delegator_address", "validator_address")
-KEYS = {  # of the elements of each list, by its name
-    "balances": ("address",), "supply": ("denom",), "coins": ("denom",), "community_pool": ("denom",),
-    "rewards": ("denom",), "commission": ("denom",), "cumulative_reward_ratio": ("denom",),
-    "last_validator_powers": ("address",), "signing_infos": ("address",), "validators": ("operator_address",),
-    "delegations": DELEGATION, "unbonding_delegations": DELEGATION, "delegator_starting_infos": DELEGATION,
-    "redelegations": ("delegator_address", "validator_src_address", "validator_dst_address"),
-    "validator_accumulated_commissions": VALIDATOR, "validator_current_rewards": VALIDATOR,
-    "validator_historical_rewards": VALIDATOR + ("period",),
-    "validator_slash_events": VALIDATOR + ("height", "period"), "delegator_withdraw_infos": ("delegator_address",),
-}
-INNER_KEYS = {  # of a list that stands in an element of a list with its own name
-    "outstanding_rewards": (VALIDATOR, ("denom",)), "missed_blocks": (("address",), ("index",)),
+DENOM, ADDRESS, OPERATOR, VALIDATOR = ("denom",), ("address",), ("operator_address",), ("validator_address",)
+DELEGATOR = ("delegator_address",)
+KEYS = {  # by the name of a list, the members of its elements that are their key; of two, those that are there
+    "balances": [ADDRESS], "supply": [DENOM], "coins": [DENOM], "community_pool": [DENOM],
+    "validators": [OPERATOR], "last_validator_powers": [ADDRESS],
+    "delegations": [DELEGATOR + VALIDATOR], "unbonding_delegations": [DELEGATOR + VALIDATOR],
+    "redelegations": [DELEGATOR + ("validator_src_address", "validator_dst_address")],
+    "signing_infos": [ADDRESS], "missed_blocks": [ADDRESS, ("index",)],
+    "outstanding_rewards": [VALIDATOR, DENOM], "validator_accumulated_commissions": [VALIDATOR],
+    "validator_current_rewards": [VALIDATOR], "commission": [DENOM], "rewards": [DENOM],
+    "validator_historical_rewards": [VALIDATOR + ("period",)], "cumulative_reward_ratio": [DENOM],
+    "delegator_starting_infos": [DELEGATOR + VALIDATOR], "delegator_withdraw_infos": [DELEGATOR],
+    "validator_slash_events": [VALIDATOR + ("height", "period")],
 }
 
 
-def keys_of(name: str, elements: list[Json]) -> list[str]:
-    """What stands in the brackets behind a list's name, for each of its elements."""
-    outer, inner = INNER_KEYS.get(name) or (KEYS.get(name), None)
-    if outer is None:  # entries
-        return [str(place) for place in range(len(elements))]
-    return ["/".join(element[member] for member in (outer if outer[0] in element else inner or outer))
-            for element in elements]
+def key_of(name: str, place: int, element: Json) -> str:
+    """What stands in the brackets behind a list's name; of an entry it is the place."""
+    for members in KEYS.get(name, []):
+        if members[0] in element:
+            return "/".join(element[member] for member in members)
+    return str(place)
 
 
 def parts(name: str, value: Any) -> dict[str, tuple[str, Any]]:
@@ -49,29 +48,30 @@ def parts(name: str, value: Any) -> dict[str, tuple[str, Any]]:
     if isinstance(value, dict):
         return {f".{member}": (member, part) for member, part in value.items()}
     if isinstance(value, list):
-        return {f"[{key}]": (name, part) for key, part in zip(keys_of(name, value), value)}
+        return {f"[{key_of(name, place, part)}]": (name, part) for place, part in enumerate(value)}
     return {}
 
 
-def text(value: Any) -> str:
-    """A value as it is told."""
-    return "nothing" if value is None else str(value).lower() if isinstance(value, bool) else str(value)
+def told(value: Any) -> str:
+    """A value as it is told; None is what is not there."""
+    if value is None:
+        return "nothing"
+    return str(value).lower() if isinstance(value, bool) else str(value)
 
 
 def differences(path: str, name: str, chain: Any, store: Any) -> Iterator[str]:
-    """A line for each member that differs; None is what is not there."""
-    inside = isinstance(chain or store, (dict, list)) or isinstance(store, (dict, list))
-    if not inside:
+    """A line for each member that differs, and for each element or object that is not there (None) on one side."""
+    if not isinstance(chain, (dict, list)) and not isinstance(store, (dict, list)):
         if chain != store:
-            yield f"{path}: chain {text(chain)}, store {text(store)}"
+            yield f"{path}: chain {told(chain)}, store {told(store)}"
         return
     if chain is None or store is None:
         yield f"{path}: {'store' if chain is None else 'chain'} alone"
     of_chain, of_store = parts(name, chain), parts(name, store)
     for step in of_chain | of_store:
-        part_name = (of_chain.get(step) or of_store[step])[0]
-        below = path + step if path else step.lstrip(".")
-        yield from differences(below, part_name, of_chain.get(step, ("", None))[1], of_store.get(step, ("", None))[1])
+        inner, of_one = of_chain.get(step, (name, None))
+        inner, of_other = of_store.get(step, (inner, None))
+        yield from differences((path + step).lstrip("."), inner, of_one, of_other)
 
 
 def main() -> int:
@@ -81,7 +81,7 @@ def main() -> int:
     reader.add_argument("export", metavar="EXPORT", help="what `simd export` wrote of the store's height")
     reader.add_argument("--next", metavar="RESULTS", help="the node's /block_results of the block behind the store's")
     words = reader.parse_args()
-    prefix = Prefix()
+    prefix = Prefix(tells_long=False)
     of_store = export_of(words.store, words.next)
     params = of_store.state.params
     of_chain = read_export(read_document(words.export, prefix), params.power_reduction, of_store.state.time)

@@ -1,11 +1,11 @@
-"""What a node of a Cosmos SDK chain writes: its spellings, read and written, for the recipes that take a chain's own data.
+"""What a node of a Cosmos SDK chain writes: its spellings, read and written, for recipes that take a chain's own data.
 
-`Value` walks a JSON document and knows where it stands: what is missing or not of its form ends the recipe with one line
-that names the file and the member. Addresses are bytes here, amounts and times (nanoseconds since 1970) whole numbers,
-decimals whole numbers of units of 10^-18, coins a dictionary from denomination to one of both.
+`Value` walks a JSON document and knows where it stands: what is missing or not of its form ends the recipe with one
+line that names the file and the member. Addresses are bytes here, amounts and times (nanoseconds since 1970) whole
+numbers, decimals whole numbers of units of 10^-18, coins a dictionary from denomination to one of both.
 
-What is told goes to standard error, a line each: `note` (something was turned into something else), `look` (a person must
-look; the recipe ends with status 1), `stop` (refused, status 2, nothing is written).
+What is told goes to standard error, a line each: `note` (something was turned into something else), `look` (a person
+must look; the recipe ends with status 1), `stop` (refused, status 2, nothing is written).
 """
 from __future__ import annotations
 
@@ -77,48 +77,61 @@ def run(main: Callable[[], int | None]) -> NoReturn:
     except BrokenPipeError:
         os.dup2(os.open(os.devnull, os.O_WRONLY), 1)
         sys.exit(1)
+    except OSError as fault:
+        print(f"stop file: {fault.filename or 'the output'}: {fault.strerror}", file=sys.stderr)
+        sys.exit(2)
     sys.exit(max(status, 1 if _looked else 0))
 
 
 # ---- bech32 (BIP 173)
 
 LETTERS = "qpzry9x8gf2tvdw0s3jn54khce6mua7l"
-_VALUE_OF = {letter: value for value, letter in enumerate(LETTERS)}
+_VALUES = bytes.maketrans(LETTERS.encode(), bytes(range(32)))
+_BECH32 = re.compile(f"([!-@\\[-~]{{1,83}})1([{LETTERS}]{{6,}})")
 _GENERATOR = 0x3B6A57B2, 0x26508E6D, 0x1EA119FA, 0x3D4233DD, 0x2A1462B3
 
 
-def _checksum(values: list[int]) -> int:
+def _sum_of(top: int) -> int:
+    total = 0
+    for place, term in enumerate(_GENERATOR):
+        total ^= term if top >> place & 1 else 0
+    return total
+
+
+_SUMS = [_sum_of(top) for top in range(32)]
+
+
+def _checksum(values: bytes) -> int:
     check = 1
     for value in values:
-        top, check = check >> 25, (check & 0x1FFFFFF) << 5 ^ value
-        for place, term in enumerate(_GENERATOR):
-            check ^= term if top >> place & 1 else 0
+        check = (check & 0x1FFFFFF) << 5 ^ value ^ _SUMS[check >> 25]
     return check
 
 
-def _expanded(prefix: str) -> list[int]:
-    return [ord(letter) >> 5 for letter in prefix] + [0] + [ord(letter) & 31 for letter in prefix]
+@functools.lru_cache(maxsize=64)
+def _expanded(prefix: str) -> bytes:
+    return bytes([ord(letter) >> 5 for letter in prefix] + [0] + [ord(letter) & 31 for letter in prefix])
+
+
+def _fives(number: int, count: int) -> bytes:
+    return bytes(number >> 5 * place & 31 for place in reversed(range(count)))
 
 
 def bech32(prefix: str, address: bytes) -> str:
     """The text of an address."""
     bits = int.from_bytes(address, "big") << -len(address) * 8 % 5
-    count = -(-len(address) * 8 // 5)
-    values = [bits >> 5 * place & 31 for place in reversed(range(count))]
-    check = _checksum(_expanded(prefix) + values + [0] * 6) ^ 1
-    values += [check >> 5 * place & 31 for place in reversed(range(6))]
+    values = _fives(bits, -(-len(address) * 8 // 5))
+    values += _fives(_checksum(_expanded(prefix) + values + bytes(6)) ^ 1, 6)
     return prefix + "1" + "".join(LETTERS[value] for value in values)
 
 
 @functools.lru_cache(maxsize=1 << 16)
 def from_bech32(text: str) -> tuple[str, bytes] | None:
     """The prefix and the bytes of a text; nothing where it is no bech32 in small letters."""
-    prefix, mark, rest = text.rpartition("1")
-    if not mark or not prefix or len(rest) < 6 or len(text) > 1023 or any(not "!" <= letter <= "~" for letter in prefix):
+    found = _BECH32.fullmatch(text)
+    if not found:
         return None
-    if text != text.lower() or any(letter not in _VALUE_OF for letter in rest):
-        return None
-    values = [_VALUE_OF[letter] for letter in rest]
+    prefix, values = found[1], found[2].encode().translate(_VALUES)
     if _checksum(_expanded(prefix) + values) != 1:
         return None
     count, bits = len(values) - 6, 0
@@ -133,7 +146,7 @@ def from_bech32(text: str) -> tuple[str, bytes] | None:
 # ---- addresses
 
 def hash_address(text: bytes) -> bytes:
-    """The first 20 bytes of SHA-256: how the address of a module comes of its name, and of an ed25519 key of its bytes."""
+    """The first 20 bytes of SHA-256: of a module's name its address, and of the bytes of an ed25519 key its own."""
     return hashlib.sha256(text).digest()[:20]
 
 
@@ -150,10 +163,11 @@ RESERVE = hash_address(b"stakeplay/reserve")    # holds what other modules of th
 class Prefix:
     """The chain's bech32 prefix: where it is not told, that of the first address which is read."""
     account: str | None = None
+    tells_long: bool = True     # whether a person must look at an address that is cut
     seen: dict[tuple[str, str], bytes] = field(default_factory=dict, repr=False)  # addresses of 20 bytes that were read
 
     def bytes_of(self, text: str, kind: str = "") -> bytes | None:
-        """The bytes of the text of an address; its kind is empty, `valoper` or `valcons`. Nothing where it has another."""
+        """The bytes of an address's text, whose kind is empty, `valoper` or `valcons`; nothing of another text."""
         prefix, address = from_bech32(text) or ("", b"")
         if not prefix.endswith(kind) or len(address) not in (20, 32):
             return None
@@ -220,6 +234,11 @@ def moment_text_of_state(moment: int) -> str:
     while part.endswith("000"):
         part = part[:-3]
     return f"{_second_text(moment)}{'.' if part else ''}{part}Z"
+
+
+def is_denom(text: str) -> bool:
+    """Whether a text is a denomination."""
+    return bool(_DENOM.fullmatch(text))
 
 
 def coins_of(text: str) -> Coins | None:
@@ -382,7 +401,8 @@ class Value:
             self.fail(f"is no bech32 text of {prefix.account or ''}{kind}1.. and 20 or 32 bytes: {self.raw}", "address")
         if len(address) == 32:
             address = hash_address(address)
-            look("long-address", f"{self.place}: {self.raw} has 32 bytes; {address.hex()} stands for it")
+            (look if prefix.tells_long else note)(
+                "long-address", f"{self.raw} has 32 bytes; {address.hex()} stands for it")
             return address
         if address in CHAIN_OF_HERE:
             self.fail(f"has the bytes that stand for a module here: {self.raw}", "address")
@@ -429,7 +449,7 @@ class Value:
 
     def denom(self) -> str:
         """A denomination."""
-        if not _DENOM.fullmatch(self.text()):
+        if not is_denom(self.text()):
             self.fail(f"is no denomination: {self.raw!r}")
         return self.raw
 

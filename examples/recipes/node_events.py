@@ -19,9 +19,14 @@ class Moved(NamedTuple):
 
 def attribute(event: Value, key: str) -> Value | None:
     """The value of an event's first attribute of that key."""
-    for pair in event.member("attributes").elements(or_null=True):
-        if pair.member("key").raw == key:
-            return pair.member("value")
+    attributes = event.member("attributes")
+    if attributes.raw is None:
+        return None
+    if not isinstance(attributes.raw, list):
+        attributes.fail("is no list")
+    for place, raw in enumerate(attributes.raw):
+        if isinstance(raw, dict) and raw.get("key") == key:
+            return Value(raw, attributes.prefix, place, attributes).member("value")
     return None
 
 

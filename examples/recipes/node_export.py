@@ -1,16 +1,16 @@
 """The state in a chain's export, `app_state` and what stands beside it: read from one, and written in its shape.
 
-What is written has what a store has: a validator has `consensus_address` in place of its key, and no member stands there
-that means nothing to this machine (descriptions, the previous proposer, headers that are kept). What is read may have
-both spellings. Nothing is judged here but the form of each member; `node_sound.py` judges the whole.
+What is written has what a store has: a validator has `consensus_address` in place of its key, and no member stands
+there that means nothing to this machine (descriptions, the previous proposer, headers that are kept). What is read may
+have both spellings. Nothing is judged here but the form of each member; `node_sound.py` judges the whole.
 """
 from __future__ import annotations
 
 from dataclasses import dataclass
 from typing import Any, Callable, Iterable, TypeVar
 
-from node_data import (AUTHORITY, CHAIN_OF_HERE, COLLECTOR, RESERVE, SECOND, Coins, Prefix, Value, coins_json, decimal_text,
-                       moment_text_of_state, stop)
+from node_data import (AUTHORITY, CHAIN_OF_HERE, COLLECTOR, RESERVE, SECOND, Coins, Prefix, Value, coins_json,
+                       decimal_text, moment_text_of_state, stop)
 from node_state import BONDED_STATUS, STATUSES, Entry, Historical, Params, Purse, Signing, Start, State, Validator
 
 MOST_PLACES = 100_000     # the widest window of votes
@@ -172,7 +172,8 @@ def _entries(members: Members) -> Callable[[Value], list[Entry]]:
 def _read_staking(state: State, staking: Value) -> None:
     state.validators = keyed(staking.list_at("validators"),
                              lambda value: value.member("operator_address").operator(), read_validator)
-    state.delegations = keyed(staking.list_at("delegations"), _delegation, lambda value: value.member("shares").decimal())
+    state.delegations = keyed(staking.list_at("delegations"), _delegation,
+                              lambda value: value.member("shares").decimal())
     state.unbondings = keyed(staking.list_at("unbonding_delegations"),
                              lambda value: (_delegator(value), _operator(value)), _entries(UNBONDING))
     state.redelegations = keyed(

@@ -13,13 +13,14 @@ import tempfile
 from dataclasses import dataclass, field, fields
 from typing import Any, Callable, Iterator
 
-from node_data import Coins, stop
+from node_data import SECOND, Coins, stop
 
 Address = bytes           # 20 bytes
 Denom = str               # a byte of length and its letters
 Byte = int
 Short = int               # 8 bytes: a height, a period, a number that is counted
-Wide = int                # 16 bytes: an amount, the units of a decimal, a time, a count of references
+Wide = int                # 16 bytes: an amount, the units of a decimal, a count of references
+Moment = int              # 16 bytes: nanoseconds since 1970
 Status = int              # 1 byte: the place in STATUSES
 Ring = list[bool]         # a length, and eight places in a byte
 Row = tuple[bytes, bytes]
@@ -27,6 +28,7 @@ Row = tuple[bytes, bytes]
 STATUSES = "BOND_STATUS_BONDED", "BOND_STATUS_UNBONDING", "BOND_STATUS_UNBONDED"
 BONDED_STATUS, UNBONDING_STATUS, UNBONDED_STATUS = range(3)
 ROW_FORM = 1              # the first byte of the head's row
+END_OF_TIME = 253_402_300_800 * SECOND     # the year 10000
 
 
 @dataclass
@@ -34,7 +36,7 @@ class Head:
     """The last block."""
     form: Byte
     height: Short
-    time: Wide
+    time: Moment
 
 
 @dataclass
@@ -69,28 +71,28 @@ class Validator:
     rate: Wide
     max_rate: Wide
     max_change_rate: Wide
-    update_time: Wide
+    update_time: Moment
     min_self_delegation: Wide
     unbonding_height: Short
-    unbonding_time: Wide
+    unbonding_time: Moment
 
 
 @dataclass
 class Entry:
     """A part of an unbonding, or of a redelegation; what is left of it is a balance, or shares."""
     created: Short
-    completes: Wide
+    completes: Moment
     initial: Wide
     left: Wide
 
 
 @dataclass
 class Signing:
-    """The signing record of a consensus address; the ring has a place for each vote of the window, true where missed."""
+    """The signing record of a consensus address; its ring has a place for each vote of the window, true where missed."""
     start: Short
     counted: Short
     missed: Short
-    jailed_until: Wide
+    jailed_until: Moment
     tombstoned: bool
     ring: Ring
 
@@ -151,7 +153,7 @@ class State:
 
 
 HEAD, PARAMS, POOL = 0x01, 0x02, 0x41
-TABLES: dict[int, tuple[str, tuple[str, ...], Any]] = {  # by a row's first byte: its table, the fields of its key, its value
+TABLES: dict[int, tuple[str, tuple[str, ...], Any]] = {  # by the first byte: the table, the key's fields, the value
     0x10: ("balances", ("Address", "Denom"), "Wide"),
     0x11: ("supply", ("Denom",), "Wide"),
     0x20: ("validators", ("Address",), Validator),
@@ -210,6 +212,13 @@ def _below(bound: int) -> Callable[[Bytes], int]:
     return read
 
 
+def _read_moment(data: Bytes) -> int:
+    moment = data.number(16)
+    if moment >= END_OF_TIME:
+        raise BadRow
+    return moment
+
+
 def _write_denom(denom: str) -> bytes:
     return bytes([len(denom)]) + denom.encode("ascii")
 
@@ -223,7 +232,8 @@ def _write_list(elements: list[bytes]) -> bytes:
 
 
 def _write_coins(coins: Coins | None) -> bytes:
-    return _write_list([_write_denom(denom) + amount.to_bytes(16, "big") for denom, amount in sorted((coins or {}).items())])
+    return _write_list([_write_denom(denom) + amount.to_bytes(16, "big")
+                        for denom, amount in sorted((coins or {}).items())])
 
 
 def _read_coins(data: Bytes) -> Coins:
@@ -244,6 +254,7 @@ def _read_ring(data: Bytes) -> list[bool]:
 SPELLINGS: dict[str, tuple[Callable[[Any], bytes], Callable[[Bytes], Any]]] = {
     "Address": (bytes, lambda data: data.take(20)),
     "Byte": _number(1), "Short": _number(8), "Wide": _number(16),
+    "Moment": (_number(16)[0], _read_moment),
     "Status": (lambda status: bytes([status]), _below(3)),
     "bool": (lambda truth: bytes([truth]), lambda data: bool(_below(2)(data))),
     "Denom": (_write_denom, _read_denom),
@@ -287,7 +298,7 @@ def state_of(rows: dict[bytes, bytes]) -> State:
         data = Bytes(rows.get(bytes([first]), b"\0\0\0\0" if first == POOL else b""))
         single[first] = _read_body(form, data)
         data.end()
-    if single[HEAD].form != ROW_FORM:
+    if single[HEAD].form != ROW_FORM or not single[PARAMS].power_reduction:
         raise BadRow
     state = State(single[HEAD].height, single[HEAD].time, single[PARAMS], single[POOL])
     for name, body in rows.items():
