@@ -1,13 +1,13 @@
 #!/usr/bin/env python3
 """Makes a node's answers for blocks of a chain that never was, in the shapes of Cosmos SDK v0.47 and CometBFT 0.37.
 
-    bench/node/make.py FOLDER BLOCKS [--validators N] [--transactions N]    writes the answers, four files for each block
+    bench/node/make.py FOLDER BLOCKS [--validators N] [--transactions N]    writes the answers, four files for a block
     bench/node/make.py --genesis [--validators N]                           writes the genesis line that they follow on
 
 Each block has the votes of all validators (now and then one is absent, or votes for nil), coins that are minted, what
-distribution tells of each validator, and transactions: of every seven one fails, one is of another module, and one is
-carried out for somebody else. Keys, hashes and signatures are hashes of small texts; events that `from_blocks.py` reads are
-those of a chain, and the same words make the same bytes.
+distribution tells of each validator, and transactions: one in seven fails, one in seven is carried out for somebody
+else, one in four is of another module. Keys, hashes and signatures are hashes of small texts; events are those that
+`from_blocks.py` reads, and some more for their size. The same words make the same bytes.
 """
 from __future__ import annotations
 
@@ -121,7 +121,8 @@ def message(draw: int, validators: int) -> tuple[Json, list[Json]]:
     delegator, operator = account(user(who)), account(user(draw // 5 % validators), "valoper")
     bank, staking = "/cosmos.bank.v1beta1.Msg", "/cosmos.staking.v1beta1.Msg"
     kinds = [
-        ({"@type": bank + "Send", "from_address": delegator, "to_address": account(user(other)), "amount": coins(amount)},
+        ({"@type": bank + "Send", "from_address": delegator, "to_address": account(user(other)),
+          "amount": coins(amount)},
          moved(user(who), user(other), amount)),
         ({"@type": staking + "Delegate", "delegator_address": delegator, "validator_address": operator,
           "amount": coins(amount)[0]},
@@ -200,7 +201,8 @@ def answers(height: int, validators: int, transactions: int) -> dict[str, Json]:
     made = block(height, validators, transactions)
     txs = [transaction(int.from_bytes(digest("draw", height, n)[:6], "big"), validators) for n in range(transactions)]
     parameters = {"block": {"max_bytes": "22020096", "max_gas": "-1"},
-                  "evidence": {"max_age_num_blocks": "100000", "max_age_duration": "172800000000000", "max_bytes": "1048576"},
+                  "evidence": {"max_age_num_blocks": "100000", "max_age_duration": "172800000000000",
+                               "max_bytes": "1048576"},
                   "validator": {"pub_key_types": ["ed25519"]}}
     there = {
         f"block_{height}": answered({"block_id": block_id(height), "block": made}),
@@ -216,9 +218,9 @@ def answers(height: int, validators: int, transactions: int) -> dict[str, Json]:
     if height > 1:
         there[f"validators_{height - 1}"] = answered({
             "block_height": str(height - 1), "count": str(validators), "total": str(validators),
-            "validators": [{"address": cons(n), "pub_key": {"type": "tendermint/PubKeyEd25519", "value": in_base64(key(n))},
-                            "voting_power": str(STAKE // 10 ** 6), "proposer_priority": str((height * n) % 1000 - 500)}
-                           for n in range(validators)]})
+            "validators": [{"address": cons(n), "voting_power": str(STAKE // 10 ** 6),
+                            "pub_key": {"type": "tendermint/PubKeyEd25519", "value": in_base64(key(n))},
+                            "proposer_priority": str(height * n % 1000 - 500)} for n in range(validators)]})
     return there
 
 
@@ -230,8 +232,8 @@ def genesis(validators: int) -> Json:
         "params": {"bond_denom": "uatom", "power_reduction": 10 ** 6, "unbonding_time": 1814400, "max_validators": 180,
                    "max_entries": 7, "min_commission_rate": "0", "community_tax": "0.02", "withdraw_addr_enabled": True,
                    "signed_blocks_window": 10000, "min_signed_per_window": "0.05", "downtime_jail_duration": 600,
-                   "slash_fraction_double_sign": "0.05", "slash_fraction_downtime": "0.0001", "max_age_duration": 172800,
-                   "max_age_num_blocks": 100000, "authority": GOV.hex()},
+                   "slash_fraction_double_sign": "0.05", "slash_fraction_downtime": "0.0001",
+                   "max_age_duration": 172800, "max_age_num_blocks": 100000, "authority": GOV.hex()},
         "accounts": [{"address": address, "coins": coins(amount)} for address, amount in held.items()],
         "validators": [{"operator": user(n).hex(), "cons": cons(n).lower(), "rate": "0.1", "max_rate": "0.2",
                         "max_change_rate": "0.01", "min_self_delegation": "1"} for n in range(validators)],

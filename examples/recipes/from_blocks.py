@@ -1,17 +1,17 @@
 #!/usr/bin/env python3
 """Turns a node's answers for a range of blocks into the block lines that `replay` and `resume` read.
 
-Who wants it: whoever has a node of a Cosmos SDK v0.47 chain (CometBFT 0.37), and goes on from a store that `from_export.py`
-made, or from a genesis.
+Who wants it: whoever has a node of a Cosmos SDK v0.47 chain (CometBFT 0.37), and goes on from a store that
+`from_export.py` made, or from a genesis.
 One command:  python3 from_blocks.py FOLDER > blocks.jsonl            (all blocks that the folder has)
               python3 from_blocks.py FOLDER FIRST LAST | ./stakeplay.sh chain.db resume
 What the folder has, how it is fetched, and what becomes of each answer stands in `docs/FROM_A_NODE.md`.
 Status: 0 all is exact, 1 a person must look at what `look` told, 2 refused (`stop`), and nothing was written.
 
 What is told goes to standard error: `note CODE: ..` where something stands as something else, `total CODE N` for each
-such code at the end, `look CODE: ..`, `stop CODE: ..` with file and member. The lines are held back in a file until all
-answers are read, so that of a refused range nothing is written; with --at-once each line is written as soon as its block
-is read. Memory does not grow with the range.
+such code at the end, `look CODE: ..`, `stop CODE: ..` with file and member. Lines are held back in a file until all
+answers are read, so that of a refused range nothing is written; with --at-once each line is written as soon as its
+block is read. Memory does not grow with the range.
 """
 from __future__ import annotations
 
@@ -22,7 +22,7 @@ import shutil
 import sys
 import tempfile
 import time
-from typing import Any, Iterable, Iterator, TextIO
+from typing import Any, Iterator
 
 from node_answers import Answers, Folder, Pages
 from node_data import Value, look, moment_text, run, stop, told
@@ -44,12 +44,12 @@ class Voters:
     """A validator set as votes need it; the one before is kept, since few blocks change it."""
 
     def __init__(self) -> None:
-        self.raw: list[Any] = []                    # address and power of each, as the node spells them
-        self.votes: list[tuple[str, str, str]] = []     # address, the text of a vote that is signed, and of one that is not
+        self.raw: list[Any] = []    # address and power of each, as the node spells them
+        self.votes: list[tuple[str, str, str]] = []  # address, the text of a signed vote, and of one that is not
 
     def follow(self, validators: Pages) -> None:
         """Goes on to the set of the next block."""
-        raw = [(one.get("address"), one.get("voting_power")) if isinstance(one, dict) else one for one in validators.raw]
+        raw = [isinstance(one, dict) and (one.get("address"), one.get("voting_power")) for one in validators.raw]
         if raw != self.raw:
             self.votes, self.raw = [texts_of_votes(one) for one in validators.elements()], raw
 
@@ -57,18 +57,18 @@ class Voters:
 def texts_of_votes(validator: Value) -> tuple[str, str, str]:
     """A validator's address, and the texts of its vote, signed and not."""
     address, power = validator.member("address"), validator.member("voting_power").number()
-    signed, absent = (compact({"cons": address.hex_address().hex(), "power": power, "signed": flag}) for flag in (True, False))
-    return address.raw, signed, absent
+    vote = {"cons": address.hex_address().hex(), "power": power}
+    return address.raw, compact(vote | {"signed": True}), compact(vote | {"signed": False})
 
 
 def votes(answers: Answers, voters: Voters) -> str:
     """The list of votes for the block before: signature by signature, with the validators of its height."""
     voters.follow(answers.validators)
     signatures = answers.block.at("last_commit.signatures")
-    given = signatures.raw if isinstance(signatures.raw, list) else signatures.elements(or_null=True)
-    if len(given) != len(voters.votes):
-        signatures.fail(f"has {len(given)} signatures, and height {answers.height - 1} has {len(voters.votes)} validators",
-                        "votes")
+    count = len(signatures.raw if isinstance(signatures.raw, list) else signatures.elements(or_null=True))
+    if count != len(voters.votes):
+        before = f"height {answers.height - 1} has {len(voters.votes)} validators"
+        signatures.fail(f"has {count} signatures, and {before}", "votes")
     return f"[{','.join([vote(signatures, place, voter) for place, voter in enumerate(voters.votes)])}]"
 
 
@@ -92,8 +92,9 @@ def evidence(block: Value) -> Iterator[Json]:
     for piece in block.at("evidence.evidence").elements(or_null=True):
         kind, value = piece.member("type"), piece.member("value")
         if kind.raw == "tendermint/DuplicateVoteEvidence":
-            vote_a = value.member("vote_a")
-            yield punished(vote_a.member("validator_address"), vote_a.member("height"), value, value.member("ValidatorPower"))
+            signed = value.member("vote_a")
+            yield punished(signed.member("validator_address"), signed.member("height"), value,
+                           value.member("ValidatorPower"))
         elif kind.raw == "tendermint/LightClientAttackEvidence":
             for validator in value.member("ByzantineValidators").elements(or_null=True):
                 yield punished(validator.member("address"), value.member("CommonHeight"), value,
@@ -114,9 +115,10 @@ def block_transactions(answers: Answers) -> Iterator[Json]:
     """The transactions of a block, decoded, with their results."""
     results = answers.results.member("txs_results").elements(or_null=True)
     sent = answers.block.at("data.txs").elements(or_null=True)
-    if not len(results) == len(sent) == len(answers.txs.raw):
-        answers.results.member("txs_results").fail(
-            f"has {len(results)} elements, and there are {len(sent)} transactions, {len(answers.txs.raw)} of them decoded", "txs")
+    decoded = len(answers.txs.raw)
+    if not len(results) == len(sent) == decoded:
+        there = f"there are {len(sent)} transactions, {decoded} of them decoded"
+        answers.results.member("txs_results").fail(f"has {len(results)} elements, and {there}", "txs")
     for tx, result in zip(answers.txs.elements(), results):
         yield from transactions(tx, result)
 
@@ -146,12 +148,13 @@ class EvidenceParameters:
         updates = results.member("consensus_param_updates")
         now = updates.raw and updates.maybe("evidence")
         if now and self.last and now.raw != self.last:
-            look("params-changed", f"{now.place}: is {json.dumps(now.raw)}, and in the block before {json.dumps(self.last)}")
+            change = f"is {compact(now.raw)}, and in the block before {compact(self.last)}"
+            look("params-changed", f"{now.place} {change}")
         self.last = now.raw if now else self.last
 
 
 def lines(folder: Folder, first: int, last: int) -> Iterator[str]:
-    """The lines of a range of blocks, each without its end."""
+    """The lines of a range of blocks."""
     parameters, voters = EvidenceParameters(), Voters()
     if before := folder.results(first - 1):
         parameters.follow(before)
@@ -165,7 +168,7 @@ def lines(folder: Folder, first: int, last: int) -> Iterator[str]:
         text = block_line(answers, voters, own, following)
         if len(text) > MOST_BYTES:
             stop("limit", f"block_{height}.json: its line has {len(text)} bytes, and may have {MOST_BYTES}")
-        yield text
+        yield text + "\n"
         own = following
 
 
@@ -173,7 +176,7 @@ def arguments() -> argparse.Namespace:
     """What the recipe was called with."""
     parser = argparse.ArgumentParser(description=__doc__.split("\n\n")[0], epilog="docs/FROM_A_NODE.md says more.")
     parser.add_argument("folder", metavar="FOLDER", help="the folder with the answers of a node")
-    parser.add_argument("heights", metavar="FIRST LAST", type=int, nargs="*", default=[], help="the heights of the range")
+    parser.add_argument("heights", metavar="FIRST LAST", type=int, nargs="*", default=[], help="heights of the range")
     parser.add_argument("--at-once", action="store_true", help="write each line as soon as its block is read")
     words = parser.parse_args()
     if len(words.heights) not in (0, 2) or words.heights and not 1 <= words.heights[0] <= words.heights[1]:
@@ -191,28 +194,16 @@ def watched(texts: Iterator[str], most: int) -> Iterator[str]:
             print(f"from_blocks.py: {count} of {most} blocks, {speed:.0f} a second", file=sys.stderr)
 
 
-def write(texts: Iterable[str], sink: TextIO) -> None:
-    """Writes lines; what the disk refuses ends the recipe."""
-    try:
-        for text in texts:
-            sink.write(text + "\n")
-        sink.flush()
-    except BrokenPipeError:
-        raise
-    except OSError as fault:
-        stop("file", f"what is written: {fault.strerror}")
-
-
 def main() -> None:
     words = arguments()
     folder = Folder(words.folder)
     first, last = words.heights or folder.heights()
     texts = watched(lines(folder, first, last), last - first + 1)
     if words.at_once:
-        write(texts, sys.stdout)
+        sys.stdout.writelines(texts)
     else:
         with tempfile.TemporaryFile("w+") as held:
-            write(texts, held)
+            held.writelines(texts)
             held.seek(0)
             shutil.copyfileobj(held, sys.stdout)
     for (word, code), count in sorted(told.items()):

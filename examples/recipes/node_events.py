@@ -1,5 +1,5 @@
-"""The events by which `x/bank` tells each change of a balance, as a node's `/block_results` has them: for the recipes that
-take a chain's own data.
+"""The events by which `x/bank` tells each change of a balance, as a node's `/block_results` has them: for the recipes
+that take a chain's own data.
 """
 from __future__ import annotations
 

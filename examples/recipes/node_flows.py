@@ -1,8 +1,8 @@
 """What the other modules of a chain moved, as transactions of a line, for `from_blocks.py`.
 
-Each change of a balance is told by an event of `x/bank`. Whoever lost coins sends them to the reserve, an account that no
-chain has, and the reserve sends those that were gained; coins for the fee collector are a fee of the reserve. What the
-machine does by itself at a block's beginning and end is passed over.
+Each change of a balance is told by an event of `x/bank`. Whoever lost coins sends them to the reserve, an account that
+no chain has, and the reserve sends those that were gained; coins for the fee collector are a fee of the reserve. What
+the machine does by itself at a block's beginning and end is passed over.
 """
 from __future__ import annotations
 

@@ -1,15 +1,14 @@
 """The transactions of a chain's block as transactions of a line, for `from_blocks.py`.
 
-A transaction that passed has its messages in their order; those of other modules stand as what they moved (`node_flows`).
-One that failed has no messages, and its fee where the chain took one.
+A transaction that passed has its messages in their order; those of other modules stand as what they moved
+(`node_flows`). One that failed has no messages, and its fee where the chain took one.
 """
 from __future__ import annotations
 
 from dataclasses import dataclass
-from typing import Any, Callable
+from typing import Callable
 
-from node_data import (AUTHORITY, COLLECTOR, RESERVE, Coins, Value, coins_json, coins_of, coins_text, decimal_text, note,
-                       stop)
+from node_data import COLLECTOR, RESERVE, Coins, Value, coins_json, coins_of, coins_text, decimal_text, note
 from node_events import BANK_KINDS, attribute, attributes
 from node_flows import Flows, Json, picked, transaction
 
@@ -76,10 +75,11 @@ def multi_send(message: Value) -> list[Json]:
 
 def create_validator(message: Value) -> list[Json]:
     commission = message.member("commission")
-    return [{"kind": "create_validator", "validator": operator(message), "cons": message.member("pubkey").key_address().hex(),
-             "rate": decimal(commission, "rate"), "max_rate": decimal(commission, "max_rate"),
-             "max_change_rate": decimal(commission, "max_change_rate"),
-             "min_self_delegation": str(message.member("min_self_delegation").amount()), "amount": coin(message, "value")}]
+    return [{"kind": "create_validator", "validator": operator(message),
+             "cons": message.member("pubkey").key_address().hex(), "rate": decimal(commission, "rate"),
+             "max_rate": decimal(commission, "max_rate"), "max_change_rate": decimal(commission, "max_change_rate"),
+             "min_self_delegation": str(message.member("min_self_delegation").amount()),
+             "amount": coin(message, "value")}]
 
 
 def edit_validator(message: Value) -> list[Json]:
@@ -91,10 +91,17 @@ def edit_validator(message: Value) -> list[Json]:
     return [edit]
 
 
-def of_delegation(kind: str) -> Callable[[Value], list[Json]]:
-    """A message that names a delegator, an operator and a coin."""
-    return lambda message: [{"kind": kind, "delegator": user(message, "delegator_address"), "validator": operator(message),
-                             "amount": coin(message, "amount")}]
+def of_delegation(kind: str, message: Value) -> Json:
+    """What messages that name a delegator and an operator have."""
+    return {"kind": kind, "delegator": user(message, "delegator_address"), "validator": operator(message)}
+
+
+def delegate(message: Value) -> list[Json]:
+    return [of_delegation("delegate", message) | {"amount": coin(message, "amount")}]
+
+
+def undelegate(message: Value) -> list[Json]:
+    return [of_delegation("undelegate", message) | {"amount": coin(message, "amount")}]
 
 
 def begin_redelegate(message: Value) -> list[Json]:
@@ -104,12 +111,20 @@ def begin_redelegate(message: Value) -> list[Json]:
 
 
 def cancel_unbonding(message: Value) -> list[Json]:
-    return [{"kind": "cancel_unbonding", "delegator": user(message, "delegator_address"), "validator": operator(message),
-             "amount": coin(message, "amount"), "creation_height": message.member("creation_height").number()}]
+    height = message.member("creation_height").number()
+    return [of_delegation("cancel_unbonding", message) | {"amount": coin(message, "amount"), "creation_height": height}]
+
+
+def unjail(message: Value) -> list[Json]:
+    return [{"kind": "unjail", "validator": operator(message, "validator_addr")}]
 
 
 def withdraw_reward(message: Value) -> list[Json]:
-    return [{"kind": "withdraw_reward", "delegator": user(message, "delegator_address"), "validator": operator(message)}]
+    return [of_delegation("withdraw_reward", message)]
+
+
+def withdraw_commission(message: Value) -> list[Json]:
+    return [{"kind": "withdraw_commission", "validator": operator(message)}]
 
 
 def set_withdraw_address(message: Value) -> list[Json]:
@@ -129,15 +144,13 @@ MESSAGES: dict[str, Callable[[Value], list[Json]]] = {
     "/cosmos.bank.v1beta1.MsgMultiSend": multi_send,
     "/cosmos.staking.v1beta1.MsgCreateValidator": create_validator,
     "/cosmos.staking.v1beta1.MsgEditValidator": edit_validator,
-    "/cosmos.staking.v1beta1.MsgDelegate": of_delegation("delegate"),
-    "/cosmos.staking.v1beta1.MsgUndelegate": of_delegation("undelegate"),
+    "/cosmos.staking.v1beta1.MsgDelegate": delegate,
+    "/cosmos.staking.v1beta1.MsgUndelegate": undelegate,
     "/cosmos.staking.v1beta1.MsgBeginRedelegate": begin_redelegate,
     "/cosmos.staking.v1beta1.MsgCancelUnbondingDelegation": cancel_unbonding,
-    "/cosmos.slashing.v1beta1.MsgUnjail":
-        lambda message: [{"kind": "unjail", "validator": operator(message, "validator_addr")}],
+    "/cosmos.slashing.v1beta1.MsgUnjail": unjail,
     "/cosmos.distribution.v1beta1.MsgWithdrawDelegatorReward": withdraw_reward,
-    "/cosmos.distribution.v1beta1.MsgWithdrawValidatorCommission":
-        lambda message: [{"kind": "withdraw_commission", "validator": operator(message)}],
+    "/cosmos.distribution.v1beta1.MsgWithdrawValidatorCommission": withdraw_commission,
     "/cosmos.distribution.v1beta1.MsgSetWithdrawAddress": set_withdraw_address,
     "/cosmos.distribution.v1beta1.MsgFundCommunityPool": fund_community_pool,
 }
@@ -175,9 +188,10 @@ class Passed:
 
 
 def is_within(event: Value, places: Places) -> bool:
-    """Whether an event is of the message at these places; each message that carries others out appends the place of its."""
-    told = tuple(int(pair.member("value").number()) for pair in event.member("attributes").elements(or_null=True)
-                 if pair.member("key").raw == "authz_msg_index")[::-1]
+    """Whether an event is of the message at these places; what carries messages out appends the place of each."""
+    pairs = event.member("attributes").elements(or_null=True)
+    told = tuple(pair.member("value").number() for pair in reversed(pairs)
+                 if pair.member("key").raw == "authz_msg_index")
     if event.raw["type"] in BANK_KINDS and len(told) < len(places) and told == places[:len(told)]:
         event.fail("has no authz_msg_index, and there are several messages that it may be of", "events")
     return told[:len(places)] == places
