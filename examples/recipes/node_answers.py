@@ -14,7 +14,7 @@ import re
 from dataclasses import dataclass
 from typing import Any, Callable
 
-from node_data import Prefix, Value, read_answer, read_document, stop
+from node_data import Prefix, Stop, Value, read_answer, read_document, stop
 
 BLOCK_VERSION = "11"
 _BLOCK_FILE = re.compile(r"block_([1-9][0-9]{0,18})\.json")
@@ -56,7 +56,7 @@ class Folder:
 
     def name(self, kind: str, height: int, page: int = 1) -> str:
         """The path of an answer's file."""
-        return os.path.join(self.path, f"{kind}_{height}" + (f"_{page}" if page > 1 else "") + ".json")
+        return f"{self.path}/{kind}_{height}.json" if page == 1 else f"{self.path}/{kind}_{height}_{page}.json"
 
     def heights(self) -> tuple[int, int]:
         """The first and the last height that has a block; there must be all between them."""
@@ -76,19 +76,21 @@ class Folder:
             stop("height", f"block_{gap}.json: is missing, and there are blocks from {first} to {last}")
         return first, last
 
-    def there(self, kind: str, height: int) -> str:
-        """The path of an answer that must be there."""
+    def answer(self, kind: str, height: int, read: Callable[[str, Prefix], Value] = read_answer) -> Value:
+        """An answer that must be there."""
         path = self.name(kind, height)
-        if not os.path.exists(path):
-            stop("height", f"{os.path.basename(path)}: is missing")
-        return path
+        try:
+            return read(path, self.prefix)
+        except Stop:
+            if not os.path.exists(path):
+                stop("height", f"{os.path.basename(path)}: is missing")
+            raise
 
     def results(self, height: int) -> Value | None:
         """The results of a block; nothing where there is no such file."""
-        path = self.name("block_results", height)
-        if not os.path.exists(path):
+        if not os.path.exists(self.name("block_results", height)):
             return None
-        results = read_answer(path, self.prefix)
+        results = self.answer("block_results", height)
         if results.has("finalize_block_events"):
             results.fail("is an answer of CometBFT 0.38 or a later one, not of 0.37", "version")
         told = results.member("height")
@@ -98,7 +100,7 @@ class Folder:
 
     def answers(self, height: int, results: Value | None) -> Answers:
         """What there is of a block, whose results were read before."""
-        answer = read_answer(self.there("block", height), self.prefix)
+        answer = self.answer("block", height)
         if results is None:
             stop("height", f"block_results_{height}.json: is missing")
         block, block_hash = answer.member("block"), answer.at("block_id.hash").text()
@@ -121,45 +123,40 @@ class Folder:
         self.chain_id, self.last_hash = chain.raw, block_hash
         return not before.raw
 
-    def pages(self, kind: str, height: int, read: Callable[[str], tuple[Value, Value]], code: str) -> Pages:
-        """The lists of an answer's pages; `read` gives of a file its list, and how many elements all lists have."""
-        path, lists, count = self.there(kind, height), [], 0
-        while True:
-            elements, total = read(path)
-            count += len(elements.elements())
-            lists.append(elements)
-            if len(lists) == 1:
-                first = total.number()
-            elif total.number() != first:
-                total.fail(f"is {total.raw}, and {first} on the first page", code)
-            path = self.name(kind, height, len(lists) + 1)
-            if not os.path.exists(path):
-                break
-        if count != first:
-            total.fail(f"is {first}, and the pages have {count}", code)
-        return Pages(lists)
-
     def validators(self, height: int) -> Pages:
         """The validators of a height."""
-        def read(path: str) -> tuple[Value, Value]:
-            answer = read_answer(path, self.prefix)
+        def read(answer: Value) -> tuple[Value, Value]:
             told = answer.member("block_height")
             if told.number() != height:
                 told.fail(f"is {told.raw}, not {height}", "validators")
             return answer.member("validators"), answer.member("total")
-        return self.pages("validators", height, read, "validators")
+        return self.pages("validators", height, read_answer, read)
 
     def transactions(self, height: int, block_hash: str) -> Pages:
         """The transactions of a block, decoded."""
-        def read(path: str) -> tuple[Value, Value]:
-            answer = read_document(path, self.prefix)
+        def read(answer: Value) -> tuple[Value, Value]:
             if not answer.has("txs"):
                 answer.fail(f"has no txs: {str(answer.raw.get('message', answer.raw))[:200]}", "rest-error")
             told = answer.at("block_id.hash")
             if hexadecimal(told) != block_hash:
                 told.fail(f"is {hexadecimal(told)}, and in block_{height}.json {block_hash}", "hash")
             return answer.member("txs"), answer.at("pagination.total")
-        return self.pages("txs", height, read, "txs")
+        return self.pages("txs", height, read_document, read)
+
+    def pages(self, kind: str, height: int, load: Callable[[str, Prefix], Value],
+              read: Callable[[Value], tuple[Value, Value]]) -> Pages:
+        """The lists of an answer's pages; `read` gives of a page its list, and how many elements all lists have."""
+        first, first_total = read(self.answer(kind, height, load))
+        lists, count, wanted = [first], len(first.elements()), first_total.number()
+        while os.path.exists(path := self.name(kind, height, len(lists) + 1)):
+            elements, total = read(load(path, self.prefix))
+            if total.number() != wanted:
+                total.fail(f"is {total.raw}, and {wanted} on the first page", kind)
+            lists.append(elements)
+            count += len(elements.elements())
+        if count != wanted:
+            first_total.fail(f"is {wanted}, and there are {count} in {len(lists)} pages", kind)
+        return Pages(lists)
 
 
 def hexadecimal(value: Value) -> str:
