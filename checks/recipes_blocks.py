@@ -9,16 +9,20 @@ With the program a made chain is replayed, whole and in two parts: each transact
 from __future__ import annotations
 
 import copy
+import http.server
 import json
+import os
+import pathlib
 import subprocess
 import sys
 import tempfile
+import threading
 
 sys.dont_write_bytecode = True
 sys.path.insert(0, "checks")
 
 import console  # noqa: E402
-from node_faults import LOOKS, STOPS, gone  # noqa: E402
+from node_faults import LOOKS, RPC_ERROR, STOPS, gone  # noqa: E402
 from node_folders import (A, B, BLOCKS, DEPOSIT, DUPLICATE, MESSAGES, ONE, PASSED, PLAIN, REJECTED, SEND,  # noqa: E402
                           TWO, VALIDATORS, VOTE, Answers, Edit, Json, begun, block, carried, changed, converted, ended,
                           indexed, make, node_data, results, sent, signatures, then, validators)
@@ -169,6 +173,62 @@ def try_ranges() -> int:
     return 4 + len(tries)
 
 
+# ---- fetching
+
+class Node(http.server.BaseHTTPRequestHandler):
+    """A node with a made chain of four blocks, the third with 101 transactions, behind a server that answers in pages."""
+    answers: Answers = {}
+    asked = 0
+
+    def do_GET(self) -> None:
+        Node.asked += 1
+        path, _, query = self.path.partition("?")
+        words = dict(part.split("=") for part in query.split("&") if part)
+        if path.startswith("/cosmos/tx/v1beta1/txs/block/"):
+            first = int(words["pagination.offset"])
+            answer = dict(self.answers["txs_" + path.rsplit("/", 1)[1]])
+            answer["txs"] = answer["txs"][first:first + int(words["pagination.limit"])]
+        else:
+            answer = self.answers.get(f"{path[1:]}_{words['height']}", RPC_ERROR)
+        text = json.dumps(answer).encode()
+        self.send_response(500 if answer is RPC_ERROR else 200)
+        self.end_headers()
+        self.wfile.write(text)
+
+    def log_message(self, *words: Json) -> None:
+        """Nothing is logged."""
+
+
+def try_fetching() -> int:
+    """Answers that are fetched from a server become the lines of the made ones; what is there is not asked for again."""
+    many = changed(sent(SEND[0]))
+    block(many)["data"]["txs"] *= 101
+    results(many)["txs_results"] *= 101
+    many["txs_3"].update(txs=many["txs_3"]["txs"] * 101, pagination={"next_key": None, "total": "101"})
+    wanted, Node.answers = converted(many), many
+    server = http.server.ThreadingHTTPServer(("127.0.0.1", 0), Node)
+    threading.Thread(target=server.serve_forever, daemon=True).start()
+    node = f"http://127.0.0.1:{server.server_port}"
+
+    def fetched(room: str, last: int) -> tuple[int, str]:
+        recipe = [sys.executable, "examples/recipes/fetch_blocks.py", node, node + "/", room, "1", str(last)]
+        done = subprocess.run(recipe, capture_output=True, text=True, env=os.environ | {"no_proxy": "*"})
+        return done.returncode, done.stderr
+
+    with tempfile.TemporaryDirectory() as room:
+        ends = [fetched(room, 2), fetched(room, BLOCKS), fetched(room, BLOCKS + 1)]
+        names, asked = os.listdir(room), Node.asked
+        got = {name.removesuffix(".json"): json.loads(pathlib.Path(room, name).read_text()) for name in names}
+    server.shutdown()
+    server.server_close()
+    ask([status for status, _ in ends] == [0, 0, 2], f"fetching ended with {ends}")
+    ask("no results of block 5" in ends[1][1] and "no such" not in ends[0][1], f"fetching told {ends}")
+    ask(ends[2][1].startswith("stop fetch: ") and "pruned" in ends[2][1], f"fetching told {ends[2]}")
+    ask("txs_3_2" in got and asked == len(names) + 2, f"{asked} answers were asked for, {len(names)} are there")
+    ask(converted(got)[:2] == wanted[:2], "what was fetched becomes other lines")
+    return len(ends)
+
+
 # ---- with the program
 
 def try_replay(built: str) -> int:
@@ -211,9 +271,9 @@ def try_page() -> int:
 
 def main() -> None:
     built = sys.argv[1] if len(sys.argv) > 1 else ""
-    tried = try_lines() + try_votes(), try_stops(), try_ranges(), try_page()
-    print("recipes: from_blocks.py: {} changes that become lines, {} that are refused or looked at, {} ranges, "
-          "{} commands of the page".format(*tried))
+    tried = try_lines() + try_votes(), try_stops(), try_ranges() + try_fetching(), try_page()
+    print("recipes: from_blocks.py: {} changes that become lines, {} that are refused or looked at, {} ranges, made and "
+          "fetched, {} commands of the page".format(*tried))
     if built:
         print(f"recipes: from_blocks.py: {try_replay(built)} transactions of a made chain, all accepted")
     else:

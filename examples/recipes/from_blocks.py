@@ -174,12 +174,13 @@ def lines(folder: Folder, first: int, last: int) -> Iterator[str]:
 
 def arguments() -> argparse.Namespace:
     """What the recipe was called with."""
-    parser = argparse.ArgumentParser(description=__doc__.split("\n\n")[0], epilog="docs/FROM_A_NODE.md says more.")
+    parser = argparse.ArgumentParser(description=__doc__, formatter_class=argparse.RawDescriptionHelpFormatter)
     parser.add_argument("folder", metavar="FOLDER", help="the folder with the answers of a node")
-    parser.add_argument("heights", metavar="FIRST LAST", type=int, nargs="*", default=[], help="heights of the range")
+    parser.add_argument("first", metavar="FIRST", type=int, nargs="?", help="the first height of the range")
+    parser.add_argument("last", metavar="LAST", type=int, nargs="?", help="the last one; without both, all blocks")
     parser.add_argument("--at-once", action="store_true", help="write each line as soon as its block is read")
     words = parser.parse_args()
-    if len(words.heights) not in (0, 2) or words.heights and not 1 <= words.heights[0] <= words.heights[1]:
+    if words.first is not None and (words.last is None or not 1 <= words.first <= words.last):
         parser.error("FIRST and LAST are two heights, the first from 1 on and not above the last")
     return words
 
@@ -197,7 +198,7 @@ def watched(texts: Iterator[str], most: int) -> Iterator[str]:
 def main() -> None:
     words = arguments()
     folder = Folder(words.folder)
-    first, last = words.heights or folder.heights()
+    first, last = (words.first, words.last) if words.first else folder.heights()
     texts = watched(lines(folder, first, last), last - first + 1)
     if words.at_once:
         sys.stdout.writelines(texts)
@@ -206,6 +207,7 @@ def main() -> None:
             held.writelines(texts)
             held.seek(0)
             shutil.copyfileobj(held, sys.stdout)
+    sys.stdout.flush()
     for (word, code), count in sorted(told.items()):
         if word == "note":
             print(f"total {code} {count}", file=sys.stderr)
