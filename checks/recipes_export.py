@@ -1,10 +1,10 @@
 """Tries the recipes over a chain's exports: from_export.py, to_export.py and compare_export.py of `examples/recipes`.
 
-An export that is written, loaded and written again is the same, and its store has the same rows; each number of an export
-that is changed by one unit is found by the comparison, and nothing else is; each reason to refuse an export, or to look at
-it, is met by a change of the made export of `examples/recipes/data`; and whatever stands in the place of a member, a
-recipe ends by one line with its file and member, and leaves no store. Where the program is built (its path is the first
-word), it has to take the stores and the genesis line.
+An export that is written, loaded and written again is the same, and its store has the same rows; each number of an
+export that is changed by one unit is found by the comparison, and nothing else is; each reason to refuse an export, or
+to look at it, is met by a change of the made export of `examples/recipes/data`; and whatever stands in the place of a
+member, a recipe ends by one line with its file and member, and leaves no store. Where the program is built (its path is
+the first word), it has to take the stores and the genesis line, and its blocks lead to the chain's later export.
 """
 import contextlib
 import copy
@@ -12,6 +12,7 @@ import functools
 import io
 import json
 import pathlib
+import re
 import subprocess
 import sys
 import tempfile
@@ -23,12 +24,13 @@ BLOCK, RESULTS = str(DATA / "block_1000.json"), str(DATA / "blocks/block_results
 EXPORT, GENESIS = (json.loads((DATA / name).read_text()) for name in ("export_1000.json", "genesis.json"))
 sys.path.insert(0, str(RECIPES))
 
-from node_data import (RESERVE, SECOND, bech32, decimal_text, decimal_units, moment_of,  # noqa: E402
+from node_data import (RESERVE, SECOND, bech32, decimal_text, decimal_units, from_bech32, moment_of,  # noqa: E402
                        moment_text)
 from node_state import read_store, rows_of  # noqa: E402
 
 built = sys.argv[1] if len(sys.argv) > 1 else ""
-room = pathlib.Path(tempfile.mkdtemp())
+place = tempfile.TemporaryDirectory()
+room = pathlib.Path(place.name)
 bad = []
 tries = 0
 
@@ -71,7 +73,8 @@ def loaded(document, *words, head=BLOCK):
     store.unlink(missing_ok=True)
     status, out, err = ran("from_export.py", written(document), store, "--head", head, *words)
     left = sorted(path.name for path in room.glob("tried.db*"))
-    ask(left == (["tried.db"] if status in (0, 1) else []), f"from_export.py ended with {status} and left {left}: {err}")
+    wanted = ["tried.db"] if status in (0, 1) else []
+    ask(left == wanted, f"from_export.py ended with {status} and left {left}: {err}")
     return status, err, sorted(rows_of(read_store(str(store)))) if left else None
 
 
@@ -156,6 +159,20 @@ def try_round(*words):
 for options in ([], ["--reserve", "uatom,ufee"], ["--reserve", "uatom", "--next", RESULTS]):
     try_round(*options)
 
+def renamed(text, prefix):
+    """A document of a chain whose addresses have another prefix."""
+    return re.sub("cosmos(valoper|valcons)?1[a-z0-9]+",
+                  lambda found: bech32(prefix + (found[1] or ""), from_bech32(found[0])[1]), text)
+
+
+rows = loaded(EXPORT)[2]
+status, err, others = loaded(renamed(json.dumps(EXPORT), "made"))
+ask(status == 0 and others == rows, f"a chain with another prefix is not taken as it is: {status} {err}")
+status, out, err = ran("compare_export.py", room / "tried.db", room / "export.json")
+ask(status == 0 and not out, f"a store differs from the export of a chain with another prefix: {status} {out} {err}")
+text = ran("to_export.py", room / "tried.db", "--prefix", "made")[1]
+ask(text == renamed(ran("to_export.py", room / "tried.db")[1], "made"), "addresses are not written with another prefix")
+
 # ---- each number of an export by one unit
 
 UNKNOWN = {"historical_entries", "base_proposer_reward", "bonus_proposer_reward", "unbonding_id", "exported", "auth",
@@ -170,7 +187,7 @@ def is_compared(path):
 
 
 def try_comparison():
-    """Compares the store with the export in which one member is another: it differs, or is none (a key stands twice)."""
+    """Compares the store with the export in which one member is another: it differs, or is none (of a key two)."""
     loaded(EXPORT)
     count = 0
     for path in leaves(EXPORT):
@@ -178,7 +195,8 @@ def try_comparison():
         if value is None or path[-1] == "unbonding_on_hold_ref_count":
             continue
         status, out, err = ran("compare_export.py", room / "tried.db", written(changed(EXPORT, (path, value))))
-        is_told = status == 1 and ": chain " in out or status == 2 and err.startswith(("stop shape", "stop slash-event"))
+        is_none = status == 2 and err.startswith(("stop shape", "stop slash-event"))
+        is_told = status == 1 and ": chain " in out or is_none
         ask(is_told if is_compared(path) else status == 0 and not out,
             f"{'.'.join(map(str, path))} as {value}: compare_export.py ended with {status}: {out or err}")
         count += is_told
@@ -210,8 +228,8 @@ REFUSED = [
     ("address", changed(EXPORT, ("staking.delegations.0.delegator_address", USER[:-1] + "q"))),
     ("address", changed(EXPORT, ("bank.balances.0.address", bech32("cosmos", bytes(19) + b"\4")))),
     ("not-exported", changed(EXPORT, ("staking.exported", False))),
-    ("zero-height", changed(EXPORT, (["initial_height"], "0"))), ("head", changed(EXPORT, (["initial_height"], "1002"))),
-    ("head", changed(EXPORT, (["chain_id"], "made-2"))),
+    ("zero-height", changed(EXPORT, (["initial_height"], "0"))),
+    ("head", changed(EXPORT, (["initial_height"], "1002"))), ("head", changed(EXPORT, (["chain_id"], "made-2"))),
     ("duration", changed(EXPORT, ("staking.params.unbonding_time", "1.500s"))),
     ("duration", changed(EXPORT, (["consensus_params", "evidence", "max_age_duration"], "1500000000"))),
     ("limit", changed(EXPORT, ("bank.supply.0.amount", str(10 ** 18 + 1)))),
@@ -223,10 +241,12 @@ REFUSED = [
     ("on-hold", changed(EXPORT, ("staking.unbonding_delegations.0.entries.0.unbonding_on_hold_ref_count", "1"))),
     ("consensus-key", changed(EXPORT, ("staking.validators.0.consensus_pubkey", SECP))),
     ("consensus-key", changed(EXPORT, ("staking.validators.0.consensus_pubkey.key", "AAAA"))),
-    ("consensus-key-twice", changed(EXPORT, ("staking.validators.1.consensus_pubkey", VALIDATORS[0]["consensus_pubkey"]))),
+    ("consensus-key-twice", changed(EXPORT, ("staking.validators.1.consensus_pubkey",
+                                             VALIDATORS[0]["consensus_pubkey"]))),
     ("commission", changed(EXPORT, ("staking.validators.0.commission.commission_rates.rate", "0.300000000000000000"))),
     ("validator", changed(EXPORT, ("staking.validators.0.unbonding_height", "1001"))),
-    ("signing-info", changed(EXPORT, (f"slashing.signing_infos.{PLACE}", ...), (f"slashing.missed_blocks.{PLACE}", ...))),
+    ("signing-info", changed(EXPORT, (f"slashing.signing_infos.{PLACE}", ...),
+                             (f"slashing.missed_blocks.{PLACE}", ...))),
     ("signing-info", changed(EXPORT, (f"{INFO}.index_offset", "1001"))),
     ("window", changed(EXPORT, (f"{INFO}.missed_blocks_counter", "9"))),
     ("window", changed(EXPORT, ("slashing.params.signed_blocks_window", "50"))),
@@ -259,14 +279,15 @@ LOOKED_AT = [
 for code, document in REFUSED:
     status, err, _ = loaded(document)
     last = err.strip().rpartition("\n")[2]
-    ask(status == 2 and last.startswith(f"stop {code}: "), f"instead of {code}, from_export.py ended with {status}: {err}")
+    ask(status == 2 and last.startswith(f"stop {code}: "), f"for {code}, from_export.py ended with {status}: {err}")
     ask("export.json" in last or "block_1000.json" in last, f"no file is named: {last}")
 for code, document in LOOKED_AT:
     status, err, _ = loaded(document)
     ask(status == 1 and f"look {code}: " in err, f"instead of {code}, from_export.py ended with {status}: {err}")
 status, err, _ = loaded(EXPORT, "--next", RESULTS)
 ask(status == 2 and "stop reserve: " in err, f"coins are paid ahead of nothing: {status} {err}")
-status, err, _ = loaded(EXPORT, "--next", written({"result": {"height": "1002", "begin_block_events": []}}, "next.json"))
+later = written({"result": {"height": "1002", "begin_block_events": []}}, "next.json")
+status, err, _ = loaded(EXPORT, "--next", later)
 ask(status == 2 and "stop next: " in err, f"results of another height are taken: {status} {err}")
 status, err, _ = loaded(EXPORT, head=written({"error": {"message": "pruned"}}, "head.json"))
 ask(status == 2 and "stop rpc-error: head.json" in err, f"an error of the node is taken: {status} {err}")
@@ -282,7 +303,8 @@ LINES = [
                                             [{"denom": "uatom", "amount": "1.000000000000000000"}]))),
     (2, "stop gen-tx", changed(GENESIS, (f"{MESSAGE}.value.amount", "2000501"))),
     (2, "stop gen-tx", changed(GENESIS, (f"{MESSAGE}.value.denom", "ufee"))),
-    (2, "stop gen-tx", changed(GENESIS, ("genutil.gen_txs.0.auth_info.fee.amount", [{"denom": "uatom", "amount": "1"}]))),
+    (2, "stop gen-tx", changed(GENESIS, ("genutil.gen_txs.0.auth_info.fee.amount",
+                                         [{"denom": "uatom", "amount": "1"}]))),
     (2, "stop consensus-key", changed(GENESIS, (f"{MESSAGE}.pubkey", SECP))),
     (2, "stop commission", changed(GENESIS, (f"{MESSAGE}.commission.rate", "0.010000000000000000"))),
     (2, "stop pool", changed(GENESIS, ("bank.balances.+", {"address": MODULES["not_bonded_tokens_pool"],
@@ -324,7 +346,8 @@ for name, document in (("export.json", EXPORT), ("genesis.json", GENESIS)):
 
 def asked(words, given=""):
     done = subprocess.run([built, *map(str, words)], input=given, capture_output=True, text=True)
-    ask(done.returncode == 0, f"{' '.join(map(str, words))} ended with {done.returncode}: {done.stdout[:300]}{done.stderr}")
+    said = f"{done.stdout[:300]}{done.stderr}"
+    ask(done.returncode == 0, f"{' '.join(map(str, words))} ended with {done.returncode}: {said}")
 
 
 if built:
@@ -340,8 +363,8 @@ if built:
 else:
     print("recipes: what the program makes of exports is passed over, since it is not built")
 
-print(f"recipes: {tries} runs over exports and genesis documents; {len(REFUSED)} reasons to refuse and {len(LOOKED_AT)} to "
-      f"look; {found} members changed by one unit, each found")
+print(f"recipes: {tries} runs over exports and genesis documents; {len(REFUSED)} reasons to refuse and "
+      f"{len(LOOKED_AT)} to look; {found} members changed by one unit, each found")
 for text in bad:
     print(f"recipes: {text}")
 sys.exit(1 if bad else 0)
