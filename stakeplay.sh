@@ -1,23 +1,66 @@
 #!/usr/bin/env bash
-# Runs the program with these arguments, standard input passed on. Where `.ci/run` (or `rt run` in crates/stakeplay) proved
-# and built it and no source has changed since, that program runs; else the kit's interpreter runs the sources, which proves
-# nothing, is slow, and writes at most 1 MiB.
+# Runs the program with these arguments, standard input passed on. Of these the first that there is runs, and what runs is
+# said on standard error unless it is the first:
+#   1. the program that was built here (by `.ci/run`, or by `rt run` in crates/stakeplay), where no source is newer;
+#   2. the released program (release/), for x86-64 Linux, where the sources are those that it was built from;
+#   3. the kit's interpreter over the sources, which proves nothing, is slow, and writes at most 1 MiB.
+# `stakeplay.sh --help`, or no words at all, prints the commands.
 here="$(cd "$(dirname "$0")" && pwd)"
+
+usage() {
+    cat <<'TEXT'
+stakeplay STORE COMMAND   replays the proof-of-stake accounting of a Cosmos SDK v0.47 chain
+
+STORE is a file that keeps the state, made where there is none, or - for none. COMMAND is one of:
+
+  replay                  reads a genesis and blocks, a line each, and writes what each does, then a report
+                            stakeplay.sh - replay < examples/history.jsonl
+  resume                  the same from what STORE has: each line is a block
+                            tail -n +5 examples/history.jsonl | stakeplay.sh chain.db resume
+  query supply|pool|validators
+  query account|validator|delegations|rewards|unbondings|redelegations|signing ADDRESS
+                          answers from what STORE has
+                            stakeplay.sh chain.db query supply
+  gen SEED COUNT          writes a generated input with COUNT blocks
+                            stakeplay.sh - gen 7 100 | stakeplay.sh - replay
+  trial SEED COUNT        replays that input and writes a summary of one line
+                            stakeplay.sh - trial 7 1000
+
+README.md has an example, docs/FORMATS.md every line in and out, docs/OPERATING.md how a run can end.
+TEXT
+}
+
+if [ $# -eq 0 ] || [ "$1" = --help ] || [ "$1" = -h ]; then
+    usage
+    exit 0
+fi
+
+# 1. what was built here
 built="$here/crates/stakeplay/out/stakeplay"
 if [ -x "$built" ] && [ -z "$(find "$here/crates" -name out -prune -o -type f \( -name '*.rt' -o -name '*.antt' \) -newer "$built" -print -quit)" ]; then
     exec "$built" "$@"
 fi
+
+# 2. the release
+. "$here/release/release.bash"
+if released="$(released_program "$here")"; then
+    echo "stakeplay.sh: the released program of $(release_word "$here" made) runs, since its sources are these" >&2
+    exec "$released" "$@"
+fi
+
+# 3. the interpreter
 if ! command -v rt >/dev/null; then
-    echo 'stakeplay.sh: the program is not built, and rt, the command of the Rattle kit, is not on the path' >&2
+    echo 'stakeplay.sh: the program is not built here, the release is of other sources or for another machine, and rt, the' >&2
+    echo 'stakeplay.sh: command of the Rattle kit, is not on the path' >&2
     exit 69
 fi
 {
-    echo 'stakeplay.sh: the program is not built, or a source is newer: the interpreter runs the sources, which is slow'
-    echo 'stakeplay.sh: and proves nothing. To build the program: (cd crates/stakeplay && rt run)'
+    echo 'stakeplay.sh: the program is not built, or a source is newer, and the release is of other sources: the interpreter'
+    echo 'stakeplay.sh: runs them, which is slow and proves nothing. To build the program: (cd crates/stakeplay && rt run)'
 } >&2
 # a store is named from where this was called
-case "${1:-}" in
-'' | -* | /*) ;;
+case "$1" in
+-* | /*) ;;
 *) set -- "$PWD/$1" "${@:2}" ;;
 esac
 cd "$here/crates/stakeplay" || exit 70

@@ -1,5 +1,5 @@
 #!/usr/bin/env python3
-"""Cases of the calls of `stk_dec` with their answers by Python's exact integers, as a text in a Rattle source file: a line
+"""Cases of the calls of `base_decimals` with their answers by Python's exact integers, as a text in a Rattle source file: a line
 for each case, with the call, its operands, and the answer's units or what is over, with its operands.
 
     python3 bench/decimal_cases.py
@@ -54,34 +54,113 @@ CALLS = {
 }
 TOP = LIMIT - 1
 EDGES = {
-    "Add": [(0, 0, 0), (TOP, 0, 0), (TOP, 1, 0), (TOP, TOP, 0), (LIMIT // 2, LIMIT // 2 - 1, 0), (LIMIT // 2, LIMIT // 2, 0)],
+    "Add": [
+        (0, 0, 0),
+        (TOP, 0, 0),
+        (TOP, 1, 0),
+        (TOP, TOP, 0),
+        (LIMIT // 2, LIMIT // 2 - 1, 0),
+        (LIMIT // 2, LIMIT // 2, 0),
+    ],
     "OfWhole": [(0, 0, 0), (10**20 - 1, 0, 0), (10**20, 0, 0), (2**128 - 1, 0, 0)],
     # half a unit is a tie
-    "MulEven": [(1, ONE // 2, 0), (3, ONE // 2, 0), (5, ONE // 2, 0), (1, ONE // 2 + 1, 0), (1, ONE // 2 - 1, 0), (3, ONE // 2 + 1, 0),
-                (0, TOP, 0), (TOP, ONE, 0), (TOP, ONE + 1, 0), (TOP, TOP, 0)],
+    "MulEven": [
+        (1, ONE // 2, 0),
+        (3, ONE // 2, 0),
+        (5, ONE // 2, 0),
+        (1, ONE // 2 + 1, 0),
+        (1, ONE // 2 - 1, 0),
+        (3, ONE // 2 + 1, 0),
+        (0, TOP, 0),
+        (TOP, ONE, 0),
+        (TOP, ONE + 1, 0),
+        (TOP, TOP, 0),
+    ],
     "MulCut": [(1, ONE // 2, 0), (1, ONE - 1, 0), (0, TOP, 0), (TOP, ONE, 0), (TOP, ONE + 1, 0), (TOP, TOP, 0)],
     # one unit / 1.999999999999999999 is a tie at 36 digits, and above it exactly
-    "QuoEven": [(1, 2 * ONE, 0), (3, 2 * ONE, 0), (5, 2 * ONE, 0), (1, 2 * ONE - 1, 0), (1, 2 * ONE + 1, 0), (3, 2 * ONE - 1, 0), (2 * ONE, 3 * ONE, 0),
-                (0, 1, 0), (TOP, ONE, 0), (TOP, ONE - 1, 0), (TOP, 1, 0), (TOP, TOP, 0), (1, TOP, 0)],
-    "QuoCut": [(ONE, 3 * ONE, 0), (0, 1, 0), (TOP, ONE, 0), (TOP, ONE - 1, 0), (10**20 - 1, 1, 0), (10**20, 1, 0), (TOP, 1, 0)],
+    "QuoEven": [
+        (1, 2 * ONE, 0),
+        (3, 2 * ONE, 0),
+        (5, 2 * ONE, 0),
+        (1, 2 * ONE - 1, 0),
+        (1, 2 * ONE + 1, 0),
+        (3, 2 * ONE - 1, 0),
+        (2 * ONE, 3 * ONE, 0),
+        (0, 1, 0),
+        (TOP, ONE, 0),
+        (TOP, ONE - 1, 0),
+        (TOP, 1, 0),
+        (TOP, TOP, 0),
+        (1, TOP, 0),
+    ],
+    "QuoCut": [
+        (ONE, 3 * ONE, 0),
+        (0, 1, 0),
+        (TOP, ONE, 0),
+        (TOP, ONE - 1, 0),
+        (10**20 - 1, 1, 0),
+        (10**20, 1, 0),
+        (TOP, 1, 0),
+    ],
     # behind the 36th digit nothing counts: one unit over the largest decimal is 0 upward too
-    "QuoUp": [(1, 2 * ONE, 0), (ONE, 3 * ONE, 0), (1, TOP, 0), (0, 1, 0), (999999999999999999 * ONE, ONE * ONE, 0), (ONE, 999999999999999999 * ONE, 0),
-              (TOP, ONE, 0), (TOP, ONE - 1, 0), (10**20, 1, 0)],
-    "MulIntQuoEven": [(10101010101010101010, 99, 100 * ONE), (98989898989898989898, 99, 100 * ONE), (1, 1, 2 * ONE - 1), (TOP, 10**20, TOP), (TOP, 10**20, 1),
-                      (0, 0, 1), (3, 1, 2 * ONE)],
-    "MulIntQuoCut": [(10101010101010101010, 99, 100 * ONE), (TOP, 10**20, TOP), (TOP, 10**20, 1), (0, 0, 1), (3, 1, 2 * ONE)],
-    "MulIntQuoInt": [(100 * ONE, 10, 99), (10**30, 10**9, 1), (TOP, 1, 1), (TOP, 2**128 - 1, TOP), (0, 0, 1), (TOP, 2**128 - 1, 1)],
+    "QuoUp": [
+        (1, 2 * ONE, 0),
+        (ONE, 3 * ONE, 0),
+        (1, TOP, 0),
+        (0, 1, 0),
+        (999999999999999999 * ONE, ONE * ONE, 0),
+        (ONE, 999999999999999999 * ONE, 0),
+        (TOP, ONE, 0),
+        (TOP, ONE - 1, 0),
+        (10**20, 1, 0),
+    ],
+    "MulIntQuoEven": [
+        (10101010101010101010, 99, 100 * ONE),
+        (98989898989898989898, 99, 100 * ONE),
+        (1, 1, 2 * ONE - 1),
+        (TOP, 10**20, TOP),
+        (TOP, 10**20, 1),
+        (0, 0, 1),
+        (3, 1, 2 * ONE),
+    ],
+    "MulIntQuoCut": [
+        (10101010101010101010, 99, 100 * ONE),
+        (TOP, 10**20, TOP),
+        (TOP, 10**20, 1),
+        (0, 0, 1),
+        (3, 1, 2 * ONE),
+    ],
+    "MulIntQuoInt": [
+        (100 * ONE, 10, 99),
+        (10**30, 10**9, 1),
+        (TOP, 1, 1),
+        (TOP, 2**128 - 1, TOP),
+        (0, 0, 1),
+        (TOP, 2**128 - 1, 1),
+    ],
     "Trunc": [(0, 0, 0), (ONE - 1, 0, 0), (ONE, 0, 0), (TOP, 0, 0)],
-    "RoundInt": [(0, 0, 0), (ONE // 2, 0, 0), (3 * ONE // 2, 0, 0), (5 * ONE // 2, 0, 0), (ONE // 2 + 1, 0, 0), (TOP, 0, 0)],
+    "RoundInt": [
+        (0, 0, 0),
+        (ONE // 2, 0, 0),
+        (3 * ONE // 2, 0, 0),
+        (5 * ONE // 2, 0, 0),
+        (ONE // 2 + 1, 0, 0),
+        (TOP, 0, 0),
+    ],
 }
 
 
 def decimal():
-    return min(TOP, random.choice([
-        random.randrange(10 ** random.randrange(1, 39)),
-        random.randrange(1, 1000) * 10 ** random.randrange(0, 36),
-        10 ** random.randrange(0, 38) + random.randrange(-1, 2),
-    ]))
+    return min(
+        TOP,
+        random.choice(
+            [
+                random.randrange(10 ** random.randrange(1, 39)),
+                random.randrange(1, 1000) * 10 ** random.randrange(0, 36),
+                10 ** random.randrange(0, 38) + random.randrange(-1, 2),
+            ]
+        ),
+    )
 
 
 def operands(call):
@@ -119,9 +198,9 @@ for call, compute in CALLS.items():
     cases += [operands(call) for _ in range(16)]
     rows += [(call, a, b, c, compute(a, b, c)) for a, b, c in cases]
 
-file = pathlib.Path(__file__).parent.parent / "crates/stk_ground_trials/src/decimal_cases.rt"
+file = pathlib.Path(__file__).parent.parent / "crates/test_values/src/decimal_cases.rt"
 with open(file, "w") as out:
-    print("// Written by bench/decimal_cases.py.", file=out)
+    print("//! Calls of decimals and their answers, written by bench/decimal_cases.py from exact integers.\n", file=out)
     print(f'pub static CASES: &str = "\\', file=out)
     for call, *operands, want in rows:
         print(call, *operands, want, file=out)

@@ -35,7 +35,9 @@ Check = collections.namedtuple("Check", "kind crate name began ended cpu")
 
 def dependencies():
     """Returns the crates of the repository below each crate."""
-    lines = [line for line in (ROOT / "crates.txt").read_text().splitlines() if ":" in line and not line.startswith("#")]
+    lines = [
+        line for line in (ROOT / "crates.txt").read_text().splitlines() if ":" in line and not line.startswith("#")
+    ]
     named = {line.partition(":")[0].split()[0]: line.partition(":")[2].split() for line in lines}
     return {crate: [it for it in words if it in named] for crate, words in named.items()}
 
@@ -129,7 +131,9 @@ class Watch:
                 self.seeded.add(crate)
                 for took, module in module_times(name)[:10]:
                     self.tell(f"{OF_MODULE} {module} {took:.1f}")
-            self.tell(f"{MARK} {kind} {crate} {'-' if kind == 'seed' else name} {began:.1f} {now:.1f} {sum(seconds.values()):.1f}")
+            self.tell(
+                f"{MARK} {kind} {crate} {'-' if kind == 'seed' else name} {began:.1f} {now:.1f} {sum(seconds.values()):.1f}"
+            )
             self.tasks = {pid: it for pid, it in self.tasks.items() if it != task}
 
 
@@ -194,7 +198,13 @@ def row(name, checks):
     for kinds in (("proof", "build"), ("tests",), ("seed", "edit")):
         found = [it for it in checks if it.kind in kinds]
         cells.append(f"{wall(found):.0f} ({sum(it.cpu for it in found):.0f})" if found else "")
-    cells.append(str(len({it.name for it in checks if it.kind == "edit"}) if name != "all" else sum(it.kind == "edit" for it in checks)))
+    cells.append(
+        str(
+            len({it.name for it in checks if it.kind == "edit"})
+            if name != "all"
+            else sum(it.kind == "edit" for it in checks)
+        )
+    )
     return "| " + " | ".join(cells) + " |"
 
 
@@ -226,7 +236,9 @@ def table(log):
     for name, found in (("Proofs and tests", proofs), ("Edits", edits), ("All", checks)):
         if found:
             cpu, span = sum(it.cpu for it in found), wall(found)
-            print(f"\n{name}: {span / 60:.1f} minutes of the clock, {cpu / 60:.1f} of processors, {cpu / span:.1f} at work.")
+            print(
+                f"\n{name}: {span / 60:.1f} minutes of the clock, {cpu / 60:.1f} of processors, {cpu / span:.1f} at work."
+            )
     seconds, chain = longest_chain(checks)
     print(f"\nLongest chain of proofs, {seconds / 60:.1f} minutes: {', '.join(f'`{it}`' for it in chain)}.")
     print("\nSlowest edits, in seconds of a processor:")
@@ -235,7 +247,9 @@ def table(log):
     print("\nSlowest modules, in seconds of the clock:")
     for seconds, module in sorted(modules, reverse=True)[:10]:
         print(f"- `{module}` {seconds:.0f}")
-    print(f"\nThe whole run: {last / 60:.1f} minutes (at most {BUDGET[0]} from nothing, {BUDGET[1]} after a change in one module).")
+    print(
+        f"\nThe whole run: {last / 60:.1f} minutes (at most {BUDGET[0]} from nothing, {BUDGET[1]} after a change in one module)."
+    )
     for line in lines:
         if re.match(r"rt: (ok|FAILED)|\d+ passed, |status ", line):
             print(f"    {line}")

@@ -2,12 +2,14 @@
 # Runs the recipes of `examples/recipes`: each command of `docs/RECIPES.md` with the output that stands there (what
 # needs a tool that is absent is passed over, and said); on each example of `examples`; on a run of a hundred blocks,
 # where the program is built; on output that is cut or of another program; and the auditor's program on outputs in which
-# one line of each kind of fact was changed by one unit.
+# one line of each kind of fact was changed by one unit. Then it runs `checks/recipes_*.py`, which try the recipes that take
+# a chain's own data.
 set -u
 cd "$(dirname "$0")/.."
 export PYTHONDONTWRITEBYTECODE=1
 . checks/program.bash
-python3 - "$built" <<'PYTHON'
+bad=0
+python3 - "$built" <<'PYTHON' || bad=1
 import collections, contextlib, functools, io, json, pathlib, subprocess, sys, tempfile
 
 ONE = 10 ** 18
@@ -84,9 +86,10 @@ for command, wanted in console.blocks("docs/RECIPES.md"):
     fault = console.fault_of(command, wanted)
     ask(not fault, fault)
 for name in headers:
-    ask(name == "lines.py" or f"examples/recipes/{name}" in page, f"the page does not lead to {name}")
-    has_header = "Who wants it:" in headers[name] and "One command:" in headers[name]
-    ask(name == "lines.py" or has_header, f"{name} has no header")
+    if name == "lines.py" or name.startswith("node_"):  # what recipes share
+        continue
+    ask(f"examples/recipes/{name}" in page, f"the page does not lead to {name}")
+    ask("Who wants it:" in headers[name] and "One command:" in headers[name], f"{name} has no header")
 for words in commands(str(examples / "life.out"))[:2]:
     front = tried_here(words)[1].decode().splitlines()[:2]
     has_front = all(line in headers[words[0]] for line in front)
@@ -207,3 +210,7 @@ for text in bad:
     print(f"recipes: {text}")
 sys.exit(1 if bad else 0)
 PYTHON
+for part in checks/recipes_*.py; do
+    python3 "$part" "$built" || bad=1
+done
+exit $bad

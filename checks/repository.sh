@@ -7,19 +7,19 @@
 set -u
 cd "$(dirname "$0")/.."
 bad=0
-# crates of laws and rows alone, which have no body that could be wrong (as those of tests alone, by their names), and the
-# program, whose body is one call
-no_edits=" stk_rules stk_rule_rows stk_bracket stk_owed stk_decided stk_kept stk_itemized stk_reached stk_machine stk_histories stk_bracket_rows stk_summary_rows stk_generated stakeplay "
+# crates of definitions, laws and worked examples alone, which have no body that could be wrong (as those of tests alone, by
+# their names), and the program, whose body is one call
+no_edits=" rule_modules rule_machine rule_worked rule_histories law_rewards law_soundness law_records law_runs run_worked stakeplay "
 # crates whose check, which an edit costs once more, is long (bench/README.md has the gate's budget), and for which no wrong
 # body is among those that every reader should see refused; they may have edits, and so far have none
-long_checks=" stk_types stk_coins stk_keep stk_json stk_gen "
+long_checks=" base_types base_coins base_roles line_json "
 wrong_bodies="invents_overflow|rounds_exact_quotient|cuts_slash_fraction|starts_after_removal|skips_slash_at_start|drops_slash_reference"
 wrong_bodies="$wrong_bodies|keeps_dead_records|drops_the_dust|burns_from_bonded|hides_a_burn|keeps_refused_reward|writes_before_commit"
 wrong_bodies="$wrong_bodies|sorts_all_validators|invents_(read|write|store)_fault|invents_not_found|restarts_from_genesis"
 say() { echo "repository: $*"; bad=1; }
 [ "$(cat HANDLES)" = "Handles allowed: none." ] || say "HANDLES is not the one line"
 lines="$(wc -l <README.md)"
-[ "$lines" -lt 120 ] || say "the README has $lines lines, and is to have fewer than 120"
+[ "$lines" -lt 100 ] || say "the README has $lines lines, and is to have fewer than 100"
 while IFS= read -r place; do say "README.md:$place has more than 120 columns"; done \
     < <(LC_ALL=C.UTF-8 awk 'length($0) > 120 { print FNR }' README.md)
 for crate in $(sed -n 's/^\([a-z0-9_]*\):.*/\1/p' crates.txt); do
@@ -28,19 +28,29 @@ for crate in $(sed -n 's/^\([a-z0-9_]*\):.*/\1/p' crates.txt); do
         grep -qx "$part" "crates/$crate/README.md" 2>/dev/null || say "crates/$crate/README.md has no line '$part'"
     done
     edits="$(ls crates/"$crate"/must-fail 2>/dev/null | grep '\.edit$')"
-    [[ "$no_edits$long_checks" == *" $crate "* || "$crate" == *_trials ]] || [ -n "$edits" ] || say "$crate has no must-fail edit"
+    [[ "$no_edits$long_checks" == *" $crate "* || "$crate" == test_* ]] || [ -n "$edits" ] || say "$crate has no must-fail edit"
     [ "$(grep -Evc "^(|$wrong_bodies)(\.edit)?$" <<<"$edits")" -le 6 ] || say "$crate has more than six must-fail edits"
 done
 # a crate with tests is proved twice, since they are checked together with all of it
 while IFS= read -r file; do say "$file has tests, which stand in a crate of tests alone"; done \
-    < <(grep -rl --include='*.rt' '#\[test\]' crates/*/src | grep -v '^crates/[a-z0-9_]*_trials/')
-for page in THEOREM ARCHITECTURE FORMATS RULES PROOFS DECISIONS RECIPES; do
+    < <(grep -rl --include='*.rt' '#\[test\]' crates/*/src | grep -v '^crates/test_')
+for page in THEOREM ARCHITECTURE FORMATS OPERATING RULES PROOFS BRACKET DECISIONS RECIPES READING FROM_A_NODE; do
     [ -s "docs/$page.md" ] || say "docs/$page.md is missing"
     grep -q "docs/$page.md" README.md || say "the README does not lead to docs/$page.md"
 done
 # every refusal of the code stands in the table of FORMATS, under its number
 while read -r name number; do
     grep -q "^| $number | \`$name\`" docs/FORMATS.md || say "docs/FORMATS.md does not have refusal $number, $name"
-done < <(sed -n 's/^ *Refusal::\([A-Za-z]*\)\((_)\)\{0,1\} => \([0-9]*\),$/\1 \3/p' crates/stk_keep/src/refusal.rt)
+done < <(sed -n 's/^ *Refusal::\([A-Za-z]*\)\((_)\)\{0,1\} => \([0-9]*\),$/\1 \3/p' crates/base_roles/src/refusal.rt)
+# pages and tables that scripts make are what they would make now
+python3 checks/tables.py --check || bad=1
+python3 checks/reading.py --check || bad=1
+python3 checks/map.py --check || bad=1
+python3 docs/drawings/draw.py --check || bad=1
+# each decision has an anchor of its own
+while read -r anchor; do say "docs/DECISIONS.md has the anchor $anchor twice"; done \
+    < <(grep -o '<a id="[a-z0-9-]*"' docs/DECISIONS.md | sort | uniq -d)
+while IFS= read -r line; do say "docs/DECISIONS.md has a decision without an anchor: ${line:0:60}"; done \
+    < <(grep '^- ' docs/DECISIONS.md | grep -v '^- <a id=')
 [ $bad = 0 ] && echo "repository: all there"
 exit $bad

@@ -60,10 +60,10 @@ use json::Scratch;
 use memchr::memchr_iter;
 use std::alloc::{AllocError, Global};
 use std::io::{Read, Write};
-use stk_json::{push_lines_of_block, read_block};
-use stk_keep::{Fact, Facts, Listed};
-use stk_msgs::{Block, BlockReport, LineFault, Msg, Outcome, Tx, TxReport};
-use stk_types::{Account, Copied, Module};
+use line_json::{push_lines_of_block, read_block};
+use base_roles::{Fact, Facts, Listed};
+use base_messages::{Block, BlockReport, LineFault, Msg, Outcome, Tx, TxReport};
+use base_types::{Account, Copied, Module};
 BODY
 fn main(rt: HostRuntime) -> Result<()> {
     let alloc = rt.alloc();
@@ -197,7 +197,9 @@ def make_votes(path, blocks):
         '"min_self_delegation":"1"}'
         for n in range(VOTERS)
     ]
-    delegations = [f'{{"delegator":"{address(n)}","validator":"{address(n)}","amount":"10000000"}}' for n in range(VOTERS)]
+    delegations = [
+        f'{{"delegator":"{address(n)}","validator":"{address(n)}","amount":"10000000"}}' for n in range(VOTERS)
+    ]
     votes = [f'{{"cons":"{address(-1 - n)}","power":10,"signed":true}}' for n in range(VOTERS)]
     with open(path, "w") as out:
         out.write(genesis(validators, delegations))
@@ -209,7 +211,9 @@ def build_stock():
     folder = WORK / "stock"
     (folder / "src").mkdir(parents=True)
     (folder / "src/main.rs").write_text(STOCK)
-    (folder / "Cargo.toml").write_text('[package]\nname = "stock"\nversion = "0.1.0"\nedition = "2021"\n[dependencies]\nserde_json = "1"\n')
+    (folder / "Cargo.toml").write_text(
+        '[package]\nname = "stock"\nversion = "0.1.0"\nedition = "2021"\n[dependencies]\nserde_json = "1"\n'
+    )
     (folder / ".cargo").mkdir()
     (folder / ".cargo/config.toml").write_text(
         '[source.crates-io]\nreplace-with = "debian"\n[source.debian]\ndirectory = "/usr/share/cargo/registry"\n'
@@ -226,11 +230,13 @@ def build_rattle():
         (top / "crates" / name / "src").mkdir(parents=True)
         (top / "crates" / name / "src/main.rt").write_text(AROUND.lstrip().replace("BODY\n", body))
         (top / "crates" / name / "stdin").write_text("")
-        lines.append(f"{name}: stk_types stk_coins stk_keep stk_msgs stk_json json memchr anyhow")
+        lines.append(f"{name}: base_types base_coins base_roles base_messages line_json json memchr anyhow")
     (top / "crates.txt").write_text("\n".join(lines) + "\n")
     programs = []
     for name in ("read_bench", "line_bench", "stakeplay"):
-        ran = subprocess.run(["rt", "run"], cwd=top / "crates" / name, stdin=subprocess.DEVNULL, capture_output=True, text=True)
+        ran = subprocess.run(
+            ["rt", "run"], cwd=top / "crates" / name, stdin=subprocess.DEVNULL, capture_output=True, text=True
+        )
         found = [p for p in (top / "crates" / name / "out").rglob(f"{name}*") if p.is_file() and os.access(p, os.X_OK)]
         if not found:
             sys.exit(ran.stdout + ran.stderr)
@@ -309,8 +315,17 @@ def functions(command, path):
     """The functions in which most of a replay's time goes by, as `perf` samples them."""
     record = str(WORK / "perf.data")
     with open(path, "rb") as source, open(os.devnull, "wb") as sink:
-        subprocess.run(["perf", "record", "-q", "-e", "cpu-clock", "-F", "2000", "-o", record, "--", *command], stdin=source, stdout=sink, check=True)
-    told = subprocess.run(["perf", "report", "-i", record, "--stdio", "--no-children", "-q", "-F", "overhead,sym"], capture_output=True, text=True)
+        subprocess.run(
+            ["perf", "record", "-q", "-e", "cpu-clock", "-F", "2000", "-o", record, "--", *command],
+            stdin=source,
+            stdout=sink,
+            check=True,
+        )
+    told = subprocess.run(
+        ["perf", "report", "-i", record, "--stdio", "--no-children", "-q", "-F", "overhead,sym"],
+        capture_output=True,
+        text=True,
+    )
     print("\n".join([line.rstrip() for line in told.stdout.splitlines() if line.strip()][:20]))
 
 

@@ -1,5 +1,5 @@
 #!/bin/bash
-# Times calls of `stk_dec` beside the same operations in stock Rust: bench/decimals/run.sh [RUNS]
+# Times calls of `base_decimals` beside the same operations in stock Rust: bench/decimals/run.sh [RUNS]
 # Both programs make the same operands, of 10^12 to 10^24 units, and print for each call its nanoseconds and a
 # sum of the results, which must agree. The least time of RUNS runs (7) counts. Wants `rt` and `rustc`, and works
 # in a temporary folder.
@@ -10,16 +10,16 @@ work=$(mktemp -d)
 trap 'rm -rf "$work"' EXIT
 
 mkdir -p "$work/rattle/crates/dec_bench/src"
-cp -r "$top/crates/stk_dec" "$work/rattle/crates/stk_dec"
-rm -rf "$work/rattle/crates/stk_dec/must-fail"
-printf 'stk_dec:\ndec_bench: stk_dec anyhow\n' > "$work/rattle/crates.txt"
+cp -r "$top/crates/base_decimals" "$work/rattle/crates/base_decimals"
+rm -rf "$work/rattle/crates/base_decimals/must-fail"
+printf 'base_decimals:\ndec_bench: base_decimals anyhow\n' > "$work/rattle/crates.txt"
 cat > "$work/rattle/crates/dec_bench/src/main.rt" <<'RATTLE'
 #![tactic(auto)]
 
 use anyhow::Result;
 use std::alloc::{AllocError, Global};
 use std::time::Instant;
-use stk_dec::Dec;
+use base_decimals::Dec;
 
 const ROUNDS: u32 = 400;
 const PAIRS: u32 = 4096;

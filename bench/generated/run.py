@@ -75,7 +75,9 @@ def build_baseline():
     folder = WORK / "baseline"
     (folder / "src").mkdir(parents=True)
     (folder / "src/main.rs").write_text(BASELINE)
-    (folder / "Cargo.toml").write_text('[package]\nname = "baseline"\nversion = "0.1.0"\nedition = "2021"\n[dependencies]\nserde_json = "1"\n')
+    (folder / "Cargo.toml").write_text(
+        '[package]\nname = "baseline"\nversion = "0.1.0"\nedition = "2021"\n[dependencies]\nserde_json = "1"\n'
+    )
     (folder / ".cargo").mkdir()
     (folder / ".cargo/config.toml").write_text(
         '[source.crates-io]\nreplace-with = "debian"\n[source.debian]\ndirectory = "/usr/share/cargo/registry"\n'
@@ -117,7 +119,10 @@ def main():
                 "gen": ran(["-", "gen", SEED, str(count)], "/dev/null", lines),
                 "replay": ran(["-", "replay"], lines, answers),
                 "trial": ran(["-", "trial", SEED, str(count)], "/dev/null", WORK / "trial"),
-                "baseline": (int(subprocess.run([baseline, lines, answers], capture_output=True, check=True).stdout) / 1e9, 0),
+                "baseline": (
+                    int(subprocess.run([baseline, lines, answers], capture_output=True, check=True).stdout) / 1e9,
+                    0,
+                ),
             }
             for name, (took, most) in tries.items():
                 seconds[name] = min(took, seconds.get(name, took))

@@ -22,20 +22,37 @@ def address(kind: int, number: int) -> str:
 
 
 def genesis(validators: int, delegations: int, amount: str) -> bytes:
-    return (json.dumps({
-        "kind": "genesis",
-        "time": "2024-01-01T00:00:00Z",
-        "params": PARAMS,
-        "accounts": [{"address": address(1, 0), "coins": [{"denom": "uatom", "amount": amount}]}],
-        "validators": [{
-            "operator": address(2, place * 7919 % validators), "cons": address(3, place), "rate": "0.1", "max_rate": "0.2",
-            "max_change_rate": "0.01", "min_self_delegation": "1",
-        } for place in range(validators)],
-        "delegations": [{
-            "delegator": address(4, place * 7919 % delegations), "validator": address(2, place % validators),
-            "amount": str(1_000_000 + place),
-        } for place in range(delegations)],
-    }, separators=(",", ":")) + "\n").encode()
+    return (
+        json.dumps(
+            {
+                "kind": "genesis",
+                "time": "2024-01-01T00:00:00Z",
+                "params": PARAMS,
+                "accounts": [{"address": address(1, 0), "coins": [{"denom": "uatom", "amount": amount}]}],
+                "validators": [
+                    {
+                        "operator": address(2, place * 7919 % validators),
+                        "cons": address(3, place),
+                        "rate": "0.1",
+                        "max_rate": "0.2",
+                        "max_change_rate": "0.01",
+                        "min_self_delegation": "1",
+                    }
+                    for place in range(validators)
+                ],
+                "delegations": [
+                    {
+                        "delegator": address(4, place * 7919 % delegations),
+                        "validator": address(2, place % validators),
+                        "amount": str(1_000_000 + place),
+                    }
+                    for place in range(delegations)
+                ],
+            },
+            separators=(",", ":"),
+        )
+        + "\n"
+    ).encode()
 
 
 def seconds(line: bytes, runs: int) -> tuple[float, int]:

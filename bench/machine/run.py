@@ -158,11 +158,22 @@ def coin(amount, denom="uatom"):
 
 def genesis(accounts, validators, delegations, **changed):
     params = {
-        "bond_denom": "uatom", "power_reduction": 1_000_000, "unbonding_time": 1_814_400, "max_validators": 100,
-        "max_entries": 100, "min_commission_rate": "0", "community_tax": "0.02", "withdraw_addr_enabled": True,
-        "signed_blocks_window": 10_000, "min_signed_per_window": "0.05", "downtime_jail_duration": 600,
-        "slash_fraction_double_sign": "0.05", "slash_fraction_downtime": "0.0001", "max_age_duration": 172_800,
-        "max_age_num_blocks": 100_000, "authority": "9" * 40,
+        "bond_denom": "uatom",
+        "power_reduction": 1_000_000,
+        "unbonding_time": 1_814_400,
+        "max_validators": 100,
+        "max_entries": 100,
+        "min_commission_rate": "0",
+        "community_tax": "0.02",
+        "withdraw_addr_enabled": True,
+        "signed_blocks_window": 10_000,
+        "min_signed_per_window": "0.05",
+        "downtime_jail_duration": 600,
+        "slash_fraction_double_sign": "0.05",
+        "slash_fraction_downtime": "0.0001",
+        "max_age_duration": 172_800,
+        "max_age_num_blocks": 100_000,
+        "authority": "9" * 40,
     }
     params.update(changed)
     held = ",".join(f'{{"address":"{who}","coins":[{",".join(coins)}]}}' for who, coins in accounts)
@@ -170,7 +181,9 @@ def genesis(accounts, validators, delegations, **changed):
         f'{{"operator":"{operator}","cons":"{cons}","rate":"0.1","max_rate":"0.2","max_change_rate":"0.01","min_self_delegation":"1"}}'
         for operator, cons in validators
     )
-    given = ",".join(f'{{"delegator":"{who}","validator":"{to}","amount":"{amount}"}}' for who, to, amount in delegations)
+    given = ",".join(
+        f'{{"delegator":"{who}","validator":"{to}","amount":"{amount}"}}' for who, to, amount in delegations
+    )
     return (
         f'{{"kind":"genesis","time":"2024-01-01T00:00:00Z","params":{json.dumps(params)},"accounts":[{held}],'
         f'"validators":[{made}],"delegations":[{given}]}}\n'
@@ -218,12 +231,14 @@ def beginning(validators, delegations):
     in_line, later = rest[: 18_000 - validators], rest[18_000 - validators :]
     # of equal power but for the first hundred, so that the bonded set is the same in both states
     own = [(address(n), address(n), 20_000_000 if n < FIRST else 10_000_000) for n in range(validators)]
-    lines = [genesis(
-        [(address(9_999_999), [coin(10**15)])],
-        [(address(n), address(-1 - n)) for n in range(validators)],
-        own + [(who, address(to), 100_000) for who, to in in_line],
-        max_validators=FIRST,
-    )]
+    lines = [
+        genesis(
+            [(address(9_999_999), [coin(10**15)])],
+            [(address(n), address(-1 - n)) for n in range(validators)],
+            own + [(who, address(to), 100_000) for who, to in in_line],
+            max_validators=FIRST,
+        )
+    ]
     rich = address(9_999_999)
     for start in range(0, len(later), 500):
         txs = []
@@ -256,12 +271,17 @@ def messages(height):
 
 def state_inputs(scale):
     inputs = {}
-    for name, validators, delegations in (("small", 50, 500), ("large", max(60, 4_000 // scale), max(600, 50_000 // scale))):
+    for name, validators, delegations in (
+        ("small", 50, 500),
+        ("large", max(60, 4_000 // scale), max(600, 50_000 // scale)),
+    ):
         lines = beginning(validators, delegations)
         inputs[name] = lines
         first, votes = len(lines), [vote(n, True) for n in range(FIRST)]
         inputs[name + "-nothing"] = lines + [block(first + n) for n in range(10_000 // scale)]
-        inputs[name + "-messages"] = lines + [block(first + n, votes, messages(first + n)) for n in range(1_000 // scale)]
+        inputs[name + "-messages"] = lines + [
+            block(first + n, votes, messages(first + n)) for n in range(1_000 // scale)
+        ]
     return inputs
 
 
@@ -270,16 +290,25 @@ def state(timed):
     for what in ("nothing", "messages"):
         small = seconds[f"small-{what}"] - seconds["small"]
         large = seconds[f"large-{what}"] - seconds["large"]
-        print(f"state: blocks of {what}: {small:.3f} s over the small state, {large:.3f} s over the large one: {large / small:.2f} (aim: below 1.5)")
+        print(
+            f"state: blocks of {what}: {small:.3f} s over the small state, {large:.3f} s over the large one: {large / small:.2f} (aim: below 1.5)"
+        )
 
 
 # ---- entries that are not mature
+
 
 def entries_inputs(scale):
     inputs = {}
     for name, entries in (("none", 0), ("many", 10_000 // scale)):
         users = [address(n) for n in range(1, 101)]
-        lines = [genesis([], [(address(0), address(-1))], [(address(0), address(0), 10**8)] + [(who, address(0), 10**6) for who in users])]
+        lines = [
+            genesis(
+                [],
+                [(address(0), address(-1))],
+                [(address(0), address(0), 10**8)] + [(who, address(0), 10**6) for who in users],
+            )
+        ]
         for start in range(0, 10_000 // scale, 100):
             txs = [tx(who, [], of_pair("undelegate", who, address(0), 1)) for who in users] if start < entries else []
             lines.append(block(len(lines), (), txs))
@@ -291,20 +320,25 @@ def entries_inputs(scale):
 def entries(timed):
     seconds = timed(entries_inputs)
     none, many = seconds["none-nothing"] - seconds["none"], seconds["many-nothing"] - seconds["many"]
-    print(f"entries: blocks of nothing: {none:.3f} s without entries, {many:.3f} s with 10,000: {many / none:.2f} (aim: no walk, so near 1)")
+    print(
+        f"entries: blocks of nothing: {none:.3f} s without entries, {many:.3f} s with 10,000: {many / none:.2f} (aim: no walk, so near 1)"
+    )
 
 
 # ---- fees in one denomination and in five
+
 
 def fees_inputs(scale):
     inputs = {}
     for name, denoms in (("one", DENOMS[:1]), ("five", DENOMS)):
         payer = address(5_000)
-        lines = [genesis(
-            [(payer, [coin(10**12, denom) for denom in denoms])],
-            [(address(n), address(-1 - n)) for n in range(VOTERS)],
-            [(address(n), address(n), 10_000_000) for n in range(VOTERS)],
-        )]
+        lines = [
+            genesis(
+                [(payer, [coin(10**12, denom) for denom in denoms])],
+                [(address(n), address(-1 - n)) for n in range(VOTERS)],
+                [(address(n), address(n), 10_000_000) for n in range(VOTERS)],
+            )
+        ]
         fee = [coin(5_000 + place, denom) for place, denom in enumerate(denoms)]
         votes = [vote(n, True) for n in range(VOTERS)]
         for height in range(1, 10_000 // scale + 1):
@@ -317,9 +351,13 @@ def build_stock(work):
     folder = work / "stock"
     (folder / "src").mkdir(parents=True)
     (folder / "src/main.rs").write_text(STOCK.lstrip())
-    (folder / "Cargo.toml").write_text('[package]\nname = "stock"\nversion = "0.1.0"\nedition = "2021"\n[dependencies]\nserde_json = "1"\n')
+    (folder / "Cargo.toml").write_text(
+        '[package]\nname = "stock"\nversion = "0.1.0"\nedition = "2021"\n[dependencies]\nserde_json = "1"\n'
+    )
     (folder / ".cargo").mkdir()
-    (folder / ".cargo/config.toml").write_text('[source.crates-io]\nreplace-with = "debian"\n[source.debian]\ndirectory = "/usr/share/cargo/registry"\n')
+    (folder / ".cargo/config.toml").write_text(
+        '[source.crates-io]\nreplace-with = "debian"\n[source.debian]\ndirectory = "/usr/share/cargo/registry"\n'
+    )
     subprocess.run(["cargo", "build", "--release", "--offline", "--quiet"], cwd=folder, check=True)
     return folder / "target/release/stock"
 
@@ -335,13 +373,18 @@ def fees(timed):
 
 # ---- a long window and a short one
 
+
 def window_inputs(scale):
     inputs = {}
     for name, window in (("short", 100), ("long", 100_000)):
-        lines = [genesis(
-            [], [(address(n), address(-1 - n)) for n in range(VOTERS)], [(address(n), address(n), 10_000_000) for n in range(VOTERS)],
-            signed_blocks_window=window,
-        )]
+        lines = [
+            genesis(
+                [],
+                [(address(n), address(-1 - n)) for n in range(VOTERS)],
+                [(address(n), address(n), 10_000_000) for n in range(VOTERS)],
+                signed_blocks_window=window,
+            )
+        ]
         for height in range(1, 10_000 // scale + 1):
             lines.append(block(height, [vote(n, (height + n) % 10 != 0) for n in range(VOTERS)]))
         inputs[name] = lines
@@ -356,6 +399,7 @@ def window(timed):
 
 # ---- timing
 
+
 def once(command, path, lines_of):
     """Processor seconds of one run over the file, and of what it writes the lines of these kinds."""
     with open(path, "rb") as source, tempfile.TemporaryFile() as sink:
@@ -367,7 +411,9 @@ def once(command, path, lines_of):
         sink.seek(0)
         kinds = [f'"kind":"{kind}"'.encode() for kind in lines_of]
         # a line of the report has no height
-        told = hashlib.sha256(b"".join(line for line in sink if b'"height":' in line and any(kind in line for kind in kinds)))
+        told = hashlib.sha256(
+            b"".join(line for line in sink if b'"height":' in line and any(kind in line for kind in kinds))
+        )
     return used.ru_utime + used.ru_stime, told.hexdigest() if lines_of else None
 
 
@@ -394,7 +440,12 @@ def timer(work, runs, scale):
     return timed
 
 
-PARTS = {"state": (state, state_inputs), "entries": (entries, entries_inputs), "fees": (fees, fees_inputs), "window": (window, window_inputs)}
+PARTS = {
+    "state": (state, state_inputs),
+    "entries": (entries, entries_inputs),
+    "fees": (fees, fees_inputs),
+    "window": (window, window_inputs),
+}
 
 
 def main():

@@ -7,9 +7,9 @@ so many bytes of a replay and goes. The run ends with 5
 and `write fault`, by no signal; the rows are those after a front of the lines that holds each line of whose text a byte
 was taken; and `resume` with the lines behind it prints the rest and leaves the rows of the whole run. The output has to be
 longer than what a pipe holds, 64 KiB, beyond each length. Ends with 0 where all of this held, else with 1."""
-import argparse, random, subprocess, sys
+import argparse, random, subprocess
 
-from runs import PROGRAM, Whole, Wrong, ask, folder, generated, rows_of
+from runs import PROGRAM, Whole, ask, carry_out, folder, generated, rows_of, tell
 
 FAULT = (5, "stakeplay: write fault")
 
@@ -42,11 +42,8 @@ def main():
     draw = random.Random(given.seed)
     for length in [0, 1, 73, 74, 75, 4096, 65536, *(draw.randrange(longest) for _ in range(20))]:
         print(f"{length:8} bytes taken: the rows are those of {try_reader(whole, length)} lines", flush=True)
-    print("each left a front of the run that holds all that was taken, and came to the end of the whole run")
+    tell({}, "taken")
 
 
 if __name__ == "__main__":
-    try:
-        main()
-    except Wrong as fault:
-        sys.exit(f"closed pipe: {fault}")
+    carry_out("closed pipe", main)

@@ -14,9 +14,9 @@ is a front of the whole output; the rows are none, or those after a front of the
 a byte was printed; and once there is room, `resume` (`replay` of all where there are no rows) prints the rest and leaves
 the rows of the whole run. A query while the room is short answers, or ends with 6 or 9, and changes no rows.
 Ends with 0 where all of this held, with 1 at the first where it did not; its files stay."""
-import argparse, collections, os, resource, signal, subprocess, sys
+import argparse, collections, os, resource, signal, subprocess
 
-from runs import PROGRAM, Whole, Wrong, ask, folder, generated, rows_of
+from runs import PROGRAM, Whole, ask, carry_out, folder, generated, rows_of, tell
 
 FAULT = (6, "stakeplay: store fault")
 PAGE = 4096
@@ -25,15 +25,23 @@ PAGE = 4096
 def short(store, words, given, size, is_ignored):
     """A run whose files may not grow past a size."""
     limit = lambda: resource.setrlimit(resource.RLIMIT_FSIZE, (size, resource.RLIM_INFINITY))
-    done = subprocess.run([PROGRAM, str(store), *words], input=given, capture_output=True,
-                          preexec_fn=limit, restore_signals=not is_ignored)
+    done = subprocess.run(
+        [PROGRAM, str(store), *words],
+        input=given,
+        capture_output=True,
+        preexec_fn=limit,
+        restore_signals=not is_ignored,
+    )
     return done.returncode, done.stdout, done.stderr.decode().strip()
 
 
 def mounted(room, size, *more):
     """Mounts a file system in memory of a size at a folder, or gives it another size; whether that was done."""
     options = ",".join([f"size={size}", *more])
-    return subprocess.run(["mount", "-t", "tmpfs", "-o", options, "outside", str(room)], capture_output=True).returncode == 0
+    return (
+        subprocess.run(["mount", "-t", "tmpfs", "-o", options, "outside", str(room)], capture_output=True).returncode
+        == 0
+    )
 
 
 def judged(whole, store, ended, seen, signals=()):
@@ -100,7 +108,10 @@ def main():
         words.add_argument(f"--{name}", type=int, default=number)
     given = words.parse_args()
     whole = Whole(generated(given.seed, given.blocks))
-    print(f"seed {given.seed}, {given.blocks} blocks; largest file {whole.largest}, all files {whole.all_files} bytes", flush=True)
+    print(
+        f"seed {given.seed}, {given.blocks} blocks; largest file {whole.largest}, all files {whole.all_files} bytes",
+        flush=True,
+    )
     steps = range(given.tries + 1)
     files = [whole.largest * step // (given.tries - 1) for step in steps]
     disks = [PAGE + (whole.all_files + 8 * PAGE) * step // (given.tries - 1) // PAGE * PAGE for step in steps]
@@ -114,13 +125,13 @@ def main():
         if seen is None:
             print(f"{way}: passed over, since nothing may be mounted here")
             continue
-        ask(seen["came to its end"] > 0 and seen["store fault, with rows"] + seen["ended by the signal"] > 0, f"{way}: no size shows both ends")
+        ask(
+            seen["came to its end"] > 0 and seen["store fault, with rows"] + seen["ended by the signal"] > 0,
+            f"{way}: no size shows both ends",
+        )
         print(f"{way}: " + "; ".join(f"{count} {name}" for name, count in sorted(seen.items())), flush=True)
-    print("each left a front of the run that holds all that was printed, and came to the end of the whole run")
+    tell({})
 
 
 if __name__ == "__main__":
-    try:
-        main()
-    except Wrong as fault:
-        sys.exit(f"full disk: {fault}")
+    carry_out("full disk", main)

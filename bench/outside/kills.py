@@ -17,7 +17,7 @@ A run that ends before its moment counts as no kill. Kill NUMBER draws from `SEE
 moment again. Ends with 0 where all of this held at each kill, with 1 at the first where it did not; its files stay."""
 import argparse, collections, os, random, select, subprocess, sys, time
 
-from runs import PROGRAM, Whole, Wrong, folder, generated, ran, rows_of
+from runs import PROGRAM, Whole, Wrong, carry_out, folder, generated, ran, rows_of, tell
 
 ALL = 1 << 62
 
@@ -69,7 +69,9 @@ class Kills:
         ends = [len(b"".join(self.whole.texts[first:place])) for place in range(first, len(self.whole.texts) + 1)]
         self.seen["resumes killed" if first else "replays killed"] += 1
         self.seen["with no rows"] += kept == 0
-        self.seen["with a line kept of which nothing was printed"] += kept > first and len(printed) <= ends[kept - first - 1]
+        self.seen["with a line kept of which nothing was printed"] += (
+            kept > first and len(printed) <= ends[kept - first - 1]
+        )
         self.seen["within a text"] += len(printed) not in ends
         self.seen["within the report, or behind it"] += len(printed) > ends[-2]
 
@@ -110,13 +112,8 @@ def main():
         number += 1
         if number % 50 == 0:
             print(f"{number} tried, {kills.seen['replays killed']} killed", flush=True)
-    for name, count in sorted(kills.seen.items()):
-        print(f"{count:6} {name}")
-    print("each left a front of the run that holds all that was printed, and came to the end of the whole run")
+    tell(kills.seen)
 
 
 if __name__ == "__main__":
-    try:
-        main()
-    except Wrong as fault:
-        sys.exit(f"the whole run: {fault}")
+    carry_out("the whole run", main)

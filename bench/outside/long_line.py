@@ -34,7 +34,10 @@ def watched(process):
     """How a run ends, its most memory and its time."""
     begin, most = time.monotonic(), 0
     said = []
-    readers = [threading.Thread(target=lambda pipe=pipe: said.append((pipe, pipe.read()))) for pipe in (process.stdout, process.stderr)]
+    readers = [
+        threading.Thread(target=lambda pipe=pipe: said.append((pipe, pipe.read())))
+        for pipe in (process.stdout, process.stderr)
+    ]
     for reader in readers:
         reader.start()
     while process.poll() is None:
@@ -104,7 +107,9 @@ def main():
         for line, before in ((1, b""), (2, genesis)):
             printed = told.splitlines(keepends=True)[0] if before else b""
             for way in ("file", "pipe", "brim"):
-                tries = [by_file(room, before) if way == "file" else by_pipe(before, way == "brim") for _ in range(runs)]
+                tries = [
+                    by_file(room, before) if way == "file" else by_pipe(before, way == "brim") for _ in range(runs)
+                ]
                 for (status, wrote, said, _, _), _ in tries:
                     if (status, wrote, said) != (3, printed, f"stakeplay: line {line}: limit line"):
                         bad += 1

@@ -10,9 +10,9 @@ output; the rows are none, or those after a front of the lines that holds each l
 without the limit, `resume` (`replay` of all where there are no rows) prints the rest and leaves the rows of the whole
 run. One refused allocation at a time is tried by `rt try --fail-alloc 1.. -- - replay` in crates/stakeplay.
 Ends with 0 where all of this held, with 1 at the first where it did not; its files stay."""
-import argparse, collections, subprocess, sys
+import argparse, collections, subprocess
 
-from runs import PROGRAM, Whole, Wrong, ask, folder, generated, rows_of
+from runs import PROGRAM, Whole, ask, carry_out, folder, generated, rows_of, tell
 
 FAULT = (7, "stakeplay: no memory")
 STEP = 4096
@@ -64,19 +64,17 @@ def main():
     begins = least(lambda steps: limited("-", ["no", "words"], b"", steps * STEP)[0] in (1, 7), 0, most)
     ends = least(lambda steps: suffices(all_lines, steps * STEP), begins, most)
     high = ends + max(1, (ends - begins) // 20)
-    print(f"seed {given.seed}, {given.blocks} blocks; it begins with {begins * STEP} bytes, and ends with {ends * STEP}", flush=True)
+    print(
+        f"seed {given.seed}, {given.blocks} blocks; it begins with {begins * STEP} bytes, and ends with {ends * STEP}",
+        flush=True,
+    )
     seen = collections.Counter()
     steps = [begins + (high - begins) * place // (given.tries - 1) for place in range(given.tries)]
     # What a run takes beyond what it opens a store with is little, so the last steps are tried one by one.
     for place in [*steps, *range(ends - given.tries, ends)]:
         try_size(whole, place * STEP, seen)
-    for name, count in sorted(seen.items()):
-        print(f"{count:6} {name}")
-    print("each left a front of the run that holds all that was printed, and came to the end of the whole run")
+    tell(seen)
 
 
 if __name__ == "__main__":
-    try:
-        main()
-    except Wrong as fault:
-        sys.exit(f"no memory: {fault}")
+    carry_out("no memory", main)

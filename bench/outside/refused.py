@@ -9,9 +9,9 @@ memory`; what it printed is a front of the whole output; the rows are as before,
 holds each line of whose text a byte was printed, and `resume` (`replay` of all where there are no rows) goes on to the end
 of the whole run. A query that is refused memory prints nothing, or a front of its answer, and changes no rows.
 Ends with 0 where all of this held, with 1 at the first where it did not; its files stay. Wants a C compiler."""
-import argparse, collections, os, pathlib, shutil, subprocess, sys, tempfile
+import argparse, collections, os, pathlib, shutil, subprocess, tempfile
 
-from runs import PROGRAM, Whole, Wrong, ask, folder, generated, rows_of
+from runs import PROGRAM, Whole, ask, carry_out, folder, generated, rows_of, tell
 
 FAULT = (7, "stakeplay: no memory")
 SHIM = r"""
@@ -56,7 +56,9 @@ class Refusals:
 
     def ran(self, store, words, given, call):
         """A run of which the call of this number is refused: how it ends, and what it prints."""
-        more = {"LD_PRELOAD": str(self.library), "REFUSED": str(call)} | ({} if call else {"COUNTED": str(self.counted)})
+        more = {"LD_PRELOAD": str(self.library), "REFUSED": str(call)} | (
+            {} if call else {"COUNTED": str(self.counted)}
+        )
         done = subprocess.run([PROGRAM, str(store), *words], input=given, capture_output=True, env=os.environ | more)
         return done.returncode, done.stdout, done.stderr.decode("utf-8", "replace").strip()
 
@@ -86,7 +88,10 @@ def try_call(whole, refusals, begun, first, words, call, seen):
             ask(rows_of(store) == whole.rows[first - 1], f"a query whose call {call} is refused changed the rows")
         else:
             kept = whole.judge(printed, rows_of(store), first)
-            ask(status == 7 or printed == b"".join(whole.texts[first:]), f"call {call}: it ended with 0, and did not print all")
+            ask(
+                status == 7 or printed == b"".join(whole.texts[first:]),
+                f"call {call}: it ended with 0, and did not print all",
+            )
             whole.go_on(store, kept)
         seen[f"{words[0]}: " + ("no memory" if status == 7 else "came to its end")] += 1
 
@@ -100,10 +105,15 @@ def main():
     with tempfile.TemporaryDirectory() as name:
         work = pathlib.Path(name)
         refusals = Refusals(work)
-        subprocess.run([PROGRAM, work / "genesis", "replay"], input=whole.lines[0], stdout=subprocess.DEVNULL, check=True)
+        subprocess.run(
+            [PROGRAM, work / "genesis", "replay"], input=whole.lines[0], stdout=subprocess.DEVNULL, check=True
+        )
         account = "40" + "00" * 19
-        for begun, first, run in ((work / "none", 0, ["replay"]), (work / "genesis", 1, ["resume"]),
-                                  (work / "genesis", 1, ["query", "account", account])):
+        for begun, first, run in (
+            (work / "none", 0, ["replay"]),
+            (work / "genesis", 1, ["resume"]),
+            (work / "genesis", 1, ["query", "account", account]),
+        ):
             (work / "count").mkdir()
             lines = b"" if run[0] == "query" else b"".join(whole.lines[first:])
             count = refusals.calls(copied(begun, work / "count"), run, lines)
@@ -111,13 +121,8 @@ def main():
             print(f"{' '.join(run)}: {count} allocations", flush=True)
             for call in range(1, count + 1, given.every):
                 try_call(whole, refusals, begun, first, run, call, seen)
-    for name, count in sorted(seen.items()):
-        print(f"{count:6} {name}")
-    print("each left a front of the run that holds all that was printed, and came to the end of the whole run")
+    tell(seen)
 
 
 if __name__ == "__main__":
-    try:
-        main()
-    except Wrong as fault:
-        sys.exit(f"refused: {fault}")
+    carry_out("refused", main)

@@ -144,3 +144,18 @@ def taken(pipe, length, seconds=60):
             break
         got += piece
     return got
+
+
+def tell(seen, what="printed"):
+    """Prints how often each end was seen, and that each run left what it may leave."""
+    for name, count in sorted(seen.items()):
+        print(f"{count:6} {name}")
+    print(f"each left a front of the run that holds all that was {what}, and came to the end of the whole run")
+
+
+def carry_out(name, main):
+    """Runs a script, and ends it by a line where something was wrong."""
+    try:
+        main()
+    except Wrong as fault:
+        sys.exit(f"{name}: {fault}")

@@ -1,26 +1,37 @@
 #!/usr/bin/env python3
-"""Times periods and starts of `stk_f1` beside the same on a BTreeMap of stock Rust: bench/periods/run.py [RUNS]
+"""Times periods and starts of `mod_periods` beside the same on a BTreeMap of stock Rust: bench/periods/run.py [RUNS]
 
 Over 180 validators a million periods end, with a ratio of one denomination; apart from that a million rewards start and stop.
 Each call looks first whether its condition holds, in both programs. Behind each round over all validators the tables of
-`stk_f1` are settled, as behind a block; stock Rust keeps no marks and no list of what was touched. In both programs the
+`mod_periods` are settled, as behind a block; stock Rust keeps no marks and no list of what was touched. In both programs the
 period of the first validator and how many refer to its last ended one are looked at in the end. The least time of RUNS runs (5)
 counts; of the Rattle program the time of a run that only begins is taken off.
 
 Wants `rt` and `rustc`, and works in a temporary folder. The program in Rattle is `loops.txt`, the tests of a crate that
-stands on `stk_f1`, which `rt test` proves and builds."""
+stands on `mod_periods`, which `rt test` proves and builds."""
 import pathlib, shutil, subprocess, sys, tempfile, time
 
 RUNS = int(sys.argv[1]) if len(sys.argv) > 1 else 5
 HERE = pathlib.Path(__file__).resolve().parent
 TOP = HERE.parents[1]
 WORK = pathlib.Path(tempfile.mkdtemp(prefix="periods-"))
-CRATES = ("stk_dec", "stk_types", "stk_coins", "stk_shares", "stk_table", "stk_keep", "stk_rows", "stk_rules", "stk_sums", "stk_f1")
+CRATES = (
+    "base_decimals",
+    "base_types",
+    "base_coins",
+    "base_shares",
+    "base_table",
+    "base_roles",
+    "base_records",
+    "rule_modules",
+    "mod_sums",
+    "mod_periods",
+)
 
 INVARIANT = """
 use Rattle.std.proofs.Common.{◌≡◌, []}
 use Rattle.std.specs.Prelude.{◌×◌}
-use Rattle.stk_f1.specs.Stands.{IsKept}
+use Rattle.mod_periods.specs.Stands.{IsKept}
 use Rattle.period_bench.proofs.NAME.Given as goal
 
 abbrev pub invariant-loop-VAR : goal.invariant-loop-VAR
@@ -28,7 +39,13 @@ invariant-loop-VAR g l = IsKept l.f.kept × (l.f.marks ≡ [])
 """
 
 # loops keep what the tables stand for
-LOOPS = {"begun": "operator", "end_round": "operator", "end_rounds": "round", "turn_round": "operator", "turn_rounds": "round"}
+LOOPS = {
+    "begun": "operator",
+    "end_round": "operator",
+    "end_rounds": "round",
+    "turn_round": "operator",
+    "turn_rounds": "round",
+}
 
 GHOSTS = """
 use Rattle.period_bench.proofs.NAME.Given as goal
@@ -38,7 +55,7 @@ ghosts-CALL g a = record { name = a.blank.name; parts = a.blank.parts }
 """
 
 FRESH = """
-use Rattle.stk_f1.specs.Stands.{no_rewards}
+use Rattle.mod_periods.specs.Stands.{no_rewards}
 use Rattle.period_bench.proofs.fresh.Goals as goal
 
 pub returns-clause-kept : goal.returns-clause-kept
@@ -240,15 +257,19 @@ def build_rattle():
         shutil.copytree(TOP / "crates" / name, top / "crates" / name, ignore=shutil.ignore_patterns("must-fail", "out"))
     bench = top / "crates/period_bench"
     proofs = {"fresh/Answers.antt": FRESH}
-    proofs |= {f"{name}/Invariants.antt": INVARIANT.replace("NAME", name).replace("VAR", var) for name, var in LOOPS.items()}
-    proofs |= {f"{test}/Invariants.antt": GHOSTS.replace("NAME", test).replace("CALL", call) for test, call in TESTS.items()}
+    proofs |= {
+        f"{name}/Invariants.antt": INVARIANT.replace("NAME", name).replace("VAR", var) for name, var in LOOPS.items()
+    }
+    proofs |= {
+        f"{test}/Invariants.antt": GHOSTS.replace("NAME", test).replace("CALL", call) for test, call in TESTS.items()
+    }
     for path, text in proofs.items():
         (bench / "proofs" / path).parent.mkdir(parents=True, exist_ok=True)
         (bench / "proofs" / path).write_text(text.lstrip())
     (bench / "src").mkdir()
     (bench / "src/lib.rt").write_text((HERE / "loops.txt").read_text())
     lines = [line for line in (TOP / "crates.txt").read_text().splitlines() if line.split(":")[0] in CRATES]
-    lines.append("period_bench: stk_dec stk_types stk_coins stk_keep stk_f1")
+    lines.append("period_bench: base_decimals base_types base_coins base_roles mod_periods")
     (top / "crates.txt").write_text("\n".join(lines) + "\n")
     ran = subprocess.run(["rt", "test"], cwd=bench, stdin=subprocess.DEVNULL, capture_output=True, text=True)
     program = bench / "out/period_bench_tests"
@@ -259,7 +280,9 @@ def build_rattle():
 
 def build_stock():
     (WORK / "stock.rs").write_text(STOCK.lstrip())
-    subprocess.run(["rustc", "-O", "-C", "target-cpu=x86-64-v2", "-o", str(WORK / "stock"), str(WORK / "stock.rs")], check=True)
+    subprocess.run(
+        ["rustc", "-O", "-C", "target-cpu=x86-64-v2", "-o", str(WORK / "stock"), str(WORK / "stock.rs")], check=True
+    )
     return str(WORK / "stock")
 
 

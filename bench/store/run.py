@@ -156,8 +156,11 @@ def least(runs, tries):
 
 def tell(part, mine, other, aim=""):
     ratios = [a / b for a, b in zip(mine, other)]
-    print(f"{part}: {mine[0]:.3f} s by the clock ({mine[1]:.3f} of a processor), C SQLite {other[0]:.3f} s ({other[1]:.3f}): "
-          f"{ratios[0]:.2f} ({ratios[1]:.2f}){aim}", flush=True)
+    print(
+        f"{part}: {mine[0]:.3f} s by the clock ({mine[1]:.3f} of a processor), C SQLite {other[0]:.3f} s ({other[1]:.3f}): "
+        f"{ratios[0]:.2f} ({ratios[1]:.2f}){aim}",
+        flush=True,
+    )
 
 
 def sized(blob):
@@ -173,7 +176,9 @@ def write_changes(work, lines, path):
     with path.open("wb") as file:
         for rows in fed(work / "watched", lines, texts_of(output)):
             now = dict(rows)
-            changes = [struct.pack("=I", 1) + sized(name) + sized(now[name]) for name in now if before.get(name) != now[name]]
+            changes = [
+                struct.pack("=I", 1) + sized(name) + sized(now[name]) for name in now if before.get(name) != now[name]
+            ]
             changes += [struct.pack("=I", 0) + sized(name) for name in before if name not in now]
             file.write(struct.pack("=I", len(changes)) + b"".join(changes))
             before, count = now, count + len(changes)
@@ -200,11 +205,16 @@ def commits(work, stock, given):
     if not rows_of(work / "store") == rows_of(work / "stock.db") == rows:
         sys.exit("commits: the two stores do not have the same rows")
     tell("commits", best["store"], best["stock"], " (aim: at most 1.0)")
-    tell("commits, without the replay itself", tuple(a - b for a, b in zip(best["store"], best["memory"])), best["stock"])
+    tell(
+        "commits, without the replay itself", tuple(a - b for a, b in zip(best["store"], best["memory"])), best["stock"]
+    )
 
 
 def reads(work, stock, given):
-    subprocess.run([sys.executable, TOP / "bench/machine/run.py", "--scale", str(given.scale), "--write", work, "state"], check=True)
+    subprocess.run(
+        [sys.executable, TOP / "bench/machine/run.py", "--scale", str(given.scale), "--write", work, "state"],
+        check=True,
+    )
     with (work / "state-large.jsonl").open("rb") as lines:
         subprocess.run([PROGRAM, work / "large", "replay"], stdin=lines, stdout=subprocess.DEVNULL, check=True)
     print(f"reads: {len(rows_of(work / 'large'))} rows", flush=True)

@@ -1,10 +1,10 @@
 -- The numbers that the program gives out.
 use Rattle.std.specs.Prelude.{ℕ}
-use Rattle.stk_msgs.specs.declared.faults.BlockFault.{BlockFault}
-use Rattle.stk_msgs.specs.declared.faults.BlockFault.TheVariants as block
-use Rattle.stk_app.specs.declared.status.InputFault.TheVariants as input
-use Rattle.stk_app.specs.declared.status.Status.{Status}
-use Rattle.stk_app.specs.declared.status.Status.TheVariants.{Done, Usage, BadInput, Limit, ReadFault, WriteFault, KeepFault, NoMemory, BadStore, WrongStore, NotFound}
+use Rattle.base_messages.specs.declared.faults.BlockFault.{BlockFault}
+use Rattle.base_messages.specs.declared.faults.BlockFault.TheVariants as block
+use Rattle.run_app.specs.declared.status.InputFault.TheVariants as input
+use Rattle.run_app.specs.declared.status.Status.{Status}
+use Rattle.run_app.specs.declared.status.Status.TheVariants.{Done, Usage, BadInput, Limit, ReadFault, WriteFault, KeepFault, NoMemory, BadStore, WrongStore, NotFound}
 
 -- The number by which the process ends, for each status.
 abbrev pub status_number : Status → ℕ

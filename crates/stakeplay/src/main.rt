@@ -5,18 +5,18 @@
 #![tactic(auto)]
 
 ghost use Rattle.std.specs.Prelude.{◌≡◌};
-ghost use Rattle.stk_keeping.specs.Held.{TakesDistinct};
+ghost use Rattle.store_commits.specs.Held.{TakesDistinct};
 ghost use Rattle.stakeplay.specs.Statuses.{fault_number, line_number, status_number, number_of_fault};
 
+use base_io::{KeepFault, Keeper, NoKeeper, StdSink, StdSource};
+use base_messages::BlockFault;
+use run_app::{InputFault, LimitKind, Status, run};
 use sqlite::Unknown;
 use std::alloc::Global;
 use std::env::{self, Env};
 use std::io::ErrorKind;
 use std::process::ExitCode;
-use stk_app::{InputFault, LimitKind, Status, run};
-use stk_io::{KeepFault, Keeper, NoKeeper, StdSink, StdSource};
-use stk_msgs::BlockFault;
-use stk_store::SqlKeeper;
+use store_sqlite::SqlKeeper;
 
 /// The number by which the process ends.
 fn number_of(status: &Status) -> u8

@@ -1,0 +1,12 @@
+pub mod Amounts
+pub mod InOrder
+pub mod Loops
+pub mod Order
+pub mod Overs
+pub mod Parts
+pub mod Results
+pub mod Search
+pub mod Shorts
+pub mod SideBySide
+pub mod Sorting
+pub mod Walk

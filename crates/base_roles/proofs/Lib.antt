@@ -1,0 +1,6 @@
+pub mod AmountLemmas
+pub mod BurnLemmas
+pub mod EntryLemmas
+pub mod HoldingLemmas
+pub mod HookLemmas
+pub mod StakeLemmas

@@ -1,0 +1,4 @@
+pub mod Fractions
+pub mod Issues
+pub mod Roundings
+pub mod Values

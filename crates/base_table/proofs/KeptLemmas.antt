@@ -1,0 +1,111 @@
+-- What is always true of places stays, as they change and marks are opened and closed.
+use Rattle.std.specs.Prelude.{◌≡◌, ℕ, zero, suc, ◌+◌, ◌-◌, ◌<◌, Bool, true, false, List, [], ◌∷◌, ◌++◌, length, nat_lt, refl, if◌then◌else◌}
+use Rattle.std.proofs.Common.{sym, ◌∙◌, ap, subst, arith}
+use Rattle.std.proofs.lemmas.List.{length-append}
+use Rattle.std.proofs.lemmas.Bool.Decides.{nat_tests}
+use Rattle.std.specs.declared.cmp.Ordering.{Ordering}
+use Rattle.std.specs.BTreeMap.{is_at}
+use Rattle.std.specs.Map.{lookup}
+use Rattle.base_table.specs.declared.slot.Slot.{Slot}
+use Rattle.base_table.specs.declared.undo.Point.{Point}
+use Rattle.base_table.specs.declared.undo.Undo.{Undo}
+use Rattle.base_table.specs.Places.{filled, marks_of, put_back_slot, undo_of, AreNamed, Fits, FitBelow, IsKept, Marked}
+use Rattle.base_table.proofs.UndoLemmas.{latest-few, length-marks_of, marks_of-more, marks_of-push, FitBelow-push}
+
+empty : {A : Type 0} (xs : List A) → length xs ≡ 0 → xs ≡ []
+empty [] h = refl
+empty (x ∷ xs) h = absurd (omega arith)
+
+-- what a test of the number of open marks tells
+pub is_open : (depth : ℕ) → nat_lt 0 depth ≡ true → 0 < depth
+is_open depth h = grind (arith, nat_tests)
+
+pub not_open : (depth : ℕ) → nat_lt 0 depth ≡ false → depth ≡ 0
+not_open depth h = grind (arith, nat_tests)
+
+-- what is seen, where it was seen as `old`
+pub seen : {K V : Type 0} (old : Marked K V) (es es2 : List (K × V)) (ms ms2 : List (List (K × V))) (f : List (K × V) → List (K × V))
+    → ◌≡◌ {A = Marked K V} (record { entries = es; marks = ms }) old → es2 ≡ f es → ms2 ≡ ms → ◌≡◌ {A = Marked K V} (record { entries = es2; marks = ms2 }) (record { entries = f old.entries; marks = old.marks })
+seen old es es2 ms ms2 f is e m = λ i. record { entries = (e ∙ ap (λ x. f x.entries) is) i; marks = (m ∙ ap (λ x. x.marks) is) i }
+
+-- one less than a list with one more
+pub fewer : {A : Type 0} (xs all : List A) (x : A) (n : ℕ) → xs ++ x ∷ [] ≡ all → length all ≡ n → length xs ≡ n - 1
+fewer xs all x n is count = let e : length (xs ++ x ∷ []) ≡ n = ap length is ∙ count in let f = length-append xs (x ∷ []) in omega arith
+
+module _ {K V : Type 0} {R : K → K → Ordering} where
+  -- a change of the place of a key, which is noted while a mark is open
+  module _ (us new : List (Undo K V)) (here : Point) (depth len : ℕ) (k : K) (ps qs : List (K × Slot K V)) (marked : Bool)
+      (is_marked : marked ≡ true → 0 < depth) (not_marked : marked ≡ false → depth ≡ 0)
+      (kept : IsKept R us here depth ps)
+      (noted : new ≡ (if marked then us ++ undo_of R ps here k ∷ [] else us))
+      (undone : marked ≡ true → put_back_slot R k (lookup (is_at (R k)) ps) qs ≡ ps) where
+    pub marks-changed : marks_of R new 0 qs ≡ marks_of R us here.marks ps
+    marks-changed = by marked refl
+      where
+        none : depth ≡ 0 → marks_of R us 0 qs ≡ marks_of R us here.marks ps
+        none zero_depth =
+            let few = latest-few R us here.marks ps in
+            let count = kept.count in
+            let m : here.marks ≡ 0 = omega arith in
+            empty (marks_of R us 0 qs) (length-marks_of R us 0 qs ps ∙ ap (λ n. length (marks_of R us n ps)) (sym m) ∙ kept.count ∙ zero_depth)
+            ∙ sym (empty (marks_of R us here.marks ps) (kept.count ∙ zero_depth))
+
+        by : (b : Bool) → marked ≡ b → marks_of R new 0 qs ≡ marks_of R us here.marks ps
+        by true is =
+            ap (λ ws. marks_of R ws 0 qs) (noted ∙ ap (λ b. if b then us ++ undo_of R ps here k ∷ [] else us) is)
+            ∙ marks_of-push R us (undo_of R ps here k) qs ∙ ap (marks_of R us here.marks) (undone is)
+        by false is = ap (λ ws. marks_of R ws 0 qs) (noted ∙ ap (λ b. if b then us ++ undo_of R ps here k ∷ [] else us) is) ∙ none (not_marked is)
+
+    pub IsKept-changed : len ≡ length (filled qs) → AreNamed R qs → IsKept R new (record { marks = 0; len = len }) depth qs
+    IsKept-changed count named = record {
+      count = ap length marks-changed ∙ kept.count;
+      closed = λ none. closed marked refl none;
+      fits = record { len = count; named = named };
+      below = below marked refl;
+    }
+      where
+        closed : (b : Bool) → marked ≡ b → depth ≡ 0 → new ≡ []
+        closed true is none = let some = is_marked is in absurd (omega arith)
+        closed false is none = noted ∙ ap (λ b. if b then us ++ undo_of R ps here k ∷ [] else us) is ∙ kept.closed none
+
+        below : (b : Bool) → marked ≡ b → FitBelow R new qs
+        below true is =
+            subst (λ ws. FitBelow R ws qs) (sym (noted ∙ ap (λ b. if b then us ++ undo_of R ps here k ∷ [] else us) is))
+            (FitBelow-push R us (undo_of R ps here k) qs (subst (Fits R here) (sym (undone is)) kept.fits) (subst (FitBelow R us) (sym (undone is)) kept.below))
+        below false is = subst (λ ws. FitBelow R ws qs) (sym (noted ∙ ap (λ b. if b then us ++ undo_of R ps here k ∷ [] else us) is ∙ kept.closed (not_marked is))) tt
+
+  -- one more mark at the latest point
+  pub IsKept-marked : (us : List (Undo K V)) (here : Point) (depth more : ℕ) (ps : List (K × Slot K V)) → more ≡ depth + 1 → IsKept R us here depth ps → IsKept R us (record { marks = here.marks + 1; len = here.len }) more ps
+  IsKept-marked us here depth more ps is kept = record {
+    count = ap length (sym (marks_of-more R us here.marks ps)) ∙ length-append (marks_of R us here.marks ps) (filled ps ∷ []) ∙ ap (λ n. n + 1) kept.count ∙ sym is;
+    closed = λ none. absurd (omega arith);
+    fits = record { len = kept.fits.len; named = kept.fits.named };
+    below = kept.below;
+  }
+
+  -- once a mark is closed: without another the changes are forgotten
+  module _ (us new : List (Undo K V)) (marks len depth : ℕ) (ps qs : List (K × Slot K V))
+      (count : length (marks_of R us marks ps) ≡ depth)
+      (fits : Fits R (record { marks = marks; len = len }) ps) (below : FitBelow R us ps)
+      (some : 0 < depth → (qs ≡ ps) × (new ≡ us)) (none : depth ≡ 0 → new ≡ []) (same : filled qs ≡ filled ps) (named : AreNamed R ps → AreNamed R qs) where
+    pub marks-closed : marks_of R new marks qs ≡ marks_of R us marks ps
+    marks-closed = by depth refl
+      where
+        by : (d : ℕ) → depth ≡ d → marks_of R new marks qs ≡ marks_of R us marks ps
+        by zero is =
+            let few = latest-few R us marks ps in
+            let m : marks ≡ 0 = omega arith in
+            (λ i. marks_of R (none is i) (m i) qs) ∙ sym (empty (marks_of R us marks ps) (count ∙ is))
+        by (suc d) is = let both = some (omega arith) in λ i. marks_of R (both.1 i) marks (both.0 i)
+
+    pub IsKept-closed : IsKept R new (record { marks = marks; len = len }) depth qs
+    IsKept-closed = record {
+      count = ap length marks-closed ∙ count;
+      closed = none;
+      fits = record { len = fits.len ∙ ap length (sym same); named = named fits.named };
+      below = by depth refl;
+    }
+      where
+        by : (d : ℕ) → depth ≡ d → FitBelow R new qs
+        by zero is = subst (λ ws. FitBelow R ws qs) (sym (none is)) tt
+        by (suc d) is = let both = some (omega arith) in subst (λ ws. FitBelow R ws qs) (sym both.1) (subst (FitBelow R us) (sym both.0) below)

@@ -1,0 +1,10 @@
+use Rattle.std.proofs.Common.{sym, ◌∙◌, ap}
+use Rattle.base_table.proofs.RestoredLemmas.{touched_with-restored, KeepsSettled-remove}
+use Rattle.base_table.proofs.change.take_out.Goals as goal
+
+pub returns-in-Ok-clause-touched : goal.returns-in-Ok-clause-touched
+returns-in-Ok-clause-touched g c = c.in_ok-touch.ensures.ok ∙ sym (touched_with-restored g.met.K.Ord.total _ _ _ c.len.ensures.ordered)
+
+pub returns-in-Ok-clause-settled : goal.returns-in-Ok-clause-settled
+returns-in-Ok-clause-settled g c =
+    KeepsSettled-remove g.met.K.Ord.total _ _ _ _ _ c.len.ensures.ordered c.in_ok-touch.ensures.ok (ap (λ p. p.entries) c.in-Ok.ensures.ok)

@@ -1,0 +1,11 @@
+pub mod AccountLemmas
+pub mod AddressLemmas
+pub mod DateLemmas
+pub mod DayLemmas
+pub mod DenomLemmas
+pub mod DigitLemmas
+pub mod MapLemmas
+pub mod MomentLemmas
+pub mod OnLiterals
+pub mod OrderLemmas
+pub mod WordLemmas

@@ -1,0 +1,8 @@
+use Rattle.std.proofs.Common.{◌≡◌, ◌*◌, length, take, drop}
+use Rattle.base_types.specs.Address.{bytes_of}
+use Rattle.base_types.proofs.DigitLemmas.{after}
+use Rattle.base_types.proofs.digits.read_bytes.Given as goal
+
+-- the bytes so far come before those of the other digits
+abbrev pub invariant-bytes : goal.invariant-bytes
+invariant-bytes l = (length l.bytes ≡ 20) × (after (take l.i l.bytes) (bytes_of (drop (2 * l.i) l.digits)) ≡ bytes_of l.digits)

@@ -1,0 +1,10 @@
+pub mod Accounts
+pub mod Address
+pub mod Calendar
+pub mod Denom
+pub mod Maybe
+pub mod Modules
+pub mod Moment
+pub mod Orders
+pub mod Padded
+pub mod Words

@@ -1,0 +1,11 @@
+pub mod ApplyLemmas
+pub mod BeginLemmas
+mod BeginningLemmas
+pub mod BlockLemmas
+mod CallLemmas
+pub mod CheckLemmas
+pub mod EndLemmas
+pub mod EvidenceLemmas
+pub mod LeadLemmas
+mod LoopLemmas
+pub mod OpenLemmas

@@ -1,0 +1,5 @@
+use Rattle.chain_blocks.proofs.LoopLemmas.{VotesCounted}
+use Rattle.chain_blocks.proofs.beginning.count_votes.Given as goal
+
+abbrev pub invariant-loop-vote : goal.invariant-loop-vote
+invariant-loop-vote g l = VotesCounted l.votes l.vote-index l.initial.modules l.modules

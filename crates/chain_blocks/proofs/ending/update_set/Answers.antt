@@ -1,0 +1,26 @@
+use Rattle.std.proofs.Common.{[], refl}
+use Rattle.chain_modules.specs.declared.modules.Modules.{Modules}
+use Rattle.chain_modules.proofs.HookLemmas.{held_as}
+use Rattle.chain_transactions.proofs.GoLemmas.{all_on}
+use Rattle.chain_blocks.proofs.EndLemmas.{set_leads}
+use Rattle.chain_blocks.proofs.ending.update_set.Goals as goal
+
+pub update-requires-clause-scene : goal.update-requires-clause-scene
+update-requires-clause-scene g c = c.requires.scene.scene
+
+pub update-requires-clause-power : goal.update-requires-clause-power
+update-requires-clause-power g c = c.requires.scene.power
+
+pub returns-clause-leads : goal.returns-clause-leads
+returns-clause-leads g c = λ p k.
+    let old : Modules = c.args.modules.now in
+    let after = c.update.new in
+    let new : Modules = record { ground = after.g; stakes = record { staking = after.staking; unbondings = old.stakes.unbondings; redelegations = old.stakes.redelegations }; hooks = after.hooks } in
+    set_leads old new p k c.update.ensures.undone.ctx refl refl c.update.result (c.update.ensures.told (held_as old.ground.ctx.params.signed_blocks_window p.hooks) (k.shared, k.signings) [])
+
+pub returns-clause-go_on : goal.returns-clause-go_on
+returns-clause-go_on g c =
+    let old : Modules = c.args.modules.now in
+    let after = c.update.new in
+    let new : Modules = record { ground = after.g; stakes = record { staking = after.staking; unbondings = old.stakes.unbondings; redelegations = old.stakes.redelegations }; hooks = after.hooks } in
+    (all_on old new c.update.ensures.undone c.update.ensures.behind refl refl c.update.ensures.hook_marks)

@@ -1,0 +1,56 @@
+-- What the parts of a block, and blocks, answer and leave.
+use Rattle.std.specs.Prelude.{◌≡◌, Result, Ok, Err, ⊤}
+use Rattle.base_decimals.specs.declared.over.Over.{Over}
+use Rattle.base_roles.specs.declared.faults.HookFault.{HookFault}
+use Rattle.base_roles.specs.declared.faults.HookFault.TheVariants as hook
+use Rattle.base_roles.specs.declared.faults.RecordFault.{RecordFault}
+use Rattle.base_roles.specs.declared.faults.RecordFault.TheVariants as kept
+use Rattle.base_roles.specs.Answers.{AsRuled, WantsMemory, ExceedsAs}
+use Rattle.base_roles.specs.Flow.{◌>>=◌, stopping}
+use Rattle.base_messages.specs.declared.block.Block.{Block}
+use Rattle.base_messages.specs.declared.faults.BlockFault.{BlockFault}
+use Rattle.base_messages.specs.declared.faults.BlockFault.TheVariants as block
+use Rattle.base_messages.specs.declared.report.BlockReport.{BlockReport}
+use Rattle.rule_modules.specs.Chain.{State, begin_block, end_block}
+use Rattle.rule_machine.specs.GenesisState.{without_facts}
+use Rattle.rule_machine.specs.Machine.{Step, step, txs_applied}
+use Rattle.chain_modules.specs.Kept.{KeptState, StandsFor}
+
+-- the fault of a block a part of which met the limit of decimals, or wanted memory
+abbrev pub fault_of_hook : HookFault → BlockFault
+fault_of_hook (hook.Over over) = block.RatioLimit over
+fault_of_hook hook.NoMemory = block.NoMemory
+
+abbrev pub fault_of_record : RecordFault → BlockFault
+fault_of_record kept.NoMemory = block.NoMemory
+
+-- What a step of a block answers and leaves: what stands so for the state that is due, or its excess; or memory is wanting.
+abbrev pub Leads : (KeptState → State → Type 0) → Result State Over → KeptState → Result ⊤ HookFault → Type 0
+Leads stands rule k answer = AsRuled rule answer (λ due a. stands k due) WantsMemory ExceedsAs
+
+-- the fault of a check that is due, or memory is wanting
+abbrev pub FaultsAs : Result ⊤ BlockFault → BlockFault → Type 0
+FaultsAs due block.NoMemory = ⊤
+FaultsAs due fault = due ≡ Err fault
+
+-- What a block answers and leaves where the machine says what is due: its report, and then what is kept stands for its state; or its
+-- fault; or memory is wanting.
+abbrev pub AnswersStep : Result Step BlockFault → KeptState → Result BlockReport BlockFault → Type 0
+AnswersStep due k (Ok report) = (state : State) × (due ≡ Ok (record { report = report; state = state })) × StandsFor k state
+AnswersStep due k (Err block.NoMemory) = ⊤
+AnswersStep due k (Err fault) = due ≡ Err fault
+
+-- what a block answers from a state for which the modules stood
+abbrev pub Applies : Block → State → KeptState → Result BlockReport BlockFault → Type 0
+Applies b p k answer = AnswersStep (step b p) k answer
+
+-- What a block does that may follow, from its own height and time on: its beginning, its transactions, its end.
+abbrev pub parts_stepped : Block → State → Result Step BlockFault
+parts_stepped b w = do
+  begun ← stopping block.RatioLimit (begin_block b.votes b.evidence w)
+  let txs = txs_applied b.txs begun
+  ended ← stopping block.RatioLimit (end_block (without_facts txs.state))
+  Ok (record {
+    report = record { height = b.height; time = b.time; begun = begun.view.facts; txs = txs.reports; ended = ended.view.facts };
+    state = without_facts ended;
+  })

@@ -1,0 +1,120 @@
+//! The beginning of a block: the fees are allocated, then the votes count, then the evidence is handled.
+
+ghost use Rattle.std.specs.Prelude.{[], OnOk};
+ghost use Rattle.base_roles.specs.Flow.{each};
+ghost use Rattle.rule_modules.specs.Chain.{State, allocation_step, vote_step, evidence_step, begin_block};
+ghost use Rattle.chain_modules.specs.Kept.{StandsWhole, kept_of, AreSteady};
+ghost use Rattle.chain_modules.specs.Marks.{GoOn};
+ghost use Rattle.chain_blocks.specs.Answers.{Leads};
+ghost use Rattle.chain_blocks.specs.Begun.{AreBegun, HasBegun, MayBegin, MayAllocate, MayVote, MayAccuse};
+
+use base_messages::Block;
+use base_roles::{Evidence, HookFault, Vote};
+use base_types::Steps;
+use chain_modules::Modules;
+use mod_evidence::equivocation;
+use std::alloc::Global;
+use std::sync::ledger::Ledger;
+
+/// Begins a block whose votes and evidence were judged, at its own height and time.
+///
+/// `Over` comes exactly where a result of the allocation, of a vote or of evidence would be 10^38 units or
+/// more, or a period that one of them ends is 10^18. After an error some of it may stand.
+pub(crate) fn begin<L: Ledger>(
+    alloc: Global,
+    modules: &mut Modules,
+    block: &Block,
+    steps: &mut Steps<L>,
+) -> Result<(), HookFault>
+    requires begins { MayBegin block.now modules.old }
+    ensures leads { (p : State) → HasBegun block.now (kept_of modules.old) p
+        → Leads StandsWhole (begin_block block.now.votes block.now.evidence p)
+        (kept_of modules.new) result }
+    ensures steady { OnOk result (AreSteady modules.new) }
+
+    // Whatever the answer.
+    ensures go_on { GoOn modules.old modules.new }
+{
+    let votes = block.votes.as_slice();
+    allocate(alloc, modules, votes, steps)?;
+    count_votes(alloc, modules, votes, steps)?;
+    handle_evidence(alloc, modules, block.evidence.as_slice(), steps)
+}
+
+/// Allocates the fees of the last block among votes (`x/distribution`: `BeginBlocker`).
+fn allocate<L: Ledger>(
+    alloc: Global,
+    modules: &mut Modules,
+    votes: &[Vote],
+    steps: &mut Steps<L>,
+) -> Result<(), HookFault>
+    requires votes { MayAllocate votes.now modules.old }
+    ensures leads { (p : State) → AreBegun votes.now (kept_of modules.old) p
+        → Leads (AreBegun votes.now) (allocation_step votes.now p) (kept_of modules.new) result }
+    ensures may { OnOk result (MayVote votes.now modules.new) }
+
+    // Whatever the answer.
+    ensures go_on { GoOn modules.old modules.new }
+{
+    modules
+        .hooks
+        .first
+        .begin_block(alloc, &mut modules.ground, &modules.stakes, votes, steps)
+}
+
+/// Counts votes, one after the other, and punishes downtime (`x/slashing`: `BeginBlocker`).
+fn count_votes<L: Ledger>(
+    alloc: Global,
+    modules: &mut Modules,
+    votes: &[Vote],
+    steps: &mut Steps<L>,
+) -> Result<(), HookFault>
+    requires votes { MayVote votes.now modules.old }
+    ensures leads { (p : State) → AreBegun votes.now (kept_of modules.old) p
+        → Leads (AreBegun []) (each vote_step votes.now p) (kept_of modules.new) result }
+    ensures may { OnOk result (MayVote [] modules.new) }
+
+    // Whatever the answer.
+    ensures go_on { GoOn modules.old modules.new }
+{
+    for vote in votes {
+        modules.hooks.second.vote(
+            alloc,
+            &mut modules.ground,
+            &mut modules.hooks.first,
+            &mut modules.stakes,
+            vote,
+            steps,
+        )?;
+    }
+    Ok(())
+}
+
+/// Handles evidence, one piece after the other (`x/evidence`: `BeginBlocker`).
+fn handle_evidence<L: Ledger>(
+    alloc: Global,
+    modules: &mut Modules,
+    evidence: &[Evidence],
+    steps: &mut Steps<L>,
+) -> Result<(), HookFault>
+    requires evidence { MayAccuse evidence.now modules.old }
+    ensures leads { (p : State) → AreBegun [] (kept_of modules.old) p
+        → Leads (AreBegun []) (each evidence_step evidence.now p) (kept_of modules.new) result }
+    ensures may { OnOk result (MayVote [] modules.new) }
+
+    // Whatever the answer.
+    ensures go_on { GoOn modules.old modules.new }
+{
+    for e in evidence {
+        equivocation(
+            alloc,
+            &mut modules.ground,
+            &mut modules.hooks.first,
+            &mut modules.stakes,
+            &mut modules.hooks.second,
+            e,
+            steps,
+        )?;
+    }
+    Ok(())
+}

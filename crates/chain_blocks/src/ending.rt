@@ -1,0 +1,137 @@
+//! The end of a block: the bonded set, then validators, unbondings and redelegations that are mature.
+
+ghost use Rattle.std.specs.Prelude.{OnOk};
+ghost use Rattle.rule_modules.specs.Chain.{State, set_step, maturing_step, unbondings_step, redelegations_step, end_block};
+ghost use Rattle.chain_modules.specs.Kept.{Keeps, StandsWhole, kept_of, AreSteady, IsStakeScene};
+ghost use Rattle.chain_modules.specs.Marks.{GoOn};
+ghost use Rattle.chain_blocks.specs.Answers.{Leads};
+
+use base_roles::HookFault;
+use base_types::Steps;
+use chain_modules::Modules;
+use mod_bonded_set::{mature_validators, update};
+use std::alloc::Global;
+use std::sync::ledger::Ledger;
+
+/// Ends a block (`x/staking`: `BlockValidatorUpdates`). After an error some of it may stand.
+pub(crate) fn end<L: Ledger>(
+    alloc: Global,
+    modules: &mut Modules,
+    steps: &mut Steps<L>,
+) -> Result<(), HookFault>
+    requires steady { AreSteady modules.old }
+    ensures leads { (p : State) → StandsWhole (kept_of modules.old) p
+        → Leads StandsWhole (end_block p) (kept_of modules.new) result }
+    ensures steady { OnOk result (AreSteady modules.new) }
+
+    // Whatever the answer.
+    ensures go_on { GoOn modules.old modules.new }
+{
+    make_set(alloc, modules, steps)?;
+    mature(alloc, modules, steps)?;
+    pay_unbondings(alloc, modules, steps)?;
+    end_redelegations(alloc, modules, steps)
+}
+
+/// Makes the bonded set anew, also of a genesis that has not bonded anybody yet.
+///
+/// # Errors
+/// `Over` with the operands, exactly where a hook exceeds, and `NoMemory`. Some of it may stand then.
+pub fn update_set<L: Ledger>(
+    alloc: Global,
+    modules: &mut Modules,
+    steps: &mut Steps<L>,
+) -> Result<(), HookFault>
+    requires scene { IsStakeScene modules.old }
+    ensures leads { (p : State) → Keeps (kept_of modules.old) p
+        → Leads Keeps (set_step p) (kept_of modules.new) result }
+
+    // Whatever the answer.
+    ensures go_on { GoOn modules.old modules.new }
+{
+    update(
+        alloc,
+        &mut modules.ground,
+        &mut modules.hooks,
+        &mut modules.stakes.staking,
+        steps,
+    )
+}
+
+/// Makes the bonded set anew (`ApplyAndReturnValidatorSetUpdates`).
+fn make_set<L: Ledger>(
+    alloc: Global,
+    modules: &mut Modules,
+    steps: &mut Steps<L>,
+) -> Result<(), HookFault>
+    requires steady { AreSteady modules.old }
+    ensures leads { (p : State) → StandsWhole (kept_of modules.old) p
+        → Leads StandsWhole (set_step p) (kept_of modules.new) result }
+    ensures steady { OnOk result (AreSteady modules.new) }
+
+    // Whatever the answer.
+    ensures go_on { GoOn modules.old modules.new }
+{
+    update_set(alloc, modules, steps)
+}
+
+/// Validators whose unbonding is mature become unbonded (`UnbondAllMatureValidators`).
+fn mature<L: Ledger>(
+    alloc: Global,
+    modules: &mut Modules,
+    steps: &mut Steps<L>,
+) -> Result<(), HookFault>
+    requires steady { AreSteady modules.old }
+    ensures leads { (p : State) → StandsWhole (kept_of modules.old) p
+        → Leads StandsWhole (maturing_step p) (kept_of modules.new) result }
+    ensures steady { OnOk result (AreSteady modules.new) }
+
+    // Whatever the answer.
+    ensures go_on { GoOn modules.old modules.new }
+{
+    mature_validators(
+        alloc,
+        &mut modules.ground,
+        &mut modules.hooks,
+        &mut modules.stakes.staking,
+        steps,
+    )
+}
+
+/// Unbondings that are mature are paid (`CompleteUnbonding`).
+fn pay_unbondings<L: Ledger>(
+    alloc: Global,
+    modules: &mut Modules,
+    steps: &mut Steps<L>,
+) -> Result<(), HookFault>
+    requires steady { AreSteady modules.old }
+    ensures leads { (p : State) → StandsWhole (kept_of modules.old) p
+        → Leads StandsWhole (unbondings_step p) (kept_of modules.new) result }
+    ensures steady { OnOk result (AreSteady modules.new) }
+
+    // Whatever the answer.
+    ensures go_on { GoOn modules.old modules.new }
+{
+    modules
+        .stakes
+        .unbondings
+        .complete(alloc, &mut modules.ground, steps)
+}
+
+/// Redelegations that are mature go (`CompleteRedelegation`).
+fn end_redelegations<L: Ledger>(
+    alloc: Global,
+    modules: &mut Modules,
+    steps: &mut Steps<L>,
+) -> Result<(), HookFault>
+    requires steady { AreSteady modules.old }
+    ensures leads { (p : State) → StandsWhole (kept_of modules.old) p
+        → Leads StandsWhole (redelegations_step p) (kept_of modules.new) result }
+    ensures steady { OnOk result (AreSteady modules.new) }
+
+    // Whatever the answer.
+    ensures go_on { GoOn modules.old modules.new }
+{
+    let now = modules.ground.ctx.time;
+    modules.stakes.redelegations.complete(alloc, now, steps)
+}

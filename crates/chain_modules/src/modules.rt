@@ -1,0 +1,53 @@
+//! The modules of a chain over one ground, as one value (`x/bank`, `x/staking`, `x/slashing` and `x/distribution`).
+
+ghost use Rattle.std.specs.Prelude.{◌≤◌, ◌^◌};
+ghost use Rattle.chain_modules.specs.Kept.{IsNewOver};
+
+use base_roles::{Ground, HookPair};
+use mod_bank::BankBalances;
+use mod_distribution::Distr;
+use mod_redelegation::Redelegations;
+use mod_signing::Window;
+use mod_slashing::Core;
+use mod_staking::Staking;
+use mod_unbonding::Unbondings;
+use std::alloc::Global;
+
+/// What staking keeps: validators and delegations, unbonding entries, and redelegation entries.
+pub type Stakes = Core<Unbondings, Redelegations>;
+
+/// What listens to staking: distribution, and then the signing records.
+pub type Hooks = HookPair<Distr, Window>;
+
+/// The bank within its ground, what staking keeps, and what listens to it. What is done to them is told as
+/// facts of the ground.
+#[derive(Drop)]
+pub struct Modules {
+    pub ground: Ground<BankBalances>,
+    pub stakes: Stakes,
+    pub hooks: Hooks,
+}
+
+impl Modules {
+    /// The modules over a ground of which none but the bank has records yet. Takes no memory.
+    pub fn over(alloc: Global, ground: Ground<BankBalances>) -> Modules
+        requires some { 1 ≤ ground.ctx.params.power_reduction }
+        requires most { ground.ctx.params.power_reduction ≤ 10 ^ 18 }
+        ensures { IsNewOver ground result }
+    {
+        let stakes = Core {
+            staking: Staking::new(alloc, ground.ctx.params.power_reduction),
+            unbondings: Unbondings::new(alloc),
+            redelegations: Redelegations::new(alloc),
+        };
+        let hooks = HookPair {
+            first: Distr::new(alloc),
+            second: Window::new(alloc),
+        };
+        Modules {
+            ground,
+            stakes,
+            hooks,
+        }
+    }
+}

@@ -1,0 +1,33 @@
+use Rattle.std.proofs.Common.{refl}
+use Rattle.base_roles.specs.Staked.{lists_of}
+use Rattle.chain_modules.specs.declared.modules.Modules.{Modules}
+use Rattle.chain_modules.proofs.SceneLemmas.{stand_shared}
+use Rattle.chain_transactions.proofs.CallLemmas.{fund_well}
+use Rattle.chain_transactions.proofs.distributing.fund_community_pool.Goals as goal
+
+pub fund-requires : goal.fund-requires
+fund-requires g c = let s = c.requires.steady in record { stand = (lists_of c.args.modules.now.stakes.staking.staked, stand_shared c.args.modules.now s.state s.stands.keeps s.stands.sound) }
+
+pub returns-clause-ends : goal.returns-clause-ends
+returns-clause-ends g c =
+    let old : Modules = c.args.modules.now in
+    let after = c.fund.new in
+    let m = c.args.m.now in
+    let new : Modules = record { ground = after.g; stakes = old.stakes; hooks = record { first = after.self; second = old.hooks.second } } in
+    (fund_well old new c.requires.steady refl refl c.fund.ensures.undone m.depositor m.coins c.fund.result c.len.ensures.money c.fund.ensures.funded c.fund.ensures.goes_on).ends
+
+pub returns-clause-steady : goal.returns-clause-steady
+returns-clause-steady g c =
+    let old : Modules = c.args.modules.now in
+    let after = c.fund.new in
+    let m = c.args.m.now in
+    let new : Modules = record { ground = after.g; stakes = old.stakes; hooks = record { first = after.self; second = old.hooks.second } } in
+    (fund_well old new c.requires.steady refl refl c.fund.ensures.undone m.depositor m.coins c.fund.result c.len.ensures.money c.fund.ensures.funded c.fund.ensures.goes_on).steady
+
+pub returns-clause-go_on : goal.returns-clause-go_on
+returns-clause-go_on g c =
+    let old : Modules = c.args.modules.now in
+    let after = c.fund.new in
+    let m = c.args.m.now in
+    let new : Modules = record { ground = after.g; stakes = old.stakes; hooks = record { first = after.self; second = old.hooks.second } } in
+    (fund_well old new c.requires.steady refl refl c.fund.ensures.undone m.depositor m.coins c.fund.result c.len.ensures.money c.fund.ensures.funded c.fund.ensures.goes_on).go_on

@@ -1,0 +1,32 @@
+use Rattle.std.proofs.Common.{◌≡◌, refl}
+use Rattle.chain_modules.specs.declared.modules.Modules.{Modules}
+use Rattle.chain_transactions.proofs.CallLemmas.{payee_well}
+use Rattle.chain_transactions.proofs.GoLemmas.{ground_stays}
+use Rattle.chain_transactions.proofs.distributing.set_withdraw_address.Goals as goal
+
+pub returns-clause-ends : goal.returns-clause-ends
+returns-clause-ends g c =
+    let old : Modules = c.args.modules.now in
+    let after = c.set_withdraw.new in
+    let m = c.args.m.now in
+    let new : Modules = record { ground = record { bank = old.ground.bank; ctx = old.ground.ctx; facts = after.facts }; stakes = old.stakes; hooks = record { first = after.self; second = old.hooks.second } } in
+    let same : new.ground ≡ old.ground = λ i. record { bank = old.ground.bank; ctx = old.ground.ctx; facts = c.set_withdraw.ensures.untold i } in
+    (payee_well old new c.requires.steady refl refl (ground_stays old new same) m.delegator m.withdraw c.set_withdraw.result same c.set_withdraw.ensures.set c.set_withdraw.ensures.goes_on).ends
+
+pub returns-clause-steady : goal.returns-clause-steady
+returns-clause-steady g c =
+    let old : Modules = c.args.modules.now in
+    let after = c.set_withdraw.new in
+    let m = c.args.m.now in
+    let new : Modules = record { ground = record { bank = old.ground.bank; ctx = old.ground.ctx; facts = after.facts }; stakes = old.stakes; hooks = record { first = after.self; second = old.hooks.second } } in
+    let same : new.ground ≡ old.ground = λ i. record { bank = old.ground.bank; ctx = old.ground.ctx; facts = c.set_withdraw.ensures.untold i } in
+    (payee_well old new c.requires.steady refl refl (ground_stays old new same) m.delegator m.withdraw c.set_withdraw.result same c.set_withdraw.ensures.set c.set_withdraw.ensures.goes_on).steady
+
+pub returns-clause-go_on : goal.returns-clause-go_on
+returns-clause-go_on g c =
+    let old : Modules = c.args.modules.now in
+    let after = c.set_withdraw.new in
+    let m = c.args.m.now in
+    let new : Modules = record { ground = record { bank = old.ground.bank; ctx = old.ground.ctx; facts = after.facts }; stakes = old.stakes; hooks = record { first = after.self; second = old.hooks.second } } in
+    let same : new.ground ≡ old.ground = λ i. record { bank = old.ground.bank; ctx = old.ground.ctx; facts = c.set_withdraw.ensures.untold i } in
+    (payee_well old new c.requires.steady refl refl (ground_stays old new same) m.delegator m.withdraw c.set_withdraw.result same c.set_withdraw.ensures.set c.set_withdraw.ensures.goes_on).go_on

@@ -1,0 +1,25 @@
+use Rattle.std.proofs.Common.{Ok, refl}
+use Rattle.base_roles.specs.Staked.{lists_of}
+use Rattle.chain_modules.specs.declared.modules.Modules.{Modules}
+use Rattle.chain_modules.proofs.SceneLemmas.{stand_shared}
+use Rattle.chain_transactions.proofs.CallLemmas.{commission_well}
+use Rattle.chain_transactions.proofs.distributing.withdraw_commission.Goals as goal
+
+pub withdraw_commission-requires : goal.withdraw_commission-requires
+withdraw_commission-requires g c = let s = c.requires.steady in record { stand = (lists_of c.args.modules.now.stakes.staking.staked, stand_shared c.args.modules.now s.state s.stands.keeps s.stands.sound) }
+
+pub returns-clause-ends : goal.returns-clause-ends
+returns-clause-ends g c =
+    let old : Modules = c.args.modules.now in
+    let after = c.withdraw_commission.new in
+    let new : Modules = record { ground = after.g; stakes = old.stakes; hooks = record { first = after.self; second = old.hooks.second } } in
+    let done = c.in_ok-withdraw_commission in
+    (commission_well old new c.requires.steady refl refl c.withdraw_commission.ensures.undone c.args.m.now.validator (Ok done.field-0) done.ensures.withdrawn done.ensures.goes_on).ends
+
+pub returns-clause-steady : goal.returns-clause-steady
+returns-clause-steady g c =
+    let old : Modules = c.args.modules.now in
+    let after = c.withdraw_commission.new in
+    let new : Modules = record { ground = after.g; stakes = old.stakes; hooks = record { first = after.self; second = old.hooks.second } } in
+    let done = c.in_ok-withdraw_commission in
+    (commission_well old new c.requires.steady refl refl c.withdraw_commission.ensures.undone c.args.m.now.validator (Ok done.field-0) done.ensures.withdrawn done.ensures.goes_on).steady

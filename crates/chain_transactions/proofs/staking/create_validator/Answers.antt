@@ -1,0 +1,29 @@
+use Rattle.std.proofs.Common.{refl}
+use Rattle.chain_modules.specs.declared.modules.Modules.{Modules}
+use Rattle.chain_modules.proofs.SceneLemmas.{scene_kept}
+use Rattle.chain_transactions.proofs.CallLemmas.{create_well}
+use Rattle.chain_transactions.proofs.staking.create_validator.Goals as goal
+
+pub create_validator-requires : goal.create_validator-requires
+create_validator-requires g c = let s = c.requires.steady in record { scene = scene_kept c.args.modules.now s.state s.stands.keeps s.stands.sound }
+
+pub returns-clause-ends : goal.returns-clause-ends
+returns-clause-ends g c =
+    let old : Modules = c.args.modules.now in
+    let after = c.create_validator.new in
+    let new : Modules = record { ground = after.g; stakes = record { staking = after.self; unbondings = old.stakes.unbondings; redelegations = old.stakes.redelegations }; hooks = after.hooks } in
+    (create_well old new c.requires.steady refl refl c.args.m.now c.create_validator.result c.create_validator.ensures.told c.create_validator.ensures.goes_on).ends
+
+pub returns-clause-steady : goal.returns-clause-steady
+returns-clause-steady g c =
+    let old : Modules = c.args.modules.now in
+    let after = c.create_validator.new in
+    let new : Modules = record { ground = after.g; stakes = record { staking = after.self; unbondings = old.stakes.unbondings; redelegations = old.stakes.redelegations }; hooks = after.hooks } in
+    (create_well old new c.requires.steady refl refl c.args.m.now c.create_validator.result c.create_validator.ensures.told c.create_validator.ensures.goes_on).steady
+
+pub returns-clause-go_on : goal.returns-clause-go_on
+returns-clause-go_on g c =
+    let old : Modules = c.args.modules.now in
+    let after = c.create_validator.new in
+    let new : Modules = record { ground = after.g; stakes = record { staking = after.self; unbondings = old.stakes.unbondings; redelegations = old.stakes.redelegations }; hooks = after.hooks } in
+    (create_well old new c.requires.steady refl refl c.args.m.now c.create_validator.result c.create_validator.ensures.told c.create_validator.ensures.goes_on).go_on

@@ -1,0 +1,32 @@
+use Rattle.std.proofs.Common.{◌≡◌, map, Some, None, subst}
+use Rattle.rule_machine.specs.Messages.{effect_of}
+use Rattle.rule_modules.specs.Effects.{effects_of}
+use Rattle.chain_transactions.specs.Answers.{MessagesEnd}
+use Rattle.chain_modules.specs.Kept.{kept_of, kept_over, parts_of}
+use Rattle.chain_modules.proofs.StandLemmas.{whole_same}
+use Rattle.chain_transactions.proofs.TransactionLemmas.{accepted_ends, undone, refused_ends}
+use Rattle.chain_transactions.proofs.transaction.all_or_none.Goals as goal
+
+pub returns-in-Ok-Some-clause-ended : goal.returns-in-Ok-Some-clause-ended
+returns-in-Ok-Some-clause-ended g c = λ p s.
+    let old = c.args.modules.now in
+    let back = c.back.new.self in
+    let place = c.in-Ok-Some.place in
+    let why = c.in-Ok-Some.why in
+    let is : c.in-Ok-Some.field-0 ≡ Some (place, why) = cc in
+    let r = effects_of 0 (map effect_of c.args.messages.now) p in
+    let left = kept_of c.apply_messages.new.modules in
+    refused_ends p r left (kept_over (parts_of back) back.ground.ctx c.cut.new.self) (kept_of old) place why
+    (subst (λ o. MessagesEnd r o left) is (c.in-Ok-Some.ensures.ends p (whole_same (kept_of old) (kept_of c.mark.new.self) p c.mark.ensures.same s)))
+    (undone old c.mark.new.self c.apply_messages.new.modules back c.len-told.result c.cut.new.self c.mark.ensures.same c.in_ok-mark.ensures.opened c.apply_messages.ensures.go_on c.back.ensures.back
+    c.back.ensures.ctx c.back.ensures.facts c.len-told.ensures c.cut.ensures)
+    s
+
+pub returns-in-Ok-None-clause-ended : goal.returns-in-Ok-None-clause-ended
+returns-in-Ok-None-clause-ended g c = λ p s.
+    let old = c.args.modules.now in
+    let is : c.in-Ok-None.field-0 ≡ None = cc in
+    let r = effects_of 0 (map effect_of c.args.messages.now) p in
+    let left = kept_of c.apply_messages.new.modules in
+    accepted_ends p r left (kept_of c.forget.new.self)
+    (subst (λ o. MessagesEnd r o left) is (c.in-Ok-None.ensures.ends p (whole_same (kept_of old) (kept_of c.mark.new.self) p c.mark.ensures.same s))) c.forget.ensures.same

@@ -1,0 +1,5 @@
+use Rattle.chain_transactions.proofs.MessageLemmas.{SoFar}
+use Rattle.chain_transactions.proofs.transaction.apply_messages.Given as goal
+
+abbrev pub invariant-loop-place : goal.invariant-loop-place
+invariant-loop-place g l = SoFar l.messages l.place l.initial.modules l.modules

@@ -1,0 +1,32 @@
+use Rattle.std.proofs.Common.{[], refl}
+use Rattle.chain_modules.specs.declared.modules.Modules.{Modules}
+use Rattle.chain_modules.proofs.SceneLemmas.{redelegation_scene}
+use Rattle.chain_transactions.proofs.CallLemmas.{redelegate_well}
+use Rattle.chain_transactions.proofs.unbonding.begin_redelegate.Goals as goal
+
+pub begin-requires : goal.begin-requires
+begin-requires g c = let s = c.requires.steady in record { scene = redelegation_scene c.args.modules.now s.state s.stands.keeps s.stands.sound }
+
+pub returns-clause-ends : goal.returns-clause-ends
+returns-clause-ends g c =
+    let old : Modules = c.args.modules.now in
+    let after = c.begin.new in
+    let new : Modules = record { ground = after.g; stakes = record { staking = after.staking; unbondings = old.stakes.unbondings; redelegations = after.self }; hooks = after.hooks } in
+    let m = c.args.m.now in
+    (redelegate_well old new c.requires.steady m.delegator m.source m.target m.amount c.begin.result refl (λ h k. c.begin.ensures.told h k []) c.begin.ensures.goes_on c.begin.ensures.entries_go_on).ends
+
+pub returns-clause-steady : goal.returns-clause-steady
+returns-clause-steady g c =
+    let old : Modules = c.args.modules.now in
+    let after = c.begin.new in
+    let new : Modules = record { ground = after.g; stakes = record { staking = after.staking; unbondings = old.stakes.unbondings; redelegations = after.self }; hooks = after.hooks } in
+    let m = c.args.m.now in
+    (redelegate_well old new c.requires.steady m.delegator m.source m.target m.amount c.begin.result refl (λ h k. c.begin.ensures.told h k []) c.begin.ensures.goes_on c.begin.ensures.entries_go_on).steady
+
+pub returns-clause-go_on : goal.returns-clause-go_on
+returns-clause-go_on g c =
+    let old : Modules = c.args.modules.now in
+    let after = c.begin.new in
+    let new : Modules = record { ground = after.g; stakes = record { staking = after.staking; unbondings = old.stakes.unbondings; redelegations = after.self }; hooks = after.hooks } in
+    let m = c.args.m.now in
+    (redelegate_well old new c.requires.steady m.delegator m.source m.target m.amount c.begin.result refl (λ h k. c.begin.ensures.told h k []) c.begin.ensures.goes_on c.begin.ensures.entries_go_on).go_on

@@ -1,0 +1,32 @@
+use Rattle.std.proofs.Common.{[], refl}
+use Rattle.chain_modules.specs.declared.modules.Modules.{Modules}
+use Rattle.chain_modules.proofs.SceneLemmas.{unbonding_scene}
+use Rattle.chain_transactions.proofs.CallLemmas.{cancel_well}
+use Rattle.chain_transactions.proofs.unbonding.cancel_unbonding.Goals as goal
+
+pub cancel-requires : goal.cancel-requires
+cancel-requires g c = let s = c.requires.steady in record { scene = unbonding_scene c.args.modules.now s.state s.stands.keeps s.stands.sound }
+
+pub returns-clause-ends : goal.returns-clause-ends
+returns-clause-ends g c =
+    let old : Modules = c.args.modules.now in
+    let after = c.cancel.new in
+    let new : Modules = record { ground = after.g; stakes = record { staking = after.staking; unbondings = after.self; redelegations = old.stakes.redelegations }; hooks = after.hooks } in
+    let m = c.args.m.now in
+    (cancel_well old new c.requires.steady m.delegator m.validator m.amount m.creation_height c.cancel.result refl (λ h k. c.cancel.ensures.told h k []) c.cancel.ensures.goes_on c.cancel.ensures.entries_go_on).ends
+
+pub returns-clause-steady : goal.returns-clause-steady
+returns-clause-steady g c =
+    let old : Modules = c.args.modules.now in
+    let after = c.cancel.new in
+    let new : Modules = record { ground = after.g; stakes = record { staking = after.staking; unbondings = after.self; redelegations = old.stakes.redelegations }; hooks = after.hooks } in
+    let m = c.args.m.now in
+    (cancel_well old new c.requires.steady m.delegator m.validator m.amount m.creation_height c.cancel.result refl (λ h k. c.cancel.ensures.told h k []) c.cancel.ensures.goes_on c.cancel.ensures.entries_go_on).steady
+
+pub returns-clause-go_on : goal.returns-clause-go_on
+returns-clause-go_on g c =
+    let old : Modules = c.args.modules.now in
+    let after = c.cancel.new in
+    let new : Modules = record { ground = after.g; stakes = record { staking = after.staking; unbondings = after.self; redelegations = old.stakes.redelegations }; hooks = after.hooks } in
+    let m = c.args.m.now in
+    (cancel_well old new c.requires.steady m.delegator m.validator m.amount m.creation_height c.cancel.result refl (λ h k. c.cancel.ensures.told h k []) c.cancel.ensures.goes_on c.cancel.ensures.entries_go_on).go_on

@@ -1,0 +1,162 @@
+//! Messages of distribution.
+
+ghost use Rattle.std.specs.Prelude.{◌≡◌, OnOk};
+ghost use Rattle.rule_modules.specs.Chain.{State};
+ghost use Rattle.rule_modules.specs.Effects.{withdraw_reward, withdraw_commission, set_withdraw_address, fund_community_pool, community_pool_spend};
+ghost use Rattle.chain_modules.specs.Kept.{StandsWhole, kept_of, stakes_kept, AreSteady};
+ghost use Rattle.chain_modules.specs.Marks.{GoOn};
+ghost use Rattle.chain_transactions.specs.Answers.{MessageEnds, delegation_asked};
+
+use base_decimals::Dec;
+use base_messages::{
+    CommunityPoolSpend, FundCommunityPool, SetWithdrawAddress, WithdrawCommission, WithdrawReward,
+};
+use base_roles::{MessageFault, Refusal, Unbonder, Validator, ValidatorView};
+use base_types::Steps;
+use chain_modules::{Modules, Stakes};
+use std::alloc::Global;
+use std::sync::ledger::Ledger;
+
+/// A delegator's reward is paid, and its rewards start anew (`x/distribution`: `msgServer.WithdrawDelegatorReward`).
+pub(crate) fn withdraw_reward<L: Ledger>(
+    alloc: Global,
+    modules: &mut Modules,
+    m: &WithdrawReward,
+    steps: &mut Steps<L>,
+) -> Result<(), MessageFault>
+    requires steady { AreSteady modules.old }
+    ensures ends { (p : State) → StandsWhole (kept_of modules.old) p → MessageEnds
+        (withdraw_reward m.now.delegator m.now.validator p)
+        (kept_of modules.new) result }
+    ensures steady { OnOk result (AreSteady modules.new) }
+
+    // Whatever the answer.
+    ensures go_on { GoOn modules.old modules.new }
+{
+    let (v, shares) = asked(&modules.stakes, m, steps)?;
+    modules.hooks.first.withdraw_reward(
+        alloc,
+        &mut modules.ground,
+        &v,
+        &m.delegator,
+        shares,
+        steps,
+    )?;
+    Ok(())
+}
+
+/// The validator whose delegator asks for a reward, and the shares of the delegation; or why there is none.
+fn asked<L: Ledger>(
+    stakes: &Stakes,
+    m: &WithdrawReward,
+    steps: &mut Steps<L>,
+) -> Result<(Validator, Dec), Refusal>
+    ensures { result ≡ delegation_asked m.now.delegator m.now.validator
+        (stakes_kept stakes.now).staked }
+{
+    let v = match stakes.staking.validator(&m.validator, steps) {
+        Some(v) => *v,
+        None => return Err(Refusal::NoValidator),
+    };
+    match stakes.staking.shares_of(&m.delegator, &m.validator, steps) {
+        Some(shares) => Ok((v, shares)),
+        None => Err(Refusal::NoDelegation),
+    }
+}
+
+/// A validator's commission is paid (`x/distribution`: `msgServer.WithdrawValidatorCommission`).
+pub(crate) fn withdraw_commission<L: Ledger>(
+    alloc: Global,
+    modules: &mut Modules,
+    m: &WithdrawCommission,
+    steps: &mut Steps<L>,
+) -> Result<(), MessageFault>
+    requires steady { AreSteady modules.old }
+    ensures ends { (p : State) → StandsWhole (kept_of modules.old) p
+        → MessageEnds (withdraw_commission m.now.validator p) (kept_of modules.new) result }
+    ensures steady { OnOk result (AreSteady modules.new) }
+
+    // Whatever the answer.
+    ensures go_on { GoOn modules.old modules.new }
+{
+    modules
+        .hooks
+        .first
+        .withdraw_commission(alloc, &mut modules.ground, &m.validator, steps)?;
+    Ok(())
+}
+
+/// A delegator's payments go to another address (`x/distribution`: `msgServer.SetWithdrawAddress`).
+pub(crate) fn set_withdraw_address<L: Ledger>(
+    modules: &mut Modules,
+    m: &SetWithdrawAddress,
+    steps: &mut Steps<L>,
+) -> Result<(), MessageFault>
+    requires steady { AreSteady modules.old }
+    ensures ends { (p : State) → StandsWhole (kept_of modules.old) p → MessageEnds
+        (set_withdraw_address m.now.delegator m.now.withdraw p)
+        (kept_of modules.new) result }
+    ensures steady { OnOk result (AreSteady modules.new) }
+
+    // Whatever the answer.
+    ensures go_on { GoOn modules.old modules.new }
+{
+    let params = modules.ground.ctx.params;
+    let facts = &mut modules.ground.facts;
+    modules
+        .hooks
+        .first
+        .set_withdraw(&params, facts, &m.delegator, &m.withdraw, steps)
+}
+
+/// Coins of a user join the community pool (`x/distribution`: `msgServer.FundCommunityPool`).
+pub(crate) fn fund_community_pool<L: Ledger>(
+    alloc: Global,
+    modules: &mut Modules,
+    m: &FundCommunityPool,
+    steps: &mut Steps<L>,
+) -> Result<(), MessageFault>
+    requires steady { AreSteady modules.old }
+    ensures ends { (p : State) → StandsWhole (kept_of modules.old) p → MessageEnds
+        (fund_community_pool m.now.depositor m.now.coins p)
+        (kept_of modules.new) result }
+    ensures steady { OnOk result (AreSteady modules.new) }
+
+    // Whatever the answer.
+    ensures go_on { GoOn modules.old modules.new }
+{
+    // It tells that they are a list of coins.
+    let _ = m.coins.len();
+    modules
+        .hooks
+        .first
+        .fund(alloc, &mut modules.ground, &m.depositor, &m.coins, steps)
+}
+
+/// Coins of the community pool go to an account (`x/distribution`: `msgServer.CommunityPoolSpend`).
+pub(crate) fn community_pool_spend<L: Ledger>(
+    alloc: Global,
+    modules: &mut Modules,
+    m: &CommunityPoolSpend,
+    steps: &mut Steps<L>,
+) -> Result<(), MessageFault>
+    requires steady { AreSteady modules.old }
+    ensures ends { (p : State) → StandsWhole (kept_of modules.old) p → MessageEnds
+        (community_pool_spend m.now.authority m.now.recipient m.now.coins p)
+        (kept_of modules.new) result }
+    ensures steady { OnOk result (AreSteady modules.new) }
+
+    // Whatever the answer.
+    ensures go_on { GoOn modules.old modules.new }
+{
+    // It tells that they are a list of coins.
+    let _ = m.coins.len();
+    modules.hooks.first.spend(
+        alloc,
+        &mut modules.ground,
+        &m.authority,
+        &m.recipient,
+        &m.coins,
+        steps,
+    )
+}

@@ -1,0 +1,109 @@
+//! Messages about validators, and delegating.
+
+ghost use Rattle.std.specs.Prelude.{OnOk};
+ghost use Rattle.rule_modules.specs.Chain.{State};
+ghost use Rattle.rule_modules.specs.Effects.{create_validator, edit_validator, delegate, unjail};
+ghost use Rattle.chain_modules.specs.Kept.{StandsWhole, kept_of, AreSteady};
+ghost use Rattle.chain_modules.specs.Marks.{GoOn};
+ghost use Rattle.chain_transactions.specs.Answers.{MessageEnds};
+
+use base_messages::{Delegate, Unjail};
+use base_roles::{CreateValidator, EditValidator, MessageFault};
+use base_types::Steps;
+use chain_modules::Modules;
+use std::alloc::Global;
+use std::sync::ledger::Ledger;
+
+/// A validator is created (`x/staking`: `msgServer.CreateValidator`).
+pub(crate) fn create_validator<L: Ledger>(
+    alloc: Global,
+    modules: &mut Modules,
+    m: &CreateValidator,
+    steps: &mut Steps<L>,
+) -> Result<(), MessageFault>
+    requires steady { AreSteady modules.old }
+    ensures ends { (p : State) → StandsWhole (kept_of modules.old) p
+        → MessageEnds (create_validator m.now p) (kept_of modules.new) result }
+    ensures steady { OnOk result (AreSteady modules.new) }
+
+    // Whatever the answer.
+    ensures go_on { GoOn modules.old modules.new }
+{
+    modules
+        .stakes
+        .staking
+        .create_validator(alloc, &mut modules.ground, &mut modules.hooks, m, steps)
+}
+
+/// A validator's rate or least self-delegation changes (`x/staking`: `msgServer.EditValidator`).
+pub(crate) fn edit_validator<L: Ledger>(
+    modules: &mut Modules,
+    m: &EditValidator,
+    steps: &mut Steps<L>,
+) -> Result<(), MessageFault>
+    requires steady { AreSteady modules.old }
+    ensures ends { (p : State) → StandsWhole (kept_of modules.old) p
+        → MessageEnds (edit_validator m.now p) (kept_of modules.new) result }
+    ensures steady { OnOk result (AreSteady modules.new) }
+
+    // Whatever the answer.
+    ensures go_on { GoOn modules.old modules.new }
+{
+    modules
+        .stakes
+        .staking
+        .edit_validator(&mut modules.ground, m, steps)
+}
+
+/// A coin is delegated from the delegator's wallet (`x/staking`: `msgServer.Delegate`).
+pub(crate) fn delegate<L: Ledger>(
+    alloc: Global,
+    modules: &mut Modules,
+    m: &Delegate,
+    steps: &mut Steps<L>,
+) -> Result<(), MessageFault>
+    requires steady { AreSteady modules.old }
+    ensures ends { (p : State) → StandsWhole (kept_of modules.old) p → MessageEnds
+        (delegate m.now.delegator m.now.validator m.now.amount p)
+        (kept_of modules.new) result }
+    ensures steady { OnOk result (AreSteady modules.new) }
+
+    // Whatever the answer.
+    ensures go_on { GoOn modules.old modules.new }
+{
+    let answer = modules.stakes.staking.delegate_coin(
+        alloc,
+        &mut modules.ground,
+        &mut modules.hooks,
+        &m.delegator,
+        &m.validator,
+        &m.amount,
+        steps,
+    );
+    match answer {
+        Ok(_) => Ok(()),
+        Err(stop) => Err(stop),
+    }
+}
+
+/// A validator leaves jail (`x/slashing`: `msgServer.Unjail`).
+pub(crate) fn unjail<L: Ledger>(
+    modules: &mut Modules,
+    m: &Unjail,
+    steps: &mut Steps<L>,
+) -> Result<(), MessageFault>
+    requires steady { AreSteady modules.old }
+    ensures ends { (p : State) → StandsWhole (kept_of modules.old) p
+        → MessageEnds (unjail m.now.validator p) (kept_of modules.new) result }
+    ensures steady { OnOk result (AreSteady modules.new) }
+
+    // Whatever the answer.
+    ensures go_on { GoOn modules.old modules.new }
+{
+    modules.hooks.second.unjail(
+        &mut modules.ground,
+        &mut modules.stakes.staking,
+        &m.validator,
+        steps,
+    )
+}

@@ -1,0 +1,105 @@
+//! Messages that make entries, and one that takes from them.
+
+ghost use Rattle.std.specs.Prelude.{OnOk};
+ghost use Rattle.rule_modules.specs.Chain.{State};
+ghost use Rattle.rule_modules.specs.Effects.{undelegate, begin_redelegate, cancel_unbonding};
+ghost use Rattle.chain_modules.specs.Kept.{StandsWhole, kept_of, AreSteady};
+ghost use Rattle.chain_modules.specs.Marks.{GoOn};
+ghost use Rattle.chain_transactions.specs.Answers.{MessageEnds};
+
+use base_messages::{BeginRedelegate, CancelUnbonding, Undelegate};
+use base_roles::MessageFault;
+use base_types::Steps;
+use chain_modules::Modules;
+use std::alloc::Global;
+use std::sync::ledger::Ledger;
+
+/// A coin is taken out of a delegation (`x/staking`: `msgServer.Undelegate`).
+pub(crate) fn undelegate<L: Ledger>(
+    alloc: Global,
+    modules: &mut Modules,
+    m: &Undelegate,
+    steps: &mut Steps<L>,
+) -> Result<(), MessageFault>
+    requires steady { AreSteady modules.old }
+    ensures ends { (p : State) → StandsWhole (kept_of modules.old) p → MessageEnds
+        (undelegate m.now.delegator m.now.validator m.now.amount p)
+        (kept_of modules.new) result }
+    ensures steady { OnOk result (AreSteady modules.new) }
+
+    // Whatever the answer.
+    ensures go_on { GoOn modules.old modules.new }
+{
+    let answer = modules.stakes.unbondings.undelegate(
+        alloc,
+        &mut modules.ground,
+        &mut modules.hooks,
+        &mut modules.stakes.staking,
+        &m.delegator,
+        &m.validator,
+        &m.amount,
+        steps,
+    );
+    match answer {
+        Ok(_) => Ok(()),
+        Err(stop) => Err(stop),
+    }
+}
+
+/// A coin of a delegation moves to another validator (`x/staking`: `msgServer.BeginRedelegate`).
+pub(crate) fn begin_redelegate<L: Ledger>(
+    alloc: Global,
+    modules: &mut Modules,
+    m: &BeginRedelegate,
+    steps: &mut Steps<L>,
+) -> Result<(), MessageFault>
+    requires steady { AreSteady modules.old }
+    ensures ends { (p : State) → StandsWhole (kept_of modules.old) p → MessageEnds
+        (begin_redelegate m.now.delegator m.now.source m.now.target m.now.amount p)
+        (kept_of modules.new) result }
+    ensures steady { OnOk result (AreSteady modules.new) }
+
+    // Whatever the answer.
+    ensures go_on { GoOn modules.old modules.new }
+{
+    modules.stakes.redelegations.begin(
+        alloc,
+        &mut modules.ground,
+        &mut modules.hooks,
+        &mut modules.stakes.staking,
+        &m.delegator,
+        &m.source,
+        &m.target,
+        &m.amount,
+        steps,
+    )
+}
+
+/// A coin that is being undelegated is delegated again (`x/staking`: `msgServer.CancelUnbondingDelegation`).
+pub(crate) fn cancel_unbonding<L: Ledger>(
+    alloc: Global,
+    modules: &mut Modules,
+    m: &CancelUnbonding,
+    steps: &mut Steps<L>,
+) -> Result<(), MessageFault>
+    requires steady { AreSteady modules.old }
+    ensures ends { (p : State) → StandsWhole (kept_of modules.old) p → MessageEnds
+        (cancel_unbonding m.now.delegator m.now.validator m.now.amount m.now.creation_height p)
+        (kept_of modules.new) result }
+    ensures steady { OnOk result (AreSteady modules.new) }
+
+    // Whatever the answer.
+    ensures go_on { GoOn modules.old modules.new }
+{
+    modules.stakes.unbondings.cancel(
+        alloc,
+        &mut modules.ground,
+        &mut modules.hooks,
+        &mut modules.stakes.staking,
+        &m.delegator,
+        &m.validator,
+        &m.amount,
+        m.creation_height,
+        steps,
+    )
+}

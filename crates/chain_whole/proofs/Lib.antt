@@ -1,0 +1,16 @@
+pub mod AddingLemmas
+pub mod AskingLemmas
+pub mod ChainLemmas
+pub mod ConditionLemmas
+pub mod DelegatedLemmas
+pub mod EmptyLemmas
+pub mod FairLemmas
+pub mod FoundingLemmas
+pub mod ItemLemmas
+pub mod ListingLemmas
+pub mod OwnLemmas
+pub mod PendingLemmas
+pub mod PlaceLemmas
+pub mod StartLemmas
+pub mod StartedLemmas
+pub mod SupplyLemmas

@@ -1,0 +1,13 @@
+use Rattle.std.proofs.Common.{sym, subst}
+use Rattle.chain_modules.specs.Kept.{StandsFor}
+use Rattle.chain_whole.specs.Chained.{Chained}
+use Rattle.chain_whole.specs.Pending.{ArePendingTo}
+use Rattle.chain_whole.proofs.OwnLemmas.{own_pending}
+use Rattle.chain_whole.proofs.chain.Chain.pending_to.Goals as goal
+
+pub pending_to-requires-clause-rest : goal.pending_to-requires-clause-rest
+pending_to-requires-clause-rest c = c.self.invariant.0
+
+pub returns-clause-pending : goal.returns-clause-pending
+returns-clause-pending c = λ p s.
+    subst (ArePendingTo p c.args.who.now) (sym (c.in_ok-pending_to.ensures p (subst (λ (t : Chained). StandsFor t.kept p) (sym c.self.view_is) s))) (own_pending p c.args.who.now s.sound.staked.delegations_ascend)

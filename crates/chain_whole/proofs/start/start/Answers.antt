@@ -1,0 +1,27 @@
+use Rattle.mod_distribution.specs.Items.{AreInOrder}
+use Rattle.chain_modules.specs.Kept.{kept_of, parts_of}
+use Rattle.chain_modules.specs.Marks.{AreAtRest, settled_of}
+use Rattle.chain_whole.specs.Answers.{Starts}
+use Rattle.chain_whole.specs.declared.fault.ChainFault.TheVariants.{NoMemory}
+use Rattle.chain_whole.proofs.StartedLemmas.{founded_ok, founded_err}
+use Rattle.std.proofs.Common.{◌≡◌}
+use Rattle.chain_whole.proofs.start.start.Goals as goal
+
+pub returns-clause-started : goal.returns-clause-started
+returns-clause-started g c =
+    founded_ok (λ m facts. Starts c.args.genesis.now facts (kept_of m)) c.founded.result c.found-told.result c.found-told.new.modules c.founded.ensures.modules c.founded.ensures.facts c.found-told.ensures.started
+
+pub returns-clause-rest : goal.returns-clause-rest
+returns-clause-rest g c =
+    founded_ok (λ m facts. AreAtRest m) c.founded.result c.found-told.result c.found-told.new.modules c.founded.ensures.modules c.founded.ensures.facts c.found-told.ensures.rest
+
+pub returns-clause-settled : goal.returns-clause-settled
+returns-clause-settled g c =
+    founded_ok (λ m facts. settled_of m ≡ parts_of m) c.founded.result c.found-told.result c.found-told.new.modules c.founded.ensures.modules c.founded.ensures.facts c.found-told.ensures.settled
+
+pub returns-clause-order : goal.returns-clause-order
+returns-clause-order g c =
+    founded_ok (λ m facts. AreInOrder (settled_of m).shared) c.founded.result c.found-told.result c.found-told.new.modules c.founded.ensures.modules c.founded.ensures.facts c.found-told.ensures.order
+
+pub returns-clause-fault : goal.returns-clause-fault
+returns-clause-fault g c = founded_err (λ fault. fault ≡ NoMemory) c.founded.result c.found-told.result c.founded.ensures.fault c.found-told.ensures.fault

@@ -1,0 +1,39 @@
+-- What the calls answer and leave.
+use Rattle.std.specs.Prelude.{◌≡◌, ℕ, true, false, List, Option, Some, Result, Ok, Err}
+use Rattle.base_roles.specs.declared.facts.Fact.{Fact}
+use Rattle.base_messages.specs.declared.faults.BlockFault.{BlockFault}
+use Rattle.base_messages.specs.declared.faults.BlockFault.TheVariants as block
+use Rattle.base_messages.specs.declared.genesis.Genesis.{Genesis}
+use Rattle.base_messages.specs.declared.report.BlockReport.{BlockReport}
+use Rattle.rule_modules.specs.Chain.{State}
+use Rattle.rule_machine.specs.GenesisState.{chain_started}
+use Rattle.law_runs.specs.Going.{GoesFairly}
+use Rattle.chain_modules.specs.Kept.{KeptState, StandsFor}
+use Rattle.chain_whole.specs.Chained.{Chained}
+use Rattle.chain_whole.specs.declared.fault.ChainFault.{ChainFault}
+use Rattle.chain_whole.specs.declared.fault.ChainFault.TheVariants as chain
+
+-- why there is no chain: the condition of this number, or memory is wanting
+abbrev pub IsGenesisFault : Option ℕ → ChainFault → Type 0
+IsGenesisFault due (chain.BadGenesis number) = due ≡ Some number
+IsGenesisFault due chain.BadItems = ⊥
+IsGenesisFault due chain.NoMemory = Unit {0}
+
+-- the machine starts from the genesis, tells these facts, and what is kept stands for its state
+abbrev pub Starts : Genesis → List Fact → KeptState → Type 0
+Starts g facts k =
+    (due : State) × (chain_started g ≡ Ok (record { facts = facts; state = due })) × StandsFor k due
+
+-- What a block leaves of the chain, whatever the chain stood for: at a fault of the machine nothing
+-- changes; and where memory is wanting it is so from then on. What was settled stays.
+abbrev pub LeavesChain : Chained → Chained → Result BlockReport BlockFault → Type 0
+LeavesChain old new (Ok report) = (old.spent ≡ false) × (new.spent ≡ false) × (new.settled ≡ old.settled)
+LeavesChain old new (Err block.NoMemory) = new.spent ≡ true
+LeavesChain old new (Err fault) = (old.spent ≡ false) × (new ≡ old)
+
+-- A block that tells this goes fairly, from a state to one that is kept then: each payment of a reward is
+-- that of a fair withdrawal, and what is left has accounts that are reached, and rewards that run only
+-- from starts and exactly where delegations stand.
+abbrev pub GoesOnFairly : State → KeptState → BlockReport → Type 0
+GoesOnFairly p k report =
+    (q : State) × StandsFor k q × GoesFairly p (record { report = report; state = q })

@@ -1,0 +1,5 @@
+pub mod Answers
+pub mod Chained
+pub mod Founding
+pub mod Pending
+pub mod Supplies

@@ -1,0 +1,83 @@
+-- The tests of parameters, time, height and validators decide that they are in their ranges.
+use Rattle.std.proofs.Common.{◌≡◌, ◌∙◌, ℕ, ◌^◌, ◌≤◌, ◌<◌, Bool, true, false, List, refl, sym, ap, arith}
+use Rattle.std.specs.Prelude.{◌⊎◌, ◌==◌, ◌&&◌, ◌||◌, nat_lt, nat_le, All}
+use Rattle.std.proofs.Common.{inl, inr}
+use Rattle.std.specs.Bool.{Decides}
+use Rattle.std.proofs.lemmas.Bool.{cases_lt}
+use Rattle.std.proofs.lemmas.Bool.Decides.{nat_tests, Decides-and, Decides-or, Decides-eqb, Decides-like}
+use Rattle.base_roles.specs.declared.entities.Validator.{Validator}
+use Rattle.base_roles.specs.declared.params.Ctx.{Ctx}
+use Rattle.base_roles.specs.declared.params.Params.{Params}
+use Rattle.base_roles.specs.Ground.{AreInRange, end_of_blocks}
+use Rattle.rule_modules.specs.Sound.{ValidatorIsSound}
+use Rattle.rule_machine.specs.Genesis.{are_in_range, is_within}
+use Rattle.rule_machine.proofs.Ranges.{in_range}
+use Rattle.store_soundness.specs.Ranges.{is_context_sound, is_validator_sound, are_validators_sound}
+use Rattle.law_records.proofs.TestLemmas.{at_most, below, within, all_decides}
+
+and2 : {a b : Bool} → a ≡ true → b ≡ true → (a && b) ≡ true
+and2 {a} {b} h k = ap (λ x. x && b) h ∙ k
+
+range_tested : (p : Params) → AreInRange p → are_in_range p ≡ true
+range_tested p r =
+    and2 (and2 (and2 (and2 (and2 (and2 (and2 (and2 (and2 (and2 (and2 (and2
+    ((within 1 (10 ^ 18) p.power_reduction).1 (r.power_reduction, r.power_reduction_most))
+    ((within 1 (10 ^ 9) p.unbonding_time).1 (r.unbonding_time, r.unbonding_time_most)))
+    ((within 1 1000 p.max_validators).1 (r.max_validators, r.max_validators_most)))
+    ((within 1 100 p.max_entries).1 (r.max_entries, r.max_entries_most)))
+    ((at_most p.min_commission_rate (10 ^ 18)).1 r.min_commission_rate))
+    ((at_most p.community_tax (10 ^ 18)).1 r.community_tax))
+    ((within 1 100000 p.signed_blocks_window).1 (r.signed_blocks_window, r.signed_blocks_window_most)))
+    ((at_most p.min_signed_per_window (10 ^ 18)).1 r.min_signed_per_window))
+    ((at_most p.downtime_jail_duration (10 ^ 9)).1 r.downtime_jail_duration))
+    ((at_most p.slash_fraction_double_sign (10 ^ 18)).1 r.slash_fraction_double_sign))
+    ((at_most p.slash_fraction_downtime (10 ^ 18)).1 r.slash_fraction_downtime))
+    ((at_most p.max_age_duration (10 ^ 9)).1 r.max_age_duration))
+    ((below p.max_age_num_blocks (2 ^ 63)).1 r.max_age_num_blocks)
+
+-- where a call may happen
+abbrev pub IsPlace : Ctx → Type 0
+IsPlace c = AreInRange c.params × ((c.time < end_of_blocks) × (c.height < 2 ^ 63))
+
+pub context_decides : (c : Ctx) → Decides (is_context_sound c) (IsPlace c)
+context_decides c =
+    Decides-and (are_in_range c.params) (nat_lt c.time end_of_blocks && nat_lt c.height (2 ^ 63)) (in_range c.params, range_tested c.params)
+    (Decides-and (nat_lt c.time end_of_blocks) (nat_lt c.height (2 ^ 63)) (below c.time end_of_blocks) (below c.height (2 ^ 63)))
+
+-- none without shares
+empty_decides : (v : Validator) → Decides (nat_lt 0 v.shares || (v.tokens == 0)) (v.shares ≡ 0 → v.tokens ≡ 0)
+empty_decides v =
+    let either = Decides-or (nat_lt 0 v.shares) (v.tokens == 0) (below 0 v.shares) (Decides-eqb v.tokens 0) in
+    (λ t. λ none. by none (either.0 t), λ h. either.1 (which h (cases_lt 0 v.shares)))
+  where
+    by : v.shares ≡ 0 → (0 < v.shares) ⊎ (v.tokens ≡ 0) → v.tokens ≡ 0
+    by none (inl some) = absurd (omega arith)
+    by none (inr zero) = zero
+
+    which : (v.shares ≡ 0 → v.tokens ≡ 0) → (0 < v.shares) ⊎ (v.shares ≤ 0) → (0 < v.shares) ⊎ (v.tokens ≡ 0)
+    which h (inl some) = inl some
+    which h (inr none) = inr (h (omega arith))
+
+validator_decides : (height : ℕ) (v : Validator) → Decides (is_validator_sound height v) (ValidatorIsSound height v)
+validator_decides height v =
+    let c = v.commission in
+    let one = at_most c.max_rate (10 ^ 18) in
+    let two = Decides-and (nat_le c.max_rate (10 ^ 18)) (nat_le c.rate c.max_rate) one (at_most c.rate c.max_rate) in
+    let three = Decides-and (nat_le c.max_rate (10 ^ 18) && nat_le c.rate c.max_rate) (nat_le c.max_change c.max_rate) two (at_most c.max_change c.max_rate) in
+    let four = Decides-and (nat_le c.max_rate (10 ^ 18) && nat_le c.rate c.max_rate && nat_le c.max_change c.max_rate) (nat_le v.tokens (10 ^ 18)) three (at_most v.tokens (10 ^ 18)) in
+    let five = Decides-and (nat_le c.max_rate (10 ^ 18) && nat_le c.rate c.max_rate && nat_le c.max_change c.max_rate && nat_le v.tokens (10 ^ 18)) (nat_lt 0 v.shares || (v.tokens == 0)) four (empty_decides v) in
+    let all = Decides-and (nat_le c.max_rate (10 ^ 18) && nat_le c.rate c.max_rate && nat_le c.max_change c.max_rate && nat_le v.tokens (10 ^ 18) && (nat_lt 0 v.shares || (v.tokens == 0)))
+    (nat_le v.unbonding_height height) five (at_most v.unbonding_height height) in (
+      λ t. let h = all.0 t in record {
+        max_rate = h.0.0.0.0.0;
+        rate = h.0.0.0.0.1;
+        max_change = h.0.0.0.1;
+        tokens = h.0.0.1;
+        empty = h.0.1;
+        unbonding_height = h.1;
+      },
+      λ s. all.1 (((((s.max_rate, s.rate), s.max_change), s.tokens), s.empty), s.unbonding_height),
+    )
+
+pub validators_decide : (height : ℕ) (vs : List (List ℕ × Validator)) → Decides (are_validators_sound height vs) (All (λ e. ValidatorIsSound height e.1) vs)
+validators_decide height vs = all_decides (λ (e : List ℕ × Validator). is_validator_sound height e.1) (λ e. ValidatorIsSound height e.1) (λ e. validator_decides height e.1) vs

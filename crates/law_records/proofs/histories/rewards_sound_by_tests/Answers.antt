@@ -1,0 +1,5 @@
+use Rattle.law_records.proofs.HistoryLaws.{are_rewards_sound_by_tests}
+use Rattle.law_records.proofs.histories.rewards_sound_by_tests.Goals as goal
+
+pub returns : goal.returns
+returns c = λ r t. are_rewards_sound_by_tests r t

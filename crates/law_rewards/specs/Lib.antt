@@ -1,0 +1,11 @@
+pub mod Account
+pub mod Changes
+pub mod Laws
+pub mod Payments
+pub mod Running
+pub mod Sharing
+pub mod StateLaws
+pub mod States
+pub mod WithdrawalLaws
+pub mod Withdrawals
+pub mod Worked

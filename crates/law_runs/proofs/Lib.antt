@@ -1,0 +1,10 @@
+pub mod Carrying
+pub mod Ends
+pub mod Going
+pub mod Moments
+pub mod Payees
+pub mod Reading
+pub mod Running
+pub mod Saying
+pub mod Starts
+pub mod Unstarted

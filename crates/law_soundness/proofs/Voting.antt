@@ -1,0 +1,241 @@
+-- Votes and evidence keep a state sound.
+use Rattle.std.proofs.Common.{◌≡◌, ◌∙◌, ℕ, ◌<◌, Bool, true, false, cond, List, [], ◌∷◌, ◌++◌, length, Some, None, Option, Ok, refl, sym, ap, subst, arith}
+use Rattle.std.specs.Prelude.{◌-◌, ◌||◌, not, if◌then◌else◌, IfOk, IsSome, Contains, ⊤}
+use Rattle.std.specs.BTreeMap.{is_at}
+use Rattle.std.proofs.lemmas.List.Elements.{All-from_recursion, recursion_from_All}
+use Rattle.base_types.specs.Orders.{cons_cmp}
+use Rattle.base_roles.specs.declared.entities.Validator.{Validator}
+use Rattle.base_roles.specs.declared.facts.Fact.TheVariants as fact
+use Rattle.base_roles.specs.declared.messages.Evidence.{Evidence}
+use Rattle.base_roles.specs.declared.messages.Vote.{Vote}
+use Rattle.base_roles.specs.Lent.{jail_told}
+use Rattle.base_roles.specs.Flow.{◌>>=◌}
+use Rattle.base_roles.specs.World.{World, noted, over_view, over_mine}
+use Rattle.rule_modules.specs.Evidence.{window_bans, banned, banned_of, forever, is_too_old, jailed_if_not, evidence_weighed, equivocation_handled}
+use Rattle.rule_modules.specs.Slashing.{plain_slash, core_slashes, slashed, jail_lent, jailed_of}
+use Rattle.rule_modules.specs.Window.{Signing, Window, signing_of, is_downtime, reset_at, vote_counted}
+use Rattle.base_decimals.specs.declared.over.Over.{Over}
+use Rattle.base_roles.specs.Entries.{with}
+use Rattle.base_roles.specs.Staked.{is_unbonded, validator_by_cons, validator_at}
+use Rattle.base_roles.specs.declared.facts.Fact.{Fact}
+use Rattle.law_soundness.proofs.Burns.{total_in, SayNoMore, quiet_behind}
+use Rattle.law_soundness.proofs.Allocating.{found_by_cons}
+use Rattle.law_soundness.proofs.Lists.{all_put, looked_up, weaker}
+use Rattle.law_soundness.proofs.Points.{IsRecorded, StateFits, from_fits, to_fits}
+use Rattle.law_soundness.proofs.Punishing.{SlashLeft, slashed_fits}
+use Rattle.law_soundness.proofs.Standing.{stake_told, state_standing}
+use Rattle.law_soundness.proofs.Steps.{on_then, weaker_if}
+use Rattle.law_soundness.specs.StepLaws.{EvidenceKeepsSoundness, IsSoundAfter, VotesKeepSoundness}
+use Rattle.rule_modules.proofs.EntryLemmas.{ascend-put, at-put}
+use Rattle.rule_modules.proofs.OrderLemmas.{cons_total}
+use Rattle.rule_modules.proofs.SoundLemmas.{exact_addr}
+use Rattle.rule_modules.specs.Amounts.{over_facts}
+use Rattle.rule_modules.specs.Chain.{Stakes, State, beside_window, evidence_step, staked_in, vote_step, with_window}
+use Rattle.rule_modules.specs.Distribution.{Shared, distribution_told}
+use Rattle.rule_modules.specs.Sound.{SigningIsSound, WindowIsSound}
+use Rattle.law_soundness.proofs.Entries.{PairsFit}
+
+-- a record is put at a consensus address
+record_put : (height : ℕ) (cons : List ℕ) (s : Signing) (i : Window) → WindowIsSound height i → SigningIsSound height s → WindowIsSound height (with cons_cmp i cons s)
+record_put height cons s i h k = record {
+  ascend = ascend-put cons_cmp cons_total i cons s h.ascend;
+  records = All-from_recursion (λ e. SigningIsSound height e.1) (with cons_cmp i cons s) (all_put (λ (e : List ℕ × Signing). SigningIsSound height e.1) cons_cmp exact_addr cons s i k (recursion_from_All (λ e. SigningIsSound height e.1) i h.records));
+}
+
+recorded_put : (cons q : List ℕ) (s : Signing) (i : Window) → IsSome (signing_of i q) → IsSome (signing_of (with cons_cmp i cons s) q)
+recorded_put cons q s i h = subst IsSome (sym (at-put cons_cmp cons_total i cons q s)) (by (is_at (cons_cmp q) cons) (signing_of i q) h)
+  where
+    by : (b : Bool) (r : Option Signing) → IsSome r → IsSome (cond b (Some s) r)
+    by true r k = refl
+    by false r k = k
+
+pub own_record : (height : ℕ) (cons : List ℕ) (s : Signing) (i : Window) → WindowIsSound height i → signing_of i cons ≡ Some s → SigningIsSound height s
+own_record height cons s i h e = looked_up (λ (x : List ℕ × Signing). SigningIsSound height x.1) (is_at (cons_cmp cons)) (SigningIsSound height) (λ k y t g. g) i s e (recursion_from_All (λ e. SigningIsSound height e.1) i h.records)
+
+module _ (P : List ℕ → Type 0) (T : List ℕ → ℕ) where
+  -- ---- the state with another signing record
+
+  window_put : (w : State) (cons : List ℕ) (s : Signing) → StateFits P T w → SigningIsSound w.view.ctx.height s → StateFits P T (record { mine = w.mine; hooks = (w.hooks.0, with cons_cmp w.hooks.1 cons s); view = w.view; log = w.log })
+  window_put w cons s h k = record {
+    stake = record {
+      ground = h.stake.ground;
+      staked = h.stake.staked;
+      bonded = h.stake.bonded;
+      not_bonded = h.stake.not_bonded;
+      owed = h.stake.owed;
+      shared = h.stake.shared;
+      window = record_put w.view.ctx.height cons s w.hooks.1 h.stake.window k;
+      recorded = weaker (IsRecorded w.hooks.1) (IsRecorded (with cons_cmp w.hooks.1 cons s)) (λ e j t. recorded_put cons e.1.cons s w.hooks.1 (j t)) w.mine.staked.validators h.stake.recorded;
+    };
+    unbondings = h.unbondings;
+    redelegations = h.redelegations;
+  }
+
+  -- ---- jailing
+
+  state_told : (w : State) (f : List Fact → List Fact) → SayNoMore w.view.facts (f w.view.facts) → StateFits P T w → StateFits P T (over_view (over_facts f) w)
+  state_told w f q h = record { stake = stake_told P T 0 _ _ (staked_in w) f q h.stake; unbondings = h.unbondings; redelegations = h.redelegations }
+
+  jail_fits : (i : Window) (cons : List ℕ) (w : World Stakes Shared) → StateFits P T (with_window i w) → StateFits P T (with_window i (jail_lent (core_slashes distribution_told plain_slash) cons w))
+  jail_fits i cons w h = by (validator_by_cons w.mine.staked cons) refl
+    where
+      by : (r : Option Validator) → validator_by_cons w.mine.staked cons ≡ r
+          → StateFits P T (with_window i (over_view (λ u. record u { facts = jail_told r u.facts }) (over_mine (λ c. record c { staked = jailed_of r c.staked }) w)))
+      by None e = state_told (with_window i w) (λ facts. facts) (λ d. refl) h
+      by (Some v) e =
+          let k = h.stake.staked.validators v.operator v found in
+          (state_standing P T (with_window i w) (record v { jailed = true }) v (λ facts. jail_told (Some v) facts) (quiet_behind w.view.facts (fact.Jailed v.operator) (λ d. refl)) h found (record {
+            operator = refl;
+            cons = refl;
+            status = refl;
+            tokens = refl;
+            shares = refl;
+            sound = record { max_rate = k.max_rate; rate = k.rate; max_change = k.max_change; tokens = k.tokens; empty = k.empty; unbonding_height = k.unbonding_height };
+          })).fits
+        where
+          found : validator_at w.mine.staked v.operator ≡ Some v
+          found = found_by_cons w.view.ctx.height w.mine.staked cons v h.stake.staked e
+
+  -- ---- votes
+
+  -- a vote counts once more, and leaves every other record
+  pub record VoteLeft (cons : List ℕ) (w x : State) : Type 0 where
+    pub fits : StateFits P T x
+    pub ctx : x.view.ctx ≡ w.view.ctx
+    pub others : (q : List ℕ) → is_at (cons_cmp q) cons ≡ false → signing_of x.hooks.1 q ≡ signing_of w.hooks.1 q
+    pub pairs : (m : ℕ) → PairsFit m w.mine.unbondings → PairsFit m x.mine.unbondings
+
+  others_put : (cons q : List ℕ) (s : Signing) (i : Window) → is_at (cons_cmp q) cons ≡ false → signing_of (with cons_cmp i cons s) q ≡ signing_of i q
+  others_put cons q s i e = at-put cons_cmp cons_total i cons q s ∙ ap (λ b. cond b (Some s) (signing_of i q)) e
+
+  pub vote_fits : (t : Vote) (w : State) → StateFits P T w → ((s : Signing) → signing_of w.hooks.1 t.cons ≡ Some s → length s.votes < w.view.ctx.height) → IfOk (vote_step t w) (VoteLeft t.cons w)
+  vote_fits t w h fewer =
+      on_then (vote_counted (core_slashes distribution_told plain_slash) (validator_by_cons w.mine.staked t.cons) (signing_of w.hooks.1 t.cons) t w.hooks.1 (beside_window w)) _ (λ x. VoteLeft t.cons w (with_window x.1 x.2)) _
+      (by (validator_by_cons w.mine.staked t.cons) (signing_of w.hooks.1 t.cons) refl) (λ x k. k)
+    where
+      height : ℕ
+      height = w.view.ctx.height
+
+      stays : VoteLeft t.cons w w
+      stays = record { fits = h; ctx = refl; others = λ q e. refl; pairs = λ m k. k }
+
+      by : (v : Option Validator) (s : Option Signing) → signing_of w.hooks.1 t.cons ≡ s → IfOk (vote_counted (core_slashes distribution_told plain_slash) v s t w.hooks.1 (beside_window w)) (λ x. VoteLeft t.cons w (with_window x.1 x.2))
+      by None s e = stays
+      by (Some v) None e = stays
+      by (Some v) (Some s) e = chosen v.jailed (is_downtime w.view.ctx now v)
+        where
+          own : SigningIsSound height s
+          own = own_record height t.cons s w.hooks.1 h.stake.window e
+
+          below : length s.votes < height
+          below = fewer s e
+
+          now : Signing
+          now = record s { votes = not t.signed ∷ s.votes }
+
+          counted : SigningIsSound height now
+          counted = record { counted = omega (arith, below); start = own.start }
+
+          reset : Signing
+          reset = reset_at w.view.ctx now
+
+          anew : SigningIsSound height reset
+          anew = record { counted = omega arith; start = own.start }
+
+          chosen : (a b : Bool) → IfOk {T = ⊤ × Window × World Stakes Shared} {E = Over} (if a then Ok (tt, w.hooks.1, beside_window w) else (
+              if b then (slashed distribution_told plain_slash t.cons (w.view.ctx.height - 2) t.power w.view.ctx.params.slash_fraction_downtime (beside_window w) >>= λ z.
+              Ok (tt, with cons_cmp w.hooks.1 t.cons reset, jail_lent (core_slashes distribution_told plain_slash) t.cons z.1))
+              else Ok (tt, with cons_cmp w.hooks.1 t.cons now, beside_window w))) (λ x. VoteLeft t.cons w (with_window x.1 x.2))
+          chosen true b = stays
+          chosen false false = record { fits = window_put w t.cons now h counted; ctx = refl; others = λ q f. others_put t.cons q now w.hooks.1 f; pairs = λ m k. k }
+          chosen false true =
+              let i = with cons_cmp w.hooks.1 t.cons reset in
+              on_then (slashed distribution_told plain_slash t.cons (w.view.ctx.height - 2) t.power w.view.ctx.params.slash_fraction_downtime (beside_window w)) _ (λ z. SlashLeft P T i (beside_window w) z.1) _
+              (slashed_fits P T i t.cons (w.view.ctx.height - 2) t.power w.view.ctx.params.slash_fraction_downtime (beside_window w) (window_put w t.cons reset h anew)) (λ z k. record {
+                fits = jail_fits i t.cons z.1 k.fits;
+                ctx = k.ctx;
+                others = λ q f. others_put t.cons q reset w.hooks.1 f;
+                pairs = λ m g. k.pairs m g;
+              })
+
+  -- ---- evidence
+
+  -- counts of votes stay
+  pub record EvidenceLeft (w x : State) : Type 0 where
+    pub fits : StateFits P T x
+    pub ctx : x.view.ctx ≡ w.view.ctx
+    pub pairs : (m : ℕ) → PairsFit m w.mine.unbondings → PairsFit m x.mine.unbondings
+
+  banned_sound : (height : ℕ) (cons : List ℕ) (i : Window) (w : State) → StateFits P T w → StateFits P T (record { mine = w.mine; hooks = (w.hooks.0, banned cons forever w.hooks.1); view = w.view; log = w.log })
+  banned_sound height cons i w h = by (signing_of w.hooks.1 cons) refl
+    where
+      by : (r : Option Signing) → signing_of w.hooks.1 cons ≡ r → StateFits P T (record { mine = w.mine; hooks = (w.hooks.0, banned_of r cons forever w.hooks.1); view = w.view; log = w.log })
+      by None e = h
+      by (Some s) e =
+          let own = own_record w.view.ctx.height cons s w.hooks.1 h.stake.window e in
+          window_put w cons (record s { jailed_until = forever; tombstoned = true }) h (record { counted = own.counted; start = own.start })
+
+  not_jailed_fits : (i : Window) (r : Option Validator) (cons : List ℕ) (w : World Stakes Shared) → StateFits P T (with_window i w) → StateFits P T (with_window i (jailed_if_not (core_slashes distribution_told plain_slash) window_bans r cons w))
+  not_jailed_fits i None cons w h = h
+  not_jailed_fits i (Some v) cons w h = by v.jailed
+    where
+      by : (b : Bool) → StateFits P T (with_window i (if b then w else jail_lent (core_slashes distribution_told plain_slash) cons w))
+      by true = h
+      by false = jail_fits i cons w h
+
+  jailed_ctx : (r : Option Validator) (cons : List ℕ) (w : World Stakes Shared) → (jailed_if_not (core_slashes distribution_told plain_slash) window_bans r cons w).view.ctx ≡ w.view.ctx
+  jailed_ctx None cons w = refl
+  jailed_ctx (Some v) cons w = by v.jailed
+    where
+      by : (b : Bool) → (if b then w else jail_lent (core_slashes distribution_told plain_slash) cons w).view.ctx ≡ w.view.ctx
+      by true = refl
+      by false = refl
+
+  jailed_pairs : (r : Option Validator) (cons : List ℕ) (w : World Stakes Shared) → (jailed_if_not (core_slashes distribution_told plain_slash) window_bans r cons w).mine.unbondings ≡ w.mine.unbondings
+  jailed_pairs None cons w = refl
+  jailed_pairs (Some v) cons w = by v.jailed
+    where
+      by : (b : Bool) → (if b then w else jail_lent (core_slashes distribution_told plain_slash) cons w).mine.unbondings ≡ w.mine.unbondings
+      by true = refl
+      by false = refl
+
+  pub evidence_fits : (e : Evidence) (w : State) → StateFits P T w → IfOk (evidence_step e w) (EvidenceLeft w)
+  evidence_fits e w h =
+      on_then (equivocation_handled (core_slashes distribution_told plain_slash) window_bans e w.hooks.1 (beside_window w)) _ (λ x. EvidenceLeft w (with_window x.1 x.2)) _
+      (by (validator_by_cons w.mine.staked e.cons) (window_bans.tombstoned w.hooks.1 e.cons)) (λ x k. k)
+    where
+      stays : EvidenceLeft w w
+      stays = record { fits = h; ctx = refl; pairs = λ m k. k }
+
+      by : (v : Option Validator) (t : Option Bool) → IfOk (evidence_weighed (core_slashes distribution_told plain_slash) window_bans v t e w.hooks.1 (beside_window w)) (λ x. EvidenceLeft w (with_window x.1 x.2))
+      by None t = stays
+      by (Some v) None = stays
+      by (Some v) (Some t) = chosen (is_unbonded v.status || t || is_too_old w.view.ctx e)
+        where
+          chosen : (a : Bool) → IfOk {T = Bool × Window × World Stakes Shared} {E = Over} (if a then Ok (false, w.hooks.1, beside_window w) else (
+              slashed distribution_told plain_slash e.cons (e.height - 1) e.power w.view.ctx.params.slash_fraction_double_sign (beside_window w) >>= λ z.
+              Ok (true, banned e.cons forever w.hooks.1, over_view (noted (fact.Tombstoned v.operator)) (jailed_if_not (core_slashes distribution_told plain_slash) window_bans (validator_by_cons z.1.mine.staked e.cons) e.cons z.1)))) (λ x. EvidenceLeft w (with_window x.1 x.2))
+          chosen true = stays
+          chosen false =
+              on_then (slashed distribution_told plain_slash e.cons (e.height - 1) e.power w.view.ctx.params.slash_fraction_double_sign (beside_window w)) _ (λ z. SlashLeft P T w.hooks.1 (beside_window w) z.1) _
+              (slashed_fits P T w.hooks.1 e.cons (e.height - 1) e.power w.view.ctx.params.slash_fraction_double_sign (beside_window w) h) (λ z k.
+              let r = validator_by_cons z.1.mine.staked e.cons in
+              let x : World Stakes Shared = jailed_if_not (core_slashes distribution_told plain_slash) window_bans r e.cons z.1 in
+              let jailed = not_jailed_fits w.hooks.1 r e.cons z.1 k.fits in
+              record {
+                fits = state_told (with_window (banned e.cons forever w.hooks.1) x) (λ facts. facts ++ fact.Tombstoned v.operator ∷ []) (quiet_behind x.view.facts (fact.Tombstoned v.operator) (λ d. refl)) (banned_sound 0 e.cons w.hooks.1 (with_window w.hooks.1 x) jailed);
+                ctx = jailed_ctx r e.cons z.1 ∙ k.ctx;
+                pairs = λ m g. subst (PairsFit m) (sym (jailed_pairs r e.cons z.1)) (k.pairs m g);
+              })
+
+pub votes_keep_soundness : VotesKeepSoundness
+votes_keep_soundness t w s power fewer =
+    let P : List ℕ → Type 0 = Contains s.few.some in
+    let T : List ℕ → ℕ = total_in w.view in
+    weaker_if (vote_step t w) (VoteLeft P T t.cons w) (IsSoundAfter w) (vote_fits P T t w (to_fits w s) fewer) (λ x k. from_fits x s.few.some T s.few.few k.fits)
+
+pub evidence_keeps_soundness : EvidenceKeepsSoundness
+evidence_keeps_soundness e w s power least below before =
+    let P : List ℕ → Type 0 = Contains s.few.some in
+    let T : List ℕ → ℕ = total_in w.view in
+    weaker_if (evidence_step e w) (EvidenceLeft P T w) (IsSoundAfter w) (evidence_fits P T e w (to_fits w s)) (λ x k. from_fits x s.few.some T s.few.few k.fits)

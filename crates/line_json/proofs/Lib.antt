@@ -1,0 +1,10 @@
+pub mod CoinLemmas
+pub mod ListLemmas
+pub mod OnWritten
+pub mod PlaceLemmas
+pub mod ReadingLemmas
+pub mod ReadingOnLiterals
+pub mod TapeLemmas
+pub mod TextLemmas
+pub mod TreeLemmas
+pub mod WritingLemmas

@@ -1,0 +1,14 @@
+use Rattle.std.proofs.Common.{◌≡◌, ◌++◌, sym, subst, OnOk}
+use Rattle.line_json.specs.Facts.{fact_data}
+use Rattle.line_json.specs.Line.{line_of}
+use Rattle.line_json.proofs.facts.push_fact.Goals as goal
+
+pub returns-in-Started-clause-ok : goal.returns-in-Started-clause-ok
+returns-in-Started-clause-ok c =
+    subst (λ fact. OnOk c.started.result (c.started.new.out.items ≡ c.args.out.now.items ++ line_of (fact_data c.args.height fact)))
+    (sym c.in-Started.is) c.started.ensures.ok
+
+pub returns-in-Slashed-clause-ok : goal.returns-in-Slashed-clause-ok
+returns-in-Slashed-clause-ok c =
+    subst (λ fact. OnOk c.slashed.result (c.slashed.new.out.items ≡ c.args.out.now.items ++ line_of (fact_data c.args.height fact)))
+    (sym c.in-Slashed.is) c.slashed.ensures.ok

@@ -1,0 +1,18 @@
+use Rattle.std.proofs.Common.{◌∙◌, ◌<◌, length, arith}
+use Rattle.line_json.specs.Values.{coin_data, whole_data}
+use Rattle.line_json.proofs.ListLemmas.{found_within}
+use Rattle.line_json.proofs.WritingLemmas.{element_written}
+use Rattle.line_json.proofs.writing.push_coins.Goals as goal
+use Rattle.line_json.proofs.writing.push_coins.Goals.{in-Some+in_ok-push_coin, in_default}
+
+pub loop-place-preserved : goal.loop-place-preserved
+loop-place-preserved c =
+    let within : c.loop-place.place < length c.args.coins.now = omega (arith, c.loop-place-test.true, c.len-place-end.ensures.len) in
+    elim c.match-at.branch [
+      | in-Some+in_ok-push_coin w ↦
+          rw w.writer-is (
+            w.in_ok-push_coin.ensures.before ∙ c.loop-place.invariant.0,
+            element_written (coin_data whole_data) _ _ _ c.args.coins.now c.loop-place.place _ w.in-Some.ensures w.in_ok-push_coin.ensures.ok c.loop-place.invariant.1,
+          )
+      | in_default w ↦ absurd (found_within c.args.coins.now c.loop-place.place within w.in_default.ensures)
+    ]

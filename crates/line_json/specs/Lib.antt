@@ -1,0 +1,17 @@
+pub mod Block
+pub mod Coin
+pub mod Facts
+pub mod Genesis
+pub mod Line
+pub mod Members
+pub mod Messages
+pub mod Nested
+pub mod Outcomes
+pub mod Params
+pub mod Reading
+pub mod ReadingExample
+pub mod Tape
+pub mod Told
+pub mod Values
+pub mod Written
+pub mod WrittenExample

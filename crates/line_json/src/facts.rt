@@ -1,0 +1,303 @@
+//! The lines of facts. Members stand in ascending order of their names.
+ghost use Rattle.std.specs.Prelude.{◌≡◌, ◌++◌, [], IfErr, OnOk};
+ghost use Rattle.line_json.specs.Facts.{about, fact_data};
+ghost use Rattle.line_json.specs.Line.{line_of, told_at};
+
+use crate::told::Told;
+use crate::writing::push_line;
+use base_coins::{Coin, Coins, DecCoins};
+use base_decimals::Dec;
+use base_messages::LineFault;
+use base_roles::Fact;
+use base_types::{Account, Addr, BondStatus, Module};
+use std::alloc::Global;
+
+fn transfer<'a>(
+    alloc: Global,
+    out: &mut Vec<u8>,
+    height: u64,
+    from: &'a Account,
+    to: &'a Account,
+    coins: &'a Coins,
+) -> Result<(), LineFault>
+    ensures ok { OnOk result (out.new.items ≡ out.old.items
+        ++ line_of (fact_data height (Fact.Transfer from.now to.now coins.now))) }
+    ensures fault { IfErr result (λ fault. fault ≡ LineFault.NoMemory) }
+{
+    let members = [
+        ("coins", Told::Coins(coins)),
+        ("from", Told::Account(from)),
+        ("height", Told::Count(height)),
+        ("kind", Told::Word("transfer")),
+        ("to", Told::Account(to)),
+    ];
+    push_line(alloc, out, &members)
+}
+
+fn burn<'a>(
+    alloc: Global,
+    out: &mut Vec<u8>,
+    height: u64,
+    from: Module,
+    coin: &'a Coin,
+) -> Result<(), LineFault>
+    ensures ok { OnOk result (out.new.items ≡ out.old.items
+        ++ line_of (fact_data height (Fact.Burn from coin.now))) }
+    ensures fault { IfErr result (λ fault. fault ≡ LineFault.NoMemory) }
+{
+    let members = [
+        ("amount", Told::Amount(coin.amount)),
+        ("denom", Told::Denom(&coin.denom)),
+        ("from", Told::Module(from)),
+        ("height", Told::Count(height)),
+        ("kind", Told::Word("burn")),
+    ];
+    push_line(alloc, out, &members)
+}
+
+fn allocated<'a>(
+    alloc: Global,
+    out: &mut Vec<u8>,
+    height: u64,
+    validator: &'a Addr,
+    share: &'a DecCoins,
+) -> Result<(), LineFault>
+    ensures ok { OnOk result (out.new.items ≡ out.old.items
+        ++ line_of (fact_data height (Fact.Allocated validator.now share.now))) }
+    ensures fault { IfErr result (λ fault. fault ≡ LineFault.NoMemory) }
+{
+    let members = [
+        ("coins", Told::DecCoins(share)),
+        ("height", Told::Count(height)),
+        ("kind", Told::Word("allocated")),
+        ("validator", Told::Address(validator)),
+    ];
+    push_line(alloc, out, &members)
+}
+
+fn pooled<'a>(
+    alloc: Global,
+    out: &mut Vec<u8>,
+    height: u64,
+    coins: &'a DecCoins,
+) -> Result<(), LineFault>
+    ensures ok { OnOk result (out.new.items ≡ out.old.items
+        ++ line_of (fact_data height (Fact.Pooled coins.now))) }
+    ensures fault { IfErr result (λ fault. fault ≡ LineFault.NoMemory) }
+{
+    let members = [
+        ("coins", Told::DecCoins(coins)),
+        ("height", Told::Count(height)),
+        ("kind", Told::Word("pooled")),
+    ];
+    push_line(alloc, out, &members)
+}
+
+fn period_ended<'a>(
+    alloc: Global,
+    out: &mut Vec<u8>,
+    height: u64,
+    validator: &'a Addr,
+    period: u64,
+    ratio: &'a DecCoins,
+) -> Result<(), LineFault>
+    ensures ok { OnOk result (out.new.items ≡ out.old.items
+        ++ line_of (fact_data height (Fact.Period validator.now period ratio.now))) }
+    ensures fault { IfErr result (λ fault. fault ≡ LineFault.NoMemory) }
+{
+    let members = [
+        ("height", Told::Count(height)),
+        ("kind", Told::Word("period")),
+        ("period", Told::Count(period)),
+        ("ratio", Told::DecCoins(ratio)),
+        ("validator", Told::Address(validator)),
+    ];
+    push_line(alloc, out, &members)
+}
+
+fn started<'a>(
+    alloc: Global,
+    out: &mut Vec<u8>,
+    height: u64,
+    delegator: &'a Addr,
+    validator: &'a Addr,
+    period: u64,
+    stake: Dec,
+) -> Result<(), LineFault>
+    ensures ok { OnOk result (out.new.items ≡ out.old.items
+        ++ line_of (fact_data height (Fact.Started delegator.now validator.now period stake))) }
+    ensures fault { IfErr result (λ fault. fault ≡ LineFault.NoMemory) }
+{
+    let members = [
+        ("delegator", Told::Address(delegator)),
+        ("height", Told::Count(height)),
+        ("kind", Told::Word("started")),
+        ("period", Told::Count(period)),
+        ("stake", Told::Decimal(stake)),
+        ("validator", Told::Address(validator)),
+    ];
+    push_line(alloc, out, &members)
+}
+
+fn slashed<'a>(
+    alloc: Global,
+    out: &mut Vec<u8>,
+    height: u64,
+    validator: &'a Addr,
+    fraction: Dec,
+    burned: u128,
+) -> Result<(), LineFault>
+    ensures ok { OnOk result (out.new.items ≡ out.old.items
+        ++ line_of (fact_data height (Fact.Slashed validator.now fraction burned))) }
+    ensures fault { IfErr result (λ fault. fault ≡ LineFault.NoMemory) }
+{
+    let members = [
+        ("burned", Told::Amount(burned)),
+        ("fraction", Told::Decimal(fraction)),
+        ("height", Told::Count(height)),
+        ("kind", Told::Word("slashed")),
+        ("validator", Told::Address(validator)),
+    ];
+    push_line(alloc, out, &members)
+}
+
+fn paid<'a>(
+    alloc: Global,
+    out: &mut Vec<u8>,
+    height: u64,
+    delegator: &'a Addr,
+    validator: &'a Addr,
+    to: &'a Addr,
+    reward: &'a DecCoins,
+    coins: &'a Coins,
+) -> Result<(), LineFault>
+    ensures ok { OnOk result (out.new.items ≡ out.old.items
+        ++ line_of (fact_data height
+        (Fact.Paid delegator.now validator.now to.now reward.now coins.now))) }
+    ensures fault { IfErr result (λ fault. fault ≡ LineFault.NoMemory) }
+{
+    let members = [
+        ("coins", Told::Coins(coins)),
+        ("delegator", Told::Address(delegator)),
+        ("height", Told::Count(height)),
+        ("kind", Told::Word("paid")),
+        ("reward", Told::DecCoins(reward)),
+        ("to", Told::Address(to)),
+        ("validator", Told::Address(validator)),
+    ];
+    push_line(alloc, out, &members)
+}
+
+fn commission_paid<'a>(
+    alloc: Global,
+    out: &mut Vec<u8>,
+    height: u64,
+    validator: &'a Addr,
+    to: &'a Addr,
+    coins: &'a Coins,
+) -> Result<(), LineFault>
+    ensures ok { OnOk result (out.new.items ≡ out.old.items
+        ++ line_of (fact_data height (Fact.Commission validator.now to.now coins.now))) }
+    ensures fault { IfErr result (λ fault. fault ≡ LineFault.NoMemory) }
+{
+    let members = [
+        ("coins", Told::Coins(coins)),
+        ("height", Told::Count(height)),
+        ("kind", Told::Word("commission")),
+        ("to", Told::Address(to)),
+        ("validator", Told::Address(validator)),
+    ];
+    push_line(alloc, out, &members)
+}
+
+fn changed<'a>(
+    alloc: Global,
+    out: &mut Vec<u8>,
+    height: u64,
+    validator: &'a Addr,
+    status: BondStatus,
+) -> Result<(), LineFault>
+    ensures ok { OnOk result (out.new.items ≡ out.old.items
+        ++ line_of (fact_data height (Fact.Changed validator.now status))) }
+    ensures fault { IfErr result (λ fault. fault ≡ LineFault.NoMemory) }
+{
+    let members = [
+        ("height", Told::Count(height)),
+        ("kind", Told::Word("status")),
+        ("status", Told::Status(status)),
+        ("validator", Told::Address(validator)),
+    ];
+    push_line(alloc, out, &members)
+}
+
+/// A fact of a validator, of which its kind tells the rest.
+fn of_validator<'a>(
+    alloc: Global,
+    out: &mut Vec<u8>,
+    height: u64,
+    kind: &'a str,
+    validator: &'a Addr,
+) -> Result<(), LineFault>
+    ensures ok { OnOk result (out.new.items ≡ out.old.items
+        ++ line_of (told_at height kind.now (about validator.now []))) }
+    ensures fault { IfErr result (λ fault. fault ≡ LineFault.NoMemory) }
+{
+    let members = [
+        ("height", Told::Count(height)),
+        ("kind", Told::Word(kind)),
+        ("validator", Told::Address(validator)),
+    ];
+    push_line(alloc, out, &members)
+}
+
+/// Appends the line of a fact of a block of this height. The only error is `NoMemory`.
+pub fn push_fact(
+    alloc: Global,
+    out: &mut Vec<u8>,
+    height: u64,
+    fact: &Fact,
+) -> Result<(), LineFault>
+    ensures ok { OnOk result
+        (out.new.items ≡ out.old.items ++ line_of (fact_data height fact.now)) }
+    ensures fault { IfErr result (λ fault. fault ≡ LineFault.NoMemory) }
+{
+    match fact {
+        Fact::Transfer { from, to, coins } => transfer(alloc, out, height, from, to, coins),
+        Fact::Burn { from, coin } => burn(alloc, out, height, *from, coin),
+        Fact::Allocated { validator, share } => allocated(alloc, out, height, validator, share),
+        Fact::Pooled { coins } => pooled(alloc, out, height, coins),
+        Fact::Period {
+            validator,
+            period,
+            ratio,
+        } => period_ended(alloc, out, height, validator, *period, ratio),
+        Fact::Started {
+            delegator,
+            validator,
+            period,
+            stake,
+        } => started(alloc, out, height, delegator, validator, *period, *stake),
+        Fact::Slashed {
+            validator,
+            fraction,
+            burned,
+        } => slashed(alloc, out, height, validator, *fraction, *burned),
+        Fact::Paid {
+            delegator,
+            validator,
+            to,
+            reward,
+            coins,
+        } => paid(alloc, out, height, delegator, validator, to, reward, coins),
+        Fact::Commission {
+            validator,
+            to,
+            coins,
+        } => commission_paid(alloc, out, height, validator, to, coins),
+        Fact::Changed { validator, status } => changed(alloc, out, height, validator, *status),
+        Fact::Jailed { validator } => of_validator(alloc, out, height, "jailed", validator),
+        Fact::Unjailed { validator } => of_validator(alloc, out, height, "unjailed", validator),
+        Fact::Tombstoned { validator } => of_validator(alloc, out, height, "tombstoned", validator),
+        Fact::Removed { validator } => of_validator(alloc, out, height, "removed", validator),
+    }
+}

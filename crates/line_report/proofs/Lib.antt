@@ -1,0 +1,15 @@
+pub mod AccountLemmas
+pub mod AccountOrderLemmas
+pub mod AnswerGroupLemmas
+pub mod AnswerLemmas
+pub mod AskedLemmas
+pub mod AskingLemmas
+pub mod EntryLemmas
+pub mod GroupLemmas
+pub mod ItemLemmas
+pub mod KeyLemmas
+pub mod OrderLemmas
+pub mod ReportLemmas
+pub mod StateLemmas
+pub mod ToldLemmas
+pub mod TotalLemmas

@@ -1,0 +1,12 @@
+use Rattle.std.proofs.Common.{◌≡◌, ◌++◌, map}
+use Rattle.std.specs.Prelude.{option_map}
+use Rattle.rule_machine.specs.Report.{accounts_in}
+use Rattle.line_report.specs.Groups.{opened}
+use Rattle.line_report.specs.Lines.{account_line, text_of}
+use Rattle.line_json.specs.Told.{coins_seen}
+use Rattle.line_report.proofs.accounts.push_accounts.Given as goal
+
+abbrev pub invariant-loop-place : goal.invariant-loop-place
+invariant-loop-place l =
+    l.out.items ++ text_of (map account_line (opened (option_map (λ o. (o.account, coins_seen o.coins.items)) l.last) (accounts_in l.place-iterator)))
+    ≡ l.fn.out.items ++ text_of (map account_line (accounts_in l.balances.entries))

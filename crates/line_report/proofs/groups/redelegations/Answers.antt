@@ -1,0 +1,15 @@
+use Rattle.std.proofs.Common.{sym}
+use Rattle.base_roles.specs.Orders.{triple_cmp}
+use Rattle.line_report.specs.Seen.{seen}
+use Rattle.line_report.specs.Telling.{redelegation_in}
+use Rattle.line_report.proofs.KeyLemmas.{triple_put}
+use Rattle.line_report.proofs.OrderLemmas.{told_lent, told_none}
+use Rattle.line_report.proofs.groups.redelegations.Goals as goal
+use Rattle.line_report.proofs.groups.redelegations.Goals.{in-Some+in_ok-put, in_default}
+
+pub loop-item-preserved : goal.loop-item-preserved
+loop-item-preserved c =
+    elim c.match-redelegation_in.branch [
+      | in-Some+in_ok-put w ↦ rw w.found-is (told_lent triple_cmp (redelegation_in c.args.asked) c.args.items.now c.loop-item.item-index c.item-item.result c.loop-item.found.entries w.put.new.found.entries w.in-Some.told _ c.loop-item-test.true c.item-item.is (sym w.in-Some.ensures) (triple_put c.loop-item.found.entries w.put.new.found.entries w.in-Some.told w.in_ok-put.ensures.ok) c.loop-item.invariant)
+      | in_default w ↦ rw w.found-is (told_none triple_cmp (redelegation_in c.args.asked) c.args.items.now c.loop-item.item-index c.item-item.result (seen c.loop-item.found.entries) _ c.loop-item-test.true c.item-item.is (sym w.in_default.ensures) c.loop-item.invariant)
+    ]

@@ -1,0 +1,9 @@
+pub mod Asking
+pub mod Groups
+pub mod Labels
+pub mod Laws
+pub mod Lines
+pub mod Queries
+pub mod Seen
+pub mod Telling
+pub mod Worked

@@ -1,0 +1,10 @@
+//! Worked reports and answers, computed from the definitions.
+ghost use Rattle.line_report.specs.Worked.{KindsReport, RunReport, StateReport};
+
+/// What is reported after a small run, and of a state with a record of each kind, and the answers to each question
+/// about them; the items of a whole state, and its report.
+pub fn reports_by_example()
+    ensures run { RunReport }
+    ensures kinds { KindsReport }
+    ensures state { StateReport }
+{}

@@ -1,0 +1,9 @@
+pub mod CoinLemmas
+pub mod GiveLemmas
+pub mod GivenLemmas
+pub mod ItemLemmas
+pub mod KindLemmas
+pub mod MarkLemmas
+pub mod OrderLemmas
+pub mod PurseLemmas
+pub mod SendLemmas

@@ -1,0 +1,13 @@
+use Rattle.std.proofs.Common.{◌∙◌, ap}
+use Rattle.base_records.proofs.KindLemmas.{changed-at}
+use Rattle.mod_bank.specs.Items.{items_of}
+use Rattle.mod_bank.proofs.ItemLemmas.{kinds-apart}
+use Rattle.mod_bank.proofs.records.BankBalancesRecords.changes_into.Goals as goal
+
+pub changes_into-requires : goal.changes_into-requires
+changes_into-requires g c = record { told = ((λ k v m. tt, λ k v m. tt), (λ k v m. tt, λ k v m. tt), kinds-apart) }
+
+pub returns-clause-changes : goal.returns-clause-changes
+returns-clause-changes g c =
+    changed-at items_of c.changes_into.result _ c.args.self.now.holdings (c.kinds.ensures.held ∙ ap (λ b. b.holdings) c.self.view_is) _ c.args.self.now.settled (c.kinds.ensures.settled ∙ ap (λ b. b.settled) c.self.view_is)
+    c.args.out.now.items c.changes_into.new.out.items c.changes_into.ensures.changes

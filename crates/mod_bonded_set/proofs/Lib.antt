@@ -1,0 +1,14 @@
+pub mod DueLemmas
+pub mod JoinLemmas
+pub mod JoinedLemmas
+pub mod LeftLemmas
+pub mod LoopLemmas
+pub mod MatureLemmas
+pub mod OrderedLemmas
+pub mod PassedLemmas
+pub mod SceneLemmas
+pub mod SetLemmas
+pub mod StakeLemmas
+pub mod StandLemmas
+pub mod TokenLemmas
+pub mod UpdateLemmas

@@ -1,0 +1,69 @@
+-- The bonded set as the beginning of the validators in the order of power, and who is within its last place.
+use Rattle.std.specs.Prelude.{◌≡◌, ℕ, ◌==◌, ◌&&◌, if◌then◌else◌, not, nat_le, Bool, false, List, [], ◌∷◌, Option, Some, None}
+use Rattle.std.specs.Ordering.{is_lt}
+use Rattle.std.specs.List.{AllByRecursion}
+use Rattle.std.specs.Map.{values_of}
+use Rattle.base_types.specs.declared.status.BondStatus.TheVariants.{Bonded, Unbonding}
+use Rattle.base_roles.specs.declared.entities.Validator.{Validator}
+use Rattle.base_roles.specs.Staked.{Staked, validator_at, put_validator}
+use Rattle.base_roles.specs.declared.facts.Fact.TheVariants as fact
+use Rattle.base_roles.specs.World.{View, noted}
+use Rattle.rule_modules.specs.BondedSet.{power_of, is_able, is_in_bonded_set}
+use Rattle.rule_modules.specs.Stakes.{is_unbonding}
+use Rattle.mod_staking.specs.declared.places.Standing.{Standing}
+use Rattle.mod_staking.specs.Places.{standing, standing_cmp}
+
+-- the place of a validator by power, whether or not it has one
+abbrev pub place : ℕ → Validator → Standing
+place reduction v = standing (power_of reduction v, v.operator)
+
+-- the place of the last of these
+abbrev pub last_place : List (Standing × Validator) → Option Standing
+last_place [] = None
+last_place (e ∷ []) = Some e.0
+last_place (e ∷ x ∷ es) = last_place (x ∷ es)
+
+-- a place is not behind the last one
+abbrev pub is_not_behind : Option Standing → Standing → Bool
+is_not_behind None k = false
+is_not_behind (Some p) k = not (is_lt (standing_cmp p k))
+
+-- a validator is able, and its place is not behind the last one
+abbrev pub is_within : ℕ → Option Standing → Validator → Bool
+is_within reduction last v = is_able reduction v && is_not_behind last (place reduction v)
+
+-- Of the validators that stand, those that are within this last place are the bonded set of at most `most`.
+abbrev pub TellsSet : ℕ → ℕ → Staked → Option Standing → Type 0
+TellsSet reduction most s last = (o : List ℕ) (v : Validator) → validator_at s o ≡ Some v → is_within reduction last v ≡ is_in_bonded_set reduction most (values_of s.validators) v
+
+-- each of these stands under its operator
+abbrev pub AllStand : Staked → List Validator → Type 0
+AllStand s vs = AllByRecursion (λ v. validator_at s v.operator ≡ Some v) vs
+
+-- validators with these in the set
+abbrev pub all_joined : List Validator → Staked → Staked
+all_joined [] s = s
+all_joined (v ∷ vs) s = all_joined vs (put_validator (record v { status = Bonded }) s)
+
+-- validators with these outside of it, unbonding since this height until this time
+abbrev pub all_left : ℕ → ℕ → List Validator → Staked → Staked
+all_left height time [] s = s
+all_left height time (v ∷ vs) s = all_left height time vs (put_validator (record v { status = Unbonding; unbonding_height = height; unbonding_time = time }) s)
+
+-- the ground once it is told that these left
+abbrev pub all_leavings_noted : List Validator → View → View
+all_leavings_noted [] v = v
+all_leavings_noted (x ∷ xs) v = all_leavings_noted xs (noted (fact.Changed x.operator Unbonding) v)
+
+-- a validator is unbonding, and its time has come
+abbrev pub is_due : ℕ → Validator → Bool
+is_due now v = is_unbonding v.status && nat_le v.unbonding_time now
+
+-- its time has come, and it has no shares: so it goes
+abbrev pub goes_at : ℕ → Validator → Bool
+goes_at now v = is_due now v && (v.shares == 0)
+
+-- the operators whose time has come, among those that unbond in the order of their times
+abbrev pub due_in : ℕ → List ((ℕ × List ℕ) × Validator) → List (List ℕ)
+due_in now [] = []
+due_in now (e ∷ es) = if nat_le e.0.0 now then e.0.1 ∷ due_in now es else []

@@ -1,0 +1,12 @@
+pub mod CarryLemmas
+pub mod FundLemmas
+pub mod ItemLemmas
+pub mod KindLemmas
+pub mod MarkLemmas
+pub mod PayLemmas
+pub mod PendingLemmas
+pub mod PeriodLemmas
+pub mod PoolLemmas
+pub mod ReadyLemmas
+pub mod StandLemmas
+pub mod WithdrawLemmas

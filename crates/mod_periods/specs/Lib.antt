@@ -1,0 +1,10 @@
+pub mod Answers
+pub mod Earning
+pub mod Grouped
+pub mod GroupedKeys
+pub mod Items
+pub mod Kept
+pub mod Scenes
+pub mod Stands
+pub mod Steps
+pub mod Worked

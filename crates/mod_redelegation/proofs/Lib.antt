@@ -1,0 +1,16 @@
+pub mod AskedLemmas
+pub mod BurntLemmas
+pub mod CompletedLemmas
+pub mod EntryLemmas
+pub mod GoesOnLemmas
+pub mod ItemLemmas
+pub mod LeftLemmas
+pub mod LoggedLemmas
+pub mod OrderLemmas
+pub mod OwnLemmas
+pub mod PartLemmas
+pub mod ReachedLemmas
+pub mod SameLemmas
+pub mod StagesLemmas
+pub mod TargetLemmas
+pub mod TransitLemmas

@@ -1,0 +1,5 @@
+pub mod Calls
+pub mod Items
+pub mod Own
+pub mod Scenes
+pub mod Slashed

@@ -1,0 +1,17 @@
+pub mod CallLemmas
+pub mod DownLemmas
+pub mod InfoLemmas
+pub mod ItemLemmas
+pub mod LoopLemmas
+pub mod MarkLemmas
+pub mod PutLemmas
+pub mod RingLemmas
+pub mod SettledLemmas
+pub mod SlashLemmas
+pub mod StandLemmas
+pub mod TableLemmas
+pub mod TouchedLemmas
+pub mod UnjailLemmas
+pub mod UptoLemmas
+pub mod VoteLemmas
+pub mod WalkLemmas

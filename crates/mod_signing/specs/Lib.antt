@@ -1,0 +1,7 @@
+pub mod Calls
+pub mod Items
+pub mod Kept
+pub mod Lawful
+pub mod Laws
+pub mod Rings
+pub mod Stands

@@ -1,0 +1,5 @@
+mod AmountLemmas
+mod BurntLemmas
+pub mod FallLemmas
+mod StillLemmas
+mod ToldLemmas

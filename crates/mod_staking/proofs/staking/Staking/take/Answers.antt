@@ -1,0 +1,16 @@
+use Rattle.std.proofs.Common.{◌≡◌, ap, sym, subst}
+use Rattle.base_types.specs.Orders.{addr_cmp}
+use Rattle.base_roles.specs.Entries.{without}
+use Rattle.mod_staking.specs.Registered.{AreKeyed}
+use Rattle.mod_staking.proofs.IndexLemmas.{keyed-removed}
+use Rattle.mod_staking.proofs.MarkLemmas.{in_step-with}
+use Rattle.mod_staking.proofs.staking.Staking.take.Goals as goal
+
+pub invariant_of-self : goal.invariant_of-self
+invariant_of-self g c =
+    let v = c.args.v.now in
+    let step = c.self.invariant in
+    let entries : c.take_both.new.validators.entries ≡ without addr_cmp c.self.inside.validators.entries v.operator = ap (λ t. t.entries) c.in-Ok.ensures.validators in
+    let marks : c.take_both.new.validators.marks ≡ c.self.inside.validators.marks = ap (λ t. t.marks) c.in-Ok.ensures.validators in
+    in_step-with c.self.inside.validators c.self.inside.operators c.self.inside.delegations step c.take_both.new.validators c.take_both.new.operators
+    marks (ap (λ t. t.settled) c.in-Ok.ensures.validators) c.in-Ok.ensures.marks (subst AreKeyed (sym entries) (keyed-removed c.self.inside.validators.entries v.operator step.keyed)) c.in-Ok.ensures.index

@@ -1,0 +1,7 @@
+pub mod Calls
+pub mod Items
+pub mod Joint
+pub mod Listed
+pub mod Places
+pub mod Registered
+pub mod Scenes

@@ -1,0 +1,11 @@
+pub mod AskedLemmas
+pub mod CancelLemmas
+pub mod ChangeLemmas
+pub mod CompletedLemmas
+pub mod EntriesLemmas
+pub mod ItemLemmas
+pub mod MadeLemmas
+pub mod PaidLemmas
+pub mod SameLemmas
+pub mod SlashedLemmas
+pub mod WalkedLemmas

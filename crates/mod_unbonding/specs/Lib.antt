@@ -1,0 +1,4 @@
+pub mod Calls
+pub mod Items
+pub mod Scenes
+pub mod Walked

@@ -1,0 +1,11 @@
+pub mod DueLemmas
+pub mod EndLemmas
+pub mod EnterLemmas
+pub mod Kept
+pub mod PointLemmas
+pub mod PurseLemmas
+pub mod Ranges
+pub mod StakeLemmas
+pub mod StakesLemmas
+pub mod StartLemmas
+pub mod UnhookedLemmas

@@ -1,0 +1,11 @@
+pub mod Blocks
+pub mod Founding
+pub mod Genesis
+pub mod GenesisConditions
+pub mod GenesisState
+pub mod Items
+pub mod Machine
+pub mod Messages
+pub mod Orders
+pub mod Promises
+pub mod Report

@@ -1,0 +1,10 @@
+pub mod EntryLemmas
+pub mod GoingLemmas
+pub mod OperatorLemmas
+pub mod OrderLemmas
+pub mod PartLemmas
+pub mod RefusalLemmas
+pub mod SoundLemmas
+pub mod TieLemmas
+pub mod TokenLemmas
+pub mod TotalLemmas

@@ -1,0 +1,5 @@
+pub mod Fees
+pub mod Shares
+pub mod Slashes
+pub mod Stakes
+pub mod WrongRules

@@ -1,0 +1,186 @@
+-- Answers of a chain to lines, from the states for which it stands.
+use Rattle.std.proofs.Common.{◌≡◌, ◌∙◌, inl, inr, ℕ, ◌≤◌, false, nat_lt, List, [], ◌++◌, length, Option, Some, None, Result, Ok, Err, OnOk, IfErr, IfSome, refl, sym, ap, subst, arith}
+use Rattle.std.proofs.lemmas.List.{append-nil}
+use Rattle.base_io.specs.Outside.{IsPart}
+use Rattle.base_io.specs.Calls.{AddsPart, Stays}
+use Rattle.base_roles.specs.declared.facts.Fact.{Fact}
+use Rattle.base_roles.specs.declared.refusal.Refusal.{Refusal}
+use Rattle.base_coins.specs.Coins.{Money}
+use Rattle.base_messages.specs.declared.block.Block.{Block}
+use Rattle.base_messages.specs.declared.faults.BlockFault.{BlockFault}
+use Rattle.base_messages.specs.declared.faults.BlockFault.TheVariants as block
+use Rattle.base_messages.specs.declared.faults.LineFault.{LineFault}
+use Rattle.base_messages.specs.declared.faults.LineFault.TheVariants as fault
+use Rattle.base_messages.specs.declared.report.BlockReport.{BlockReport}
+use Rattle.base_messages.specs.declared.genesis.Genesis.{Genesis}
+use Rattle.line_json.specs.Reading.{Fails}
+use Rattle.line_json.specs.Genesis.{genesis_of}
+use Rattle.line_json.specs.Block.{block_of}
+use Rattle.line_json.specs.Written.{text_of_genesis, text_of_block}
+use Rattle.rule_modules.specs.Chain.{State}
+use Rattle.rule_machine.specs.GenesisConditions.{start_condition}
+use Rattle.rule_machine.specs.GenesisState.{Start}
+use Rattle.rule_machine.specs.Machine.{Step, step}
+use Rattle.chain_modules.specs.Kept.{KeptState, StandsFor}
+use Rattle.chain_blocks.specs.Answers.{Applies}
+use Rattle.chain_whole.specs.Answers.{Starts}
+use Rattle.chain_whole.specs.Chained.{Chained}
+use Rattle.run_app.specs.declared.status.LineStop.{LineStop}
+use Rattle.run_app.specs.declared.status.LineStop.TheVariants as stop
+use Rattle.run_app.specs.declared.status.EndStop.TheVariants as ends
+use Rattle.run_app.specs.declared.status.InputFault.TheVariants as input
+use Rattle.run_app.specs.Machine.{Standing, Answer, StandsAt, AnswersTo, longest, not_read, begun, told, started_answer, genesis_answer, not_applied, applied_answer, block_answer, answer_within, line_answer, report_of}
+use Rattle.run_app.specs.Runs.{ran_report, Reported}
+use Rattle.base_io.specs.declared.keeper.KeepFault.{KeepFault}
+use Rattle.base_io.specs.declared.keeper.KeepFault.TheVariants as keep
+use Rattle.run_app.specs.Parts.{IsFault, NotAnswered, Grows, Took, Finishes, FinishStops, not_kept}
+use Rattle.run_app.proofs.PartLemmas.{untold}
+
+-- an answer of this text, after which this state stands
+abbrev answer_of : List ℕ → State → Result Answer LineStop
+answer_of text p = Ok (record { text = text; standing = Some p })
+
+-- the answer to a genesis that starts so
+abbrev started_with : Genesis → Result Start Refusal → Result Answer LineStop
+started_with g r = Ok (told (begun g r))
+
+-- ---- the genesis
+
+-- a genesis that starts a chain is answered by its supply, and the chain stands for its state
+pub begins : (n : ℕ) (line : List ℕ) (g : Genesis) (facts : List Fact) (x : Chained) (coins : Money) (text : List ℕ) → genesis_of line ≡ Ok g → start_condition g ≡ None → Starts g facts x.kept
+    → ((p : State) → StandsFor x.kept p → coins ≡ p.view.bank.supplies) → text ≡ text_of_genesis coins → AnswersTo (genesis_answer n (genesis_of line)) text (StandsAt (Some x))
+begins n line g facts x coins text read none starts supply is = (
+  Some starts.0,
+  ap (genesis_answer n) read
+      ∙ ap (started_answer n g) none
+      ∙ ap (λ (r : Result Start Refusal). started_with g r) starts.1
+      ∙ ap (λ (t : List ℕ). answer_of t starts.0) (sym (is ∙ ap text_of_genesis (supply starts.0 starts.2))),
+  starts.2,
+)
+
+-- ---- lines that are not too long
+
+-- such a line is answered as it is read
+fits : (n : ℕ) (s : Standing) (line : List ℕ) → length line ≤ longest → line_answer n s line ≡ answer_within n s line
+unfolding line_answer
+fits n s line short =
+    let e : nat_lt longest (length line) ≡ false = grind (arith, short) in
+    rw e refl
+
+-- the first line is answered as its genesis
+pub first_fits : (n : ℕ) (s : Standing) (line : List ℕ) → StandsAt None s → length line ≤ longest → line_answer n s line ≡ genesis_answer n (genesis_of line)
+first_fits n s line none short = fits n s line short ∙ ap (λ (x : Standing). answer_within n x line) none
+
+-- a line behind it as its block
+pub block_fits : (n : ℕ) (p : State) (line : List ℕ) → length line ≤ longest → line_answer n (Some p) line ≡ block_answer n p (block_of line)
+block_fits n p line short = fits n (Some p) line short
+
+-- a fault of the line is why it is not answered
+pub faulted : (L : Standing → Standing → Type 0) (why : LineStop) (s : Standing) (due : Result Answer LineStop) → IsFault why due → L s s → NotAnswered L why s due
+faulted L (stop.BadInput m fault) s due h left = (h, left)
+faulted L (stop.Long m) s due h left = absurd h
+faulted L (stop.Ratio m over) s due h left = (h, left)
+faulted L stop.Write s due h left = absurd h
+faulted L stop.Keep s due h left = absurd h
+faulted L stop.NoMemory s due h left = inl left
+
+-- so is a commit that failed
+pub unkept : (L : Standing → Standing → Type 0) (why : KeepFault) (s : Standing) (due : Result Answer LineStop) (a : Answer) → due ≡ Ok a → L s a.standing → NotAnswered L (not_kept why) s due
+unkept L keep.Failed s due a is left = (a, is, left)
+unkept L keep.NoMemory s due a is left = inr (a, is, left)
+
+-- the same of a line as of what it is read as
+pub same_answer : (L : Standing → Standing → Type 0) (why : LineStop) (s : Standing) (due due' : Result Answer LineStop) → due' ≡ due → NotAnswered L why s due → NotAnswered L why s due'
+same_answer L why s due due' e h = subst (NotAnswered L why s) (sym e) h
+
+pub same_answers : {A : Type 0} (r : Result A LineStop) (due due' : Result Answer LineStop) (text : List ℕ) (P : Standing → Type 0) → due' ≡ due → OnOk r (AnswersTo due text P) → OnOk r (AnswersTo due' text P)
+same_answers r due due' text P e h = subst (λ (d : Result Answer LineStop). OnOk r (AnswersTo d text P)) (sym e) h
+
+-- ---- blocks
+
+-- a line that is no block has the fault of its reading
+pub block_not_read : (n : ℕ) (line : List ℕ) (p : State) (why : LineFault) → Fails why (block_of line) → IsFault (not_read n why) (block_answer n p (block_of line))
+block_not_read n line p fault.NotJson h = ap (block_answer n p) h
+block_not_read n line p (fault.BadShape member) h = ap (block_answer n p) h
+block_not_read n line p fault.NoMemory h = tt
+
+-- what the answer to a block that was read comes to
+answered_by : (n : ℕ) (line : List ℕ) (b : Block) (p : State) (r : Result Step BlockFault) → block_of line ≡ Ok b → step b p ≡ r → block_answer n p (block_of line) ≡ applied_answer n r
+answered_by n line b p r read steps = ap (block_answer n p) read ∙ ap (applied_answer n) steps
+
+-- a block that is applied is answered by its report, and what is kept stands for the state after it
+pub steps_on : (n : ℕ) (line : List ℕ) (b : Block) (p : State) (report : BlockReport) (new : Chained) (text : List ℕ) → block_of line ≡ Ok b → Applies b p new.kept (Ok report)
+    → text ≡ text_of_block report → AnswersTo (block_answer n p (block_of line)) text (StandsAt (Some new))
+steps_on n line b p report new text read steps is = (
+  Some steps.0,
+  answered_by n line b p (Ok (record { report = report; state = steps.0 })) read steps.1
+      ∙ ap (λ (t : List ℕ). answer_of t steps.0) (sym is),
+  steps.2,
+)
+
+-- one that is not applied has its fault
+pub faults_on : (n : ℕ) (line : List ℕ) (b : Block) (p : State) (k : KeptState) (why : BlockFault) → block_of line ≡ Ok b → Applies b p k (Err why)
+    → IsFault (not_applied n why) (block_answer n p (block_of line))
+faults_on n line b p k (block.BadHeight due) read h = answered_by n line b p (Err (block.BadHeight due)) read h
+faults_on n line b p k (block.BadTime last) read h = answered_by n line b p (Err (block.BadTime last)) read h
+faults_on n line b p k (block.UnknownVote place) read h = answered_by n line b p (Err (block.UnknownVote place)) read h
+faults_on n line b p k (block.RepeatedVote place) read h = answered_by n line b p (Err (block.RepeatedVote place)) read h
+faults_on n line b p k (block.BadPower place) read h = answered_by n line b p (Err (block.BadPower place)) read h
+faults_on n line b p k (block.BadEvidence place) read h = answered_by n line b p (Err (block.BadEvidence place)) read h
+faults_on n line b p k (block.RatioLimit over) read h = answered_by n line b p (Err (block.RatioLimit over)) read h
+faults_on n line b p k block.NoMemory read h = tt
+
+-- ---- what is written
+
+-- a text that was written is the growth
+grown : (w w' : Option (List ℕ)) (text text' : List ℕ) → text' ≡ text → IfSome w (λ (bytes : List ℕ). w' ≡ Some (bytes ++ text')) → Grows w w' text
+grown w w' text text' same wrote = λ old held.
+    let h : w' ≡ Some (old ++ text') = subst (λ (o : Option (List ℕ)). IfSome o (λ (bytes : List ℕ). w' ≡ Some (bytes ++ text'))) held wrote in
+    h ∙ ap (λ (t : List ℕ). Some (old ++ t)) same
+
+-- a line was answered, and its text written
+pub took_on : (n : ℕ) (s : Standing) (line text text' : List ℕ) (P : Standing → Type 0) (w w' : Option (List ℕ)) → AnswersTo (line_answer n s line) text P → text' ≡ text → IfSome w (λ (bytes : List ℕ). w' ≡ Some (bytes ++ text'))
+    → (next : Standing) × Took n s line next w w' × P next
+took_on n s line text text' P w w' answers same wrote = (answers.0, (text, answers.1, grown w w' text text' same wrote), answers.2)
+
+-- ---- the report
+
+-- no chain is there
+pub none_yet : (o : Option Chained) (s : Standing) → ((x : Chained) → o ≡ Some x → ⊥) → StandsAt o s → StandsAt None s
+none_yet None s h stood = stood
+none_yet (Some x) s h stood = absurd (h x refl)
+
+-- before the genesis there is none
+pub lacking : (s : Standing) (w : Option (List ℕ)) → StandsAt None s → FinishStops untold 1 s [] w w (ends.Lacking 1 input.Missing)
+unfolding report_of
+lacking s w none = λ old held. ([], held ∙ ap Some (sym (append-nil old)), record { end = s; answered = (refl, refl); fault_is = ap report_of none; left = tt })
+
+-- the report of a chain is that of the state for which it stands
+reported_at : (x : Chained) (s : Standing) (text : List ℕ) → StandsAt (Some x) s → ((p : State) → StandsFor x.kept p → report_of (Some p) ≡ Ok text) → report_of s ≡ Ok text
+reported_at x None text stood reports = absurd stood
+reported_at x (Some p) text stood reports = reports p stood
+
+module _ (x : Chained) (s : Standing) (text text' : List ℕ) (stood : StandsAt (Some x) s) (reports : (p : State) → StandsFor x.kept p → report_of (Some p) ≡ Ok text) (same : text' ≡ text) where
+  part : (front : List ℕ) → IsPart front text' → Reported untold 1 s [] front
+  part front p = record {
+    end = s;
+    done = [];
+    report = text;
+    front = front;
+    answered = (refl, refl);
+    report_is = reported_at x s text stood reports;
+    part = subst (IsPart front) same p;
+    text_is = refl;
+    left = tt;
+  }
+
+  -- a part of it was written
+  pub report_failed : (w w' : Option (List ℕ)) → AddsPart w w' text' → FinishStops untold 1 s [] w w' ends.Report
+  report_failed w w' adds = λ old at. let a = adds old at in (a.0, a.2, part a.0 a.1)
+
+  pub report_full : (w w' : Option (List ℕ)) → AddsPart w w' text' → FinishStops untold 1 s [] w w' ends.NoMemory
+  report_full w w' adds = λ old at. let a = adds old at in (a.0, a.2, inl (part a.0 a.1))
+
+  -- all of it was written
+  pub report_written : (w w1 w' : Option (List ℕ)) → IfSome w (λ (bytes : List ℕ). w1 ≡ Some (bytes ++ text')) → Stays w1 w' → Finishes untold 1 s [] w w'
+  report_written w w1 w' wrote stays = (text, record { end = s; done = []; answered = (refl, refl); ran = ap ran_report (reported_at x s text stood reports); left = tt }, λ old at. stays (old ++ text) (grown w w1 text text' same wrote old at))

@@ -1,0 +1,269 @@
+-- How a run of each command ends.
+use Rattle.std.proofs.Common.{◌≡◌, ◌∙◌, ◌⊎◌, inl, inr, ap, sym, subst, refl, arith, ℕ, ◌≤◌, ◌&&◌, nat_le, Bool, true, false, true≢false, List, [], ◌∷◌, ◌++◌, append-nil, bytes_eq, codes, Option, Some, None, Result, Ok, Err, if◌then◌else◌}
+use Rattle.std.specs.Prelude.{IsErrOf, IsSome, OnErr, OnOk, option_and_then, option_map, ⊤}
+use Rattle.base_io.specs.declared.outside.SinkFault.{SinkFault}
+use Rattle.base_io.specs.declared.outside.SinkFault.TheVariants as sink
+use Rattle.base_io.specs.Faults.{UnlessFailed}
+use Rattle.base_roles.specs.declared.refusal.Refusal.{Refusal}
+use Rattle.base_messages.specs.declared.faults.BlockFault.{BlockFault}
+use Rattle.base_messages.specs.declared.faults.BlockFault.TheVariants as why
+use Rattle.base_decimals.specs.Texts.{number_of}
+use Rattle.run_generated.specs.Writing.{Grows, GrowsInPart, IsFront, generated_text}
+use Rattle.run_trial.specs.Summary.{Stopped}
+use Rattle.run_trial.specs.Trial.{trial_of}
+use Rattle.run_trial.specs.declared.fault.TrialFault.{TrialFault}
+use Rattle.run_trial.specs.declared.fault.TrialFault.TheVariants as trial
+use Rattle.run_trial.specs.Trying.{IsTrialFault}
+use Rattle.run_words.specs.declared.mode.Mode.{Mode}
+use Rattle.run_words.specs.declared.mode.Mode.TheVariants.{Replay, Resume, Query, Gen, Trial}
+use Rattle.line_report.specs.declared.question.Query.{Query as Question}
+use Rattle.run_words.specs.Questions.{address_asked, kind_asked}
+use Rattle.run_words.specs.Words.{alone, begins_with_zero, count_of, generating, mode_of, seed_of, with_input, with_word, with_words}
+use Rattle.run_app.specs.declared.status.Status.{Status}
+use Rattle.run_app.specs.declared.status.Status.TheVariants.{Done, Usage, BadInput, Limit, ReadFault, WriteFault, KeepFault, NoMemory, BadStore, WrongStore, NotFound}
+use Rattle.run_app.specs.Machine.{not_applied}
+use Rattle.base_io.specs.Rows.{Makes, Pair}
+use Rattle.run_app.specs.Kept.{AreLeft, AreSome, AreUntouched, IsUnbegun, UnlessKeepFault}
+use Rattle.run_app.specs.Modes.{HasFewBlocks, IsTried, Tries}
+use Rattle.run_app.specs.Outcome.{UnlessReadFault, UnlessWriteFault}
+use Rattle.run_app.specs.Ending.{status_of}
+use Rattle.run_app.specs.Writes.{Adds, IsWritten, Leaves, Writes, status_of_sink}
+
+-- ---- a text that is written
+
+pub written_so : (r : Result ⊤ SinkFault) (w w' : Option (List ℕ)) (whole : List ℕ) → OnOk r (Grows w w' whole) → OnErr r (GrowsInPart w w' whole) → Writes whole w w' (status_of_sink r)
+written_so (Ok done) w w' whole h k old o = (whole, h old o, refl)
+written_so (Err sink.Failed) w w' whole h k old o = let p = k old o in (p.0, p.2, p.1)
+written_so (Err sink.NoMemory) w w' whole h k old o = let p = k old o in (p.0, p.2, p.1)
+
+pub busy_so : (r : Result ⊤ SinkFault) → status_of_sink r ≡ Usage → ⊥
+busy_so (Ok done) e = absurd cc
+busy_so (Err sink.Failed) e = absurd cc
+busy_so (Err sink.NoMemory) e = absurd cc
+
+pub read_so : (r : Result ⊤ SinkFault) → status_of_sink r ≡ ReadFault → ⊥
+read_so (Ok done) e = absurd cc
+read_so (Err sink.Failed) e = absurd cc
+read_so (Err sink.NoMemory) e = absurd cc
+
+pub keep_so : (r : Result ⊤ SinkFault) → status_of_sink r ≡ KeepFault → ⊥
+keep_so (Ok done) e = absurd cc
+keep_so (Err sink.Failed) e = absurd cc
+keep_so (Err sink.NoMemory) e = absurd cc
+
+pub clean_so : (r : Result ⊤ SinkFault) (P : Type 0) → OnOk r P → status_of_sink r ≡ Done → P
+clean_so (Ok done) P h e = h
+clean_so (Err sink.Failed) P h e = absurd cc
+clean_so (Err sink.NoMemory) P h e = absurd cc
+
+pub cause_so : (r : Result ⊤ SinkFault) (P : Type 0) → (IsErrOf r sink.Failed → P) → status_of_sink r ≡ WriteFault → P
+cause_so (Ok done) P h e = absurd cc
+cause_so (Err sink.Failed) P h e = h refl
+cause_so (Err sink.NoMemory) P h e = absurd cc
+
+pub quiet_so : (r : Result ⊤ SinkFault) (P : Type 0) → UnlessFailed r P → UnlessWriteFault (status_of_sink r) P
+quiet_so (Ok done) P h = h
+quiet_so (Err sink.Failed) P h = tt
+quiet_so (Err sink.NoMemory) P h = h
+
+-- nothing was written
+pub nothing : (w : Option (List ℕ)) (P : List ℕ → Type 0) → P [] → Adds w w P
+nothing w P p old o = ([], o ∙ ap Some (sym (append-nil old)), p)
+
+-- ---- a block's fault
+
+-- a run that a block stops ends so
+abbrev pub IsOfBlock : Status → Type 0
+IsOfBlock Done = ⊥
+IsOfBlock Usage = ⊥
+IsOfBlock (BadInput n fault) = Unit {0}
+IsOfBlock (Limit n kind) = Unit {0}
+IsOfBlock ReadFault = ⊥
+IsOfBlock WriteFault = ⊥
+IsOfBlock KeepFault = ⊥
+IsOfBlock NoMemory = Unit {0}
+IsOfBlock BadStore = ⊥
+IsOfBlock (WrongStore is_empty) = ⊥
+IsOfBlock NotFound = ⊥
+
+pub quiet_at : (s : Status) (P : Type 0) → P → UnlessWriteFault s P
+quiet_at Done P p = p
+quiet_at Usage P p = p
+quiet_at (BadInput n fault) P p = p
+quiet_at (Limit n kind) P p = p
+quiet_at ReadFault P p = p
+quiet_at WriteFault P p = tt
+quiet_at KeepFault P p = p
+quiet_at NoMemory P p = p
+quiet_at BadStore P p = p
+quiet_at (WrongStore is_empty) P p = p
+quiet_at NotFound P p = p
+
+-- the same of a run that did not call its source
+pub quiet_read : (s : Status) (P : Type 0) → P → UnlessReadFault s P
+quiet_read Done P p = p
+quiet_read Usage P p = p
+quiet_read (BadInput n fault) P p = p
+quiet_read (Limit n kind) P p = p
+quiet_read ReadFault P p = tt
+quiet_read WriteFault P p = p
+quiet_read KeepFault P p = p
+quiet_read NoMemory P p = p
+quiet_read BadStore P p = p
+quiet_read (WrongStore is_empty) P p = p
+quiet_read NotFound P p = p
+
+-- the same of a run that did not call its keeper
+pub quiet_keep : (s : Status) (P : Type 0) → P → UnlessKeepFault s P
+quiet_keep Done P p = p
+quiet_keep Usage P p = p
+quiet_keep (BadInput n fault) P p = p
+quiet_keep (Limit n kind) P p = p
+quiet_keep ReadFault P p = p
+quiet_keep WriteFault P p = p
+quiet_keep KeepFault P p = tt
+quiet_keep NoMemory P p = p
+quiet_keep BadStore P p = p
+quiet_keep (WrongStore is_empty) P p = p
+quiet_keep NotFound P p = p
+
+-- ---- a trial
+
+pub tried : (due : Result (Result (List ℕ) Stopped) Refusal) (w w' : Option (List ℕ)) (summary : List ℕ) (s : Status) → due ≡ Ok (Ok summary) → Writes summary w w' s → Tries due w w' s
+tried due w w' summary s e h = subst (λ d. Tries d w w' s) (sym e) h
+
+tried_to_block : (due : Result (Result (List ℕ) Stopped) Refusal) (w : Option (List ℕ)) (n : ℕ) (f : BlockFault) → due ≡ Ok (Err (record { line = n; fault = f }))
+    → Tries due w w (status_of (not_applied n f))
+tried_to_block due w n f e = subst (λ d. Tries d w w (status_of (not_applied n f))) (sym e) (nothing w _ (inl refl, refl))
+
+-- so it is where a trial answers that fault
+pub tried_at_block : (due : Result (Result (List ℕ) Stopped) Refusal) (w : Option (List ℕ)) (why : TrialFault) (n : ℕ) (f : BlockFault) → why ≡ trial.Block n f → IsTrialFault due why
+    → Tries due w w (status_of (not_applied n f))
+tried_at_block due w why n f e h = tried_to_block due w n f (subst (IsTrialFault due) e h)
+
+pub tried_without_memory : (due : Result (Result (List ℕ) Stopped) Refusal) (w : Option (List ℕ)) → Tries due w w NoMemory
+tried_without_memory (Ok (Ok summary)) w = nothing w _ (record { rest = summary; text_is = refl })
+tried_without_memory (Ok (Err stopped)) w = nothing w _ (inr refl, refl)
+tried_without_memory (Err why) w = nothing w _ (refl, refl)
+
+-- ---- commands
+
+-- the words of a command have a number of blocks within the limit
+few_of_word : (b : Bool) (o : Option ℕ) (n : ℕ) → (if b then None else option_and_then (λ m. if nat_le 1 m && nat_le m 100000 then Some m else None) o) ≡ Some n → n ≤ 100000
+few_of_word true o n e = absurd cc
+few_of_word false None n e = absurd cc
+few_of_word false (Some m) n e = by (nat_le 1 m && nat_le m 100000) refl e
+  where
+    by : (b : Bool) → (nat_le 1 m && nat_le m 100000) ≡ b → (if b then Some m else None) ≡ Some n → n ≤ 100000
+    by true t f = grind (arith, t, f)
+    by false t f = absurd cc
+
+count_is_few : (word : List ℕ) (n : ℕ) → count_of word ≡ Some n → n ≤ 100000
+count_is_few word n e = few_of_word (begins_with_zero word) (number_of 6 word) n e
+
+abbrev FewIn : Option Mode → Type 0
+FewIn None = Unit {0}
+FewIn (Some x) = HasFewBlocks x
+
+input_is_few : (form : ℕ → ℕ → Mode) → ((s n : ℕ) → n ≤ 100000 → HasFewBlocks (form s n)) → (s c : Option ℕ) (m : Mode) → ((n : ℕ) → c ≡ Some n → n ≤ 100000) → with_input form s c ≡ Some m → HasFewBlocks m
+input_is_few form h (Some s) (Some n) m few e = subst FewIn e (h s n (few n refl))
+input_is_few form h (Some s) None m few e = absurd cc
+input_is_few form h None c m few e = absurd cc
+
+few_alone : (name : List ℕ) (m : Mode) → alone name ≡ Some m → HasFewBlocks m
+few_alone name m e = by (bytes_eq name (codes "replay")) (bytes_eq name (codes "resume")) e
+  where
+    by : (b d : Bool) → (if b then Some Replay else (if d then Some Resume else None)) ≡ Some m → HasFewBlocks m
+    by true d f = subst FewIn f tt
+    by false true f = subst FewIn f tt
+    by false false f = absurd cc
+
+few_asked : (o : Option Question) (m : Mode) → option_map Query o ≡ Some m → HasFewBlocks m
+few_asked (Some what) m e = subst FewIn e tt
+few_asked None m e = absurd cc
+
+few_with_word : (name what : List ℕ) (m : Mode) → with_word name what ≡ Some m → HasFewBlocks m
+few_with_word name what m e = by (bytes_eq name (codes "query")) e
+  where
+    by : (b : Bool) → (if b then option_map Query (kind_asked what) else None) ≡ Some m → HasFewBlocks m
+    by true f = few_asked (kind_asked what) m f
+    by false f = absurd cc
+
+few_generated : (name seed count : List ℕ) (m : Mode) → generating name seed count ≡ Some m → HasFewBlocks m
+few_generated name seed count m e = by (bytes_eq name (codes "gen")) (bytes_eq name (codes "trial")) e
+  where
+    by : (b d : Bool) → (if b then with_input Gen (seed_of seed) (count_of count) else (if d then with_input Trial (seed_of seed) (count_of count) else None)) ≡ Some m → HasFewBlocks m
+    by true d f = input_is_few Gen (λ s n h. h) (seed_of seed) (count_of count) m (count_is_few count) f
+    by false true f = input_is_few Trial (λ s n h. h) (seed_of seed) (count_of count) m (count_is_few count) f
+    by false false f = absurd cc
+
+few_with_words : (name first second : List ℕ) (m : Mode) → with_words name first second ≡ Some m → HasFewBlocks m
+few_with_words name first second m e = by (bytes_eq name (codes "query")) e
+  where
+    by : (b : Bool) → (if b then option_map Query (address_asked first second) else generating name first second) ≡ Some m → HasFewBlocks m
+    by true f = few_asked (address_asked first second) m f
+    by false f = few_generated name first second m f
+
+pub few_blocks : (words : List (List ℕ)) (m : Mode) → mode_of words ≡ Some m → HasFewBlocks m
+few_blocks [] m e = absurd cc
+few_blocks (name ∷ []) m e = few_alone name m e
+few_blocks (name ∷ what ∷ []) m e = few_with_word name what m e
+few_blocks (name ∷ first ∷ second ∷ []) m e = few_with_words name first second m e
+few_blocks (name ∷ first ∷ second ∷ other ∷ others) m e = absurd cc
+
+-- ---- runs that do not begin
+
+-- nothing was taken or written
+pub nothing_done : (left w : Option (List ℕ)) → Leaves left left w w (λ text. text ≡ [])
+nothing_done left w = (refl, nothing w _ refl)
+
+pub rows_left : (rows rows' : Option (List Pair)) (honest' : Type 0) (leaves leaves' : List Pair → Type 0) → Makes (λ before. before) rows rows' → (honest' → (left : List Pair) → leaves' left → leaves left) → AreLeft rows rows' honest' leaves leaves'
+rows_left rows rows' honest' leaves leaves' same stop = record { rows_are = same; stop = stop }
+
+pub untouched : (rows : Option (List Pair)) (leaves : List Pair → Type 0) → AreUntouched rows rows leaves leaves
+untouched rows leaves = record { rows_are = refl; stop = λ left l. l }
+
+pub same_rows : (rows : Option (List Pair)) → Makes (λ before. before) rows rows
+same_rows None = tt
+same_rows (Some pairs) = (pairs, refl, refl)
+
+-- ---- runs that come to their end
+
+pub written_to_end : (whole text : List ℕ) (s : Status) → IsWritten whole s text → (s ≡ WriteFault → ⊥) → (s ≡ Done) ⊎ (s ≡ NoMemory)
+written_to_end whole text Done h w = inl refl
+written_to_end whole text Usage h w = absurd h
+written_to_end whole text (BadInput n fault) h w = absurd h
+written_to_end whole text (Limit n kind) h w = absurd h
+written_to_end whole text ReadFault h w = absurd h
+written_to_end whole text WriteFault h w = absurd (w refl)
+written_to_end whole text KeepFault h w = absurd h
+written_to_end whole text NoMemory h w = inr refl
+written_to_end whole text BadStore h w = absurd h
+written_to_end whole text (WrongStore is_empty) h w = absurd h
+written_to_end whole text NotFound h w = absurd h
+
+-- a keeper without rows has none after a call either
+never_some : (rows rows' : Option (List Pair)) (honest' : Type 0) → rows ≡ Some [] → honest' → Makes (λ before. before) rows rows' → AreSome rows rows' honest' → ⊥
+never_some rows None honest' none honest m some = true≢false (sym (some.told honest (subst (λ (o : Option (List Pair)). IsSome o) (sym none) refl)))
+never_some rows (Some now) honest' none honest m some = some.some (m.2 ∙ some_same (sym m.1 ∙ none))
+  where
+    some_same : Some m.0 ≡ Some [] → m.0 ≡ []
+    some_same e = cc
+
+-- nor does a replay find rows of a keeper that keeps nothing
+pub finds_none : (keeps : Bool) (rows rows' : Option (List Pair)) (honest' : Type 0) → (keeps ≡ false) ⊎ (rows ≡ Some []) → honest' → Makes (λ before. before) rows rows' → keeps ≡ true → AreSome rows rows' honest' → ⊥
+finds_none keeps rows rows' honest' (inl unkept) honest m kept some = true≢false (sym kept ∙ unkept)
+finds_none keeps rows rows' honest' (inr none) honest m kept some = never_some rows rows' honest' none honest m some
+
+pub unbegun_replay : (s : Status) (some : Type 0) → IsUnbegun s some → (s ≡ WrongStore false → some → ⊥) → (s ≡ KeepFault → ⊥) → (s ≡ Done) ⊎ (s ≡ NoMemory)
+unbegun_replay Done some h n k = absurd h
+unbegun_replay Usage some h n k = absurd h
+unbegun_replay (BadInput m fault) some h n k = absurd h
+unbegun_replay (Limit m kind) some h n k = absurd h
+unbegun_replay ReadFault some h n k = absurd h
+unbegun_replay WriteFault some h n k = absurd h
+unbegun_replay KeepFault some h n k = absurd (k refl)
+unbegun_replay NoMemory some h n k = inr refl
+unbegun_replay BadStore some h n k = absurd h
+unbegun_replay (WrongStore is_empty) some h n k = absurd (n (ap WrongStore h.0) h.1)
+unbegun_replay NotFound some h n k = absurd h

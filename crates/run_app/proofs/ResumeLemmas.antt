@@ -1,0 +1,219 @@
+-- Runs that go on from the rows of their keeper.
+use Rattle.std.proofs.Common.{◌≡◌, ◌≢◌, ◌∙◌, ◌⊎◌, inl, inr, ℕ, Bool, true, false, true≢false, List, [], ◌∷◌, ◌++◌, Option, Some, None, Result, Ok, Err, IfSome, refl, sym, ap, subst, Ordering, Less, Equal, Greater}
+use Rattle.std.specs.Prelude.{IsErrOf, IsSome}
+use Rattle.std.specs.Ordering.{match_ordering}
+use Rattle.chain_whole.specs.Chained.{Chained}
+use Rattle.run_generated.specs.Writing.{IsFront}
+use Rattle.base_io.specs.Outside.{Rose}
+use Rattle.base_io.specs.Rows.{Makes, Pair, key_cmp, put}
+use Rattle.base_io.specs.Changes.{LeavesRows}
+use Rattle.base_roles.specs.declared.items.Item.{Item}
+use Rattle.rule_machine.specs.Items.{items_of}
+use Rattle.rule_machine.specs.Report.{report_of}
+use Rattle.chain_modules.specs.Kept.{StandsFor}
+use Rattle.line_report.specs.declared.question.Query.{Query}
+use Rattle.line_report.specs.Asking.{answered_by}
+use Rattle.store_resuming.specs.declared.fault.RestoreFault.{RestoreFault}
+use Rattle.store_resuming.specs.declared.fault.RestoreFault.TheVariants as fault
+use Rattle.store_resuming.specs.Restored.{AreLoaded, AreOfNone, HaveSameRows, IsStorable, rows_of}
+use Rattle.store_resuming.specs.Restoring.{IsChainOf, IsUnrestored, UnlessFailed}
+use Rattle.store_rows.specs.Rows.{row_of}
+use Rattle.rule_modules.specs.Chain.{State}
+use Rattle.store_items.specs.Stored.{rows_in}
+use Rattle.run_app.specs.declared.status.Status.{Status}
+use Rattle.run_app.specs.declared.status.Status.TheVariants.{Done, Usage, BadInput, Limit, ReadFault, WriteFault, KeepFault, NoMemory, BadStore, WrongStore, NotFound}
+use Rattle.run_app.specs.Kept.{AreLeft, Began, Keeping, LeftIn, UnlessKeepFault}
+use Rattle.run_app.specs.Machine.{Standing}
+use Rattle.run_app.specs.Outcome.{RunEnds}
+use Rattle.run_app.specs.Resumes.{Answers, AsksCalmly, Asked, FitsState, GoesOn, IsAnswered, IsUnresumed, QueryEnds, ResumeEnds, ResumesCalmly, on_rows_of, status_of_restore}
+use Rattle.run_app.specs.Writes.{Adds, Writes}
+use Rattle.run_app.proofs.DriveLemmas.{untroubled_run}
+use Rattle.run_app.proofs.ModeLemmas.{nothing, nothing_done, rows_left, written_to_end}
+
+-- ---- rows that were loaded
+
+-- rows that an honest keeper had are those that it told as they were loaded
+pub were_loaded : (rows told : Option (List Pair)) (honest : Type 0) (P : List Pair → Type 0) → AreLoaded rows told honest P → Makes (λ before. before) rows told → honest → IfSome rows P
+were_loaded None told honest P loaded same h = tt
+were_loaded (Some r) None honest P loaded same h = absurd (true≢false (sym (loaded.told h refl)))
+were_loaded (Some r) (Some now) honest P loaded same h =
+    let is : r ≡ same.0 = some_same same.1 in
+    subst P (same.2 ∙ sym is) loaded.are
+  where
+    some_same : Some r ≡ Some same.0 → r ≡ same.0
+    some_same e = cc
+
+at_rows : (rows : Option (List Pair)) (now : List Pair) (P : List Pair → Type 0) → rows ≡ Some now → IfSome rows P → P now
+at_rows rows now P is h = subst (λ (o : Option (List Pair)). IfSome o P) is h
+
+-- ---- a run that goes on
+
+module _ (rows told : Option (List Pair)) (honest : Type 0) (leaves : List Pair → Type 0) (chain : Chained) (c : IsChainOf (AreLoaded rows told honest) chain) (same : Makes (λ before. before) rows told) (settled : LeavesRows leaves told) where
+  pub resumed : (p : State) → IsStorable p → HaveSameRows p c.first → Keeping (on_rows_of p rows) (Some chain) told honest leaves (Some p)
+  resumed p q alike = record {
+    stands = c.stands p q alike;
+    same = c.settled;
+    held = record { stored = λ some. q.stored; rows = held told c.rows_are.are };
+    began = began told c.rows_are.are same;
+    tells = λ h some. c.rows_are.told h some;
+    settled = settled;
+  }
+    where
+      held : (o : Option (List Pair)) → IfSome o (λ now. now ≡ rows_of c.first) → IfSome o (λ now. now ≡ rows_of p)
+      held None h = tt
+      held (Some now) h = h ∙ sym alike
+
+      began : (o : Option (List Pair)) → IfSome o (λ now. now ≡ rows_of c.first) → Makes (λ before. before) rows o → IfSome o (λ now. rows ≡ Some (rows_of p))
+      began None h m = tt
+      began (Some now) h m = m.1 ∙ ap Some (sym m.2 ∙ h ∙ sym alike)
+
+  pub resumed_first : Keeping (on_rows_of c.first rows) (Some chain) told honest leaves (Some c.first)
+  resumed_first = resumed c.first c.storable refl
+
+  module _ (left left' w w' : Option (List ℕ)) (rows' : Option (List Pair)) (honest' : Type 0) (leaves' : List Pair → Type 0) (s : Status) where
+    pub went_on : (honest' → honest)
+        → ((b : Began) (first : Standing) → Keeping b (Some chain) told honest leaves first → RunEnds first (LeftIn b rows' honest' leaves') left left' w w' s)
+        → GoesOn left left' w w' rows rows' honest' leaves' s
+    went_on back ends = record {
+      first = c.first;
+      storable = c.storable;
+      loaded = λ h. were_loaded rows told honest (λ now. now ≡ rows_of c.first) c.rows_are same (back h);
+      ends = λ p q alike. ends (on_rows_of p rows) (Some p) (resumed p q alike);
+    }
+
+-- ---- a run of which no chain comes
+
+pub unresumed : (f : RestoreFault) (rows rows' : Option (List Pair)) (honest' : Type 0) → IsUnrestored rows rows' honest' f → IsUnresumed (status_of_restore f) rows rows' honest'
+unresumed fault.Failed rows rows' honest' h = tt
+unresumed fault.NoMemory rows rows' honest' h = tt
+unresumed fault.Empty rows rows' honest' h = (refl, h)
+unresumed fault.Unsound rows rows' honest' h = h
+
+pub not_resumed : (f : RestoreFault) (left w : Option (List ℕ)) (rows rows' : Option (List Pair)) (honest' : Type 0) (leaves leaves' : List Pair → Type 0) → IsUnrestored rows rows' honest' f → Makes (λ before. before) rows rows' → (honest' → (l : List Pair) → leaves' l → leaves l)
+    → ResumeEnds left left w w rows rows' honest' leaves leaves' (status_of_restore f)
+not_resumed f left w rows rows' honest' leaves leaves' h same stop = inr (unresumed f rows rows' honest' h, nothing_done left w, rows_left rows rows' honest' leaves leaves' same stop)
+
+pub not_asked : (f : RestoreFault) (what : Query) (w : Option (List ℕ)) (rows rows' : Option (List Pair)) (honest' : Type 0) (leaves leaves' : List Pair → Type 0) → IsUnrestored rows rows' honest' f → Makes (λ before. before) rows rows' → (honest' → (l : List Pair) → leaves' l → leaves l)
+    → QueryEnds what w w rows rows' honest' leaves leaves' (status_of_restore f)
+not_asked f what w rows rows' honest' leaves leaves' h same stop = (rows_left rows rows' honest' leaves leaves' same stop, inr (unresumed f rows rows' honest' h, nothing w _ refl))
+
+-- statuses that it does not end by
+pub unresumed_busy : (f : RestoreFault) → status_of_restore f ≡ Usage → ⊥
+unresumed_busy fault.Failed e = absurd cc
+unresumed_busy fault.NoMemory e = absurd cc
+unresumed_busy fault.Empty e = absurd cc
+unresumed_busy fault.Unsound e = absurd cc
+
+pub unresumed_undone : (f : RestoreFault) → status_of_restore f ≡ Done → ⊥
+unresumed_undone fault.Failed e = absurd cc
+unresumed_undone fault.NoMemory e = absurd cc
+unresumed_undone fault.Empty e = absurd cc
+unresumed_undone fault.Unsound e = absurd cc
+
+pub unresumed_unread : (f : RestoreFault) → status_of_restore f ≡ ReadFault → ⊥
+unresumed_unread fault.Failed e = absurd cc
+unresumed_unread fault.NoMemory e = absurd cc
+unresumed_unread fault.Empty e = absurd cc
+unresumed_unread fault.Unsound e = absurd cc
+
+pub unresumed_unwritten : (f : RestoreFault) → status_of_restore f ≡ WriteFault → ⊥
+unresumed_unwritten fault.Failed e = absurd cc
+unresumed_unwritten fault.NoMemory e = absurd cc
+unresumed_unwritten fault.Empty e = absurd cc
+unresumed_unwritten fault.Unsound e = absurd cc
+
+abbrev failed : RestoreFault → Result Chained RestoreFault
+failed f = Err f
+
+pub unresumed_cause : (f : RestoreFault) (P : Type 0) → (IsErrOf (failed f) fault.Failed → P) → status_of_restore f ≡ KeepFault → P
+unresumed_cause fault.Failed P h e = h refl
+unresumed_cause fault.NoMemory P h e = absurd cc
+unresumed_cause fault.Empty P h e = absurd cc
+unresumed_cause fault.Unsound P h e = absurd cc
+
+pub unresumed_quiet : (f : RestoreFault) (P : Type 0) → UnlessFailed (failed f) P → UnlessKeepFault (status_of_restore f) P
+unresumed_quiet fault.Failed P h = tt
+unresumed_quiet fault.NoMemory P h = h
+unresumed_quiet fault.Empty P h = h
+unresumed_quiet fault.Unsound P h = h
+
+-- ---- answers
+
+pub answered_some : (due : Option (List ℕ)) (text : List ℕ) (w w' : Option (List ℕ)) (s : Status) → Some text ≡ due → Writes text w w' s → Answers due w w' s
+answered_some due text w w' s is h = subst (λ (o : Option (List ℕ)). Answers o w w' s) is h
+
+pub answered_none : (due : Option (List ℕ)) (w : Option (List ℕ)) → None ≡ due → Answers due w w NotFound
+answered_none due w is = subst (λ (o : Option (List ℕ)). Answers o w w NotFound) is (nothing w _ (inl refl, refl))
+
+pub answered_without_memory : (due : Option (List ℕ)) (w : Option (List ℕ)) → Answers due w w NoMemory
+answered_without_memory (Some whole) w = nothing w _ (record { rest = whole; text_is = refl })
+answered_without_memory None w = nothing w _ (inr refl, refl)
+
+pub asked : (what : Query) (w w' : Option (List ℕ)) (rows rows' : Option (List Pair)) (honest' : Type 0) (leaves leaves' : List Pair → Type 0) (s : Status) (chain : Chained) → IsChainOf (AreLoaded rows rows' honest') chain → Makes (λ before. before) rows rows' → (honest' → (l : List Pair) → leaves' l → leaves l)
+    → ((p : State) → StandsFor chain.kept p → Answers (answered_by (report_of p) what) w w' s) → QueryEnds what w w' rows rows' honest' leaves leaves' s
+asked what w w' rows rows' honest' leaves leaves' s chain c same stop answers = (
+  rows_left rows rows' honest' leaves leaves' same stop,
+  inl (record { first = c.first; storable = c.storable; loaded = c.rows_are; answered = λ p q alike. answers p (c.stands p q alike) }),
+)
+
+-- ---- runs that come to their end
+
+-- a state has rows
+put_some : (new : Pair) (ps : List Pair) → put new ps ≢ []
+put_some new [] e = absurd cc
+put_some new (p ∷ ps) e = by (key_cmp p.0 new.0) e
+  where
+    by : (o : Ordering) → match_ordering o (p ∷ put new ps) (new ∷ ps) (new ∷ p ∷ ps) ≡ [] → ⊥
+    by Less f = absurd cc
+    by Equal f = absurd cc
+    by Greater f = absurd cc
+
+no_items : (items : List Item) → rows_in items ≡ [] → items ≡ []
+no_items [] e = refl
+no_items (i ∷ items) e = absurd (put_some (row_of i) (rows_in items) e)
+
+has_rows : (p : State) → rows_of p ≢ []
+has_rows p e = let none : items_of p ≡ [] = no_items (items_of p) e in absurd cc
+
+module _ (p : State) (rows rows' : Option (List Pair)) (honest' : Type 0) (faults faults' : ℕ) (fits : FitsState p rows honest' faults faults') (same : Makes (λ before. before) rows rows') where
+  -- the rows of a state are not refused
+  never_unresumed : (s : Status) → IsUnresumed s rows rows' honest' → (s ≡ KeepFault → Rose faults faults') → (s ≡ Done) ⊎ (s ≡ NoMemory)
+  never_unresumed Done h keep = inl refl
+  never_unresumed Usage h keep = absurd h
+  never_unresumed (BadInput n fault) h keep = absurd h
+  never_unresumed (Limit n kind) h keep = absurd h
+  never_unresumed ReadFault h keep = absurd h
+  never_unresumed WriteFault h keep = absurd h
+  never_unresumed KeepFault h keep = absurd (fits.quiet (keep refl))
+  never_unresumed NoMemory h keep = inr refl
+  never_unresumed BadStore h keep =
+      let P : List Pair → Type 0 = λ now. (now ≢ []) × AreOfNone now in
+      absurd ((at_rows rows (rows_of p) P fits.rows_are (were_loaded rows rows' honest' P h same fits.honest)).1 p fits.storable refl)
+  never_unresumed (WrongStore is_empty) h keep =
+      let P : List Pair → Type 0 = λ now. now ≡ [] in
+      absurd (has_rows p (at_rows rows (rows_of p) P fits.rows_are (were_loaded rows rows' honest' P h.1 same fits.honest)))
+  never_unresumed NotFound h keep = absurd h
+
+pub untroubled_resume : (left left' w w' : Option (List ℕ)) (rows rows' : Option (List Pair)) (honest' : Type 0) (leaves leaves' : List Pair → Type 0) (faults faults' : ℕ) (s : Status) → ResumeEnds left left' w w' rows rows' honest' leaves leaves' s → ResumesCalmly left w rows honest' faults faults'
+    → (s ≡ Usage → ⊥) → (s ≡ ReadFault → ⊥) → (s ≡ WriteFault → ⊥) → (s ≡ KeepFault → Rose faults faults') → (s ≡ Done) ⊎ (s ≡ NoMemory)
+untroubled_resume left left' w w' rows rows' honest' leaves leaves' faults faults' s (inl goes) calm busy read write keep =
+    let fits = calm.2 in
+    let alike : rows_of calm.0 ≡ rows_of goes.first = at_rows rows (rows_of calm.0) (λ now. now ≡ rows_of goes.first) fits.rows_are (goes.loaded fits.honest) in
+    untroubled_run _ (Some calm.0) left left' w w' s (goes.ends calm.0 fits.storable alike) calm.1 busy read write (λ e. fits.quiet (keep e))
+untroubled_resume left left' w w' rows rows' honest' leaves leaves' faults faults' s (inr ends) calm busy read write keep =
+    never_unresumed calm.0 rows rows' honest' faults faults' calm.2 ends.2.rows_are s ends.0 keep
+
+answered_to_end : (text written : List ℕ) (s : Status) (due : Option (List ℕ)) → due ≡ Some text → IsAnswered due s written → (s ≡ WriteFault → ⊥) → (s ≡ Done) ⊎ (s ≡ NoMemory)
+answered_to_end text written s due is h write = written_to_end text written s (subst (λ (o : Option (List ℕ)). IsAnswered o s written) is h) write
+
+pub untroubled_query : (what : Query) (w w' : Option (List ℕ)) (rows rows' : Option (List Pair)) (honest' : Type 0) (leaves leaves' : List Pair → Type 0) (faults faults' : ℕ) (s : Status) → QueryEnds what w w' rows rows' honest' leaves leaves' s → AsksCalmly what w rows honest' faults faults'
+    → (s ≡ WriteFault → ⊥) → (s ≡ KeepFault → Rose faults faults') → (s ≡ Done) ⊎ (s ≡ NoMemory)
+untroubled_query what w w' rows rows' honest' leaves leaves' faults faults' s (left, inl answers) calm write keep =
+    let p = calm.1.0 in
+    let fits = calm.1.1 in
+    let P : List Pair → Type 0 = λ now. now ≡ rows_of answers.first in
+    let alike : rows_of p ≡ rows_of answers.first = at_rows rows (rows_of p) P fits.rows_are (were_loaded rows rows' honest' P answers.loaded left.rows_are fits.honest) in
+    let e = answers.answered p fits.storable alike calm.0.0 calm.0.1 in
+    answered_to_end calm.1.2.0 e.0 s (answered_by (report_of p) what) calm.1.2.1 e.2 write
+untroubled_query what w w' rows rows' honest' leaves leaves' faults faults' s (left, inr none) calm write keep =
+    never_unresumed calm.1.0 rows rows' honest' faults faults' calm.1.1 left.rows_are s none.0 keep

@@ -1,0 +1,213 @@
+-- What a stop may leave behind a run, whatever the status by which it ended.
+use Rattle.std.proofs.Common.{inl, inr, ◌≡◌, ◌∙◌, ◌⊎◌, ℕ, ◌+◌, List, [], ◌∷◌, ◌++◌, length, Option, Some, None, Ok, Err, refl, sym, ap, subst, append_assoc}
+use Rattle.std.specs.Prelude.{IfSome, IsSome}
+use Rattle.std.proofs.lemmas.List.{append-nil}
+use Rattle.run_generated.specs.Writing.{IsFront}
+use Rattle.base_io.specs.Outside.{IsPart}
+use Rattle.base_io.specs.Rows.{Pair}
+use Rattle.store_resuming.specs.Restored.{IsStorable, rows_of}
+use Rattle.rule_modules.specs.Chain.{State}
+use Rattle.run_words.specs.declared.mode.Mode.{Mode}
+use Rattle.run_words.specs.declared.mode.Mode.TheVariants.{Replay, Resume, Query, Gen, Trial}
+use Rattle.run_app.specs.declared.status.LimitKind.TheVariants.{Line, Input, Ratio}
+use Rattle.run_app.specs.declared.status.Status.{Status}
+use Rattle.run_app.specs.declared.status.Status.TheVariants.{Done, Usage, BadInput, Limit, ReadFault, WriteFault, KeepFault, NoMemory, BadStore, WrongStore, NotFound}
+use Rattle.run_app.specs.declared.status.LineStop.{LineStop}
+use Rattle.run_app.specs.Kept.{AreLeft, AreRowsOf, LeftIn}
+use Rattle.run_app.specs.Lines.{lines_of, lines_from, whole_from, rest_from}
+use Rattle.run_app.specs.Machine.{Standing, line_answer, report_of}
+use Rattle.run_app.specs.Modes.{ModeEnds, ReplayEnds}
+use Rattle.run_app.specs.Outcome.{AreEnded, Ends, Passed, RunEnds}
+use Rattle.run_app.specs.Runs.{AreAnswered, Named, Wrote, Unkept, Held, Answered, Reported, Lacking, Finished}
+use Rattle.run_app.specs.Resumes.{ResumeEnds}
+use Rattle.run_app.specs.Stops.{AreRowsBehind, ModeStops, RunStops}
+use Rattle.run_app.specs.Writes.{Adds}
+use Rattle.run_app.proofs.CutLemmas.{lines-append}
+use Rattle.run_app.proofs.RunLemmas.{answered-append}
+use Rattle.run_app.proofs.WholeLemmas.{Reports, reports}
+
+-- ---- fronts of texts
+
+all_of : (text : List ℕ) → IsFront text text
+all_of text = record { rest = []; text_is = sym (append-nil text) }
+
+part_of : (front text : List ℕ) → IsPart front text → IsFront front text
+part_of front text p = record { rest = p.rest; text_is = p.bytes_are }
+
+behind : (done front text : List ℕ) → IsFront front text → IsFront (done ++ front) (done ++ text)
+behind done front text f = record { rest = f.rest; text_is = ap (λ (t : List ℕ). done ++ t) f.text_is ∙ sym (append_assoc done front f.rest) }
+
+-- ---- lines
+
+-- the lines that have ended are a front of all
+ended_first : (lines : List (List ℕ)) (taken rest : List ℕ) → AreEnded lines taken rest → (more : List (List ℕ)) × (lines_of (taken ++ rest) ≡ lines ++ more)
+ended_first lines taken rest (inl is) = (lines_from (rest_from [] taken) rest, lines-append taken [] rest ∙ ap (λ (l : List (List ℕ)). l ++ lines_from (rest_from [] taken) rest) (sym is))
+ended_first lines taken rest (inr h) = ([], ap lines_of (ap (λ (r : List ℕ). taken ++ r) h.0 ∙ append-nil taken) ∙ sym h.1 ∙ sym (append-nil lines))
+
+-- at the end of the input all lines are those of what was taken
+all_taken : (taken rest : List ℕ) → rest ≡ [] → lines_of (taken ++ rest) ≡ lines_of taken ++ []
+all_taken taken rest none = ap lines_of (ap (λ (r : List ℕ). taken ++ r) none ∙ append-nil taken) ∙ sym (append-nil (lines_of taken))
+
+one_more : (first : Standing) (before : List (List ℕ)) (line : List ℕ) (done : List ℕ) (middle : Standing) (answer : _) → AreAnswered 1 first before done middle → line_answer (1 + length before) middle line ≡ Ok answer → AreAnswered 1 first (before ++ line ∷ []) (done ++ (answer.text ++ [])) answer.standing
+one_more first before line done middle answer good is = answered-append 1 first before (line ∷ []) done middle (answer.text ++ []) answer.standing good (answer, [], is, refl, (refl, refl))
+
+module _ (first : Standing) (input : List ℕ) (left : List Pair) (L : Standing → Standing → Type 0) (stop : (s t : Standing) → L s t → AreRowsOf left s ⊎ AreRowsOf left t) where
+  -- where one and the same standing may be left
+  only : (s : Standing) → L s s → AreRowsOf left s
+  only s l = onlywith (stop s s l) where
+    onlywith : AreRowsOf left s ⊎ AreRowsOf left s → AreRowsOf left s
+    onlywith (inl e) = e
+    onlywith (inr e) = e
+
+  -- the texts of these lines were written
+  just : (lines more : List (List ℕ)) (text : List ℕ) (end : Standing) → lines_of input ≡ lines ++ more → AreAnswered 1 first lines text end → AreRowsOf left end → AreRowsBehind first input text left
+  just lines more text end are good is = record { lines = lines; more = more; end = end; answers = text; lines_are = are; answered = good; kept = is; written = inl (all_of text) }
+
+  named : (lines more : List (List ℕ)) (text : List ℕ) (fault : LineStop) → lines_of input ≡ lines ++ more → Named L 1 first lines text fault → AreRowsBehind first input text left
+  named lines more text fault are w = just w.before (w.line ∷ (w.after ++ more)) text w.middle (are ∙ ap (λ (l : List (List ℕ)). l ++ more) w.lines_are ∙ append_assoc w.before (w.line ∷ w.after) more) w.answered (only w.middle w.left)
+
+  -- the line of this answer was committed, and a front of its text was written
+  behind_one : (lines more before after : List (List ℕ)) (line : List ℕ) (text done front : List ℕ) (middle : Standing) (answer : _) → lines_of input ≡ lines ++ more → lines ≡ before ++ line ∷ after → AreAnswered 1 first before done middle → line_answer (1 + length before) middle line ≡ Ok answer
+      → text ≡ done ++ front → IsFront front answer.text → AreRowsOf left answer.standing → AreRowsBehind first input text left
+  behind_one lines more before after line text done front middle answer are lines_are good is text_is part kept_is = record {
+    lines = before ++ line ∷ [];
+    more = after ++ more;
+    end = answer.standing;
+    answers = done ++ (answer.text ++ []);
+    lines_are = are ∙ ap (λ (l : List (List ℕ)). l ++ more) lines_are ∙ append_assoc before (line ∷ after) more ∙ sym (append_assoc before (line ∷ []) (after ++ more));
+    answered = one_more first before line done middle answer good is;
+    kept = kept_is;
+    written = inl (subst (λ (t : List ℕ). IsFront t (done ++ (answer.text ++ []))) (sym text_is) (behind done front (answer.text ++ []) (subst (IsFront front) (sym (append-nil answer.text)) part)));
+  }
+
+  wrote : (lines more : List (List ℕ)) (text : List ℕ) → lines_of input ≡ lines ++ more → Wrote L 1 first lines text → AreRowsBehind first input text left
+  wrote lines more text are w = behind_one lines more w.before w.after w.line text w.done w.front w.middle w.answer are w.lines_are w.answered w.answer_is w.text_is (part_of w.front w.answer.text w.part) (only w.answer.standing w.left)
+
+  -- what was to be committed may be there or not
+  unkept : (lines more : List (List ℕ)) (text : List ℕ) → lines_of input ≡ lines ++ more → Unkept L 1 first lines text → AreRowsBehind first input text left
+  unkept lines more text are w = unkeptwith (stop w.middle w.answer.standing w.left) where
+    unkeptwith : AreRowsOf left w.middle ⊎ AreRowsOf left w.answer.standing → AreRowsBehind first input text left
+    unkeptwith (inl e) = just w.before (w.line ∷ (w.after ++ more)) text w.middle (are ∙ ap (λ (l : List (List ℕ)). l ++ more) w.lines_are ∙ append_assoc w.before (w.line ∷ w.after) more) w.answered e
+    unkeptwith (inr e) = behind_one lines more w.before w.after w.line text text [] w.middle w.answer are w.lines_are w.answered w.answer_is (sym (append-nil text)) (record { rest = w.answer.text; text_is = refl }) e
+
+  held : (lines more : List (List ℕ)) (text : List ℕ) → lines_of input ≡ lines ++ more → Held L 1 first lines text → AreRowsBehind first input text left
+  held lines more text are w = just w.before (w.after ++ more) text w.middle (are ∙ ap (λ (l : List (List ℕ)). l ++ more) w.lines_are ∙ append_assoc w.before w.after more) w.answered (only w.middle w.left)
+
+  answered : (lines more : List (List ℕ)) (text : List ℕ) → lines_of input ≡ lines ++ more → Answered L 1 first lines text → AreRowsBehind first input text left
+  answered lines more text are w = just lines more text w.end are w.answered (only w.end w.left)
+
+  lacking : (lines more : List (List ℕ)) (text : List ℕ) (fault : LineStop) → lines_of input ≡ lines ++ more → Lacking L 1 first lines text fault → AreRowsBehind first input text left
+  lacking lines more text fault are w = just lines more text w.end are w.answered (only w.end w.left)
+
+  reported : (lines : List (List ℕ)) (text : List ℕ) → lines_of input ≡ lines ++ [] → Reported L 1 first lines text → AreRowsBehind first input text left
+  reported lines text are w = record {
+    lines = lines;
+    more = [];
+    end = w.end;
+    answers = w.done;
+    lines_are = are;
+    answered = w.answered;
+    kept = only w.end w.left;
+    written = inr (refl, w.report, w.report_is, subst (λ (t : List ℕ). IsFront t (w.done ++ w.report)) (sym w.text_is) (behind w.done w.front w.report (part_of w.front w.report w.part)));
+  }
+
+  -- the standing to which lines lead is one
+  one_end : (n : ℕ) (s : Standing) (lines : List (List ℕ)) (a b : List ℕ) (e f : Standing) → AreAnswered n s lines a e → AreAnswered n s lines b f → e ≡ f
+  one_end n s [] a b e f g h = g.1 ∙ sym h.1
+  one_end n s (line ∷ lines) a b e f g h =
+      let same : Ok g.0 ≡ Ok h.0 = sym g.2 ∙ h.2 in
+      let same2 : g.0 ≡ h.0 = cc in
+      one_end (n + 1) h.0.standing lines g.1 h.1 e f (subst (λ (x : _). AreAnswered (n + 1) x.standing lines g.1 e) same2 g.4) h.4
+
+  finished : (lines : List (List ℕ)) (text : List ℕ) → lines_of input ≡ lines ++ [] → Finished L 1 first lines text → AreRowsBehind first input text left
+  finished lines text are w =
+      let r : Reports 1 first lines text = reports lines 1 first text w.ran in
+      record {
+        lines = lines;
+        more = [];
+        end = r.end;
+        answers = r.done;
+        lines_are = are;
+        answered = r.answered;
+        kept = subst (AreRowsOf left) (one_end 1 first lines w.done r.done w.end r.end w.answered r.answered) (only w.end w.left);
+        written = inr (refl, r.last, r.report_is, subst (λ (t : List ℕ). IsFront t (r.done ++ r.last)) (sym r.text_is) (all_of (r.done ++ r.last)));
+      }
+
+  passed : (n : ℕ) (taken rest text : List ℕ) → input ≡ taken ++ rest → Passed first L n taken text → AreRowsBehind first input text left
+  passed n taken rest text are p =
+      let whole : input ≡ p.bytes ++ (p.byte ∷ rest) = are ∙ ap (λ (t : List ℕ). t ++ rest) p.taken_is ∙ append_assoc p.bytes (p.byte ∷ []) rest in
+      answered (whole_from [] p.bytes) (lines_from (rest_from [] p.bytes) (p.byte ∷ rest)) text (ap lines_of whole ∙ lines-append p.bytes [] (p.byte ∷ rest)) p.answered
+
+  module _ (taken rest text : List ℕ) (input_is : input ≡ taken ++ rest) where
+    here : (lines more : List (List ℕ)) → lines_of (taken ++ rest) ≡ lines ++ more → lines_of input ≡ lines ++ more
+    here lines more e = ap lines_of input_is ∙ e
+
+    ended : (lines : List (List ℕ)) → AreEnded lines taken rest → (more : List (List ℕ)) × (lines_of input ≡ lines ++ more)
+    ended lines h = let f = ended_first lines taken rest h in (f.0, here lines f.0 f.1)
+
+    whole : rest ≡ [] → lines_of input ≡ lines_of taken ++ []
+    whole none = here (lines_of taken) [] (all_taken taken rest none)
+
+    pub stopped : (status : Status) → Ends first L taken rest status text → AreRowsBehind first input text left
+    stopped Done h = finished (lines_of taken) text (whole h.0) h.2
+    stopped Usage h = absurd h
+    stopped (BadInput n fault) (short, inl h) = let m = ended h.0 h.1 in named h.0 m.0 text _ m.1 h.2
+    stopped (BadInput n fault) (short, inr h) = lacking (lines_of taken) [] text _ (whole h.0) h.1
+    stopped (Limit n Line) h = named (lines_of (taken ++ rest)) [] text _ (here (lines_of (taken ++ rest)) [] (sym (append-nil (lines_of (taken ++ rest))))) (h.1 rest)
+    stopped (Limit n Input) h = passed n taken rest text input_is h
+    stopped (Limit n (Ratio over)) h = let m = ended h.1 h.2 in named h.1 m.0 text _ m.1 h.3
+    stopped ReadFault h = let m = ended (whole_from [] taken) (inl refl) in answered (whole_from [] taken) m.0 text m.1 h.1
+    stopped WriteFault (short, inl h) = let m = ended h.0 h.1 in wrote h.0 m.0 text m.1 h.2
+    stopped WriteFault (short, inr (inl h)) = reported (lines_of taken) text (whole h.0) h.1
+    stopped WriteFault (short, inr (inr h)) = finished (lines_of taken) text (whole h.0) h.1
+    stopped KeepFault h = let m = ended h.1 h.2 in unkept h.1 m.0 text m.1 h.3
+    stopped NoMemory (short, inl (lines, are, inl h)) = let m = ended lines are in wrote lines m.0 text m.1 h
+    stopped NoMemory (short, inl (lines, are, inr (inl h))) = let m = ended lines are in held lines m.0 text m.1 h
+    stopped NoMemory (short, inl (lines, are, inr (inr h))) = let m = ended lines are in unkept lines m.0 text m.1 h
+    stopped NoMemory (short, inr h) = reported (lines_of taken) text (whole h.0) h.1
+    stopped BadStore h = absurd h
+    stopped (WrongStore is_empty) h = absurd h
+    stopped NotFound h = absurd h
+
+-- so of a run over a keeper that is honest to its end, whose rows were told as it began
+pub run_stops : (first : Standing) (left left' written written' : Option (List ℕ)) (rows told : Option (List Pair)) (honest : Type 0) (leaves leaves' : List Pair → Type 0) (status : Status) → RunEnds first (LeftIn (record { first = first; rows = rows }) told honest leaves') left left' written written' status → RunStops first left written written' rows honest leaves leaves'
+run_stops first left left' written written' rows told honest leaves leaves' status ends = λ good some input old left_is written_is.
+    let e = ends input old left_is written_is in
+    (e.2, e.5, λ now may. inr (stopped first input now (LeftIn (record { first = first; rows = rows }) told honest leaves') (λ s t l. l.stop good some now may) e.0 e.1 e.2 e.3 status e.6))
+
+-- and of one that did not begin
+pub unbegun_stops : (first : Standing) (left written written' : Option (List ℕ)) (rows told : Option (List Pair)) (honest : Type 0) (leaves leaves' : List Pair → Type 0) → Adds written written' (λ text. text ≡ []) → AreLeft rows told honest leaves leaves' → RunStops first left written written' rows honest leaves leaves'
+unbegun_stops first left written written' rows told honest leaves leaves' adds are = λ good some input old left_is written_is.
+    let e = adds old written_is in
+    (e.0, e.1, λ now may. inl (are.stop good now may, e.2))
+
+pub replay_stops : (left left' written written' : Option (List ℕ)) (rows rows' : Option (List Pair)) (honest' : Type 0) (leaves leaves' : List Pair → Type 0) (status : Status) → ReplayEnds left left' written written' rows rows' honest' leaves leaves' status → RunStops None left written written' rows honest' leaves leaves'
+replay_stops left left' written written' rows rows' honest' leaves leaves' status (inl ends) = run_stops None left left' written written' rows rows' honest' leaves leaves' status ends
+replay_stops left left' written written' rows rows' honest' leaves leaves' status (inr (why, same, are)) = unbegun_stops None left written written' rows rows' honest' leaves leaves' same.1 are
+
+resume_stops : (left left' written written' : Option (List ℕ)) (rows rows' : Option (List Pair)) (honest' : Type 0) (leaves leaves' : List Pair → Type 0) (status : Status) → ResumeEnds left left' written written' rows rows' honest' leaves leaves' status → (p : State) → IsStorable p → rows ≡ Some (rows_of p) → RunStops (Some p) left written written' rows honest' leaves leaves'
+resume_stops left left' written written' rows rows' honest' leaves leaves' status (inl goes) = λ p storable told good some.
+    let same : rows_of p ≡ rows_of goes.first = subst (λ (r : Option (List Pair)). IfSome r (λ now. now ≡ rows_of goes.first)) told (goes.loaded good) in
+    run_stops (Some p) left left' written written' rows rows' honest' leaves leaves' status (goes.ends p storable same) good some
+resume_stops left left' written written' rows rows' honest' leaves leaves' status (inr (why, same, are)) = λ p storable told. unbegun_stops (Some p) left written written' rows rows' honest' leaves leaves' same.1 are
+
+-- so of each command
+pub mode_stops : (mode : Option Mode) (left left' written written' : Option (List ℕ)) (rows rows' : Option (List Pair)) (honest' : Type 0) (leaves leaves' : List Pair → Type 0) (status : Status) → ModeEnds mode left left' written written' rows rows' honest' leaves leaves' status → ModeStops mode left written written' rows honest' leaves leaves'
+mode_stops None left left' written written' rows rows' honest' leaves leaves' status ends = λ good now may. ends.1.stop now may
+mode_stops (Some Replay) left left' written written' rows rows' honest' leaves leaves' status ends = replay_stops left left' written written' rows rows' honest' leaves leaves' status ends
+mode_stops (Some Resume) left left' written written' rows rows' honest' leaves leaves' status ends = resume_stops left left' written written' rows rows' honest' leaves leaves' status ends
+mode_stops (Some (Query what)) left left' written written' rows rows' honest' leaves leaves' status ends = λ good now may. ends.1.0.stop good now may
+mode_stops (Some (Gen seed count)) left left' written written' rows rows' honest' leaves leaves' status ends = λ good now may. ends.1.stop now may
+mode_stops (Some (Trial seed count)) left left' written written' rows rows' honest' leaves leaves' status ends = λ good now may. ends.1.stop now may
+
+-- where nothing was called, a stop leaves what it could leave before
+still : (first : Standing) (left written : Option (List ℕ)) (rows : Option (List Pair)) (honest : Type 0) (leaves : List Pair → Type 0) → RunStops first left written written rows honest leaves leaves
+still first left written rows honest leaves = λ good some input old left_is written_is. ([], written_is ∙ ap (λ (t : List ℕ). Some t) (sym (append-nil old)), λ now may. inl (may, refl))
+
+pub stops_unbegun : (mode : Option Mode) (left written : Option (List ℕ)) (rows : Option (List Pair)) (honest : Type 0) (leaves : List Pair → Type 0) → ModeStops mode left written written rows honest leaves leaves
+stops_unbegun None left written rows honest leaves = λ good now may. may
+stops_unbegun (Some Replay) left written rows honest leaves = still None left written rows honest leaves
+stops_unbegun (Some Resume) left written rows honest leaves = λ p storable told. still (Some p) left written rows honest leaves
+stops_unbegun (Some (Query what)) left written rows honest leaves = λ good now may. may
+stops_unbegun (Some (Gen seed count)) left written rows honest leaves = λ good now may. may
+stops_unbegun (Some (Trial seed count)) left written rows honest leaves = λ good now may. may

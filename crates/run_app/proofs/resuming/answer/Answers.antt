@@ -1,0 +1,41 @@
+use Rattle.std.proofs.Common.{refl}
+use Rattle.run_app.proofs.ModeLemmas.{quiet_at, quiet_keep}
+use Rattle.run_app.proofs.ResumeLemmas.{asked, not_asked, unresumed_busy, unresumed_cause, unresumed_quiet, unresumed_undone, unresumed_unread, unresumed_unwritten}
+use Rattle.run_app.proofs.resuming.answer.Goals as goal
+
+pub returns-in-Ok-clause-ends : goal.returns-in-Ok-clause-ends
+returns-in-Ok-clause-ends g c =
+    let e = c.restore.ensures in
+    asked _ _ _ _ _ _ _ _ _ _ c.in-Ok.ensures.chain e.same e.stop c.write_answer.ensures.ends
+
+pub returns-in-Ok-clause-keep_cause : goal.returns-in-Ok-clause-keep_cause
+returns-in-Ok-clause-keep_cause g c = λ e. absurd (c.write_answer.ensures.keep e)
+
+pub returns-in-Ok-clause-keep_quiet : goal.returns-in-Ok-clause-keep_quiet
+returns-in-Ok-clause-keep_quiet g c = quiet_keep _ _ c.in-Ok.ensures.quiet
+
+pub returns-in-Err-clause-ends : goal.returns-in-Err-clause-ends
+returns-in-Err-clause-ends g c =
+    let e = c.restore.ensures in
+    rw c.status_of_restore.ensures (not_asked c.in-Err.fault _ _ _ _ _ _ _ c.in-Err.ensures.fault e.same e.stop)
+
+pub returns-in-Err-clause-busy : goal.returns-in-Err-clause-busy
+returns-in-Err-clause-busy g c = rw c.status_of_restore.ensures (unresumed_busy c.in-Err.fault)
+
+pub returns-in-Err-clause-read : goal.returns-in-Err-clause-read
+returns-in-Err-clause-read g c = rw c.status_of_restore.ensures (unresumed_unread c.in-Err.fault)
+
+pub returns-in-Err-clause-clean : goal.returns-in-Err-clause-clean
+returns-in-Err-clause-clean g c = rw c.status_of_restore.ensures (λ e. absurd (unresumed_undone c.in-Err.fault e))
+
+pub returns-in-Err-clause-write_cause : goal.returns-in-Err-clause-write_cause
+returns-in-Err-clause-write_cause g c = rw c.status_of_restore.ensures (λ e. absurd (unresumed_unwritten c.in-Err.fault e))
+
+pub returns-in-Err-clause-write_quiet : goal.returns-in-Err-clause-write_quiet
+returns-in-Err-clause-write_quiet g c = quiet_at _ _ refl
+
+pub returns-in-Err-clause-keep_cause : goal.returns-in-Err-clause-keep_cause
+returns-in-Err-clause-keep_cause g c = rw c.status_of_restore.ensures (unresumed_cause c.in-Err.fault _ c.in-Err.ensures.cause)
+
+pub returns-in-Err-clause-keep_quiet : goal.returns-in-Err-clause-keep_quiet
+returns-in-Err-clause-keep_quiet g c = rw c.status_of_restore.ensures (unresumed_quiet c.in-Err.fault _ c.in-Err.ensures.quiet)

@@ -1,0 +1,24 @@
+use Rattle.std.proofs.Common.{refl}
+use Rattle.run_app.proofs.ModeLemmas.{quiet_keep, untouched}
+use Rattle.run_app.proofs.running.carry_out.Goals as goal
+
+pub returns-in-Gen-clause-ends : goal.returns-in-Gen-clause-ends
+returns-in-Gen-clause-ends g c = rw c.in-Gen.is ((refl, c.write_generated.ensures.ends), untouched _ _)
+
+pub returns-in-Trial-clause-ends : goal.returns-in-Trial-clause-ends
+returns-in-Trial-clause-ends g c = rw c.in-Trial.is ((refl, c.write_trial.ensures.ends), untouched _ _)
+
+pub returns-in-Gen-clause-keep_cause : goal.returns-in-Gen-clause-keep_cause
+returns-in-Gen-clause-keep_cause g c = λ e. absurd (c.write_generated.ensures.keep e)
+
+pub returns-in-Trial-clause-keep_cause : goal.returns-in-Trial-clause-keep_cause
+returns-in-Trial-clause-keep_cause g c = λ e. absurd (c.write_trial.ensures.keep e)
+
+pub returns-in-Gen-clause-keep_quiet : goal.returns-in-Gen-clause-keep_quiet
+returns-in-Gen-clause-keep_quiet g c = quiet_keep _ _ refl
+
+pub returns-in-Trial-clause-keep_quiet : goal.returns-in-Trial-clause-keep_quiet
+returns-in-Trial-clause-keep_quiet g c = quiet_keep _ _ refl
+
+pub returns-in-Query-clause-ends : goal.returns-in-Query-clause-ends
+returns-in-Query-clause-ends g c = rw c.in-Query.is (refl, c.answer.ensures.ends)

@@ -1,0 +1,38 @@
+use Rattle.std.proofs.Common.{inl, inr, refl, ap, ◌∙◌, None, Ok}
+use Rattle.run_app.specs.Kept.{on_none}
+use Rattle.run_app.proofs.KeepLemmas.{begins_on_none}
+use Rattle.run_app.proofs.ModeLemmas.{nothing_done, rows_left}
+use Rattle.run_app.proofs.running.replay.Goals as goal
+
+pub drive-requires-clause-takes : goal.drive-requires-clause-takes
+drive-requires-clause-takes g c = λ changes d. c.has_rows.ensures.takes changes (c.requires.takes changes d)
+
+pub drive-requires-clause-kept : goal.drive-requires-clause-kept
+drive-requires-clause-kept g c =
+    let e = c.has_rows.ensures in
+    (on_none _, None, begins_on_none _ _ _ _ (e.none (c.in-Ok-false.is ∙ ap Ok c.in-Ok-false.field-0-test)) e.same c.in-Ok-false.ensures.told e.settled)
+
+pub returns-in-Ok-false-clause-ends : goal.returns-in-Ok-false-clause-ends
+returns-in-Ok-false-clause-ends g c =
+    let e = c.has_rows.ensures in
+    inl (c.drive.ensures.ends (on_none _) None (begins_on_none _ _ _ _ (e.none (c.in-Ok-false.is ∙ ap Ok c.in-Ok-false.field-0-test)) e.same c.in-Ok-false.ensures.told e.settled))
+
+pub returns-in-Ok-true-clause-ends : goal.returns-in-Ok-true-clause-ends
+returns-in-Ok-true-clause-ends g c =
+    let e = c.has_rows.ensures in
+    inr ((refl, record { some = e.some (c.in-Ok-true.is ∙ ap Ok c.in-Ok-true.field-0-test); told = c.in-Ok-true.ensures.told }), nothing_done _ _, rows_left _ _ _ _ _ e.same e.stop)
+
+pub returns-in-Err-Failed-clause-ends : goal.returns-in-Err-Failed-clause-ends
+returns-in-Err-Failed-clause-ends g c =
+    let e = c.has_rows.ensures in
+    inr (tt, nothing_done _ _, rows_left _ _ _ _ _ e.same e.stop)
+
+pub returns-in-Err-NoMemory-clause-ends : goal.returns-in-Err-NoMemory-clause-ends
+returns-in-Err-NoMemory-clause-ends g c =
+    let e = c.has_rows.ensures in
+    inr (tt, nothing_done _ _, rows_left _ _ _ _ _ e.same e.stop)
+
+pub returns-in-Ok-true-clause-kept : goal.returns-in-Ok-true-clause-kept
+returns-in-Ok-true-clause-kept g c =
+    let e = c.has_rows.ensures in
+    λ _. e.kept (c.in-Ok-true.is ∙ ap Ok c.in-Ok-true.field-0-test)

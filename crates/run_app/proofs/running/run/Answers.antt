@@ -1,0 +1,89 @@
+use Rattle.std.proofs.Common.{map, Some}
+use Rattle.std.specs.Prelude.{string_bytes}
+use Rattle.run_app.proofs.ModeLemmas.{few_blocks}
+use Rattle.run_app.proofs.CommandLemmas.{ends_unasked, ends_unbegun, never_asked, untroubled_command}
+use Rattle.run_app.proofs.OnwardLemmas.{runs_may_go_on}
+use Rattle.run_app.proofs.RestLemmas.{answers_join, the_rest}
+use Rattle.run_app.proofs.SoundLemmas.{lines_replayed}
+use Rattle.run_app.proofs.StopLemmas.{mode_stops, stops_unbegun}
+use Rattle.run_app.proofs.WholeLemmas.{answers_replayed}
+use Rattle.run_app.proofs.running.run.Goals as goal
+
+pub carry_out-requires-clause-few : goal.carry_out-requires-clause-few
+carry_out-requires-clause-few g c = few_blocks (map string_bytes c.args.words.now) c.in-Ok.mode c.in-Ok.ensures.mode
+
+pub returns-in-Ok-clause-complete : goal.returns-in-Ok-clause-complete
+returns-in-Ok-clause-complete g c =
+    rw c.in-Ok.ensures.mode
+    (λ calm reads writes.
+    untroubled_command c.in-Ok.mode _ _ _ _ _ _ _ _ _ _ _ _ _ c.carry_out.ensures.ends calm c.carry_out.ensures.busy
+    (λ e. reads (c.carry_out.ensures.read_cause e)) (λ e. writes (c.carry_out.ensures.write_cause e)) c.carry_out.ensures.keep_cause c.carry_out.ensures.kept)
+
+pub returns-in-Ok-clause-usage : goal.returns-in-Ok-clause-usage
+returns-in-Ok-clause-usage g c = λ e. absurd (c.carry_out.ensures.busy e)
+
+pub returns-in-Ok-clause-no_command : goal.returns-in-Ok-clause-no_command
+returns-in-Ok-clause-no_command g c = λ none. absurd (never_asked _ c.in-Ok.mode none c.in-Ok.ensures.mode)
+
+pub returns-in-Ok-clause-replayed : goal.returns-in-Ok-clause-replayed
+returns-in-Ok-clause-replayed g c = lines_replayed
+
+pub returns-in-Ok-clause-whole : goal.returns-in-Ok-clause-whole
+returns-in-Ok-clause-whole g c = answers_replayed lines_replayed
+
+pub returns-in-Err-Usage-clause-ends : goal.returns-in-Err-Usage-clause-ends
+returns-in-Err-Usage-clause-ends g c = ends_unasked _ _ _ _ _ _ (c.in-Err-Usage.ensures.usage c.in-Err-Usage.field-0-is)
+
+pub returns-in-Err-Usage-clause-usage : goal.returns-in-Err-Usage-clause-usage
+returns-in-Err-Usage-clause-usage g c = λ e. c.in-Err-Usage.ensures.usage c.in-Err-Usage.field-0-is
+
+pub returns-in-Err-Usage-clause-replayed : goal.returns-in-Err-Usage-clause-replayed
+returns-in-Err-Usage-clause-replayed g c = lines_replayed
+
+pub returns-in-Err-Usage-clause-whole : goal.returns-in-Err-Usage-clause-whole
+returns-in-Err-Usage-clause-whole g c = answers_replayed lines_replayed
+
+pub returns-in-Err-NoMemory-clause-ends : goal.returns-in-Err-NoMemory-clause-ends
+returns-in-Err-NoMemory-clause-ends g c = ends_unbegun _ _ _ _ _ _
+
+pub returns-in-Err-NoMemory-clause-replayed : goal.returns-in-Err-NoMemory-clause-replayed
+returns-in-Err-NoMemory-clause-replayed g c = lines_replayed
+
+pub returns-in-Err-NoMemory-clause-whole : goal.returns-in-Err-NoMemory-clause-whole
+returns-in-Err-NoMemory-clause-whole g c = answers_replayed lines_replayed
+
+pub returns-in-Ok-clause-stops : goal.returns-in-Ok-clause-stops
+returns-in-Ok-clause-stops g c = rw c.in-Ok.ensures.mode (mode_stops (Some c.in-Ok.mode) _ _ _ _ _ _ _ _ _ c.carry_out.result c.carry_out.ensures.ends)
+
+pub returns-in-Err-Usage-clause-stops : goal.returns-in-Err-Usage-clause-stops
+returns-in-Err-Usage-clause-stops g c = stops_unbegun _ _ _ _ _ _
+
+pub returns-in-Err-NoMemory-clause-stops : goal.returns-in-Err-NoMemory-clause-stops
+returns-in-Err-NoMemory-clause-stops g c = stops_unbegun _ _ _ _ _ _
+
+pub returns-in-Ok-clause-rest : goal.returns-in-Ok-clause-rest
+returns-in-Ok-clause-rest g c = the_rest
+
+pub returns-in-Err-Usage-clause-rest : goal.returns-in-Err-Usage-clause-rest
+returns-in-Err-Usage-clause-rest g c = the_rest
+
+pub returns-in-Err-NoMemory-clause-rest : goal.returns-in-Err-NoMemory-clause-rest
+returns-in-Err-NoMemory-clause-rest g c = the_rest
+
+pub returns-in-Ok-clause-onward : goal.returns-in-Ok-clause-onward
+returns-in-Ok-clause-onward g c = runs_may_go_on
+
+pub returns-in-Err-Usage-clause-onward : goal.returns-in-Err-Usage-clause-onward
+returns-in-Err-Usage-clause-onward g c = runs_may_go_on
+
+pub returns-in-Err-NoMemory-clause-onward : goal.returns-in-Err-NoMemory-clause-onward
+returns-in-Err-NoMemory-clause-onward g c = runs_may_go_on
+
+pub returns-in-Ok-clause-joined : goal.returns-in-Ok-clause-joined
+returns-in-Ok-clause-joined g c = answers_join
+
+pub returns-in-Err-Usage-clause-joined : goal.returns-in-Err-Usage-clause-joined
+returns-in-Err-Usage-clause-joined g c = answers_join
+
+pub returns-in-Err-NoMemory-clause-joined : goal.returns-in-Err-NoMemory-clause-joined
+returns-in-Err-NoMemory-clause-joined g c = answers_join

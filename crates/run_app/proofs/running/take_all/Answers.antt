@@ -1,0 +1,129 @@
+use Rattle.std.proofs.Common.{rules, arith, refl, ◌≡◌, ◌∙◌, ◌≤◌, ◌<◌, ◌+◌, ℕ, List, length, take, ◌⊎◌, inl, inr, ◌≢◌, slice_index_or}
+use Rattle.std.proofs.lemmas.List.{length-take}
+use Rattle.run_app.proofs.KeepLemmas.{left_of}
+use Rattle.run_app.proofs.RunLemmas.{fed_number}
+use Rattle.run_app.proofs.DriveLemmas.{stands_first, read_ends, feed_ends, goes_on, end_ends, long_ends, pass_ends, first_of, byte_or}
+use Rattle.run_app.specs.Outcome.{most_bytes}
+use Rattle.run_app.specs.Machine.{longest}
+use Rattle.run_app.proofs.running.take_all.Goals.{else-piece-ne10-via-then-piece-ne10+else-len-eq-LONGEST, else-piece-ne10-via-else-piece-ne10}
+use Rattle.run_app.proofs.running.take_all.Goals as goal
+
+one_is : (n : ℕ) → n ≤ 1 → (n ≡ 0 → ⊥) → n ≡ 1
+one_is n h ne = omega arith
+
+short_piece : (n : ℕ) (piece : List ℕ) → length (take n piece) ≤ n
+short_piece n piece = omega (arith, length-take {A = ℕ} n piece)
+
+pub loop-taken-init : goal.loop-taken-init
+loop-taken-init g c = record {
+  room = search rules;
+  most = omega arith;
+  number = omega (arith, c.requires.number);
+  short = rw c.requires.line (omega arith);
+  at = λ b s k. (s, k, stands_first s _ _ _ s _ c.requires.number refl c.requires.line);
+  honest = λ h. h;
+  takes = λ changes t. t;
+  keep_later = omega arith;
+  keep_quiet = refl;
+  read_later = omega arith;
+  write_later = omega arith;
+  read_quiet = refl;
+  write_quiet = refl;
+}
+
+pub returns-in-Err-clause-ends : goal.returns-in-Err-clause-ends
+returns-in-Err-clause-ends g c = λ b s k.
+    let a = c.loop-taken.invariant.at b s k in
+    read_ends _ s _ _ _ _ _ _ _ _ _ a.2 (left_of b _ _ _ _ a.0 a.1) c.loop-taken.invariant.most c.in-Err.ensures.err
+
+pub returns-in-Ok-eq0-clause-ends : goal.returns-in-Ok-eq0-clause-ends
+returns-in-Ok-eq0-clause-ends g c = λ b s k.
+    let read = rw c.in-Ok-eq0.field-0-test at c.in-Ok-eq0.ensures in
+    let a = c.loop-taken.invariant.at b s k in
+    end_ends _ s _ _ _ _ _ _ _ _ _ _ _ _ a.2 c.loop-taken.invariant.most (read.end refl) read.moved (c.end.ensures.status b a.0 a.1)
+
+pub end-requires-clause-takes : goal.end-requires-clause-takes
+end-requires-clause-takes g c = λ changes d. c.loop-taken.invariant.takes changes (c.requires.takes changes d)
+
+pub end-requires-clause-kept : goal.end-requires-clause-kept
+end-requires-clause-kept g c =
+    let k = c.requires.kept in
+    let a = c.loop-taken.invariant.at k.0 k.1 k.2 in
+    (k.0, a.0, a.1)
+
+pub feed-requires-clause-takes : goal.feed-requires-clause-takes
+feed-requires-clause-takes g c = λ changes d. c.loop-taken.invariant.takes changes (c.requires.takes changes d)
+
+pub feed-requires-clause-kept : goal.feed-requires-clause-kept
+feed-requires-clause-kept g c =
+    let k = c.requires.kept in
+    let a = c.loop-taken.invariant.at k.0 k.1 k.2 in
+    (k.0, a.0, a.1)
+
+pub returns-in-Err-feed-clause-ends : goal.returns-in-Err-feed-clause-ends
+returns-in-Err-feed-clause-ends g c = λ b s k.
+    let fits : c.loop-taken.taken + c.in-Ok.n ≤ most_bytes = omega (arith, c.in-Ok.ensures.within, c.room.ensures.fits) in
+    let a = c.loop-taken.invariant.at b s k in
+    rw c.status_of.ensures (feed_ends _ s _ _ _ _ _ _ _ _ _ _ _ c.read_at_most.new.piece c.in-Err-feed.stop a.2 c.in-Ok.ensures.moved (c.in-Err-feed.ensures.stops b a.0 a.1) fits)
+
+pub loop-taken-preserved : goal.loop-taken-preserved
+loop-taken-preserved g c =
+    let piece : List ℕ = take c.in-Ok.n c.read_at_most.new.piece in
+    let k0 = c.requires.kept in
+    let a0 = c.loop-taken.invariant.at k0.0 k0.1 k0.2 in
+    let fed0 = c.in_default.ensures.fed k0.0 a0.0 a0.1 in
+    let more : c.feed.new.progress.number ≤ c.loop-taken.progress.number + length piece = fed_number _ _ _ _ _ _ _ _ _ fed0.1 in
+    let most : length piece ≤ c.in-Ok.n = short_piece c.in-Ok.n c.read_at_most.new.piece in
+    let within : c.in-Ok.n ≤ c.room.result = c.in-Ok.ensures.within in
+    record {
+      room = omega (arith, c.read_at_most.auto.piece);
+      most = omega (arith, c.room.ensures.fits);
+      number = omega arith;
+      short = fed0.1.short;
+      at = λ b s k.
+          let a = c.loop-taken.invariant.at b s k in
+          let fed = c.in_default.ensures.fed b a.0 a.1 in
+          (fed.0, fed.2, goes_on s _ _ _ _ _ _ _ _ _ _ _ _ _ _ c.read_at_most.new.piece a.2 c.in-Ok.ensures.moved fed.1);
+      read_later = omega (arith, c.read_at_most.ensures.later);
+      write_later = omega (arith, c.feed.ensures.later);
+      read_quiet = c.in-Ok.ensures.quiet ∙ c.loop-taken.invariant.read_quiet;
+      write_quiet = c.in_default.ensures.quiet ∙ c.loop-taken.invariant.write_quiet;
+      honest = λ h. c.loop-taken.invariant.honest (c.feed.ensures.honest h);
+      takes = λ changes t. c.feed.ensures.takes changes (c.loop-taken.invariant.takes changes t);
+      keep_later = omega (arith, c.feed.ensures.keep_later);
+      keep_quiet = c.in_default.ensures.keep_quiet ∙ c.loop-taken.invariant.keep_quiet;
+    }
+
+pub returns-in-Err-read_at_most-clause-ends : goal.returns-in-Err-read_at_most-clause-ends
+returns-in-Err-read_at_most-clause-ends g c = λ b s k.
+    let a = c.loop-taken.invariant.at b s k in
+    read_ends _ s _ _ _ _ _ _ _ _ _ a.2 (left_of b _ _ _ _ a.0 a.1) c.loop-taken.invariant.most c.in-Err-read_at_most.ensures.err
+
+pub returns-in-Ok-eq0-read_at_most-clause-ends : goal.returns-in-Ok-eq0-read_at_most-clause-ends
+returns-in-Ok-eq0-read_at_most-clause-ends g c = λ b s k.
+    let read = rw c.in-Ok-eq0-read_at_most.field-0-test at c.in-Ok-eq0-read_at_most.ensures in
+    let a = c.loop-taken.invariant.at b s k in
+    end_ends _ s _ _ _ _ _ _ _ _ _ _ _ _ a.2 c.loop-taken.invariant.most (read.end refl) read.moved (c.end-in-Ok-eq0-read_at_most.ensures.status b a.0 a.1)
+
+pub returns-then-len-eq-LONGEST-clause-ends : goal.returns-then-len-eq-LONGEST-clause-ends
+returns-then-len-eq-LONGEST-clause-ends g c = λ b s k.
+    let one : c.in-Ok-read_at_most.field-0 ≡ 1 = one_is c.in-Ok-read_at_most.field-0 c.in-Ok-read_at_most.ensures.within c.in-Ok-read_at_most.field-0-test.1 in
+    let moved = rw one at c.in-Ok-read_at_most.ensures.moved in
+    let room : 0 < length c.read_at_most-2.new.piece = omega (arith, c.read_at_most-2.auto.piece, c.loop-taken.invariant.room) in
+    let full : length c.loop-taken.progress.line.items ≡ longest = search rules in
+    let a = c.loop-taken.invariant.at b s k in
+    long_ends _ s _ _ _ _ _ _ _ _ _ c.read_at_most-2.new.piece _ a.2 moved (first_of c.read_at_most-2.new.piece 0 room) (left_of b _ _ _ _ a.0 a.1) c.loop-taken.invariant.most c.if-piece-ne10.true full
+
+pub returns-else-piece-ne10-clause-ends : goal.returns-else-piece-ne10-clause-ends
+returns-else-piece-ne10-clause-ends g c = λ b s k.
+    let one : c.in-Ok-read_at_most.field-0 ≡ 1 = one_is c.in-Ok-read_at_most.field-0 c.in-Ok-read_at_most.ensures.within c.in-Ok-read_at_most.field-0-test.1 in
+    let moved = rw one at c.in-Ok-read_at_most.ensures.moved in
+    let room : 0 < length c.read_at_most-2.new.piece = omega (arith, c.read_at_most-2.auto.piece, c.loop-taken.invariant.room) in
+    let full : c.loop-taken.taken ≡ most_bytes = omega (arith, c.loop-taken.invariant.most, c.loop-taken-test.false) in
+    let short : (slice_index_or c.read_at_most-2.new.piece 0 0 ≡ 10) ⊎ (length c.loop-taken.progress.line.items ≢ longest) =
+    elim c.else-piece-ne10.branch [
+      | else-piece-ne10-via-then-piece-ne10+else-len-eq-LONGEST w ↦ let ne : length c.loop-taken.progress.line.items ≢ longest = search rules in inr ne
+      | else-piece-ne10-via-else-piece-ne10 w ↦ let ten : slice_index_or c.read_at_most-2.new.piece 0 0 ≡ 10 = search rules in inl ten
+    ] in
+    let a = c.loop-taken.invariant.at b s k in
+    pass_ends _ s _ _ _ _ _ _ _ _ _ c.read_at_most-2.new.piece _ a.2 moved (first_of c.read_at_most-2.new.piece 0 room) (left_of b _ _ _ _ a.0 a.1) full (byte_or _ _ short c.loop-taken.invariant.short)

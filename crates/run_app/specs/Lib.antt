@@ -1,0 +1,14 @@
+pub mod Ending
+pub mod Kept
+pub mod Laws
+pub mod LineStops
+pub mod Lines
+pub mod Machine
+pub mod Modes
+pub mod Outcome
+pub mod Parts
+pub mod Resumes
+pub mod Runs
+pub mod Sizes
+pub mod Stops
+pub mod Writes

@@ -1,0 +1,74 @@
+-- How a run of each command ends.
+use Rattle.std.specs.Prelude.{◌≡◌, ◌⊎◌, ℕ, ◌≤◌, Bool, false, List, [], Option, Some, None, Result, Ok, Err}
+use Rattle.base_io.specs.Outside.{Rose}
+use Rattle.base_io.specs.Rows.{Pair}
+use Rattle.base_roles.specs.declared.refusal.Refusal.{Refusal}
+use Rattle.run_words.specs.declared.mode.Mode.{Mode}
+use Rattle.run_words.specs.declared.mode.Mode.TheVariants.{Replay, Resume, Query, Gen, Trial}
+use Rattle.run_generated.specs.Writing.{generated_text}
+use Rattle.run_trial.specs.Summary.{Stopped}
+use Rattle.run_trial.specs.Trial.{trial_of}
+use Rattle.run_app.specs.declared.status.Status.{Status}
+use Rattle.run_app.specs.declared.status.Status.TheVariants.{NoMemory}
+use Rattle.run_app.specs.Kept.{AreLeft, AreSome, AreUntouched, IsUnbegun, LeftIn, on_none}
+use Rattle.run_app.specs.Machine.{not_applied}
+use Rattle.run_app.specs.Outcome.{IsUntroubled, RunEnds}
+use Rattle.run_app.specs.Ending.{status_of}
+use Rattle.run_app.specs.Resumes.{AsksCalmly, QueryEnds, ResumeEnds, ResumesCalmly}
+use Rattle.run_app.specs.Writes.{Adds, IsWritten, Leaves}
+
+-- ---- a trial
+
+-- A trial writes its summary. A block that may not follow is answered as in a replay, and nothing is written then; nor is
+-- anything where memory is wanting before the summary stands.
+abbrev pub IsTried : Result (Result (List ℕ) Stopped) Refusal → Status → List ℕ → Type 0
+IsTried (Ok (Ok summary)) status text = IsWritten summary status text
+IsTried (Ok (Err stopped)) status text = ((status ≡ status_of (not_applied stopped.line stopped.fault)) ⊎ (status ≡ NoMemory)) × (text ≡ [])
+IsTried (Err why) status text = (status ≡ NoMemory) × (text ≡ [])
+
+abbrev pub Tries : Result (Result (List ℕ) Stopped) Refusal → Option (List ℕ) → Option (List ℕ) → Status → Type 0
+Tries due written written' status = Adds written written' (IsTried due status)
+
+-- ---- commands
+
+-- A generated input has at most 100,000 blocks.
+abbrev pub HasFewBlocks : Mode → Type 0
+HasFewBlocks Replay = Unit {0}
+HasFewBlocks Resume = Unit {0}
+HasFewBlocks (Query what) = Unit {0}
+HasFewBlocks (Gen seed count) = count ≤ 100000
+HasFewBlocks (Trial seed count) = count ≤ 100000
+
+-- A replay begins on no rows, and ends as its input says; or it does not begin, takes and writes nothing, and leaves all rows.
+abbrev pub ReplayEnds : Option (List ℕ) → Option (List ℕ) → Option (List ℕ) → Option (List ℕ) → Option (List Pair) → Option (List Pair) → Type 0 → (List Pair → Type 0) → (List Pair → Type 0) → Status → Type 0
+ReplayEnds left left' written written' rows rows' honest' leaves leaves' status =
+    RunEnds None (LeftIn (on_none rows) rows' honest' leaves') left left' written written' status
+    ⊎ (IsUnbegun status (AreSome rows rows' honest') × Leaves left left' written written' (λ text. text ≡ []) × AreLeft rows rows' honest' leaves leaves')
+
+-- What was taken, written and kept at the end of a run: of no command, of a replay, of a run that goes on, of a question, of the
+-- generated input, of a trial.
+abbrev pub ModeEnds : Option Mode → Option (List ℕ) → Option (List ℕ) → Option (List ℕ) → Option (List ℕ) → Option (List Pair) → Option (List Pair) → Type 0 → (List Pair → Type 0) → (List Pair → Type 0) → Status → Type 0
+ModeEnds None left left' written written' rows rows' honest' leaves leaves' status = Leaves left left' written written' (λ text. text ≡ []) × AreUntouched rows rows' leaves leaves'
+ModeEnds (Some Replay) left left' written written' rows rows' honest' leaves leaves' status = ReplayEnds left left' written written' rows rows' honest' leaves leaves' status
+ModeEnds (Some Resume) left left' written written' rows rows' honest' leaves leaves' status = ResumeEnds left left' written written' rows rows' honest' leaves leaves' status
+ModeEnds (Some (Query what)) left left' written written' rows rows' honest' leaves leaves' status = (left' ≡ left) × QueryEnds what written written' rows rows' honest' leaves leaves' status
+ModeEnds (Some (Gen seed count)) left left' written written' rows rows' honest' leaves leaves' status =
+    Leaves left left' written written' (IsWritten (generated_text seed count) status) × AreUntouched rows rows' leaves leaves'
+ModeEnds (Some (Trial seed count)) left left' written written' rows rows' honest' leaves leaves' status =
+    Leaves left left' written written' (IsTried (trial_of seed count) status) × AreUntouched rows rows' leaves leaves'
+
+-- a keeper that keeps nothing, or one without rows, that is honest to the end, and of which no call fails
+pub record FitsReplay (keeps : Bool) (rows : Option (List Pair)) (honest' : Type 0) (faults faults' : ℕ) : Type 0 where
+  pub none : (keeps ≡ false) ⊎ (rows ≡ Some [])
+  pub honest : honest'
+  pub quiet : ¬ Rose faults faults'
+
+-- A sink that tells, and an input free of faults: that of the source, or one whose blocks all follow; what `gen` writes needs none.
+-- A replay has a keeper that fits it, and so have a run that goes on and a question, which has an answer.
+abbrev pub IsUntroubledAt : Option Mode → Option (List ℕ) → Option (List ℕ) → Bool → Option (List Pair) → Type 0 → ℕ → ℕ → Type 0
+IsUntroubledAt None left written keeps rows honest' faults faults' = ⊥
+IsUntroubledAt (Some Replay) left written keeps rows honest' faults faults' = IsUntroubled None left written × FitsReplay keeps rows honest' faults faults'
+IsUntroubledAt (Some Resume) left written keeps rows honest' faults faults' = ResumesCalmly left written rows honest' faults faults'
+IsUntroubledAt (Some (Query what)) left written keeps rows honest' faults faults' = AsksCalmly what written rows honest' faults faults'
+IsUntroubledAt (Some (Gen seed count)) left written keeps rows honest' faults faults' = (old : List ℕ) × (written ≡ Some old)
+IsUntroubledAt (Some (Trial seed count)) left written keeps rows honest' faults faults' = ((old : List ℕ) × (written ≡ Some old)) × ((summary : List ℕ) × (trial_of seed count ≡ Ok (Ok summary)))

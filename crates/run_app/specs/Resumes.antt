@@ -1,0 +1,102 @@
+-- How runs end that go on from the rows of their keeper: of the commands `resume` and `query`.
+use Rattle.std.specs.Prelude.{◌≡◌, ◌≢◌, ◌⊎◌, ℕ, Bool, true, List, [], Option, Some, None, IfSome}
+use Rattle.base_io.specs.Outside.{Rose}
+use Rattle.base_io.specs.Rows.{Pair}
+use Rattle.rule_machine.specs.Report.{report_of}
+use Rattle.line_report.specs.declared.question.Query.{Query}
+use Rattle.line_report.specs.Asking.{answered_by}
+use Rattle.store_resuming.specs.declared.fault.RestoreFault.{RestoreFault}
+use Rattle.store_resuming.specs.declared.fault.RestoreFault.TheVariants as fault
+use Rattle.store_resuming.specs.Restored.{AreLoaded, AreOfNone, HaveSameRows, IsStorable, rows_of}
+use Rattle.rule_modules.specs.Chain.{State}
+use Rattle.run_app.specs.declared.status.Status.{Status}
+use Rattle.run_app.specs.declared.status.Status.TheVariants.{Done, Usage, BadInput, Limit, ReadFault, WriteFault, KeepFault, NoMemory, BadStore, WrongStore, NotFound}
+use Rattle.run_app.specs.Kept.{AreLeft, Began, LeftIn}
+use Rattle.run_app.specs.Outcome.{IsUntroubled, RunEnds}
+use Rattle.run_app.specs.Writes.{Adds, IsWritten, Leaves}
+
+-- ---- runs of which no chain comes
+
+-- how a run ends where no chain comes of its keeper
+abbrev pub status_of_restore : RestoreFault → Status
+status_of_restore fault.Failed = KeepFault
+status_of_restore fault.NoMemory = NoMemory
+status_of_restore fault.Empty = WrongStore true
+status_of_restore fault.Unsound = BadStore
+
+-- Why a run did not go on from the rows of its keeper: they were not loaded, memory was wanting, there are none, or they are those of
+-- no sound state.
+abbrev pub IsUnresumed : Status → Option (List Pair) → Option (List Pair) → Type 0 → Type 0
+IsUnresumed Done rows rows' honest' = ⊥
+IsUnresumed Usage rows rows' honest' = ⊥
+IsUnresumed (BadInput n fault) rows rows' honest' = ⊥
+IsUnresumed (Limit n kind) rows rows' honest' = ⊥
+IsUnresumed ReadFault rows rows' honest' = ⊥
+IsUnresumed WriteFault rows rows' honest' = ⊥
+IsUnresumed KeepFault rows rows' honest' = Unit {0}
+IsUnresumed NoMemory rows rows' honest' = Unit {0}
+IsUnresumed BadStore rows rows' honest' = AreLoaded rows rows' honest' (λ now. (now ≢ []) × AreOfNone now)
+IsUnresumed (WrongStore is_empty) rows rows' honest' = (is_empty ≡ true) × AreLoaded rows rows' honest' (λ now. now ≡ [])
+IsUnresumed NotFound rows rows' honest' = ⊥
+
+-- ---- resume
+
+-- a run that began on the rows of this state
+abbrev pub on_rows_of : State → Option (List Pair) → Began
+on_rows_of p rows = record { first = Some p; rows = rows }
+
+-- A run went on from the rows of its keeper: they are those of a state, where the keeper was honest; and from each state of the same
+-- rows it ended as the machine says from there, with its lines numbered from 1.
+pub record GoesOn (left left' written written' : Option (List ℕ)) (rows rows' : Option (List Pair)) (honest' : Type 0) (leaves' : List Pair → Type 0) (status : Status) : Type 0 where
+  pub first : State
+  pub storable : IsStorable first
+  pub loaded : honest' → IfSome rows (λ now. now ≡ rows_of first)
+  pub ends : (p : State) → IsStorable p → HaveSameRows p first → RunEnds (Some p) (LeftIn (on_rows_of p rows) rows' honest' leaves') left left' written written' status
+
+-- A resume goes on from the rows of its keeper; or no chain comes of them, it takes and writes nothing, and leaves all rows.
+abbrev pub ResumeEnds : Option (List ℕ) → Option (List ℕ) → Option (List ℕ) → Option (List ℕ) → Option (List Pair) → Option (List Pair) → Type 0 → (List Pair → Type 0) → (List Pair → Type 0) → Status → Type 0
+ResumeEnds left left' written written' rows rows' honest' leaves leaves' status =
+    GoesOn left left' written written' rows rows' honest' leaves' status
+    ⊎ (IsUnresumed status rows rows' honest' × Leaves left left' written written' (λ text. text ≡ []) × AreLeft rows rows' honest' leaves leaves')
+
+-- ---- query
+
+-- What a run has written that is to write this answer: its text, or nothing where there is none.
+abbrev pub IsAnswered : Option (List ℕ) → Status → List ℕ → Type 0
+IsAnswered (Some whole) status text = IsWritten whole status text
+IsAnswered None status text = ((status ≡ NotFound) ⊎ (status ≡ NoMemory)) × (text ≡ [])
+
+abbrev pub Answers : Option (List ℕ) → Option (List ℕ) → Option (List ℕ) → Status → Type 0
+Answers due written written' status = Adds written written' (IsAnswered due status)
+
+-- A run asked the chain of its keeper's rows: they are those of a state, and for each state of the same rows the lines of its report
+-- that answer the question were written.
+pub record Asked (what : Query) (written written' : Option (List ℕ)) (rows rows' : Option (List Pair)) (honest' : Type 0) (status : Status) : Type 0 where
+  pub first : State
+  pub storable : IsStorable first
+  pub loaded : AreLoaded rows rows' honest' (λ now. now ≡ rows_of first)
+  pub answered : (p : State) → IsStorable p → HaveSameRows p first → Answers (answered_by (report_of p) what) written written' status
+
+-- A query leaves all rows. It answers from them; or no chain comes of them, and it writes nothing.
+abbrev pub QueryEnds : Query → Option (List ℕ) → Option (List ℕ) → Option (List Pair) → Option (List Pair) → Type 0 → (List Pair → Type 0) → (List Pair → Type 0) → Status → Type 0
+QueryEnds what written written' rows rows' honest' leaves leaves' status =
+    AreLeft rows rows' honest' leaves leaves'
+    × (Asked what written written' rows rows' honest' status ⊎ (IsUnresumed status rows rows' honest' × Adds written written' (λ text. text ≡ [])))
+
+-- ---- runs that nothing keeps from their end
+
+-- a keeper with the rows of this state that is honest to the end, and of which no call fails
+pub record FitsState (p : State) (rows : Option (List Pair)) (honest' : Type 0) (faults faults' : ℕ) : Type 0 where
+  pub storable : IsStorable p
+  pub rows_are : rows ≡ Some (rows_of p)
+  pub honest : honest'
+  pub quiet : ¬ Rose faults faults'
+
+-- the rows are those of a state from which the input is free of faults
+abbrev pub ResumesCalmly : Option (List ℕ) → Option (List ℕ) → Option (List Pair) → Type 0 → ℕ → ℕ → Type 0
+ResumesCalmly left written rows honest' faults faults' = (p : State) × IsUntroubled (Some p) left written × FitsState p rows honest' faults faults'
+
+-- the rows are those of a state whose report answers the question
+abbrev pub AsksCalmly : Query → Option (List ℕ) → Option (List Pair) → Type 0 → ℕ → ℕ → Type 0
+AsksCalmly what written rows honest' faults faults' =
+    ((old : List ℕ) × (written ≡ Some old)) × ((p : State) × FitsState p rows honest' faults faults' × ((text : List ℕ) × (answered_by (report_of p) what ≡ Some text)))

@@ -1,0 +1,118 @@
+-- What a run over lines writes, and how it may stop.
+use Rattle.std.specs.Prelude.{◌≡◌, ℕ, ◌+◌, List, [], ◌∷◌, ◌++◌, length, Option, Some, None, Result, Ok, Err}
+use Rattle.base_io.specs.Outside.{IsPart}
+use Rattle.run_app.specs.declared.status.LineStop.{LineStop}
+use Rattle.run_app.specs.Machine.{Standing, Answer, line_answer, report_of}
+
+-- the whole output, up to the first fault, and that fault
+pub record Ran : Type 0 where
+  pub text : List ℕ
+  pub fault : Option LineStop
+
+abbrev pub before : List ℕ → Ran → Ran
+before text ran = record { text = text ++ ran.text; fault = ran.fault }
+
+abbrev pub ran_after : Result Answer LineStop → (Standing → Ran) → Ran
+ran_after (Ok answer) next = before answer.text (next answer.standing)
+ran_after (Err fault) next = record { text = []; fault = Some fault }
+
+abbrev pub ran_report : Result (List ℕ) LineStop → Ran
+ran_report (Ok text) = record { text = text; fault = None }
+ran_report (Err fault) = record { text = []; fault = Some fault }
+
+-- what is written for the lines from this number and from where the chain stands, and for the report after them
+abbrev pub ran_from : ℕ → Standing → List (List ℕ) → Ran
+ran_from n s [] = ran_report (report_of s)
+ran_from n s (line ∷ lines) = ran_after (line_answer n s line) (λ next. ran_from (n + 1) next lines)
+
+-- each of the lines has an answer; their texts, one after the other, are this text, and this is what they lead to
+abbrev pub AreAnswered : ℕ → Standing → List (List ℕ) → List ℕ → Standing → Type 0
+AreAnswered n s [] text end = (text ≡ []) × (end ≡ s)
+AreAnswered n s (line ∷ lines) text end =
+    (answer : Answer) × (rest : List ℕ) × (line_answer n s line ≡ Ok answer) × (text ≡ answer.text ++ rest) × AreAnswered (n + 1) answer.standing lines rest end
+
+-- ---- what a run leaves
+
+-- In each record below, `Left s t` says what a run leaves in its keeper, where `s` stands for the last lines that were committed,
+-- and `t` for those that were to be: it is `s`, unless a commit failed.
+
+-- the first of the lines that has a fault has this one, and the texts of those before it were written
+pub record Named (Left : Standing → Standing → Type 0) (n : ℕ) (s : Standing) (lines : List (List ℕ)) (text : List ℕ) (fault : LineStop) : Type 0 where
+  pub before : List (List ℕ)
+  pub line : List ℕ
+  pub after : List (List ℕ)
+  pub middle : Standing
+  pub lines_are : lines ≡ before ++ line ∷ after
+  pub answered : AreAnswered n s before text middle
+  pub fault_is : line_answer (n + length before) middle line ≡ Err fault
+  pub left : Left middle middle
+
+-- the texts of the lines before one of the lines were written, and a part of its own
+pub record Wrote (Left : Standing → Standing → Type 0) (n : ℕ) (s : Standing) (lines : List (List ℕ)) (text : List ℕ) : Type 0 where
+  pub before : List (List ℕ)
+  pub line : List ℕ
+  pub after : List (List ℕ)
+  pub middle : Standing
+  pub done : List ℕ
+  pub answer : Answer
+  pub front : List ℕ
+  pub lines_are : lines ≡ before ++ line ∷ after
+  pub answered : AreAnswered n s before done middle
+  pub answer_is : line_answer (n + length before) middle line ≡ Ok answer
+  pub part : IsPart front answer.text
+  pub text_is : text ≡ done ++ front
+  pub left : Left answer.standing answer.standing
+
+-- the texts of the lines before one of the lines were written, and what that line leads to was not committed
+pub record Unkept (Left : Standing → Standing → Type 0) (n : ℕ) (s : Standing) (lines : List (List ℕ)) (text : List ℕ) : Type 0 where
+  pub before : List (List ℕ)
+  pub line : List ℕ
+  pub after : List (List ℕ)
+  pub middle : Standing
+  pub answer : Answer
+  pub lines_are : lines ≡ before ++ line ∷ after
+  pub answered : AreAnswered n s before text middle
+  pub answer_is : line_answer (n + length before) middle line ≡ Ok answer
+  pub left : Left middle answer.standing
+
+-- the texts of the first lines were written
+pub record Held (Left : Standing → Standing → Type 0) (n : ℕ) (s : Standing) (lines : List (List ℕ)) (text : List ℕ) : Type 0 where
+  pub before : List (List ℕ)
+  pub after : List (List ℕ)
+  pub middle : Standing
+  pub lines_are : lines ≡ before ++ after
+  pub answered : AreAnswered n s before text middle
+  pub left : Left middle middle
+
+-- the texts of all lines were written
+pub record Answered (Left : Standing → Standing → Type 0) (n : ℕ) (s : Standing) (lines : List (List ℕ)) (text : List ℕ) : Type 0 where
+  pub end : Standing
+  pub answered : AreAnswered n s lines text end
+  pub left : Left end end
+
+-- the texts of all lines were written, and a part of the report
+pub record Reported (Left : Standing → Standing → Type 0) (n : ℕ) (s : Standing) (lines : List (List ℕ)) (text : List ℕ) : Type 0 where
+  pub end : Standing
+  pub done : List ℕ
+  pub report : List ℕ
+  pub front : List ℕ
+  pub answered : AreAnswered n s lines done end
+  pub report_is : report_of end ≡ Ok report
+  pub part : IsPart front report
+  pub text_is : text ≡ done ++ front
+  pub left : Left end end
+
+-- the texts of all lines were written, and they lead to no report, by this fault
+pub record Lacking (Left : Standing → Standing → Type 0) (n : ℕ) (s : Standing) (lines : List (List ℕ)) (text : List ℕ) (fault : LineStop) : Type 0 where
+  pub end : Standing
+  pub answered : AreAnswered n s lines text end
+  pub fault_is : report_of end ≡ Err fault
+  pub left : Left end end
+
+-- the texts of all lines were written, and the whole report
+pub record Finished (Left : Standing → Standing → Type 0) (n : ℕ) (s : Standing) (lines : List (List ℕ)) (text : List ℕ) : Type 0 where
+  pub end : Standing
+  pub done : List ℕ
+  pub answered : AreAnswered n s lines done end
+  pub ran : ran_from n s lines ≡ record { text = text; fault = None }
+  pub left : Left end end

@@ -1,0 +1,39 @@
+-- What a run writes that has one text to write.
+use Rattle.std.specs.Prelude.{◌≡◌, ℕ, List, [], ◌++◌, Option, Some, None, Result, Ok, Err, ⊤}
+use Rattle.base_io.specs.declared.outside.SinkFault.{SinkFault}
+use Rattle.base_io.specs.declared.outside.SinkFault.TheVariants as sink
+use Rattle.run_generated.specs.Writing.{IsFront}
+use Rattle.run_app.specs.declared.status.Status.{Status}
+use Rattle.run_app.specs.declared.status.Status.TheVariants.{Done, Usage, BadInput, Limit, ReadFault, WriteFault, KeepFault, NoMemory, BadStore, WrongStore, NotFound}
+
+-- how a run ends that has written its text, or could not
+abbrev pub status_of_sink : Result ⊤ SinkFault → Status
+status_of_sink (Ok done) = Done
+status_of_sink (Err sink.Failed) = WriteFault
+status_of_sink (Err sink.NoMemory) = NoMemory
+
+-- What a run has written that is to write this text: all of it, or a front of it at a fault of the sink and where memory is
+-- wanting. At a fault the front is all of it where the flush failed.
+abbrev pub IsWritten : List ℕ → Status → List ℕ → Type 0
+IsWritten whole Done text = text ≡ whole
+IsWritten whole Usage text = ⊥
+IsWritten whole (BadInput n fault) text = ⊥
+IsWritten whole (Limit n kind) text = ⊥
+IsWritten whole ReadFault text = ⊥
+IsWritten whole WriteFault text = IsFront text whole
+IsWritten whole KeepFault text = ⊥
+IsWritten whole NoMemory text = IsFront text whole
+IsWritten whole BadStore text = ⊥
+IsWritten whole (WrongStore is_empty) text = ⊥
+IsWritten whole NotFound text = ⊥
+
+-- what came to the sink is so, where it is told
+abbrev pub Adds : Option (List ℕ) → Option (List ℕ) → (List ℕ → Type 0) → Type 0
+Adds written written' P = (old : List ℕ) → written ≡ Some old → (text : List ℕ) × (written' ≡ Some (old ++ text)) × P text
+
+abbrev pub Writes : List ℕ → Option (List ℕ) → Option (List ℕ) → Status → Type 0
+Writes whole written written' status = Adds written written' (IsWritten whole status)
+
+-- nothing was taken from the source, and this came to the sink
+abbrev pub Leaves : Option (List ℕ) → Option (List ℕ) → Option (List ℕ) → Option (List ℕ) → (List ℕ → Type 0) → Type 0
+Leaves left left' written written' P = (left' ≡ left) × Adds written written' P

@@ -1,0 +1,103 @@
+//! The end of the output: the answer to a last line that came without its end, then the report, then the flush.
+
+ghost use Rattle.std.specs.Prelude.{◌≡◌, ◌≤◌, ◌⊎◌, true, IfErr, OnOk, IsErrOf, []};
+ghost use Rattle.base_io.specs.Outside.{Rose};
+ghost use Rattle.run_app.specs.Lines.{last_line};
+ghost use Rattle.run_app.specs.Kept.{Began, Keeping, LeftIn};
+ghost use Rattle.run_app.specs.Machine.{Standing, StandsAt};
+ghost use Rattle.store_commits.specs.Held.{TakesDistinct};
+ghost use Rattle.run_app.specs.Parts.{EndLongOnly, IsOfReport, FinishStops, Finishes, UnlessKeepAtEnd, UnlessWriteAtEnd};
+
+use crate::line::{Buffers, take_line};
+use crate::report::report_text;
+use crate::status::{EndStop, InputFault, LineStop};
+use base_io::{Keeper, Sink, SinkFault, write_all};
+use chain_whole::Chain;
+use std::alloc::Global;
+
+/// Writes the report, and flushes.
+#[tactic(auto, unfolding(crate::specs::Machine::report_of))]
+fn report<K: Sink>(alloc: Global, sink: &mut K, chain: &Option<Chain>) -> Result<(), EndStop>
+    ensures clean { OnOk result (K.clean sink.new ≡ true) }
+    ensures written { (s : Standing) → StandsAt chain.now s → OnOk result
+        (Finishes (λ _ _. Unit {0}) 1 s [] (K.written sink.old) (K.written sink.new)) }
+    ensures stops { (s : Standing) → StandsAt chain.now s → IfErr result
+        (FinishStops (λ _ _. Unit {0}) 1 s [] (K.written sink.old) (K.written sink.new)) }
+    ensures no_line { IfErr result IsOfReport }
+    ensures later { K.faults sink.old ≤ K.faults sink.new }
+    ensures report_cause { IsErrOf result EndStop.Report
+        → Rose (K.faults sink.old) (K.faults sink.new) }
+    ensures flush_cause { IsErrOf result EndStop.Flush
+        → Rose (K.faults sink.old) (K.faults sink.new) }
+    ensures quiet { UnlessWriteAtEnd result (K.faults sink.new ≡ K.faults sink.old) }
+{
+    let Some(chain) = chain else {
+        return Err(EndStop::Lacking(1, InputFault::Missing));
+    };
+    let Ok(text) = report_text(alloc, chain) else {
+        return Err(EndStop::NoMemory);
+    };
+    match write_all(sink, &text) {
+        Ok(()) => {}
+        Err(SinkFault::Failed) => return Err(EndStop::Report),
+        Err(SinkFault::NoMemory) => return Err(EndStop::NoMemory),
+    }
+    match sink.flush() {
+        Ok(()) => Ok(()),
+        Err(_) => Err(EndStop::Flush),
+    }
+}
+
+/// Answers the last line, which came without its end, where there is one; then the report and
+/// the flush.
+///
+/// # Errors
+/// `Line` with the stop of `take_line`, where the last line is not answered. `Lacking`, where there is neither a chain
+/// nor a line, so that the genesis is missing. `Report` and `Flush`, where the sink failed at the report or at the
+/// flush, and only where its count of faults rose. `NoMemory`, where memory was wanting for the report.
+pub fn finish<K: Sink, D: Keeper>(
+    alloc: Global,
+    buffers: &mut Buffers,
+    sink: &mut K,
+    keeper: &mut D,
+    number: u64,
+    chain: &mut Option<Chain>,
+    line: &[u8],
+) -> Result<(), EndStop>
+    requires takes { TakesDistinct (D.takes keeper.old) }
+    requires kept { (b : Began) × (s : Standing) × Keeping b chain.old
+        (D.rows keeper.old) (D.is_honest keeper.old) (D.may_leave keeper.old) s }
+    ensures clean { OnOk result (K.clean sink.new ≡ true) }
+    ensures done { (b : Began) → (s : Standing) → Keeping b chain.old
+        (D.rows keeper.old) (D.is_honest keeper.old) (D.may_leave keeper.old) s
+        → OnOk result (Finishes
+        (LeftIn b (D.rows keeper.new) (D.is_honest keeper.new) (D.may_leave keeper.new))
+        number s (last_line line.now) (K.written sink.old) (K.written sink.new)) }
+    ensures stops { (b : Began) → (s : Standing) → Keeping b chain.old
+        (D.rows keeper.old) (D.is_honest keeper.old) (D.may_leave keeper.old) s
+        → IfErr result (FinishStops
+        (LeftIn b (D.rows keeper.new) (D.is_honest keeper.new) (D.may_leave keeper.new))
+        number s (last_line line.now) (K.written sink.old) (K.written sink.new)) }
+    ensures long { IfErr result (λ stop. EndLongOnly stop line.now) }
+    ensures later { K.faults sink.old ≤ K.faults sink.new }
+    ensures report_cause { IsErrOf result EndStop.Report
+        → Rose (K.faults sink.old) (K.faults sink.new) }
+    ensures flush_cause { IsErrOf result EndStop.Flush
+        → Rose (K.faults sink.old) (K.faults sink.new) }
+    ensures quiet { UnlessWriteAtEnd result (K.faults sink.new ≡ K.faults sink.old) }
+    ensures line_cause { IsErrOf result (EndStop.Line LineStop.Write)
+        → Rose (K.faults sink.old) (K.faults sink.new) }
+    ensures honest { D.is_honest keeper.new → D.is_honest keeper.old }
+    ensures keep_later { D.faults keeper.old ≤ D.faults keeper.new }
+    ensures keep_cause { IsErrOf result (EndStop.Line LineStop.Keep)
+        → Rose (D.faults keeper.old) (D.faults keeper.new) }
+    ensures keep_quiet { UnlessKeepAtEnd result (D.faults keeper.new ≡ D.faults keeper.old) }
+{
+    if line.is_empty() {
+        return report(alloc, sink, chain);
+    }
+    if let Err(stop) = take_line(alloc, buffers, sink, keeper, number, chain, line) {
+        return Err(EndStop::Line(stop));
+    }
+    report(alloc, sink, chain)
+}

@@ -1,0 +1,62 @@
+//! The commands that generate their input: it is written, or a chain takes it and its summary is written. Neither takes
+//! anything from a source.
+ghost use Rattle.std.specs.Prelude.{◌≡◌, ◌≤◌, true};
+ghost use Rattle.base_io.specs.Outside.{Rose};
+ghost use Rattle.run_generated.specs.Writing.{generated_text};
+ghost use Rattle.run_trial.specs.Trial.{trial_of};
+ghost use Rattle.run_app.specs.Modes.{Tries};
+ghost use Rattle.run_app.specs.Outcome.{UnlessWriteFault};
+ghost use Rattle.run_app.specs.Writes.{Writes, status_of_sink};
+
+use crate::line::not_applied;
+use crate::status::{Status, status_of};
+use base_io::{Sink, SinkFault};
+use run_generated::{write_input, write_text};
+use run_trial::{TrialFault, try_input};
+use std::alloc::Global;
+
+/// How a run ends that has written its text, or could not.
+pub(crate) fn status_of_sink(written: Result<(), SinkFault>) -> Status
+    ensures { result ≡ status_of_sink written }
+{
+    match written {
+        Ok(()) => Status::Done,
+        Err(SinkFault::Failed) => Status::WriteFault,
+        Err(SinkFault::NoMemory) => Status::NoMemory,
+    }
+}
+
+/// The command `gen`: writes the generated input, a line at a time.
+pub(crate) fn write_generated<K: Sink>(alloc: Global, sink: &mut K, seed: u64, count: u32) -> Status
+    requires most { count ≤ 100_000 }
+    ensures ends { Writes (generated_text seed count) (K.written sink.old) (K.written sink.new)
+        result }
+    ensures busy { result ≡ Status.Usage → ⊥ }
+    ensures read { result ≡ Status.ReadFault → ⊥ }
+    ensures keep { result ≡ Status.KeepFault → ⊥ }
+    ensures clean { result ≡ Status.Done → K.clean sink.new ≡ true }
+    ensures write_cause { result ≡ Status.WriteFault
+        → Rose (K.faults sink.old) (K.faults sink.new) }
+    ensures write_quiet { UnlessWriteFault result (K.faults sink.new ≡ K.faults sink.old) }
+{
+    status_of_sink(write_input(alloc, sink, seed, count))
+}
+
+/// The command `trial`: applies the generated input to a chain, and writes its summary.
+pub(crate) fn write_trial<K: Sink>(alloc: Global, sink: &mut K, seed: u64, count: u32) -> Status
+    requires most { count ≤ 100_000 }
+    ensures ends { Tries (trial_of seed count) (K.written sink.old) (K.written sink.new) result }
+    ensures busy { result ≡ Status.Usage → ⊥ }
+    ensures read { result ≡ Status.ReadFault → ⊥ }
+    ensures keep { result ≡ Status.KeepFault → ⊥ }
+    ensures clean { result ≡ Status.Done → K.clean sink.new ≡ true }
+    ensures write_cause { result ≡ Status.WriteFault
+        → Rose (K.faults sink.old) (K.faults sink.new) }
+    ensures write_quiet { UnlessWriteFault result (K.faults sink.new ≡ K.faults sink.old) }
+{
+    match try_input(alloc, seed, count) {
+        Ok(summary) => status_of_sink(write_text(sink, &summary)),
+        Err(TrialFault::Block(line, fault)) => status_of(not_applied(line, fault)),
+        Err(TrialFault::NoMemory) => Status::NoMemory,
+    }
+}

@@ -1,0 +1,110 @@
+//! The commands that go on from what a keeper has.
+
+ghost use Rattle.std.specs.Prelude.{◌≡◌, true};
+ghost use Rattle.base_io.specs.Outside.{Rose};
+ghost use Rattle.store_commits.specs.Held.{TakesDistinct};
+ghost use Rattle.rule_machine.specs.Report.{report_of};
+ghost use Rattle.chain_modules.specs.Kept.{StandsFor};
+ghost use Rattle.line_report.specs.Asking.{answered_by};
+ghost use Rattle.rule_modules.specs.Chain.{State};
+ghost use Rattle.run_app.specs.Kept.{UnlessKeepFault};
+ghost use Rattle.run_app.specs.Outcome.{UnlessReadFault, UnlessWriteFault};
+ghost use Rattle.run_app.specs.Resumes.{Answers, QueryEnds, ResumeEnds, status_of_restore};
+
+use crate::answer::answer_text;
+use crate::generating::status_of_sink;
+use crate::running::drive;
+use crate::status::Status;
+use base_io::{Keeper, Sink, Source};
+use chain_whole::Chain;
+use line_report::Query;
+use run_generated::write_text;
+use std::alloc::Global;
+use store_resuming::{RestoreFault, restore};
+
+/// How a run ends where no chain comes of its keeper.
+fn status_of_restore(fault: RestoreFault) -> Status
+    ensures { result ≡ status_of_restore fault }
+{
+    match fault {
+        RestoreFault::Failed => Status::KeepFault,
+        RestoreFault::NoMemory => Status::NoMemory,
+        RestoreFault::Empty => Status::WrongStore(true),
+        RestoreFault::Unsound => Status::BadStore,
+    }
+}
+
+/// The command `resume`: each line is a block behind what the keeper has.
+pub(crate) fn resume<S: Source, K: Sink, D: Keeper>(
+    alloc: Global,
+    source: &mut S,
+    sink: &mut K,
+    keeper: &mut D,
+) -> Status
+    requires takes { TakesDistinct (D.takes keeper.old) }
+    ensures ends { ResumeEnds (S.left source.old) (S.left source.new)
+        (K.written sink.old) (K.written sink.new) (D.rows keeper.old) (D.rows keeper.new)
+        (D.is_honest keeper.new) (D.may_leave keeper.old) (D.may_leave keeper.new) result }
+    ensures busy { result ≡ Status.Usage → ⊥ }
+    ensures clean { result ≡ Status.Done → K.clean sink.new ≡ true }
+    ensures read_cause { result ≡ Status.ReadFault
+        → Rose (S.faults source.old) (S.faults source.new) }
+    ensures write_cause { result ≡ Status.WriteFault
+        → Rose (K.faults sink.old) (K.faults sink.new) }
+    ensures read_quiet { UnlessReadFault result (S.faults source.new ≡ S.faults source.old) }
+    ensures write_quiet { UnlessWriteFault result (K.faults sink.new ≡ K.faults sink.old) }
+    ensures keep_cause { result ≡ Status.KeepFault
+        → Rose (D.faults keeper.old) (D.faults keeper.new) }
+    ensures keep_quiet { UnlessKeepFault result (D.faults keeper.new ≡ D.faults keeper.old) }
+{
+    match restore(alloc, keeper) {
+        Ok(chain) => drive(alloc, source, sink, keeper, Some(chain)),
+        Err(fault) => status_of_restore(fault),
+    }
+}
+
+/// Writes the report's lines of a chain that answer the question.
+fn write_answer<K: Sink>(alloc: Global, sink: &mut K, chain: &Chain, what: &Query) -> Status
+    ensures ends { (p : State) → StandsFor chain.now.kept p
+        → Answers (answered_by (report_of p) what.now)
+        (K.written sink.old) (K.written sink.new) result }
+    ensures busy { result ≡ Status.Usage → ⊥ }
+    ensures read { result ≡ Status.ReadFault → ⊥ }
+    ensures keep { result ≡ Status.KeepFault → ⊥ }
+    ensures clean { result ≡ Status.Done → K.clean sink.new ≡ true }
+    ensures write_cause { result ≡ Status.WriteFault
+        → Rose (K.faults sink.old) (K.faults sink.new) }
+    ensures write_quiet { UnlessWriteFault result (K.faults sink.new ≡ K.faults sink.old) }
+{
+    match answer_text(alloc, chain, what) {
+        Ok(Some(text)) => status_of_sink(write_text(sink, &text)),
+        Ok(None) => Status::NotFound,
+        Err(_) => Status::NoMemory,
+    }
+}
+
+/// The command `query`: the report's lines that answer the question are written, and nothing is committed.
+pub(crate) fn answer<K: Sink, D: Keeper>(
+    alloc: Global,
+    sink: &mut K,
+    keeper: &mut D,
+    what: &Query,
+) -> Status
+    ensures ends { QueryEnds what.now (K.written sink.old) (K.written sink.new)
+        (D.rows keeper.old) (D.rows keeper.new) (D.is_honest keeper.new)
+        (D.may_leave keeper.old) (D.may_leave keeper.new) result }
+    ensures busy { result ≡ Status.Usage → ⊥ }
+    ensures read { result ≡ Status.ReadFault → ⊥ }
+    ensures clean { result ≡ Status.Done → K.clean sink.new ≡ true }
+    ensures write_cause { result ≡ Status.WriteFault
+        → Rose (K.faults sink.old) (K.faults sink.new) }
+    ensures write_quiet { UnlessWriteFault result (K.faults sink.new ≡ K.faults sink.old) }
+    ensures keep_cause { result ≡ Status.KeepFault
+        → Rose (D.faults keeper.old) (D.faults keeper.new) }
+    ensures keep_quiet { UnlessKeepFault result (D.faults keeper.new ≡ D.faults keeper.old) }
+{
+    match restore(alloc, keeper) {
+        Ok(chain) => write_answer(alloc, sink, &chain, what),
+        Err(fault) => status_of_restore(fault),
+    }
+}

@@ -1,0 +1,390 @@
+//! The commands: `run` reads the words of one, carries it out over a source, a sink and a keeper, and tells by a status
+//! how it ended.
+
+ghost use Rattle.std.specs.Prelude.{◌≡◌, ◌≤◌, ◌<◌, ◌^◌, ◌+◌, ◌⊎◌, [], ◌∷◌, List, ℕ, Some, None, length, map, string_bytes, true, false, IfErr, OnOk, IfOk, IfSome};
+ghost use Rattle.base_io.specs.Outside.{Rose};
+ghost use Rattle.run_app.specs.Lines.{last_line};
+ghost use Rattle.run_app.specs.Kept.{Began, Keeping, LeftIn, UnlessKeepFault};
+ghost use Rattle.run_app.specs.Machine.{longest, Standing};
+ghost use Rattle.run_words.specs.Words.{mode_of};
+ghost use Rattle.run_app.specs.Modes.{HasFewBlocks, IsUntroubledAt, ModeEnds, ReplayEnds};
+ghost use Rattle.store_commits.specs.Held.{TakesDistinct};
+ghost use Rattle.run_app.specs.Stops.{ModeStops};
+ghost use Rattle.run_app.specs.Outcome.{RunEnds, most_bytes, UnlessReadFault, UnlessWriteFault};
+ghost use Rattle.run_app.specs.Parts.{FinishStatus, Stands};
+ghost use Rattle.rule_machine.specs.Promises.{AccountsHoldWhatIsOwed, AllTransactionsEnd, ClaimsAreBracketed, RunsAreSound, ShortfallsAreBounded, SuppliesFallByBurns};
+ghost use Rattle.law_soundness.specs.Kept.{RefusalsAreNamed, RunsAreAnswered};
+ghost use Rattle.law_runs.specs.Going.{RunsGoFairly};
+ghost use Rattle.law_runs.specs.Moments.{MomentsOfRunsDoNotMatter};
+ghost use Rattle.law_runs.specs.Payees.{PayeesAreOfTheMoment};
+ghost use Rattle.law_runs.specs.Readers.{RunsTellFairly};
+ghost use Rattle.run_app.specs.Laws.{AnswersAreReplays, AnswersJoin, LinesAreReplayed, ResumesAreTheRest, RunsMayGoOn};
+
+use crate::feeding::{Progress, feed};
+use crate::finishing::finish;
+use crate::generating::{write_generated, write_trial};
+use crate::line::{Buffers, LONGEST};
+use crate::resuming::{answer, resume};
+use crate::status::{LimitKind, Status, status_at_end, status_of};
+use base_io::{KeepFault, Keeper, Sink, Source, read_at_most};
+use chain_whole::Chain;
+use json::Scratch;
+use law_runs::runs::{
+    claims_are_bracketed, moments_of_runs_do_not_matter, payees_are_of_the_moment, runs_go_fairly,
+    runs_tell_fairly, shortfalls_are_bounded,
+};
+use law_soundness::runs::{
+    accounts_hold_what_is_owed, refusals_are_named, runs_are_answered, runs_are_sound,
+    supplies_fall_by_burns,
+};
+use rule_machine::all_transactions_end;
+use run_words::{Mode, WordsFault, read_words};
+use std::alloc::Global;
+use store_commits::has_rows;
+
+/// How many bytes are asked for at once.
+const PIECE: usize = 4096;
+
+/// How many bytes an input may have.
+const MOST: u64 = 1 << 40;
+
+/// How many bytes may be taken at once, where so many were taken.
+fn room(taken: u64) -> usize
+    requires { taken < most_bytes }
+    ensures some { 0 < result }
+    ensures within { result ≤ 4096 }
+    ensures fits { taken + result ≤ most_bytes }
+{
+    if MOST - taken < PIECE as u64 {
+        (MOST - taken) as usize
+    } else {
+        PIECE
+    }
+}
+
+/// The input was read to its end.
+fn end<K: Sink, D: Keeper>(
+    alloc: Global,
+    buffers: &mut Buffers,
+    sink: &mut K,
+    keeper: &mut D,
+    progress: &mut Progress,
+) -> Status
+    requires short { length progress.old.line.items ≤ longest }
+    requires takes { TakesDistinct (D.takes keeper.old) }
+    requires kept { (b : Began) × (s : Standing) × Keeping b progress.old.chain
+        (D.rows keeper.old) (D.is_honest keeper.old) (D.may_leave keeper.old) s }
+    ensures status { (b : Began) → (s : Standing) → Keeping b progress.old.chain
+        (D.rows keeper.old) (D.is_honest keeper.old) (D.may_leave keeper.old) s
+        → FinishStatus
+        (LeftIn b (D.rows keeper.new) (D.is_honest keeper.new) (D.may_leave keeper.new))
+        progress.old.number s (last_line progress.old.line.items)
+        (K.written sink.old) (K.written sink.new) result }
+    ensures busy { result ≡ Status.Usage → ⊥ }
+    ensures begun { result ≡ Status.WrongStore false → ⊥ }
+    ensures clean { result ≡ Status.Done → K.clean sink.new ≡ true }
+    ensures read { result ≡ Status.ReadFault → ⊥ }
+    ensures later { K.faults sink.old ≤ K.faults sink.new }
+    ensures cause { result ≡ Status.WriteFault → Rose (K.faults sink.old) (K.faults sink.new) }
+    ensures quiet { UnlessWriteFault result (K.faults sink.new ≡ K.faults sink.old) }
+    ensures honest { D.is_honest keeper.new → D.is_honest keeper.old }
+    ensures keep_later { D.faults keeper.old ≤ D.faults keeper.new }
+    ensures keep_cause { result ≡ Status.KeepFault
+        → Rose (D.faults keeper.old) (D.faults keeper.new) }
+    ensures keep_quiet { UnlessKeepFault result (D.faults keeper.new ≡ D.faults keeper.old) }
+{
+    match finish(
+        alloc,
+        buffers,
+        sink,
+        keeper,
+        progress.number,
+        &mut progress.chain,
+        &progress.line,
+    ) {
+        Ok(()) => Status::Done,
+        Err(stop) => status_at_end(stop),
+    }
+}
+
+/// Takes the source to its end, from where a run begins. What was led on stays the caller's, so that no way out of
+/// the loop has a chain to let go of.
+fn take_all<S: Source, K: Sink, D: Keeper>(
+    alloc: Global,
+    buffers: &mut Buffers,
+    source: &mut S,
+    sink: &mut K,
+    keeper: &mut D,
+    progress: &mut Progress,
+) -> Status
+    requires number { progress.old.number ≡ 1 }
+    requires line { progress.old.line.items ≡ [] }
+    requires takes { TakesDistinct (D.takes keeper.old) }
+    requires kept { (b : Began) × (s : Standing) × Keeping b progress.old.chain
+        (D.rows keeper.old) (D.is_honest keeper.old) (D.may_leave keeper.old) s }
+    ensures ends { (b : Began) → (s : Standing) → Keeping b progress.old.chain
+        (D.rows keeper.old) (D.is_honest keeper.old) (D.may_leave keeper.old) s
+        → RunEnds s
+        (LeftIn b (D.rows keeper.new) (D.is_honest keeper.new) (D.may_leave keeper.new))
+        (S.left source.old) (S.left source.new) (K.written sink.old) (K.written sink.new) result }
+    ensures busy { result ≡ Status.Usage → ⊥ }
+    ensures begun { result ≡ Status.WrongStore false → ⊥ }
+    ensures clean { result ≡ Status.Done → K.clean sink.new ≡ true }
+    ensures read_cause { result ≡ Status.ReadFault
+        → Rose (S.faults source.old) (S.faults source.new) }
+    ensures write_cause { result ≡ Status.WriteFault
+        → Rose (K.faults sink.old) (K.faults sink.new) }
+    ensures read_quiet { UnlessReadFault result (S.faults source.new ≡ S.faults source.old) }
+    ensures write_quiet { UnlessWriteFault result (K.faults sink.new ≡ K.faults sink.old) }
+    ensures honest { D.is_honest keeper.new → D.is_honest keeper.old }
+    ensures keep_later { D.faults keeper.old ≤ D.faults keeper.new }
+    ensures keep_cause { result ≡ Status.KeepFault
+        → Rose (D.faults keeper.old) (D.faults keeper.new) }
+    ensures keep_quiet { UnlessKeepFault result (D.faults keeper.new ≡ D.faults keeper.old) }
+{
+    let mut piece = [0u8; PIECE];
+    let mut taken = 0u64;
+    while taken < MOST {
+        match read_at_most(source, &mut piece, room(taken)) {
+            Err(_) => return Status::ReadFault,
+            Ok(0) => return end(alloc, buffers, sink, keeper, progress),
+            Ok(n) => {
+                if let Err(stop) = feed(alloc, buffers, sink, keeper, progress, &piece[..n]) {
+                    return status_of(stop);
+                }
+                taken += n as u64;
+            }
+        }
+    }
+    match read_at_most(source, &mut piece, 1) {
+        Err(_) => Status::ReadFault,
+        Ok(0) => end(alloc, buffers, sink, keeper, progress),
+        Ok(_) => {
+            if piece[0] != b'\n' && progress.line.len() == LONGEST {
+                Status::Limit(progress.number, LimitKind::Line)
+            } else {
+                Status::Limit(progress.number, LimitKind::Input)
+            }
+        }
+    }
+}
+
+/// Runs the machine over all lines of the source, from where this chain stands.
+pub(crate) fn drive<S: Source, K: Sink, D: Keeper>(
+    alloc: Global,
+    source: &mut S,
+    sink: &mut K,
+    keeper: &mut D,
+    chain: Option<Chain>,
+) -> Status
+    requires takes { TakesDistinct (D.takes keeper.old) }
+    requires kept { (b : Began) × (s : Standing) × Keeping b chain
+        (D.rows keeper.old) (D.is_honest keeper.old) (D.may_leave keeper.old) s }
+    ensures ends { (b : Began) → (s : Standing) → Keeping b chain
+        (D.rows keeper.old) (D.is_honest keeper.old) (D.may_leave keeper.old) s
+        → RunEnds s
+        (LeftIn b (D.rows keeper.new) (D.is_honest keeper.new) (D.may_leave keeper.new))
+        (S.left source.old) (S.left source.new) (K.written sink.old) (K.written sink.new) result }
+    ensures busy { result ≡ Status.Usage → ⊥ }
+    ensures begun { result ≡ Status.WrongStore false → ⊥ }
+    ensures clean { result ≡ Status.Done → K.clean sink.new ≡ true }
+    ensures read_cause { result ≡ Status.ReadFault
+        → Rose (S.faults source.old) (S.faults source.new) }
+    ensures write_cause { result ≡ Status.WriteFault
+        → Rose (K.faults sink.old) (K.faults sink.new) }
+    ensures read_quiet { UnlessReadFault result (S.faults source.new ≡ S.faults source.old) }
+    ensures write_quiet { UnlessWriteFault result (K.faults sink.new ≡ K.faults sink.old) }
+    ensures honest { D.is_honest keeper.new → D.is_honest keeper.old }
+    ensures keep_later { D.faults keeper.old ≤ D.faults keeper.new }
+    ensures keep_cause { result ≡ Status.KeepFault
+        → Rose (D.faults keeper.old) (D.faults keeper.new) }
+    ensures keep_quiet { UnlessKeepFault result (D.faults keeper.new ≡ D.faults keeper.old) }
+{
+    let mut progress = Progress {
+        number: 1,
+        line: Vec::new(alloc),
+        chain,
+    };
+    let mut buffers = Buffers {
+        scratch: Scratch::new(alloc),
+        text: Vec::new(alloc),
+    };
+    take_all(alloc, &mut buffers, source, sink, keeper, &mut progress)
+}
+
+/// The command `replay`: a run that begins on no rows.
+fn replay<S: Source, K: Sink, D: Keeper>(
+    alloc: Global,
+    source: &mut S,
+    sink: &mut K,
+    keeper: &mut D,
+) -> Status
+    requires takes { TakesDistinct (D.takes keeper.old) }
+    ensures ends { ReplayEnds (S.left source.old) (S.left source.new)
+        (K.written sink.old) (K.written sink.new) (D.rows keeper.old) (D.rows keeper.new)
+        (D.is_honest keeper.new) (D.may_leave keeper.old) (D.may_leave keeper.new) result }
+    ensures busy { result ≡ Status.Usage → ⊥ }
+    // A keeper that keeps nothing is never refused.
+    ensures kept { result ≡ Status.WrongStore false → D.keeps keeper.old ≡ true }
+    ensures clean { result ≡ Status.Done → K.clean sink.new ≡ true }
+    ensures read_cause { result ≡ Status.ReadFault
+        → Rose (S.faults source.old) (S.faults source.new) }
+    ensures write_cause { result ≡ Status.WriteFault
+        → Rose (K.faults sink.old) (K.faults sink.new) }
+    ensures read_quiet { UnlessReadFault result (S.faults source.new ≡ S.faults source.old) }
+    ensures write_quiet { UnlessWriteFault result (K.faults sink.new ≡ K.faults sink.old) }
+    ensures keep_cause { result ≡ Status.KeepFault
+        → Rose (D.faults keeper.old) (D.faults keeper.new) }
+    ensures keep_quiet { UnlessKeepFault result (D.faults keeper.new ≡ D.faults keeper.old) }
+{
+    match has_rows(keeper) {
+        Ok(false) => drive(alloc, source, sink, keeper, None),
+        Ok(true) => Status::WrongStore(false),
+        Err(KeepFault::Failed) => Status::KeepFault,
+        Err(KeepFault::NoMemory) => Status::NoMemory,
+    }
+}
+
+/// Carries out a command.
+fn carry_out<S: Source, K: Sink, D: Keeper>(
+    alloc: Global,
+    mode: Mode,
+    source: &mut S,
+    sink: &mut K,
+    keeper: &mut D,
+) -> Status
+    requires few { HasFewBlocks mode }
+    requires takes { TakesDistinct (D.takes keeper.old) }
+    ensures ends { ModeEnds (Some mode) (S.left source.old) (S.left source.new)
+        (K.written sink.old) (K.written sink.new) (D.rows keeper.old) (D.rows keeper.new)
+        (D.is_honest keeper.new) (D.may_leave keeper.old) (D.may_leave keeper.new) result }
+    ensures busy { result ≡ Status.Usage → ⊥ }
+    // Nor does a replay refuse a keeper that keeps nothing.
+    ensures kept { mode ≡ Mode.Replay → result ≡ Status.WrongStore false
+        → D.keeps keeper.old ≡ true }
+    ensures clean { result ≡ Status.Done → K.clean sink.new ≡ true }
+    ensures read_cause { result ≡ Status.ReadFault
+        → Rose (S.faults source.old) (S.faults source.new) }
+    ensures write_cause { result ≡ Status.WriteFault
+        → Rose (K.faults sink.old) (K.faults sink.new) }
+    ensures read_quiet { UnlessReadFault result (S.faults source.new ≡ S.faults source.old) }
+    ensures write_quiet { UnlessWriteFault result (K.faults sink.new ≡ K.faults sink.old) }
+    ensures keep_cause { result ≡ Status.KeepFault
+        → Rose (D.faults keeper.old) (D.faults keeper.new) }
+    ensures keep_quiet { UnlessKeepFault result (D.faults keeper.new ≡ D.faults keeper.old) }
+{
+    match mode {
+        Mode::Replay => replay(alloc, source, sink, keeper),
+        Mode::Resume => resume(alloc, source, sink, keeper),
+        Mode::Query(what) => answer(alloc, sink, keeper, &what),
+        Mode::Gen { seed, count } => write_generated(alloc, sink, seed, count),
+        Mode::Trial { seed, count } => write_trial(alloc, sink, seed, count),
+    }
+}
+
+/// Runs the command of these words: `replay`, `resume`, `query` with a kind and perhaps an address, `gen SEED COUNT` or
+/// `trial SEED COUNT`.
+///
+/// Of `replay` the first line of the source is a genesis, each further line a block. It begins on a keeper without rows.
+/// What a line leads to is committed, and then its text is written; at the end of the input the report is written, and the
+/// sink flushed. A keeper that keeps nothing has no rows, and there a commit does nothing; all else is as over any other.
+/// `resume` goes on from the keeper's rows, so each of its lines is a block; its lines are numbered from 1. It writes and
+/// commits what the machine does from any sound state that has these rows. `query` writes the lines of that state's report
+/// that are of its kind and belong to its address, and commits nothing; it takes nothing from the source. `gen` writes the
+/// generated input, and `trial` the summary of it, which a chain takes block by block; neither takes anything from the
+/// source, or calls the keeper.
+///
+/// What each status leaves: at `Done` the whole output, flushed; at `Usage` nothing was read or
+/// written; at `BadInput` and `Limit` exactly the texts of the lines before the named one, and of a trial nothing; at
+/// `ReadFault` those of all lines that were taken with their end; at `WriteFault` all texts before the
+/// one being written and a part of that, or the whole output where the flush failed; at `KeepFault` those of the lines
+/// before the one whose commit failed, and nothing where the rows were not loaded; at `NoMemory` a front of the whole
+/// output; at `WrongStore`, `BadStore` and `NotFound` nothing. The keeper's rows are those of the last committed line, as
+/// they were where there is none: of the lines whose texts were written, and at `WriteFault` and `NoMemory` of one line more.
+/// A stop at a fault of the keeper may also leave the rows that were to be committed. `ReadFault`, `WriteFault` and
+/// `KeepFault` come only where the count of the source's, the sink's, the keeper's faults rose in this call, and that count
+/// rises at no other status.
+///
+/// `WrongStore(false)` comes exactly where `replay` loaded rows, and `WrongStore(true)` where `resume` or `query` loaded
+/// none; `BadStore` exactly where these loaded rows that are those of no sound state; `NotFound` exactly where a query has an
+/// address of which the report has no line.
+pub fn run<S: Source, K: Sink, D: Keeper>(
+    alloc: Global,
+    words: &[String],
+    source: &mut S,
+    sink: &mut K,
+    keeper: &mut D,
+) -> Status
+    // Its keeper takes every list of changes of distinct keys.
+    requires takes { TakesDistinct (D.takes keeper.old) }
+    // What was written and kept is what the words ask for.
+    ensures ends { ModeEnds (mode_of (map string_bytes words.now)) (S.left source.old)
+        (S.left source.new) (K.written sink.old) (K.written sink.new)
+        (D.rows keeper.old) (D.rows keeper.new) (D.is_honest keeper.new)
+        (D.may_leave keeper.old) (D.may_leave keeper.new) result }
+    ensures clean { result ≡ Status.Done → K.clean sink.new ≡ true }
+    // Whatever the status, a stop leaves the rows after a front of the lines that holds each line of which a byte was written.
+    ensures stops { ModeStops (mode_of (map string_bytes words.now)) (S.left source.old)
+        (K.written sink.old) (K.written sink.new) (D.rows keeper.old)
+        (D.is_honest keeper.new) (D.may_leave keeper.old) (D.may_leave keeper.new) }
+    // Usage only where the words are no command, and there nothing else but want of memory.
+    ensures usage { result ≡ Status.Usage → mode_of (map string_bytes words.now) ≡ None }
+    ensures no_command { mode_of (map string_bytes words.now) ≡ None
+        → (result ≡ Status.Usage) ⊎ (result ≡ Status.NoMemory) }
+    // A fault has its cause.
+    ensures read_cause { result ≡ Status.ReadFault
+        → Rose (S.faults source.old) (S.faults source.new) }
+    ensures write_cause { result ≡ Status.WriteFault
+        → Rose (K.faults sink.old) (K.faults sink.new) }
+    ensures read_quiet { UnlessReadFault result (S.faults source.new ≡ S.faults source.old) }
+    ensures write_quiet { UnlessWriteFault result (K.faults sink.new ≡ K.faults sink.old) }
+    ensures keep_cause { result ≡ Status.KeepFault
+        → Rose (D.faults keeper.old) (D.faults keeper.new) }
+    ensures keep_quiet { UnlessKeepFault result (D.faults keeper.new ≡ D.faults keeper.old) }
+    // Nothing else keeps the run from its end.
+    ensures complete { IsUntroubledAt (mode_of (map string_bytes words.now)) (S.left source.old)
+        (K.written sink.old) (D.keeps keeper.old) (D.rows keeper.old) (D.is_honest keeper.new)
+        (D.faults keeper.old) (D.faults keeper.new)
+        → ¬ Rose (S.faults source.old) (S.faults source.new)
+        → ¬ Rose (K.faults sink.old) (K.faults sink.new)
+        → (result ≡ Status.Done) ⊎ (result ≡ Status.NoMemory) }
+    // Lines that are answered are a replay, and what was written for them is what it reports.
+    ensures replayed { LinesAreReplayed }
+    ensures whole { AnswersAreReplays }
+    // A stopped and resumed run prints what one run does.
+    ensures rest { ResumesAreTheRest }
+    ensures joined { AnswersJoin }
+    // And wherever lines lead, a run may go on.
+    ensures onward { RunsMayGoOn }
+    // What holds of each replay.
+    ensures sound { RunsAreSound }
+    ensures accounts { AccountsHoldWhatIsOwed }
+    ensures supplies { SuppliesFallByBurns }
+    ensures transactions { AllTransactionsEnd }
+    ensures refusals { RefusalsAreNamed }
+    ensures faults { RunsAreAnswered }
+    ensures rewards { ClaimsAreBracketed }
+    ensures payments { RunsGoFairly }
+    ensures told { RunsTellFairly }
+    ensures payees { PayeesAreOfTheMoment }
+    ensures moments { MomentsOfRunsDoNotMatter }
+    ensures shortfalls { ShortfallsAreBounded }
+{
+    runs_are_sound();
+    accounts_hold_what_is_owed();
+    supplies_fall_by_burns();
+    all_transactions_end();
+    refusals_are_named();
+    runs_are_answered();
+    claims_are_bracketed();
+    runs_go_fairly();
+    runs_tell_fairly();
+    payees_are_of_the_moment();
+    moments_of_runs_do_not_matter();
+    shortfalls_are_bounded();
+    match read_words(alloc, words) {
+        Ok(mode) => carry_out(alloc, mode, source, sink, keeper),
+        Err(WordsFault::Usage) => Status::Usage,
+        Err(WordsFault::NoMemory) => Status::NoMemory,
+    }
+}

@@ -1,0 +1,5 @@
+pub mod DrawLemmas
+pub mod LineLemmas
+pub mod OnLiterals
+mod TokenLemmas
+mod WritingLemmas

@@ -1,0 +1,134 @@
+-- What a writer has written after one part of an object after another.
+use Rattle.std.proofs.Common.{◌≡◌, ◌∙◌, ap, sym, refl, ℕ, List, [], ◌∷◌, ◌++◌, append_assoc, append-nil, codes}
+use Rattle.json.specs.Token.{Token, begin_object, end_object, key}
+use Rattle.serde_json.specs.Data.{Data, string, member, no_members}
+use Rattle.line_json.specs.Told.{data_tokens}
+use Rattle.line_json.specs.Values.{count_data, moment_data}
+use Rattle.base_roles.specs.declared.messages.Evidence.{Evidence}
+use Rattle.base_roles.specs.declared.messages.Vote.{Vote}
+use Rattle.base_messages.specs.declared.block.Block.{Block}
+use Rattle.base_messages.specs.declared.block.Tx.{Tx}
+use Rattle.base_messages.specs.declared.genesis.Genesis.{Genesis}
+use Rattle.base_messages.specs.declared.genesis.GenesisAccount.{GenesisAccount}
+use Rattle.base_messages.specs.declared.genesis.GenesisDelegation.{GenesisDelegation}
+use Rattle.base_messages.specs.declared.genesis.GenesisValidator.{GenesisValidator}
+use Rattle.run_generated.specs.Lines.{block_data, delegation_data, evidence_data, genesis_data, holder_data, list_data, member_tokens, params_data, tx_data, validator_data, vote_data}
+
+-- a part was written
+grown : (old new part rest whole : List Token) → new ≡ old ++ part → old ++ (part ++ rest) ≡ whole → new ++ rest ≡ whole
+grown old new part rest whole e before = ap (λ ts. ts ++ rest) e ∙ append_assoc old part rest ∙ before
+
+-- all was
+all_told : (new whole : List Token) → new ++ [] ≡ whole → new ≡ whole
+all_told new whole e = sym (append-nil new) ∙ e
+
+-- a member that is an array
+abbrev list_told : {A : Type 0} → List ℕ → (A → Data) → List A → List Token
+list_told name form xs = key name ∷ data_tokens (list_data form xs)
+
+-- a list was written
+list_grown : {A : Type 0} (name : List ℕ) (form : A → Data) (xs ys : List A) (old new rest whole : List Token) → new ≡ old ++ list_told name form xs → xs ≡ ys
+    → old ++ (list_told name form ys ++ rest) ≡ whole → new ++ rest ≡ whole
+list_grown name form xs ys old new rest whole e same before = grown old new (list_told name form ys) rest whole (e ∙ ap (λ zs. old ++ list_told name form zs) same) before
+
+-- one member was written
+one_grown : (name : List ℕ) (d : Data) (old new rest whole : List Token) → new ≡ old ++ member_tokens (member name d no_members)
+    → old ++ ((key name ∷ data_tokens d) ++ rest) ≡ whole → new ++ rest ≡ whole
+one_grown name d old new rest whole e before = grown old new (key name ∷ data_tokens d) rest whole (e ∙ ap (λ ts. old ++ key name ∷ ts) (append-nil (data_tokens d))) before
+
+abbrev end : List Token
+end = end_object ∷ []
+
+-- ---- a block
+
+abbrev votes_on : Block → List Token
+votes_on b = list_told (codes "votes") vote_data b.votes ++ end
+
+abbrev txs_on : Block → List Token
+txs_on b = list_told (codes "txs") tx_data b.txs ++ votes_on b
+
+abbrev time_on : Block → List Token
+time_on b = (key (codes "time") ∷ data_tokens (moment_data b.time)) ++ txs_on b
+
+abbrev kind_on : Block → List Token
+kind_on b = (key (codes "kind") ∷ data_tokens (string (codes "block"))) ++ time_on b
+
+abbrev count_on : Block → List Token
+count_on b = data_tokens (count_data b.height) ++ kind_on b
+
+abbrev height_on : Block → List Token
+height_on b = (key (codes "height") ∷ []) ++ count_on b
+
+abbrev evidence_on : Block → List Token
+evidence_on b = list_told (codes "evidence") evidence_data b.evidence ++ height_on b
+
+pub block_told : (b : Block) (evidence : List Evidence) (txs : List Tx) (votes : List Vote) (old t0 t1 t2 t3 t4 t5 t6 t7 t8 : List Token)
+    → evidence ≡ b.evidence → txs ≡ b.txs → votes ≡ b.votes
+    → t0 ≡ old ++ begin_object ∷ []
+    → t1 ≡ t0 ++ list_told (codes "evidence") evidence_data evidence
+    → t2 ≡ t1 ++ key (codes "height") ∷ []
+    → t3 ≡ t2 ++ data_tokens (count_data b.height)
+    → t4 ≡ t3 ++ key (codes "kind") ∷ data_tokens (string (codes "block"))
+    → t5 ≡ t4 ++ member_tokens (member (codes "time") (moment_data b.time) no_members)
+    → t6 ≡ t5 ++ list_told (codes "txs") tx_data txs
+    → t7 ≡ t6 ++ list_told (codes "votes") vote_data votes
+    → t8 ≡ t7 ++ end
+    → t8 ≡ old ++ data_tokens (block_data b)
+block_told b evidence txs votes old t0 t1 t2 t3 t4 t5 t6 t7 t8 f g h e0 e1 e2 e3 e4 e5 e6 e7 e8 =
+    let whole = old ++ data_tokens (block_data b) in
+    let s0 : t0 ++ evidence_on b ≡ whole = grown old t0 (begin_object ∷ []) (evidence_on b) whole e0 refl in
+    let s1 : t1 ++ height_on b ≡ whole = list_grown (codes "evidence") evidence_data evidence b.evidence t0 t1 (height_on b) whole e1 f s0 in
+    let s2 : t2 ++ count_on b ≡ whole = grown t1 t2 (key (codes "height") ∷ []) (count_on b) whole e2 s1 in
+    let s3 : t3 ++ kind_on b ≡ whole = grown t2 t3 (data_tokens (count_data b.height)) (kind_on b) whole e3 s2 in
+    let s4 : t4 ++ time_on b ≡ whole = grown t3 t4 (key (codes "kind") ∷ data_tokens (string (codes "block"))) (time_on b) whole e4 s3 in
+    let s5 : t5 ++ txs_on b ≡ whole = one_grown (codes "time") (moment_data b.time) t4 t5 (txs_on b) whole e5 s4 in
+    let s6 : t6 ++ votes_on b ≡ whole = list_grown (codes "txs") tx_data txs b.txs t5 t6 (votes_on b) whole e6 g s5 in
+    let s7 : t7 ++ end ≡ whole = list_grown (codes "votes") vote_data votes b.votes t6 t7 end whole e7 h s6 in
+    all_told t8 whole (grown t7 t8 end [] whole e8 s7)
+
+-- ---- a genesis
+
+abbrev validators_on : Genesis → List Token
+validators_on g = list_told (codes "validators") validator_data g.validators ++ end
+
+abbrev start_on : Genesis → List Token
+start_on g = (key (codes "time") ∷ data_tokens (moment_data g.time)) ++ validators_on g
+
+abbrev values_on : Genesis → List Token
+values_on g = data_tokens (params_data g.params) ++ start_on g
+
+abbrev params_on : Genesis → List Token
+params_on g = (key (codes "params") ∷ []) ++ values_on g
+
+abbrev sort_on : Genesis → List Token
+sort_on g = (key (codes "kind") ∷ data_tokens (string (codes "genesis"))) ++ params_on g
+
+abbrev delegations_on : Genesis → List Token
+delegations_on g = list_told (codes "delegations") delegation_data g.delegations ++ sort_on g
+
+abbrev accounts_on : Genesis → List Token
+accounts_on g = list_told (codes "accounts") holder_data g.accounts ++ delegations_on g
+
+pub genesis_told : (g : Genesis) (accounts : List GenesisAccount) (delegations : List GenesisDelegation) (validators : List GenesisValidator) (old t0 t1 t2 t3 t4 t5 t6 t7 t8 : List Token)
+    → accounts ≡ g.accounts → delegations ≡ g.delegations → validators ≡ g.validators
+    → t0 ≡ old ++ begin_object ∷ []
+    → t1 ≡ t0 ++ list_told (codes "accounts") holder_data accounts
+    → t2 ≡ t1 ++ list_told (codes "delegations") delegation_data delegations
+    → t3 ≡ t2 ++ key (codes "kind") ∷ data_tokens (string (codes "genesis"))
+    → t4 ≡ t3 ++ key (codes "params") ∷ []
+    → t5 ≡ t4 ++ data_tokens (params_data g.params)
+    → t6 ≡ t5 ++ member_tokens (member (codes "time") (moment_data g.time) no_members)
+    → t7 ≡ t6 ++ list_told (codes "validators") validator_data validators
+    → t8 ≡ t7 ++ end
+    → t8 ≡ old ++ data_tokens (genesis_data g)
+genesis_told g accounts delegations validators old t0 t1 t2 t3 t4 t5 t6 t7 t8 a d v e0 e1 e2 e3 e4 e5 e6 e7 e8 =
+    let whole = old ++ data_tokens (genesis_data g) in
+    let s0 : t0 ++ accounts_on g ≡ whole = grown old t0 (begin_object ∷ []) (accounts_on g) whole e0 refl in
+    let s1 : t1 ++ delegations_on g ≡ whole = list_grown (codes "accounts") holder_data accounts g.accounts t0 t1 (delegations_on g) whole e1 a s0 in
+    let s2 : t2 ++ sort_on g ≡ whole = list_grown (codes "delegations") delegation_data delegations g.delegations t1 t2 (sort_on g) whole e2 d s1 in
+    let s3 : t3 ++ params_on g ≡ whole = grown t2 t3 (key (codes "kind") ∷ data_tokens (string (codes "genesis"))) (params_on g) whole e3 s2 in
+    let s4 : t4 ++ values_on g ≡ whole = grown t3 t4 (key (codes "params") ∷ []) (values_on g) whole e4 s3 in
+    let s5 : t5 ++ start_on g ≡ whole = grown t4 t5 (data_tokens (params_data g.params)) (start_on g) whole e5 s4 in
+    let s6 : t6 ++ validators_on g ≡ whole = one_grown (codes "time") (moment_data g.time) t5 t6 (validators_on g) whole e6 s5 in
+    let s7 : t7 ++ end ≡ whole = list_grown (codes "validators") validator_data validators g.validators t6 t7 end whole e7 v s6 in
+    all_told t8 whole (grown t7 t8 end [] whole e8 s7)

@@ -1,0 +1,11 @@
+use Rattle.std.proofs.Common.{◌≡◌}
+use Rattle.run_generated.specs.Input.{blocks_of}
+use Rattle.run_generated.specs.Writing.{blocks_text}
+use Rattle.run_generated.proofs.WritingLemmas.{IsOnTheWay}
+use Rattle.run_generated.proofs.input.write_blocks.Given as goal
+
+abbrev pub invariant-loop-before : goal.invariant-loop-before
+invariant-loop-before g l = record {
+  told : IsOnTheWay (g.K.Sink.written l.initial.sink) (g.K.Sink.written l.sink) l.before l.count l.generator (blocks_text (blocks_of l.seed l.count));
+  quiet : g.K.Sink.faults l.sink ≡ g.K.Sink.faults l.initial.sink;
+}

@@ -1,0 +1,228 @@
+//! The lines of an input: of a genesis, and of a block.
+ghost use Rattle.std.specs.Prelude.{◌≡◌, ◌++◌, IfErr, OnOk};
+ghost use Rattle.line_json.specs.Line.{line_of};
+ghost use Rattle.line_json.specs.Told.{data_tokens};
+ghost use Rattle.run_generated.specs.Lines.{block_data, block_line, delegation_data, evidence_data, genesis_data, genesis_line, holder_data, params_data, tx_data, validator_data, vote_data};
+
+use crate::spelling::{
+    Spelled, push_fee, push_kind, push_named_list, push_object, push_payer, push_time,
+};
+use base_messages::{
+    Block, Genesis, GenesisAccount, GenesisDelegation, GenesisValidator, LineFault, Msg, Tx,
+};
+use base_roles::{Evidence, Params, Vote};
+use json::Writer;
+use line_json::Told;
+use std::alloc::Global;
+use std::mem;
+
+impl Spelled for Vote {
+    ghost spelled = { vote_data };
+
+    fn spell(&self, alloc: Global, writer: &mut Writer) -> Result<(), LineFault> {
+        let members = [
+            ("cons", Told::Cons(&self.cons)),
+            ("power", Told::Count(self.power)),
+            ("signed", Told::Flag(self.signed)),
+        ];
+        push_object(alloc, writer, &members)
+    }
+}
+
+impl Spelled for Evidence {
+    ghost spelled = { evidence_data };
+
+    fn spell(&self, alloc: Global, writer: &mut Writer) -> Result<(), LineFault> {
+        let members = [
+            ("cons", Told::Cons(&self.cons)),
+            ("height", Told::Count(self.height)),
+            ("power", Told::Count(self.power)),
+            ("time", Told::Moment(self.time)),
+        ];
+        push_object(alloc, writer, &members)
+    }
+}
+
+impl Spelled for Tx {
+    ghost spelled = { tx_data };
+
+    fn spell(&self, alloc: Global, writer: &mut Writer) -> Result<(), LineFault> {
+        writer.begin_object()?;
+        push_fee(alloc, writer, &self.fee)?;
+        push_named_list::<Msg>(alloc, writer, "msgs", self.msgs.as_slice())?;
+        push_payer(alloc, writer, &self.payer)?;
+        writer.end_object()?;
+        Ok(())
+    }
+}
+
+impl Spelled for GenesisAccount {
+    ghost spelled = { holder_data };
+
+    fn spell(&self, alloc: Global, writer: &mut Writer) -> Result<(), LineFault> {
+        let members = [
+            ("address", Told::Account(&self.address)),
+            ("coins", Told::Coins(&self.coins)),
+        ];
+        push_object(alloc, writer, &members)
+    }
+}
+
+impl Spelled for GenesisValidator {
+    ghost spelled = { validator_data };
+
+    fn spell(&self, alloc: Global, writer: &mut Writer) -> Result<(), LineFault> {
+        let members = [
+            ("cons", Told::Cons(&self.cons)),
+            ("max_change_rate", Told::Decimal(self.max_change_rate)),
+            ("max_rate", Told::Decimal(self.max_rate)),
+            (
+                "min_self_delegation",
+                Told::Amount(self.min_self_delegation),
+            ),
+            ("operator", Told::Address(&self.operator)),
+            ("rate", Told::Decimal(self.rate)),
+        ];
+        push_object(alloc, writer, &members)
+    }
+}
+
+impl Spelled for GenesisDelegation {
+    ghost spelled = { delegation_data };
+
+    fn spell(&self, alloc: Global, writer: &mut Writer) -> Result<(), LineFault> {
+        let members = [
+            ("amount", Told::Amount(self.amount)),
+            ("delegator", Told::Address(&self.delegator)),
+            ("validator", Told::Address(&self.validator)),
+        ];
+        push_object(alloc, writer, &members)
+    }
+}
+
+/// The parameters.
+fn push_params(alloc: Global, writer: &mut Writer, params: &Params) -> Result<(), LineFault>
+    ensures ok { OnOk result (writer.new.tokens
+        ≡ writer.old.tokens ++ data_tokens (params_data params.now)) }
+    ensures before { OnOk result (writer.new.before ≡ writer.old.before) }
+    ensures fault { IfErr result (λ fault. fault ≡ LineFault.NoMemory) }
+{
+    let members = [
+        ("authority", Told::Address(&params.authority)),
+        ("bond_denom", Told::Denom(&params.bond_denom)),
+        ("community_tax", Told::Decimal(params.community_tax)),
+        (
+            "downtime_jail_duration",
+            Told::Count(params.downtime_jail_duration),
+        ),
+        ("max_age_duration", Told::Count(params.max_age_duration)),
+        ("max_age_num_blocks", Told::Count(params.max_age_num_blocks)),
+        ("max_entries", Told::Count(params.max_entries)),
+        ("max_validators", Told::Count(params.max_validators)),
+        (
+            "min_commission_rate",
+            Told::Decimal(params.min_commission_rate),
+        ),
+        (
+            "min_signed_per_window",
+            Told::Decimal(params.min_signed_per_window),
+        ),
+        ("power_reduction", Told::Count(params.power_reduction)),
+        (
+            "signed_blocks_window",
+            Told::Count(params.signed_blocks_window),
+        ),
+        (
+            "slash_fraction_double_sign",
+            Told::Decimal(params.slash_fraction_double_sign),
+        ),
+        (
+            "slash_fraction_downtime",
+            Told::Decimal(params.slash_fraction_downtime),
+        ),
+        ("unbonding_time", Told::Count(params.unbonding_time)),
+        (
+            "withdraw_addr_enabled",
+            Told::Flag(params.withdraw_addr_enabled),
+        ),
+    ];
+    push_object(alloc, writer, &members)
+}
+
+impl Spelled for Genesis {
+    ghost spelled = { genesis_data };
+
+    fn spell(&self, alloc: Global, writer: &mut Writer) -> Result<(), LineFault> {
+        writer.begin_object()?;
+        push_named_list::<GenesisAccount>(alloc, writer, "accounts", self.accounts.as_slice())?;
+        push_named_list::<GenesisDelegation>(
+            alloc,
+            writer,
+            "delegations",
+            self.delegations.as_slice(),
+        )?;
+        push_kind(writer, "genesis")?;
+        writer.key("params")?;
+        push_params(alloc, writer, &self.params)?;
+        push_time(alloc, writer, self.time)?;
+        push_named_list::<GenesisValidator>(
+            alloc,
+            writer,
+            "validators",
+            self.validators.as_slice(),
+        )?;
+        writer.end_object()?;
+        Ok(())
+    }
+}
+
+impl Spelled for Block {
+    ghost spelled = { block_data };
+
+    fn spell(&self, alloc: Global, writer: &mut Writer) -> Result<(), LineFault> {
+        writer.begin_object()?;
+        push_named_list::<Evidence>(alloc, writer, "evidence", self.evidence.as_slice())?;
+        writer.key("height")?;
+        writer.u64(self.height)?;
+        push_kind(writer, "block")?;
+        push_time(alloc, writer, self.time)?;
+        push_named_list::<Tx>(alloc, writer, "txs", self.txs.as_slice())?;
+        push_named_list::<Vote>(alloc, writer, "votes", self.votes.as_slice())?;
+        writer.end_object()?;
+        Ok(())
+    }
+}
+
+/// Appends the line of a value, and its end.
+fn push_line_of<T: Spelled>(alloc: Global, out: &mut Vec<u8>, value: &T) -> Result<(), LineFault>
+    ensures ok { OnOk result
+        (out.new.items ≡ out.old.items ++ line_of (T.spelled value.now)) }
+    ensures fault { IfErr result (λ fault. fault ≡ LineFault.NoMemory) }
+{
+    let mut writer = Writer::new(mem::replace(out, Vec::new(alloc)));
+    let pushed = value.spell(alloc, &mut writer);
+    *out = writer.into_inner();
+    pushed?;
+    out.push(b'\n')?;
+    Ok(())
+}
+
+/// Appends the line of a genesis, with its end. The only error is `NoMemory`.
+pub fn push_genesis_line(
+    alloc: Global,
+    out: &mut Vec<u8>,
+    genesis: &Genesis,
+) -> Result<(), LineFault>
+    ensures text { OnOk result (out.new.items ≡ out.old.items ++ genesis_line genesis.now) }
+    ensures fault { IfErr result (λ fault. fault ≡ LineFault.NoMemory) }
+{
+    push_line_of::<Genesis>(alloc, out, genesis)
+}
+
+/// Appends the line of a block, with its end. The only error is `NoMemory`.
+pub fn push_block_line(alloc: Global, out: &mut Vec<u8>, block: &Block) -> Result<(), LineFault>
+    ensures text { OnOk result (out.new.items ≡ out.old.items ++ block_line block.now) }
+    ensures fault { IfErr result (λ fault. fault ≡ LineFault.NoMemory) }
+{
+    push_line_of::<Block>(alloc, out, block)
+}

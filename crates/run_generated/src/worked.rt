@@ -1,0 +1,20 @@
+//! Worked rows and a law, as functions that do nothing: their contracts are the rows and the law.
+
+ghost use Rattle.run_generated.specs.Lines.{LinesByPlace};
+ghost use Rattle.run_generated.specs.Worked.{BlockWithEvidence, BlocksOfOthers, BlocksOfZero, FirstDraws, LinesOfInput, MessagesOfKinds};
+
+/// Draws, messages, blocks and lines of the generated input, by example.
+pub fn input_by_example()
+    ensures draws { FirstDraws }
+    ensures messages { MessagesOfKinds }
+    ensures zero { BlocksOfZero }
+    ensures others { BlocksOfOthers }
+    ensures evidence { BlockWithEvidence }
+    ensures lines { LinesOfInput }
+{}
+
+/// What `generate` gives for a place stands there in the list of all lines.
+#[tactic(auto, using(crate::proofs::LineLemmas::lines_by_place))]
+pub fn lines_stand_at_their_places()
+    ensures { LinesByPlace }
+{}

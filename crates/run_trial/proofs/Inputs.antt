@@ -1,0 +1,100 @@
+-- The generated input is input: its coins are lists of coins, and no condition keeps its genesis from starting a chain.
+use Rattle.std.proofs.Common.{◌≡◌, ◌∙◌, ap, refl, arith, ℕ, zero, suc, ◌+◌, ◌/◌, ◌%◌, ◌^◌, ◌<◌, ◌≤◌, ◌==◌, Bool, true, false, List, [], ◌∷◌, length, None}
+use Rattle.std.specs.Prelude.{if◌then◌else◌, All}
+use Rattle.std.specs.List.{AllByRecursion}
+use Rattle.std.proofs.lemmas.List.Elements.{All-cons, All-nil}
+use Rattle.base_coins.specs.Coins.{IsMoney}
+use Rattle.base_coins.proofs.Order.{money_from_rises}
+use Rattle.base_messages.specs.declared.block.Block.{Block}
+use Rattle.base_messages.specs.declared.block.Tx.{Tx}
+use Rattle.base_messages.specs.declared.message.Msg.{Msg}
+use Rattle.rule_machine.specs.GenesisConditions.{start_condition}
+use Rattle.rule_machine.specs.Promises.{AreInput, MessageHasCoins, TxHasCoins}
+use Rattle.run_generated.specs.declared.choices.Choices.{Choices}
+use Rattle.run_generated.specs.Drawing.{Draw, in_turn, next, numbers_from}
+use Rattle.run_generated.specs.Input.{block_drawn, blocks_of, choices_drawn, coins, evidence_drawn, first_genesis, message_of, tx_drawn, tx_of, uatom, vote_drawn}
+use Rattle.run_trial.specs.Generated.{GeneratedIsInput}
+
+-- ---- what is drawn in turn
+
+-- as many values as there are numbers
+length_drawn : {A : Type 0} (draw : ℕ → Draw A) (ns : List ℕ) (x : ℕ) → length (in_turn draw ns x).value ≡ length ns
+length_drawn draw [] x = refl
+length_drawn draw (n ∷ ns) x = ap suc (length_drawn draw ns (draw n x).state)
+
+length_numbers : (first many : ℕ) → length (numbers_from first many) ≡ many
+length_numbers first zero = refl
+length_numbers first (suc many) = ap suc (length_numbers (first + 1) many)
+
+pub so_many : {A : Type 0} (draw : ℕ → Draw A) (first many x : ℕ) → length (in_turn draw (numbers_from first many) x).value ≡ many
+so_many draw first many x = length_drawn draw (numbers_from first many) x ∙ length_numbers first many
+
+-- what holds of whatever a draw gives holds of all that is drawn
+each_so : {A : Type 0} (P : A → Type 0) (draw : ℕ → Draw A) → ((n x : ℕ) → P (draw n x).value) → (ns : List ℕ) (x : ℕ) → All P (in_turn draw ns x).value
+each_so P draw h [] x = All-nil P
+each_so P draw h (n ∷ ns) x = All-cons P (draw n x).value (in_turn draw ns (draw n x).state).value (h n x) (each_so P draw h ns (draw n x).state)
+
+pub each_in_turn : {A : Type 0} (P : A → Type 0) (draw : ℕ → Draw A) → ((n x : ℕ) → P (draw n x).value) → (ns : List ℕ) (x : ℕ) → AllByRecursion P (in_turn draw ns x).value
+each_in_turn P draw h [] x = tt
+each_in_turn P draw h (n ∷ ns) x = (h n x, each_in_turn P draw h ns (draw n x).state)
+
+-- ---- transactions
+
+coins_are_money : (n : ℕ) → 0 < n → n < 10 ^ 38 → IsMoney (coins n)
+coins_are_money n p l =
+    let some : (n == 0) ≡ false = grind arith in
+    rw some (money_from_rises ((uatom, n) ∷ []) (tt, p, l, tt))
+
+either_has : (b : Bool) (x y : Msg) → MessageHasCoins x → MessageHasCoins y → MessageHasCoins (if b then x else y)
+either_has true x y p q = p
+either_has false x y p q = q
+
+message_has_coins : (n : Choices) → 0 < n.amount → n.amount < 10 ^ 38 → MessageHasCoins (message_of n)
+message_has_coins n p l =
+    either_has (n.kind == 0) _ _ tt (either_has (n.kind == 1) _ _ tt (either_has (n.kind == 2) _ _ tt (either_has (n.kind == 3) _ _ tt (either_has (n.kind == 4) _ _ tt (coins_are_money n.amount p l)))))
+
+tx_has_coins : (n : Choices) → 0 < n.amount → n.amount < 10 ^ 38 → TxHasCoins (tx_of n)
+tx_has_coins n p l = record {
+  fee = coins_are_money 1000 (omega arith) (omega arith);
+  messages = All-cons MessageHasCoins (message_of n) [] (message_has_coins n p l) (All-nil MessageHasCoins);
+}
+
+amount_drawn : (y : ℕ) → (0 < 1 + y % 1000000) × (1 + y % 1000000 < 10 ^ 38)
+amount_drawn y = (omega arith, omega arith)
+
+drawn_has_coins : (x : ℕ) → TxHasCoins (tx_drawn x).value
+drawn_has_coins x =
+    let amount = amount_drawn (next (next (next (next x))) / 2 ^ 33) in
+    tx_has_coins (choices_drawn x).value amount.0 amount.1
+
+-- ---- blocks
+
+below_four : (y : ℕ) → y % 4 < 4
+below_four y = omega arith
+
+-- what holds of up to three transactions that are drawn holds of those of a block
+pub txs_so : (P : List Tx → Type 0) → ((many x : ℕ) → many < 4 → P (in_turn (λ place. tx_drawn) (numbers_from 0 many) x).value) → (height x : ℕ) → P (block_drawn height x).value.txs
+txs_so P h height x =
+    let s = (evidence_drawn height (in_turn vote_drawn (numbers_from 0 10) x).state).state in
+    h (next s / 2 ^ 33 % 4) (next s) (below_four (next s / 2 ^ 33))
+
+block_has_coins : (height x : ℕ) → All TxHasCoins (block_drawn height x).value.txs
+block_has_coins = txs_so (All TxHasCoins) (λ many x h. each_so TxHasCoins (λ place. tx_drawn) (λ place y. drawn_has_coins y) (numbers_from 0 many) x)
+
+few_blocks : (n many : ℕ) → n ≡ many → many ≤ 100000 → n < 2 ^ 63
+few_blocks n many e l = omega (arith, e, l)
+
+blocks_are_input : (seed many : ℕ) → many ≤ 100000 → AreInput (blocks_of seed many)
+blocks_are_input seed many l = record {
+  coins = each_so (λ (b : Block). All TxHasCoins b.txs) block_drawn block_has_coins (numbers_from 1 many) seed;
+  few = few_blocks (length (blocks_of seed many)) many (so_many block_drawn 1 many seed) l;
+}
+
+may_start : start_condition first_genesis ≡ None
+may_start = refl
+
+pub generated_is_input : GeneratedIsInput
+generated_is_input = record {
+  genesis = record { no_condition = may_start; few = omega arith };
+  blocks = blocks_are_input;
+}

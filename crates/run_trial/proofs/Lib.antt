@@ -1,0 +1,5 @@
+mod Burned
+pub mod Inputs
+mod Reported
+pub mod Room
+mod TryingLemmas

@@ -1,0 +1,22 @@
+//! The trial: the generated input is applied to a chain block by block, and summed up. No line of the input is formed.
+//!
+//! [`try_input`] gives the summary of the input of a seed, or else a [`TrialFault`]. [`Counts`] are what the reports of
+//! blocks come to: how many transactions were carried out and how many were not, and what was burned. [`push_summary`]
+//! appends the line of a summary: the counts, and what there is at the end.
+//!
+//! [`generated_is_input`] and [`counts_have_room`] are laws: a chain takes the generated input, and its counts have
+//! room.
+#![tactic(auto)]
+
+mod counting;
+mod counts;
+mod fault;
+mod laws;
+mod line;
+mod trying;
+
+pub use counts::Counts;
+pub use fault::TrialFault;
+pub use laws::{counts_have_room, generated_is_input};
+pub use line::push_summary;
+pub use trying::try_input;

@@ -1,0 +1,4 @@
+pub mod Line
+pub mod Questions
+pub mod Words
+pub mod Worked

@@ -1,0 +1,27 @@
+//! The commands, each with what its words say: `replay`, `resume`, `query`, `gen` and `trial`.
+use line_report::Query;
+
+/// What the words ask for.
+#[derive(Clone, Copy, Debug, PartialEq, Eq)]
+pub enum Mode {
+    /// The blocks of an input are applied, and what they do is written.
+    Replay,
+    /// Further blocks are applied to the chain of a store, and what they do is written.
+    Resume,
+    /// Lines of the report of a stored chain are written.
+    Query(Query),
+    /// An input is generated and written.
+    Gen {
+        /// What its draws begin with.
+        seed: u64,
+        /// How many blocks it has, from 1 to 100,000.
+        count: u32,
+    },
+    /// An input is generated and applied, and a summary is written.
+    Trial {
+        /// What its draws begin with.
+        seed: u64,
+        /// How many blocks it has, from 1 to 100,000.
+        count: u32,
+    },
+}

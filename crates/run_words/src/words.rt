@@ -1,0 +1,153 @@
+//! The words of a command line, read as a command.
+ghost use Rattle.std.specs.Prelude.{◌≡◌, ◌≤◌, length, map, string_bytes, slice_get, option_map, Some, None, false, codes, IfErr, IfOk};
+ghost use Rattle.std.specs.List.{list_any};
+ghost use Rattle.clap.specs.Simple.{app_of};
+ghost use Rattle.clap.specs.Matches.{first_value, found_of};
+ghost use Rattle.run_words.specs.Line.{three};
+ghost use Rattle.run_words.specs.Words.{alone, generating, is_option, mode_at, mode_of, with_word, with_words};
+
+use crate::asked::{address_asked, kind_asked};
+use crate::fault::WordsFault;
+use crate::mode::Mode;
+use crate::numbers::{count_of, seed_of};
+use clap::error::ErrorKind;
+use clap::{Arg, ArgMatches, Command};
+use std::alloc::{AllocError, Global};
+
+/// The command line: three words by their places, none of which has to be there.
+fn command_line<'a>(alloc: Global) -> Result<Command<'a>, AllocError>
+    ensures { IfOk result (λ command. app_of command ≡ three) }
+{
+    Command::new(alloc, "stakeplay")
+        .no_binary_name(true)
+        .arg(Arg::new(alloc, "command"))?
+        .arg(Arg::new(alloc, "first"))?
+        .arg(Arg::new(alloc, "second"))
+}
+
+/// Whether the word begins with a hyphen.
+fn is_option(word: &[u8]) -> bool
+    ensures { result ≡ is_option word.now }
+{
+    !word.is_empty() && word[0] == b'-'
+}
+
+/// Whether some word begins with a hyphen.
+fn has_option(words: &[String]) -> bool
+    ensures { result ≡ list_any (λ word. is_option (string_bytes word)) words.now }
+{
+    words.iter().any(|word| is_option(word.as_str().as_bytes()))
+}
+
+/// What stands at the places of at most three words, of which none begins with a hyphen. The only error is
+/// `NoMemory`.
+fn parsed<'a>(alloc: Global, words: &'a [String]) -> Result<ArgMatches<'a>, WordsFault>
+    requires few { length words.now ≤ 3 }
+    requires plain { list_any (λ word. is_option (string_bytes word)) words.now ≡ false }
+    ensures command { IfOk result (λ matches. first_value (found_of matches) (codes "command")
+        ≡ slice_get (map string_bytes words.now) 0) }
+    ensures first { IfOk result (λ matches. first_value (found_of matches) (codes "first")
+        ≡ slice_get (map string_bytes words.now) 1) }
+    ensures second { IfOk result (λ matches. first_value (found_of matches) (codes "second")
+        ≡ slice_get (map string_bytes words.now) 2) }
+    ensures fault { IfErr result (λ fault. fault ≡ WordsFault.NoMemory) }
+{
+    let command = command_line(alloc)?;
+    match command.try_get_matches_from(words) {
+        Ok(matches) => Ok(matches),
+        Err(fault) => match fault.kind() {
+            ErrorKind::OutOfMemory => Err(WordsFault::NoMemory),
+            _ => unreachable!(),
+        },
+    }
+}
+
+/// The command of this name alone.
+fn alone(name: &str) -> Option<Mode>
+    ensures { result ≡ alone name.now }
+{
+    if name == "replay" {
+        Some(Mode::Replay)
+    } else if name == "resume" {
+        Some(Mode::Resume)
+    } else {
+        None
+    }
+}
+
+/// The command of this name, with a seed and a number of blocks.
+fn generating(name: &str, seed: &str, count: &str) -> Option<Mode>
+    ensures { result ≡ generating name.now seed.now count.now }
+{
+    if name == "gen" {
+        let seed = seed_of(seed)?;
+        let count = count_of(count)?;
+        Some(Mode::Gen { seed, count })
+    } else if name == "trial" {
+        let seed = seed_of(seed)?;
+        let count = count_of(count)?;
+        Some(Mode::Trial { seed, count })
+    } else {
+        None
+    }
+}
+
+/// The command of this name with one word.
+fn with_word(name: &str, what: &str) -> Option<Mode>
+    ensures { result ≡ with_word name.now what.now }
+{
+    if name == "query" {
+        Some(Mode::Query(kind_asked(what)?))
+    } else {
+        None
+    }
+}
+
+/// The command of this name with two words.
+fn with_words(name: &str, first: &str, second: &str) -> Option<Mode>
+    ensures { result ≡ with_words name.now first.now second.now }
+{
+    if name == "query" {
+        Some(Mode::Query(address_asked(first, second)?))
+    } else {
+        generating(name, first, second)
+    }
+}
+
+/// What is asked for by what stands at the three places.
+fn mode_at(name: Option<&str>, first: Option<&str>, second: Option<&str>) -> Option<Mode>
+    ensures { result ≡ mode_at (option_map (λ w. w.now) name.entry)
+        (option_map (λ w. w.now) first.entry) (option_map (λ w. w.now) second.entry) }
+{
+    match (name, first, second) {
+        (Some(name), None, None) => alone(name),
+        (Some(name), Some(what), None) => with_word(name, what),
+        (Some(name), Some(first), Some(second)) => with_words(name, first, second),
+        _ => None,
+    }
+}
+
+/// What the words ask for: `replay`; `resume`; `query` with `supply`, `pool` or `validators`; `query` with `account`,
+/// `validator`, `delegations`, `rewards`, `unbondings`, `redelegations` or `signing` and an address of forty hexadecimal
+/// digits with small letters; `gen SEED COUNT`, where SEED is 1 to 20 digits below 2^64 and COUNT is from 1 to 100,000
+/// without zeros in front; or `trial SEED COUNT`.
+///
+/// The errors are `Usage`, only where the words are none of these, and `NoMemory`.
+#[tactic(auto, using(crate::proofs::RowLemmas::long_texts, crate::proofs::RowLemmas::optional_texts, crate::proofs::RowLemmas::texts_by_places))]
+pub fn read_words(alloc: Global, words: &[String]) -> Result<Mode, WordsFault>
+    ensures mode { IfOk result (λ mode. mode_of (map string_bytes words.now) ≡ Some mode) }
+    ensures usage { IfErr result (λ fault. fault ≡ WordsFault.Usage
+        → mode_of (map string_bytes words.now) ≡ None) }
+{
+    if words.len() > 3 || has_option(words) {
+        return Err(WordsFault::Usage);
+    }
+    let matches = parsed(alloc, words)?;
+    let name = matches.get_str("command");
+    let first = matches.get_str("first");
+    let second = matches.get_str("second");
+    match mode_at(name, first, second) {
+        Some(mode) => Ok(mode),
+        None => Err(WordsFault::Usage),
+    }
+}

@@ -1,0 +1,11 @@
+//! Worked rows, as a function that does nothing: its contract is the rows.
+
+ghost use Rattle.run_words.specs.Worked.{Commands, NoCommands, NoQuestions, Questions};
+
+/// Words that are a command, and words that are none.
+pub fn words_by_example()
+    ensures commands { Commands }
+    ensures none { NoCommands }
+    ensures questions { Questions }
+    ensures unasked { NoQuestions }
+{}

@@ -1,6 +1,0 @@
-use Rattle.std.proofs.Common.{◌≢◌, [], sym, subst}
-use Rattle.stk_rows.proofs.MarkLemmas.{some_marks}
-use Rattle.stk_alloc.proofs.records.AllocRecords.forget.Goals as goal
-
-pub forget-requires : goal.forget-requires
-forget-requires g c = record { some = some_marks c.self.inside.tables.marks (subst (λ b. b.marks ≢ []) (sym c.self.view_is) c.requires) }

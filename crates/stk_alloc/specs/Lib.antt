@@ -1,6 +1,0 @@
-pub mod Kept
-pub mod Owed
-pub mod Calls
-pub mod Shares
-pub mod Rows
-pub mod Laws

@@ -1,9 +1,0 @@
-//! Tests of `stk_app`. They stand apart so that they are proved without it, and nothing waits for them.
-#![tactic(auto)]
-
-#[cfg(test)]
-mod outside_tests;
-#[cfg(test)]
-mod samples;
-#[cfg(test)]
-mod tests;

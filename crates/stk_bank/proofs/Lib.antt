@@ -1,9 +1,0 @@
-pub mod KindLemmas
-pub mod OrderLemmas
-pub mod StepLemmas
-pub mod SendLemmas
-pub mod GiveLemmas
-pub mod ItemLemmas
-pub mod CoinLemmas
-pub mod PurseLemmas
-pub mod GivenLemmas

@@ -1,6 +1,0 @@
-use Rattle.std.proofs.Common.{drop}
-use Rattle.stk_bank.proofs.GiveLemmas.{Starting}
-use Rattle.stk_bank.proofs.book.Book.start.Given as goal
-
-abbrev pub invariant-loop-who : goal.invariant-loop-who
-invariant-loop-who g l = Starting l.accounts l.tables (drop l.who-index l.accounts)

@@ -1,9 +1,0 @@
-use Rattle.std.proofs.Common.{◌∙◌, sym, subst}
-use Rattle.stk_keep.specs.Holdings.{IsBacked}
-use Rattle.stk_bank.proofs.SendLemmas.{backed-sent}
-use Rattle.stk_bank.proofs.book.BookBank.send.Goals as goal
-
-pub returns-clause-backed : goal.returns-clause-backed
-returns-clause-backed g c =
-    backed-sent c.self.inside.tables c.send.new.self (subst (λ b. IsBacked b.holdings) (sym c.self.view_is) c.requires) c.send.result c.args.from.now c.args.to.now c.args.coins.now
-    c.len.ensures.money (sym c.is_short.ensures.short ∙ c.if-is_short.false) c.send.ensures.changes.ok c.send.ensures.changes.err

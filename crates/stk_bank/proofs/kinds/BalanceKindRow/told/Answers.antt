@@ -1,5 +1,0 @@
-use Rattle.stk_bank.proofs.KindLemmas.{balances_are_rowed}
-use Rattle.stk_bank.proofs.kinds.BalanceKindRow.told.Goals as goal
-
-pub returns : goal.returns
-returns c = balances_are_rowed

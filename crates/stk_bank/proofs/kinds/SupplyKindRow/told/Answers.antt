@@ -1,5 +1,0 @@
-use Rattle.stk_bank.proofs.KindLemmas.{supplies_are_rowed}
-use Rattle.stk_bank.proofs.kinds.SupplyKindRow.told.Goals as goal
-
-pub returns : goal.returns
-returns c = supplies_are_rowed

@@ -1,9 +1,0 @@
-use Rattle.std.proofs.Common.{◌≡◌, ◌+◌, ◌≤◌, drop}
-use Rattle.stk_keep.specs.Holdings.{is_short}
-use Rattle.stk_bank.proofs.tables.Tables.is_short.Given as goal
-
-abbrev pub invariant-loop-place : goal.invariant-loop-place
-invariant-loop-place g l = record {
-  short : is_short l.self.holdings l.who l.coins ≡ is_short l.self.holdings l.who (drop l.place l.coins);
-  cost : l.steps ≤ l.fn.steps + l.place;
-}

@@ -1,7 +1,0 @@
-use Rattle.std.proofs.Common.{ℕ, List, ◌≤◌, subst}
-use Rattle.std.specs.Prelude.{IfOk}
-use Rattle.stk_coins.specs.Coins.{amount_of}
-use Rattle.stk_bank_trials.proofs.tests.purse.Goals as goal
-
-pub returns : goal.returns
-returns g c = subst (λ r. IfOk r (λ coins. (d : List ℕ) → amount_of coins d ≤ 1000)) c.expect.ensures c.coins.ensures

@@ -1,4 +1,0 @@
-use Rattle.stk_bank_trials.proofs.trials.balances_are_kept_and_listed.Given as goal
-
-abbrev pub ghosts-tried : goal.ghosts-tried
-ghosts-tried g a = record { name = a.blank.name; parts = a.blank.parts }

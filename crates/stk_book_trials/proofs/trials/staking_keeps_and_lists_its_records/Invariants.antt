@@ -1,4 +1,0 @@
-use Rattle.stk_book_trials.proofs.trials.staking_keeps_and_lists_its_records.Given as goal
-
-abbrev pub ghosts-tried : goal.ghosts-tried
-ghosts-tried g a = record { name = a.blank.name; parts = a.blank.parts }

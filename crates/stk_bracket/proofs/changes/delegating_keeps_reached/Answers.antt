@@ -1,8 +1,0 @@
-use Rattle.stk_bracket.proofs.Delegating.{delegating_keeps_reached, cancelling_keeps_reached}
-use Rattle.stk_bracket.proofs.changes.delegating_keeps_reached.Goals as goal
-
-pub returns-clause-delegated : goal.returns-clause-delegated
-returns-clause-delegated c = delegating_keeps_reached
-
-pub returns-clause-cancelled : goal.returns-clause-cancelled
-returns-clause-cancelled c = cancelling_keeps_reached

@@ -1,5 +1,0 @@
-use Rattle.stk_bracket.proofs.Claims.{reached_has_shortfall_within}
-use Rattle.stk_bracket.proofs.states.reached_has_shortfall_within.Goals as goal
-
-pub returns : goal.returns
-returns c = reached_has_shortfall_within

@@ -1,5 +1,0 @@
-use Rattle.stk_bracket.proofs.Beginnings.{reward_messages_keep_reached}
-use Rattle.stk_bracket.proofs.states.reward_messages_keep_reached.Goals as goal
-
-pub returns : goal.returns
-returns c = reward_messages_keep_reached

@@ -1,5 +1,0 @@
-use Rattle.stk_bracket.proofs.Edits.{standing_messages_keep_reached}
-use Rattle.stk_bracket.proofs.states.standing_messages_keep_reached.Goals as goal
-
-pub returns : goal.returns
-returns c = standing_messages_keep_reached

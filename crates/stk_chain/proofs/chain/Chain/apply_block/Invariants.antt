@@ -1,4 +1,0 @@
-use Rattle.stk_chain.proofs.chain.Chain.apply_block.Given as goal
-
-abbrev pub ghosts-apply : goal.ghosts-apply
-ghosts-apply a = record { name = a.blank.name; parts = a.blank.parts }

@@ -1,4 +1,0 @@
-use Rattle.stk_chain.proofs.chain.Chain.changes.Given as goal
-
-abbrev pub ghosts-changes_of : goal.ghosts-changes_of
-ghosts-changes_of a = record { name = a.blank.name; parts = a.blank.parts }

@@ -1,4 +1,0 @@
-use Rattle.stk_chain.proofs.chain.Chain.pending.Given as goal
-
-abbrev pub ghosts-pending_of : goal.ghosts-pending_of
-ghosts-pending_of a = record { name = a.blank.name; parts = a.blank.parts }

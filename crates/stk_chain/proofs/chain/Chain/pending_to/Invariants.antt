@@ -1,4 +1,0 @@
-use Rattle.stk_chain.proofs.chain.Chain.pending_to.Given as goal
-
-abbrev pub ghosts-pending_to : goal.ghosts-pending_to
-ghosts-pending_to a = record { name = a.blank.name; parts = a.blank.parts }

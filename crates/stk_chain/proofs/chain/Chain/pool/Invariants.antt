@@ -1,4 +1,0 @@
-use Rattle.stk_chain.proofs.chain.Chain.pool.Given as goal
-
-abbrev pub ghosts-pool_of : goal.ghosts-pool_of
-ghosts-pool_of a = record { name = a.blank.name; parts = a.blank.parts }

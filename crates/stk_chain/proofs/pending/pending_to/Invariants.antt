@@ -1,9 +1,0 @@
-use Rattle.std.proofs.Common.{◌≡◌, take}
-use Rattle.std.specs.List.{flat_map}
-use Rattle.stk_rules.specs.Chain.{State}
-use Rattle.stk_modules.specs.Kept.{StandsFor, kept_of}
-use Rattle.stk_chain.specs.Pending.{own_of_item}
-use Rattle.stk_chain.proofs.pending.pending_to.Given as goal
-
-abbrev pub invariant-loop-item : goal.invariant-loop-item
-invariant-loop-item g l = (p : State) → StandsFor (kept_of l.modules) p → l.list.items ≡ flat_map (own_of_item p l.who) (take l.item-index l.item-items)

@@ -1,8 +1,0 @@
-use Rattle.std.proofs.Common.{◌^◌, ◌≤◌, List, sym, subst}
-use Rattle.stk_msgs.specs.declared.genesis.GenesisDelegation.{GenesisDelegation}
-use Rattle.stk_chain.proofs.DelegatedLemmas.{amounts, delegated_most, total_known}
-use Rattle.stk_chain.proofs.supplies.delegated_coins.Goals as goal
-
-pub unwrap-amount-requires : goal.unwrap-amount-requires
-unwrap-amount-requires c = total_known _ c.total_delegated.result (amounts c.as_slice.result.now) c.total_delegated.ensures
-    (subst (λ (l : List GenesisDelegation). amounts l ≤ 10 ^ 18) (sym c.as_slice.ensures) (delegated_most c.args.genesis.now c.requires.starts))

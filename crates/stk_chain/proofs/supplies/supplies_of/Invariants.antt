@@ -1,5 +1,0 @@
-use Rattle.stk_chain.proofs.SupplyLemmas.{HeldSoFar}
-use Rattle.stk_chain.proofs.supplies.supplies_of.Given as goal
-
-abbrev pub invariant-loop-account : goal.invariant-loop-account
-invariant-loop-account l = HeldSoFar l.accounts l.account-index l.supplies.entries

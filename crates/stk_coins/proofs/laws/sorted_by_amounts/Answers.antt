@@ -1,6 +1,0 @@
-use Rattle.stk_coins.proofs.Order.{money_from_rises}
-use Rattle.stk_coins.proofs.Sorting.{rises_sorted, amount-sorted}
-use Rattle.stk_coins.proofs.laws.sorted_by_amounts.Goals as goal
-
-pub returns : goal.returns
-returns c = λ x b. (money_from_rises _ (rises_sorted x b), λ d. amount-sorted x d b)

@@ -1,5 +1,0 @@
-use Rattle.stk_dec.proofs.Nearest.{even_nearest}
-use Rattle.stk_dec.proofs.laws.even_is_nearest.Goals as goal
-
-pub returns : goal.returns
-returns c = λ a d some. ((even_nearest a d some).near, (even_nearest a d some).tie)

@@ -1,6 +1,0 @@
-use Rattle.std.proofs.Common.{inl, inr}
-use Rattle.stk_dec.proofs.Form.{says, reads_whole, reads_places}
-use Rattle.stk_dec.proofs.laws.form_is_exact.Goals as goal
-
-pub returns : goal.returns
-returns c = λ text n. (λ e. says text n e, λ h. elim h [ inl whole ↦ reads_whole text n whole | inr places ↦ reads_places text n places ])

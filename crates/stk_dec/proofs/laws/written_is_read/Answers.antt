@@ -1,5 +1,0 @@
-use Rattle.stk_dec.proofs.Inverse.{written_canonical, written_read}
-use Rattle.stk_dec.proofs.laws.written_is_read.Goals as goal
-
-pub returns : goal.returns
-returns c = λ n small. (written_canonical n small, written_read n small)

@@ -1,5 +1,0 @@
-use Rattle.stk_dec.proofs.Written.{pow_below_20}
-use Rattle.stk_dec.proofs.text.digit_count.Goals as goal
-
-pub returns-else-value-lt10-clause-short : goal.returns-else-value-lt10-clause-short
-returns-else-value-lt10-clause-short c = pow_below_20 c.ilog10.result c.args.value c.ilog10.ensures.power_le c.requires

@@ -1,5 +1,0 @@
-use Rattle.stk_decided.proofs.AgainLaws.{records_again}
-use Rattle.stk_decided.proofs.again.records_of_state.Goals as goal
-
-pub returns : goal.returns
-returns c = λ r a coins t. records_again r a coins t

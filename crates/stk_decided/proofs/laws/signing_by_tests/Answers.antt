@@ -1,5 +1,0 @@
-use Rattle.stk_decided.proofs.DecisionLaws.{signing_is_sound}
-use Rattle.stk_decided.proofs.laws.signing_by_tests.Goals as goal
-
-pub returns : goal.returns
-returns c = λ r a t. signing_is_sound r a t

@@ -1,5 +1,0 @@
-use Rattle.stk_decided.proofs.ListedLaws.{listed_gathered}
-use Rattle.stk_decided.proofs.listed.listed_items_are_gathered.Goals as goal
-
-pub returns : goal.returns
-returns c = λ r items a p. listed_gathered r items a p

@@ -1,5 +1,0 @@
-use Rattle.stk_decided.proofs.GatheredLaws.{states_gathered}
-use Rattle.stk_decided.proofs.listed.states_are_gathered.Goals as goal
-
-pub returns : goal.returns
-returns c = λ p items s m. states_gathered p items s m

@@ -1,5 +1,0 @@
-use Rattle.stk_decided.proofs.PassLaws.{sound_records_pass}
-use Rattle.stk_decided.proofs.sound.sound_records_pass.Goals as goal
-
-pub returns : goal.returns
-returns c = λ p s m. sound_records_pass p s m

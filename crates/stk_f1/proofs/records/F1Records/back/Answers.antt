@@ -1,6 +1,0 @@
-use Rattle.std.proofs.Common.{◌≢◌, [], sym, subst}
-use Rattle.stk_rows.proofs.MarkLemmas.{some_marks}
-use Rattle.stk_f1.proofs.records.F1Records.back.Goals as goal
-
-pub back-requires : goal.back-requires
-back-requires g c = record { some = some_marks c.self.inside.tables.marks (subst (λ b. b.marks ≢ []) (sym c.self.view_is) c.requires) }

@@ -1,4 +1,0 @@
-use Rattle.stk_f1_trials.proofs.trials.counts_and_rewards_are_those_of_plain_records.Given as goal
-
-abbrev pub ghosts-tried : goal.ghosts-tried
-ghosts-tried g a = record { name = a.blank.name; parts = a.blank.parts }

@@ -1,4 +1,0 @@
-pub mod DrawLemmas
-pub mod LineLemmas
-pub mod OnLiterals
-mod TokenLemmas

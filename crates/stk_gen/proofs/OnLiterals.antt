@@ -1,8 +1,0 @@
--- What an answer unfolds to compute the generated input on literals.
-use Rattle.std.specs.Prelude.{⊤}
-use Rattle.stk_json.proofs.OnWritten.{written_on_literals}
-use Rattle.stk_gen.specs.Drawing.{next}
-
-unfoldable pub gen_on_literals : ⊤
-unfolding next written_on_literals
-gen_on_literals = tt

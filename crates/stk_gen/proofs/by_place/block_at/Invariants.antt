@@ -1,8 +1,0 @@
-use Rattle.std.proofs.Common.{◌≡◌, ◌-◌}
-use Rattle.stk_gen.specs.Drawing.{in_turn, numbers_from}
-use Rattle.stk_gen.specs.Input.{block_drawn, state_behind}
-use Rattle.stk_gen.proofs.by_place.block_at.Given as goal
-
-abbrev pub invariant-loop-before : goal.invariant-loop-before
-invariant-loop-before l =
-    (in_turn block_drawn (numbers_from l.before (l.height - l.before)) l.generator).state ≡ state_behind l.seed (l.height - 1)

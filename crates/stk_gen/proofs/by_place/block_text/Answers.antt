@@ -1,8 +1,0 @@
-use Rattle.std.proofs.Common.{◌∙◌, ap, ◌++◌}
-use Rattle.stk_gen.specs.Lines.{block_line}
-use Rattle.stk_gen.proofs.by_place.block_text.Goals as goal
-
-pub returns-clause-line : goal.returns-clause-line
-returns-clause-line c =
-    c.in_ok-push_block_line.ensures.text ∙ ap (λ ts. ts ++ block_line c.in_ok-block.block) c.new-line.ensures.items
-    ∙ ap block_line c.in_ok-block.ensures.block

@@ -1,9 +1,0 @@
-use Rattle.std.proofs.Common.{◌≡◌, ◌++◌, drop}
-use Rattle.stk_json.specs.Told.{listed}
-use Rattle.stk_gen.specs.Lines.{member_tokens}
-use Rattle.stk_gen.proofs.spelling.push_members.Given as goal
-
-abbrev pub invariant-loop-name : goal.invariant-loop-name
-invariant-loop-name l =
-    (l.writer.before ≡ l.fn.writer.before)
-    × (l.writer.tokens ++ member_tokens (listed (drop l.name-index l.members)) ≡ l.fn.writer.tokens ++ member_tokens (listed l.members))

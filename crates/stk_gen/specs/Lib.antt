@@ -1,4 +1,0 @@
-pub mod Drawing
-pub mod Input
-pub mod Lines
-pub mod Rows

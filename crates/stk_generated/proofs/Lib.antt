@@ -1,4 +1,0 @@
-mod Burned
-pub mod Inputs
-mod Reported
-pub mod Room

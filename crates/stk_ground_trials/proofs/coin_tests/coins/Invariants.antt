@@ -1,6 +1,0 @@
-use Rattle.std.proofs.Common.{◌<◌, ◌^◌}
-use Rattle.std.specs.Prelude.{All}
-use Rattle.stk_ground_trials.proofs.coin_tests.coins.Given as goal
-
-abbrev pub invariant-loop-name : goal.invariant-loop-name
-invariant-loop-name g l = All (λ c. c.amount < 10 ^ 38) l.coins.items

@@ -1,5 +1,0 @@
-//! Worked rows and whole runs of the machine of `stk_machine`, computed from the definitions. They stand apart so that
-//! nothing waits for them.
-#![tactic(auto)]
-
-pub mod worked;

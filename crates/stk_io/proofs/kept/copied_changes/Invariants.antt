@@ -1,6 +1,0 @@
-use Rattle.std.proofs.Common.{◌≡◌, List, drop, vec_len}
-use Rattle.stk_io.specs.Rows.{Pair, changed}
-use Rattle.stk_io.proofs.kept.copied_changes.Given as goal
-
-abbrev pub invariant-loop-change : goal.invariant-loop-change
-invariant-loop-change l = ((rows : List Pair) → changed (drop l.change-index l.changes) (changed l.list.items rows) ≡ changed l.changes rows) × (vec_len l.list ≡ l.change-index)

@@ -1,6 +1,0 @@
-use Rattle.std.proofs.Common.{◌≡◌, take, map}
-use Rattle.stk_io.specs.Rows.{pair_of}
-use Rattle.stk_io.proofs.kept.copied_rows.Given as goal
-
-abbrev pub invariant-loop-row : goal.invariant-loop-row
-invariant-loop-row l = map pair_of l.list.items ≡ map pair_of (take l.row-index l.rows)

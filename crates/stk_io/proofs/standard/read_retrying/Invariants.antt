@@ -1,5 +1,0 @@
-use Rattle.stk_io.specs.Outside.{Stays}
-use Rattle.stk_io.proofs.standard.read_retrying.Given as goal
-
-abbrev pub invariant-loop : goal.invariant-loop
-invariant-loop g l = Stays (g.R.Read.remaining l.initial.reader) (g.R.Read.remaining l.reader)

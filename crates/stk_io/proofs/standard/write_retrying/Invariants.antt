@@ -1,5 +1,0 @@
-use Rattle.stk_io.specs.Outside.{Stays}
-use Rattle.stk_io.proofs.standard.write_retrying.Given as goal
-
-abbrev pub invariant-loop : goal.invariant-loop
-invariant-loop g l = Stays (g.W.Write.contents l.initial.writer) (g.W.Write.contents l.writer)

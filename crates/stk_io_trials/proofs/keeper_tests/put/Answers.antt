@@ -1,7 +1,0 @@
-use Rattle.std.proofs.Common.{subst}
-use Rattle.std.specs.Prelude.{IfOk}
-use Rattle.stk_io.specs.Rows.{HasDistinctKeys}
-use Rattle.stk_io_trials.proofs.keeper_tests.put.Goals as goal
-
-pub returns : goal.returns
-returns g c = subst (λ r. IfOk r (λ changes. HasDistinctKeys changes.items)) c.expect.ensures c.one_put.ensures

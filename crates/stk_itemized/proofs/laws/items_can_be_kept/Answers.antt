@@ -1,9 +1,0 @@
-use Rattle.stk_itemized.proofs.OwnKeys.{keys_once}
-use Rattle.stk_itemized.proofs.Writing.{all_written}
-use Rattle.stk_itemized.proofs.laws.items_can_be_kept.Goals as goal
-
-pub returns-clause-once : goal.returns-clause-once
-returns-clause-once c = keys_once
-
-pub returns-clause-written : goal.returns-clause-written
-returns-clause-written c = all_written

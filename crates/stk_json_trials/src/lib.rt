@@ -1,7 +1,0 @@
-//! Tests of `stk_json`. They stand apart so that they are proved without it, and nothing waits for them.
-#![tactic(auto)]
-
-#[cfg(test)]
-mod reading_tests;
-#[cfg(test)]
-mod writing_tests;

@@ -1,6 +1,0 @@
-pub mod EntryLemmas
-pub mod HoldingLemmas
-pub mod HookLemmas
-pub mod AmountLemmas
-pub mod BurnLemmas
-pub mod StakeLemmas

@@ -1,5 +1,0 @@
-use Rattle.stk_keep.proofs.HoldingLemmas.{backed-moved, backed-burned}
-use Rattle.stk_keep.proofs.laws.banks_stay_in_order.Goals as goal
-
-pub returns : goal.returns
-returns c = record { moves = λ h from to coins b m e. backed-moved coins h from to b m e; burns = backed-burned }

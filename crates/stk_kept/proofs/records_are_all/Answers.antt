@@ -1,5 +1,0 @@
-use Rattle.stk_kept.proofs.KeepLaws.{keeps_all}
-use Rattle.stk_kept.proofs.records_are_all.Goals as goal
-
-pub returns : goal.returns
-returns c = λ k p s none o h. keeps_all k p s none o h

@@ -1,4 +1,0 @@
-pub mod HoldLemmas
-pub mod FillLemmas
-pub mod LoadedLemmas
-pub mod NewLemmas

@@ -1,5 +1,0 @@
-use Rattle.stk_machine.proofs.EndLemmas.{plain_messages_name_conditions}
-use Rattle.stk_machine.proofs.laws.plain_messages_name_conditions.Goals as goal
-
-pub returns : goal.returns
-returns c = plain_messages_name_conditions c.refusals_name_conditions.ensures

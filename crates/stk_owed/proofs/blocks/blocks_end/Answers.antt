@@ -1,6 +1,0 @@
-use Rattle.stk_owed.proofs.Giving.{blocks_end}
-use Rattle.stk_owed.proofs.blocks.blocks_end.Goals as goal
-
--- src/blocks.rt:54:1
-pub returns : goal.returns
-returns c = blocks_end

@@ -1,6 +1,0 @@
-use Rattle.stk_owed.proofs.Together.{sound_is_kept}
-use Rattle.stk_owed.proofs.runs.sound_is_kept.Goals as goal
-
--- src/runs.rt:10:1
-pub returns : goal.returns
-returns c = sound_is_kept

@@ -1,9 +1,0 @@
-use Rattle.std.proofs.Common.{◌≡◌, subst, IfOk}
-use Rattle.stk_plain.specs.Gathering.{some_if}
-use Rattle.stk_plain.proofs.KeyLemmas.{balance_new}
-use Rattle.stk_plain.proofs.places.put_balance.Goals as goal
-
-pub returns : goal.returns
-returns c =
-    subst (λ r. IfOk c.put_new.result (λ new. r ≡ some_if new c.put_new.new.entries.entries))
-    (balance_new c.args.balances.now.entries c.args.place c.args.amount) c.put_new.ensures

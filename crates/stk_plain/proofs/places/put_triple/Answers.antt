@@ -1,9 +1,0 @@
-use Rattle.std.proofs.Common.{◌≡◌, subst, IfOk}
-use Rattle.stk_plain.specs.Gathering.{some_if}
-use Rattle.stk_plain.proofs.KeyLemmas.{triple_new}
-use Rattle.stk_plain.proofs.places.put_triple.Goals as goal
-
-pub returns : goal.returns
-returns g c =
-    subst (λ r. IfOk c.put_new.result (λ new. r ≡ some_if new c.put_new.new.entries.entries))
-    (triple_new c.args.entries.now.entries c.args.key c.args.value) c.put_new.ensures

@@ -1,8 +1,0 @@
-use Rattle.std.proofs.Common.{sym}
-use Rattle.stk_rules.proofs.SoundLemmas.{to_points}
-use Rattle.stk_redelegate.proofs.asking.can_leave.Goals as goal
-
-pub shares_to_unbond-requires : goal.shares_to_unbond-requires
-shares_to_unbond-requires g c =
-    let at = to_points c.requires.sound.0 c.args.staking.now.staked c.requires.sound.1 in
-    record { tokens = (at.validators c.args.source.now _ (sym c.in-Some.ensures.value)).tokens }

@@ -1,8 +1,0 @@
-use Rattle.std.proofs.Common.{subst}
-use Rattle.std.specs.List.Sorted.{IsStrictlySortedBy}
-use Rattle.std.specs.Map.{keys_of}
-use Rattle.stk_redelegate.proofs.OrderLemmas.{triple_order_is}
-use Rattle.stk_redelegate.proofs.keyed.known.Goals as goal
-
-pub returns-clause-ordered : goal.returns-clause-ordered
-returns-clause-ordered c = subst (λ order. IsStrictlySortedBy order (keys_of c.args.entries.now.lists)) triple_order_is c.known.ensures.ordered

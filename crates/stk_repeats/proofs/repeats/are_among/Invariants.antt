@@ -1,5 +1,0 @@
-use Rattle.stk_repeats.proofs.RepeatLemmas.{HeldSoFar}
-use Rattle.stk_repeats.proofs.repeats.are_among.Given as goal
-
-abbrev pub invariant-loop-other : goal.invariant-loop-other
-invariant-loop-other g l = HeldSoFar g.K.Ord.cmp l.others l.other-index l.there.keys

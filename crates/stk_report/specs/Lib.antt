@@ -1,9 +1,0 @@
-pub mod Asking
-pub mod Lines
-pub mod Telling
-pub mod Groups
-pub mod Queries
-pub mod Labels
-pub mod Laws
-pub mod Seen
-pub mod Worked

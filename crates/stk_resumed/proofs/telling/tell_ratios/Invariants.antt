@@ -1,6 +1,0 @@
-use Rattle.std.specs.Prelude.{All}
-use Rattle.stk_coins.specs.Coins.{IsMoney}
-use Rattle.stk_resumed.proofs.telling.tell_ratios.Given as goal
-
-abbrev pub invariant-loop-history : goal.invariant-loop-history
-invariant-loop-history l = All (λ h. IsMoney h.1.ratio) l.history-iterator → All (λ h. IsMoney h.1.ratio) l.histories.entries

@@ -1,4 +1,0 @@
-pub mod FeeRows
-pub mod ShareRows
-pub mod SlashRows
-pub mod StakeRows

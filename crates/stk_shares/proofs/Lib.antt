@@ -1,4 +1,0 @@
-pub mod Roundings
-pub mod Values
-pub mod Fractions
-pub mod Issues

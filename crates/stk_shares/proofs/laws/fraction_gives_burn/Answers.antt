@@ -1,5 +1,0 @@
-use Rattle.stk_shares.proofs.Fractions.{fraction_gives_burn}
-use Rattle.stk_shares.proofs.laws.fraction_gives_burn.Goals as goal
-
-pub returns : goal.returns
-returns c = fraction_gives_burn

@@ -1,5 +1,0 @@
-use Rattle.stk_shares.proofs.Fractions.{fraction_is_just_above}
-use Rattle.stk_shares.proofs.laws.fraction_is_just_above.Goals as goal
-
-pub returns : goal.returns
-returns c = fraction_is_just_above

@@ -1,5 +1,0 @@
-use Rattle.stk_shares.proofs.Issues.{issue_never_lowers}
-use Rattle.stk_shares.proofs.laws.issue_never_lowers.Goals as goal
-
-pub returns : goal.returns
-returns c = issue_never_lowers

@@ -1,5 +1,0 @@
-mod AmountLemmas
-mod StillLemmas
-pub mod FallLemmas
-mod BurntLemmas
-mod ToldLemmas

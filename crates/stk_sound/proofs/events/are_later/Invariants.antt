@@ -1,6 +1,0 @@
-use Rattle.std.proofs.Common.{◌≡◌, None}
-use Rattle.stk_sound.specs.Events.{are_later}
-use Rattle.stk_sound.proofs.events.are_later.Given as goal
-
-abbrev pub invariant-loop-key : goal.invariant-loop-key
-invariant-loop-key l = are_later l.last l.key-iterator ≡ are_later None l.events.entries

@@ -1,7 +1,0 @@
-use Rattle.std.proofs.Common.{◌≡◌, drop, map}
-use Rattle.stk_coins.specs.declared.coin.DecCoin.{DecCoin}
-use Rattle.stk_sound.specs.Accounts.{coin_totals}
-use Rattle.stk_sound.proofs.rewards.add_coins.Given as goal
-
-abbrev pub invariant-loop-coin : goal.invariant-loop-coin
-invariant-loop-coin l = coin_totals (map (λ (c : DecCoin). (c.denom, c.amount)) (drop l.coin-index l.coin-items)) l.owed.entries ≡ coin_totals l.coins l.fn.owed.entries

@@ -1,6 +1,0 @@
-use Rattle.std.proofs.Common.{◌∙◌}
-use Rattle.stk_sound.proofs.BackingLemmas.{delegated}
-use Rattle.stk_sound.proofs.shares.have_shares.Goals as goal
-
-pub returns : goal.returns
-returns c = c.have_totals.ensures ∙ delegated c.args.delegations.now.entries c.args.validators.now.entries _ c.in_ok-totals.ensures

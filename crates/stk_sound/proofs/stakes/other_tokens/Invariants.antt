@@ -1,7 +1,0 @@
-use Rattle.std.proofs.Common.{◌≡◌}
-use Rattle.stk_sound.specs.Accounts.{others_of}
-use Rattle.stk_sound.specs.Tally.{summed}
-use Rattle.stk_sound.proofs.stakes.other_tokens.Given as goal
-
-abbrev pub invariant-loop-validator : goal.invariant-loop-validator
-invariant-loop-validator l = summed (λ e. others_of e.1) l.validator-iterator l.total ≡ summed (λ e. others_of e.1) l.validators.entries 0

@@ -1,5 +1,0 @@
-use Rattle.std.proofs.Common.{length}
-use Rattle.stk_store_trials.proofs.checked.+all_change_rows.Given as goal
-
-abbrev pub decreases-all_change_rows : goal.decreases-all_change_rows
-decreases-all_change_rows l = length l.changes.now

@@ -1,4 +1,0 @@
-pub mod Members
-pub mod Through
-pub mod Reached
-pub mod Loops

@@ -1,8 +1,0 @@
-use Rattle.std.proofs.Common.{◌≡◌, All, map, take}
-use Rattle.stk_io.specs.Rows.{pair_of}
-use Rattle.stk_rowform.specs.Rows.{row_of}
-use Rattle.stk_rowform.specs.Spelled.{HasRow}
-use Rattle.stk_stored.proofs.lists.items_of.Given as goal
-
-abbrev pub invariant-loop-row : goal.invariant-loop-row
-invariant-loop-row l = record { rows : map row_of l.items.items ≡ map pair_of (take l.row-index l.rows); found : All HasRow l.items.items }

@@ -1,6 +1,0 @@
-use Rattle.std.proofs.Common.{◌≡◌, ◌+◌, drop}
-use Rattle.stk_summary.specs.Summary.{burned_by}
-use Rattle.stk_summary.proofs.counting.burned_by.Given as goal
-
-abbrev pub invariant-loop-place : goal.invariant-loop-place
-invariant-loop-place l = l.sum + burned_by (drop l.place l.facts) ≡ burned_by l.facts

@@ -1,7 +1,0 @@
-use Rattle.std.proofs.Common.{◌≡◌, take}
-use Rattle.std.specs.Prelude.{sum_by}
-use Rattle.stk_summary.specs.Summary.{burned_by}
-use Rattle.stk_summary.proofs.counting.burned_by_all.Given as goal
-
-abbrev pub invariant-loop-tx : goal.invariant-loop-tx
-invariant-loop-tx l = l.sum ≡ sum_by (λ tx. burned_by tx.facts) (take l.tx-index l.txs)

@@ -1,9 +1,0 @@
-use Rattle.std.proofs.Common.{sym, ap}
-use Rattle.stk_table.proofs.TouchLemmas.{tells}
-use Rattle.stk_table.proofs.table.Table.touched.Goals as goal
-
-pub returns-clause-settled : goal.returns-clause-settled
-returns-clause-settled g c =
-    let is = sym c.self.view_is in
-    tells g.met.K.Ord.total g.K.PartialEq.eq g.met.K.Ord.matches_eq _ _ _ c.len.ensures.ordered c.len-2.ensures.unique
-    (ap (λ t. t.touched) is) (ap (λ t. t.entries) is) (ap (λ t. t.settled) is)

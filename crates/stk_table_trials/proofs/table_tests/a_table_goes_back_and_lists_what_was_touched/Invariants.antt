@@ -1,4 +1,0 @@
-use Rattle.stk_table_trials.proofs.table_tests.a_table_goes_back_and_lists_what_was_touched.Given as goal
-
-abbrev pub ghosts-gone_back : goal.ghosts-gone_back
-ghosts-gone_back g a = record { name = a.blank.name; parts = a.blank.parts }

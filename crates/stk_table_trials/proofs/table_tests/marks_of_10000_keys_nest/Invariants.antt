@@ -1,4 +1,0 @@
-use Rattle.stk_table_trials.proofs.table_tests.marks_of_10000_keys_nest.Given as goal
-
-abbrev pub ghosts-last_values : goal.ghosts-last_values
-ghosts-last_values g a = record { name = a.blank.name; parts = a.blank.parts }

@@ -1,5 +1,0 @@
-use Rattle.stk_transactions.proofs.MessageLemmas.{SoFar}
-use Rattle.stk_transactions.proofs.transaction.apply_messages.Given as goal
-
-abbrev pub invariant-loop-place : goal.invariant-loop-place
-invariant-loop-place g l = SoFar l.messages l.place l.initial.modules l.modules

@@ -1,5 +1,0 @@
-use Rattle.stk_types.proofs.DigitLemmas.{value_at}
-use Rattle.stk_types.proofs.digits.value_of.Goals as goal
-
-pub returns : goal.returns
-returns c = value_at c.args.c c.ranges.c.fits

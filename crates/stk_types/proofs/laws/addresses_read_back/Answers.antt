@@ -1,5 +1,0 @@
-use Rattle.stk_types.proofs.AddressLemmas.{address_of-address_text}
-use Rattle.stk_types.proofs.laws.addresses_read_back.Goals as goal
-
-pub returns : goal.returns
-returns c = address_of-address_text

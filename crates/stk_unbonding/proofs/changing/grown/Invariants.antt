@@ -1,7 +1,0 @@
-use Rattle.std.proofs.Common.{◌≡◌, ◌++◌, cond, drop}
-use Rattle.stk_rules.specs.Unbondings.{grown}
-use Rattle.stk_unbonding.proofs.changing.grown.Given as goal
-
-abbrev pub invariant-loop-entry : goal.invariant-loop-entry
-invariant-loop-entry l =
-    l.list.items ++ cond l.is_added (drop l.entry-index l.entries) (grown l.height l.completes l.amount (drop l.entry-index l.entries)) ≡ grown l.height l.completes l.amount l.entries

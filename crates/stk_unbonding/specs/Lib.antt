@@ -1,4 +1,0 @@
-pub mod Rows
-pub mod Calls
-pub mod Scenes
-pub mod Walked

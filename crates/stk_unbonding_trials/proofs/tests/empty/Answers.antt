@@ -1,6 +1,0 @@
-use Rattle.std.proofs.Common.{refl, ap}
-use Rattle.stk_unbonding_trials.proofs.TrialLemmas.{fit-empty}
-use Rattle.stk_unbonding_trials.proofs.tests.empty.Goals as goal
-
-pub returns-clause-fit : goal.returns-clause-fit
-returns-clause-fit g c = fit-empty _ _ _ (ap (λ k. k.lists) c.new-unbondings.ensures) (ap (λ r. r.staked) c.new-staking.ensures) c.params.ensures c.moment.ensures refl c.in_ok-bank.ensures

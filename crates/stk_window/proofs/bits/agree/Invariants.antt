@@ -1,6 +1,0 @@
-use Rattle.std.proofs.Common.{◌≡◌, ℕ, ◌<◌}
-use Rattle.stk_window.specs.Rings.{is_set}
-use Rattle.stk_window.proofs.bits.agree.Given as goal
-
-abbrev pub invariant-loop-place : goal.invariant-loop-place
-invariant-loop-place l = (place : ℕ) → place < l.place → is_set l.row place ≡ is_set l.other place

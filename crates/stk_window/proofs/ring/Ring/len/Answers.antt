@@ -1,5 +1,0 @@
-use Rattle.std.proofs.Common.{◌∙◌, length, sym, ap}
-use Rattle.stk_window.proofs.ring.Ring.len.Goals as goal
-
-pub returns : goal.returns
-returns c = sym c.self.invariant ∙ ap length c.self.view_is

@@ -1,5 +1,0 @@
-use Rattle.stk_window.proofs.WalkLemmas.{ToldSignings}
-use Rattle.stk_window.proofs.walk.changes_into.Given as goal
-
-abbrev pub invariant-loop-cons : goal.invariant-loop-cons
-invariant-loop-cons g l = ToldSignings l.rows.settled l.rows.entries l.fn.out.items l.entries.touched l.entries.entries l.out.items l.cons-iterator

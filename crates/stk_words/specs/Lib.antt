@@ -1,4 +1,0 @@
-pub mod Line
-pub mod Questions
-pub mod Rows
-pub mod Words

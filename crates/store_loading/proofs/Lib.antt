@@ -1,0 +1,4 @@
+pub mod FillLemmas
+pub mod HoldLemmas
+pub mod LoadedLemmas
+pub mod NewLemmas

@@ -1,0 +1,4 @@
+pub mod KeepLaws
+pub mod RestoreLemmas
+mod ResumeLemmas
+pub mod StoreLemmas

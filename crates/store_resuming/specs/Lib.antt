@@ -1,0 +1,4 @@
+pub mod Kept
+pub mod Restored
+pub mod Restoring
+pub mod Resumed

@@ -1,0 +1,33 @@
+-- The states that rows are of, and the chain of rows that were loaded.
+use Rattle.std.specs.Prelude.{◌≡◌, List, [], Option, IfSome, IsSome}
+use Rattle.base_io.specs.Rows.{Pair}
+use Rattle.rule_machine.specs.Items.{items_of}
+use Rattle.rule_modules.specs.Chain.{State}
+use Rattle.rule_modules.specs.Sound.{IsSound}
+use Rattle.store_items.specs.Stored.{AreStored, rows_in}
+
+-- ---- the states that rows are of
+
+-- the rows of a state
+abbrev pub rows_of : State → List Pair
+rows_of p = rows_in (items_of p)
+
+-- A state that a keeper can hold between two runs: it is sound, each of its items has a row of its own, and no facts are left of what
+-- led to it. Its log is not kept.
+pub record IsStorable (p : State) : Type 0 where
+  pub sound : IsSound p
+  pub stored : AreStored (items_of p)
+  pub none : p.view.facts ≡ []
+
+-- they have the same rows, so what is kept does not tell them apart
+abbrev pub HaveSameRows : State → State → Type 0
+HaveSameRows p q = rows_of p ≡ rows_of q
+
+-- these are the rows of no such state
+abbrev pub AreOfNone : List Pair → Type 0
+AreOfNone rows = (p : State) → IsStorable p → rows ≡ rows_of p → ⊥
+
+-- Rows were loaded, and are left: they are so where they are told; an honest keeper still tells them.
+pub record AreLoaded (rows rows' : Option (List Pair)) (honest' : Type 0) (P : List Pair → Type 0) : Type 0 where
+  pub are : IfSome rows' P
+  pub told : honest' → IsSome rows → IsSome rows'

@@ -1,0 +1,20 @@
+//! That the records of a sound state are all that modules keep of it, so that rows decide what is kept.
+//!
+//! Each law is the contract of a function that does nothing.
+
+ghost use Rattle.store_resuming.specs.Kept.{RecordsAreAll, RecordsAreKept, RowsDecide};
+
+/// The records of a sound state, as modules keep them, stand for it.
+pub fn records_are_kept()
+    ensures { RecordsAreKept }
+{}
+
+/// They are all that stands for it in the order of its keys.
+pub fn records_are_all()
+    ensures { RecordsAreAll }
+{}
+
+/// What stands for a sound state stands for each other one with the same items.
+pub fn rows_decide_what_is_kept()
+    ensures { RowsDecide }
+{}

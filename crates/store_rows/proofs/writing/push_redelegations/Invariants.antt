@@ -1,0 +1,12 @@
+use Rattle.std.proofs.Common.{◌≡◌, ◌++◌, length, take}
+use Rattle.std.specs.List.{AllByRecursion, flat_map}
+use Rattle.store_rows.specs.Fields.{four_bytes}
+use Rattle.store_rows.specs.Rows.{redelegation_bytes}
+use Rattle.store_rows.specs.Spelled.{IsRedelegation}
+use Rattle.store_rows.proofs.writing.push_redelegations.Given as goal
+
+abbrev pub invariant-loop-entry : goal.invariant-loop-entry
+invariant-loop-entry l = record {
+  written : l.out.items ≡ (l.fn.out.items ++ four_bytes (length l.entries)) ++ flat_map redelegation_bytes (take l.entry-index l.entries);
+  range : AllByRecursion IsRedelegation (take l.entry-index l.entries);
+}

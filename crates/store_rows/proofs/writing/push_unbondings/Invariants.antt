@@ -1,0 +1,12 @@
+use Rattle.std.proofs.Common.{◌≡◌, ◌++◌, length, take}
+use Rattle.std.specs.List.{AllByRecursion, flat_map}
+use Rattle.store_rows.specs.Fields.{four_bytes}
+use Rattle.store_rows.specs.Rows.{unbonding_bytes}
+use Rattle.store_rows.specs.Spelled.{IsUnbonding}
+use Rattle.store_rows.proofs.writing.push_unbondings.Given as goal
+
+abbrev pub invariant-loop-entry : goal.invariant-loop-entry
+invariant-loop-entry l = record {
+  written : l.out.items ≡ (l.fn.out.items ++ four_bytes (length l.entries)) ++ flat_map unbonding_bytes (take l.entry-index l.entries);
+  range : AllByRecursion IsUnbonding (take l.entry-index l.entries);
+}

@@ -1,0 +1,14 @@
+pub mod Asking
+pub mod Editing
+pub mod Ending
+pub mod Finding
+pub mod Held
+pub mod Inside
+pub mod Listing
+pub mod Making
+pub mod Maps
+pub mod Numbers
+pub mod Putting
+pub mod Removing
+pub mod Telling
+pub mod Texts

@@ -1,0 +1,9 @@
+//! Tests of `run_app`. They stand apart so that they are proved without it, and nothing waits for them.
+#![tactic(auto)]
+
+#[cfg(test)]
+mod outside_tests;
+#[cfg(test)]
+mod samples;
+#[cfg(test)]
+mod tests;

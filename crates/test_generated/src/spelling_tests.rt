@@ -1,0 +1,43 @@
+//! Messages of every kind, read and written again.
+
+use json::Scratch;
+use line_json::read_block;
+use run_generated::push_block_line;
+use std::alloc::Global;
+use std::test::Fail;
+
+/// A message of each kind, as a second program wrote them.
+const MESSAGES: [&str; 16] = [
+    "{\"coins\":[{\"amount\":\"5\",\"denom\":\"uatom\"}],\"from\":\"4000000000000000000000000000000000000001\",\"kind\":\"send\",\"to\":\"4000000000000000000000000000000000000002\"}",
+    "{\"amount\":{\"amount\":\"9\",\"denom\":\"uatom\"},\"cons\":\"5000000000000000000000000000000000000001\",\"kind\":\"create_validator\",\"max_change_rate\":\"0.010000000000000000\",\"max_rate\":\"0.500000000000000000\",\"min_self_delegation\":\"3\",\"rate\":\"0.100000000000000000\",\"validator\":\"4000000000000000000000000000000000000001\"}",
+    "{\"kind\":\"edit_validator\",\"validator\":\"4000000000000000000000000000000000000001\"}",
+    "{\"kind\":\"edit_validator\",\"rate\":\"0.200000000000000000\",\"validator\":\"4000000000000000000000000000000000000001\"}",
+    "{\"kind\":\"edit_validator\",\"min_self_delegation\":\"4\",\"validator\":\"4000000000000000000000000000000000000001\"}",
+    "{\"kind\":\"edit_validator\",\"min_self_delegation\":\"4\",\"rate\":\"0.200000000000000000\",\"validator\":\"4000000000000000000000000000000000000001\"}",
+    "{\"amount\":{\"amount\":\"6\",\"denom\":\"uatom\"},\"delegator\":\"4000000000000000000000000000000000000001\",\"kind\":\"delegate\",\"validator\":\"4000000000000000000000000000000000000002\"}",
+    "{\"amount\":{\"amount\":\"6\",\"denom\":\"uatom\"},\"delegator\":\"4000000000000000000000000000000000000001\",\"kind\":\"undelegate\",\"validator\":\"4000000000000000000000000000000000000002\"}",
+    "{\"amount\":{\"amount\":\"6\",\"denom\":\"uatom\"},\"delegator\":\"4000000000000000000000000000000000000001\",\"kind\":\"begin_redelegate\",\"source\":\"4000000000000000000000000000000000000002\",\"target\":\"4000000000000000000000000000000000000003\"}",
+    "{\"amount\":{\"amount\":\"6\",\"denom\":\"uatom\"},\"creation_height\":7,\"delegator\":\"4000000000000000000000000000000000000001\",\"kind\":\"cancel_unbonding\",\"validator\":\"4000000000000000000000000000000000000002\"}",
+    "{\"kind\":\"unjail\",\"validator\":\"4000000000000000000000000000000000000002\"}",
+    "{\"delegator\":\"4000000000000000000000000000000000000001\",\"kind\":\"withdraw_reward\",\"validator\":\"4000000000000000000000000000000000000002\"}",
+    "{\"kind\":\"withdraw_commission\",\"validator\":\"4000000000000000000000000000000000000002\"}",
+    "{\"delegator\":\"4000000000000000000000000000000000000001\",\"kind\":\"set_withdraw_address\",\"withdraw\":\"4000000000000000000000000000000000000002\"}",
+    "{\"coins\":[{\"amount\":\"8\",\"denom\":\"uatom\"}],\"depositor\":\"4000000000000000000000000000000000000001\",\"kind\":\"fund_community_pool\"}",
+    "{\"authority\":\"4000000000000000000000000000000000000001\",\"coins\":[{\"amount\":\"8\",\"denom\":\"uatom\"}],\"kind\":\"community_pool_spend\",\"recipient\":\"4000000000000000000000000000000000000002\"}",
+];
+
+/// The line of a block with one message is the line that it was read from.
+#[test]
+fn each_kind_is_written_as_it_was_read(rt: HostRuntime) -> Result<(), Fail> {
+    let alloc: Global = rt.alloc();
+    for message in MESSAGES {
+        let line = format!(in alloc;
+            "{{\"evidence\":[],\"height\":7,\"kind\":\"block\",\"time\":\"2024-01-01T00:00:35Z\",\"txs\":[{{\"fee\":[],\"msgs\":[{message}],\"payer\":\"4000000000000000000000000000000000000001\"}}],\"votes\":[]}}\n"
+        )?;
+        let block = read_block(alloc, &mut Scratch::new(alloc), line.as_bytes())?;
+        let mut written = Vec::new(alloc);
+        push_block_line(alloc, &mut written, &block)?;
+        assert!(rt; written.as_slice() == line.as_bytes(), "{message}");
+    }
+    Ok(())
+}

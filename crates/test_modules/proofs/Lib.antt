@@ -1,0 +1,4 @@
+mod BankLemmas
+mod PeriodLemmas
+mod StakingLemmas
+pub mod UnbondingLemmas

@@ -1,0 +1,4 @@
+use Rattle.test_modules.proofs.bank_trials.balances_are_kept_and_listed.Given as goal
+
+abbrev pub ghosts-tried : goal.ghosts-tried
+ghosts-tried g a = record { name = a.blank.name; parts = a.blank.parts }

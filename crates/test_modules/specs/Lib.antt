@@ -1,0 +1,2 @@
+pub mod StakingTrials
+pub mod UnbondingTrials

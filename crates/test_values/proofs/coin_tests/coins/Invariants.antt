@@ -1,0 +1,6 @@
+use Rattle.std.proofs.Common.{◌<◌, ◌^◌}
+use Rattle.std.specs.Prelude.{All}
+use Rattle.test_values.proofs.coin_tests.coins.Given as goal
+
+abbrev pub invariant-loop-name : goal.invariant-loop-name
+invariant-loop-name g l = All (λ c. c.amount < 10 ^ 38) l.coins.items
