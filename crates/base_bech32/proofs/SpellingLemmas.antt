@@ -288,11 +288,6 @@ character_is_ascii prefix bytes out rest i end h e long within =
     let low = spelling_is_ascii prefix bytes h i in
     omega arith
 
-pub spelling_is_taken : (prefix bytes out rest text : List ℕ) (i end : ℕ) → out ≡ spelling_of prefix bytes ++ rest
-    → end ≡ length prefix + 39 → i ≡ end → text ≡ take i out → text ≡ spelling_of prefix bytes
-spelling_is_taken prefix bytes out rest text i end e long done inv =
-    inv ∙ (λ k. take (done k) (e k)) ∙ take_at (spelling_of prefix bytes) rest end (length-spelling_of prefix bytes ∙ sym long)
-
 pub prefix_is_short : (prefix : List ℕ) → is_prefix prefix ≡ true → length prefix ≤ 20
 prefix_is_short prefix h =
     let parts = and_parts (nat_le 1 (length prefix) && nat_le (length prefix) 20) (list_all is_small_letter prefix) h in
