@@ -24,7 +24,7 @@ import tempfile
 import time
 from typing import Any, Iterator
 
-from node_answers import Answers, Folder, Pages
+from node_answers import Answers, Folder, Pages, length
 from node_data import Value, look, moment_text, run, stop, told
 from node_flows import Beginning, Json, beginning, end
 from node_messages import transactions
@@ -33,9 +33,7 @@ MOST_BYTES = 4_194_304  # of a line
 ABSENT, COMMIT, NIL = 1, 2, 3
 
 
-def compact(value: Json) -> str:
-    """A value as a text of JSON."""
-    return json.dumps(value, separators=(",", ":"))
+compact = json.JSONEncoder(separators=(",", ":")).encode
 
 
 # ---- votes and evidence
@@ -65,10 +63,9 @@ def votes(answers: Answers, voters: Voters) -> str:
     """The list of votes for the block before: signature by signature, with the validators of its height."""
     voters.follow(answers.validators)
     signatures = answers.block.at("last_commit.signatures")
-    count = len(signatures.raw if isinstance(signatures.raw, list) else signatures.elements(or_null=True))
-    if count != len(voters.votes):
+    if length(signatures) != len(voters.votes):
         before = f"height {answers.height - 1} has {len(voters.votes)} validators"
-        signatures.fail(f"has {count} signatures, and {before}", "votes")
+        signatures.fail(f"has {length(signatures)} signatures, and {before}", "votes")
     return f"[{','.join([vote(signatures, place, voter) for place, voter in enumerate(voters.votes)])}]"
 
 
@@ -113,13 +110,11 @@ def punished(cons: Value, height: Value, value: Value, power: Value) -> Json:
 
 def block_transactions(answers: Answers) -> Iterator[Json]:
     """The transactions of a block, decoded, with their results."""
-    results = answers.results.member("txs_results").elements(or_null=True)
-    sent = answers.block.at("data.txs").elements(or_null=True)
-    decoded = len(answers.txs.raw)
-    if not len(results) == len(sent) == decoded:
-        there = f"there are {len(sent)} transactions, {decoded} of them decoded"
-        answers.results.member("txs_results").fail(f"has {len(results)} elements, and {there}", "txs")
-    for tx, result in zip(answers.txs.elements(), results):
+    results, sent = answers.results.member("txs_results"), length(answers.block.at("data.txs"))
+    if not length(results) == sent == len(answers.txs.raw):
+        there = f"there are {sent} transactions, {len(answers.txs.raw)} of them decoded"
+        results.fail(f"has {length(results)} elements, and {there}", "txs")
+    for tx, result in zip(answers.txs.elements(), results.elements(or_null=True)):
         yield from transactions(tx, result)
 
 

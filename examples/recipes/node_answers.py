@@ -20,20 +20,21 @@ BLOCK_VERSION = "11"
 _BLOCK_FILE = re.compile(r"block_([1-9][0-9]{0,18})\.json")
 
 
+def length(value: Value) -> int:
+    """How many elements a list has; CometBFT may write null for an empty one."""
+    return len(value.raw) if isinstance(value.raw, list) else len(value.elements(or_null=True))
+
+
 class Pages:
     """The elements of a list that a node answered in pages; `raw` has them one behind the other."""
 
     def __init__(self, lists: list[Value]):
         self.lists = lists
-        self.raw: list[Any] = [raw for one in lists for raw in one.raw]
-
-    def at(self, place: int) -> Value:
-        """The element of that place, which knows its file."""
-        return self.elements()[place]
+        self.raw: list[Any] = [raw for one in lists for raw in one.raw or ()]
 
     def elements(self) -> list[Value]:
         """All elements."""
-        return [element for one in self.lists for element in one.elements()]
+        return [element for one in self.lists for element in one.elements(or_null=True)]
 
 
 @dataclass(frozen=True)
@@ -147,13 +148,13 @@ class Folder:
               read: Callable[[Value], tuple[Value, Value]]) -> Pages:
         """The lists of an answer's pages; `read` gives of a page its list, and how many elements all lists have."""
         first, first_total = read(self.answer(kind, height, load))
-        lists, count, wanted = [first], len(first.elements()), first_total.number()
+        lists, count, wanted = [first], length(first), first_total.number()
         while os.path.exists(path := self.name(kind, height, len(lists) + 1)):
             elements, total = read(load(path, self.prefix))
             if total.number() != wanted:
                 total.fail(f"is {total.raw}, and {wanted} on the first page", kind)
             lists.append(elements)
-            count += len(elements.elements())
+            count += length(elements)
         if count != wanted:
             first_total.fail(f"is {wanted}, and there are {count} in {len(lists)} pages", kind)
         return Pages(lists)

@@ -41,10 +41,11 @@ def attributes(event: Value) -> dict[str, Any]:
 
 BANK_EVENTS = {"coin_spent": "spender", "coin_received": "receiver", "coinbase": "minter", "burn": "burner"}
 BANK_KINDS = frozenset(BANK_EVENTS)
+BankEvent = tuple[str, bytes, Coins]    # the type, the account and the coins
 
 
-def bank_event(event: Value) -> tuple[str, bytes, Coins] | None:
-    """The type, account and coins of an event that tells a change of a balance; nothing of another event."""
+def bank_event(event: Value) -> BankEvent | None:
+    """What an event tells of a change of a balance; nothing of another event."""
     kind = event.raw.get("type") if isinstance(event.raw, dict) else None
     if not isinstance(kind, str):
         event.member("type").text()     # refuses it

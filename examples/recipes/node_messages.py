@@ -9,7 +9,7 @@ from dataclasses import dataclass
 from typing import Callable
 
 from node_data import COLLECTOR, RESERVE, Coins, Value, coins_json, coins_of, coins_text, decimal_text, note
-from node_events import BANK_KINDS, attribute, attributes
+from node_events import BANK_KINDS, attribute, attributes, bank_event
 from node_flows import Flows, Json, picked, transaction
 
 Places = tuple[int, ...]    # the place of a message within the message that carries it out, and so on inwards
@@ -179,7 +179,7 @@ class Passed:
         """Adds what a message of another module moved."""
         flows = Flows()
         for event in events:
-            flows.add_event(event)
+            flows.add_event(bank_event(event))
         for denom, amount in flows.take_gain(COLLECTOR).items():
             self.to_collector[denom] = self.to_collector.get(denom, 0) + amount
         sends = flows.sends(message)
@@ -220,8 +220,11 @@ def fee_of(events: list[Value]) -> tuple[bytes, Coins] | None:
 
 def check_ante(events: list[Value], paid: tuple[bytes, Coins] | None, result: Value) -> None:
     """What comes before the messages may move the fee, and nothing else."""
+    told = [found for event in events if (found := bank_event(event))]
+    if told == ([("coin_spent", *paid), ("coin_received", COLLECTOR, paid[1])] if paid and paid[1] else []):
+        return
     flows = Flows()
-    for event in events:
+    for event in told:
         flows.add_event(event)
     if paid:
         flows.add(paid[0], paid[1], 1)
