@@ -17,6 +17,7 @@ import subprocess
 import sys
 import tempfile
 import threading
+from typing import Iterator
 
 sys.dont_write_bytecode = True
 sys.path.insert(0, "checks")
@@ -24,8 +25,9 @@ sys.path.insert(0, "checks")
 import console  # noqa: E402
 from node_faults import LOOKS, RPC_ERROR, STOPS, gone  # noqa: E402
 from node_folders import (A, B, BLOCKS, DEPOSIT, DUPLICATE, MESSAGES, ONE, PASSED, PLAIN, REJECTED, SEND,  # noqa: E402
-                          TWO, VALIDATORS, VOTE, Answers, Edit, Json, begun, block, carried, changed, converted, ended,
-                          indexed, make, node_data, results, sent, signatures, then, validators)
+                          TWO, VALIDATORS, VOTE, Answers, Edit, Json, begun, block, carried, changed, converted,
+                          converted_in, ended, indexed, make, node_data, put_down, results, sent, signatures, then,
+                          validators)
 
 RESERVE, GOV = node_data.RESERVE.hex(), node_data.AUTHORITY.hex()
 bad: list[str] = []
@@ -153,6 +155,43 @@ def try_stops() -> int:
     return len(STOPS) + len(LOOKS)
 
 
+def places(value: Json, at: tuple[str | int, ...] = ()) -> Iterator[tuple[str | int, ...]]:
+    """Where each member and element stands; of a list the first three."""
+    for step in value if isinstance(value, dict) else range(min(3, len(value))) if isinstance(value, list) else ():
+        yield (*at, step)
+        yield from places(value[step], (*at, step))
+
+
+def try_shapes() -> int:
+    """Whatever stands in the place of a member, the recipe ends by what it tells: no line is half written."""
+    busy = changed(then(sent(carried(DEPOSIT, SEND[0]), indexed(make.moved(ONE, make.GOV, 9), 0)),
+                        ended(REJECTED, PASSED),
+                        lambda a: block(a).update(evidence={"evidence": [DUPLICATE, LIGHT]})))
+    tried = 0
+    with tempfile.TemporaryDirectory() as room:
+        put_down(room, busy)
+        for name in ("block_3", "block_results_3", "validators_2", "txs_3"):
+            for *way, last in places(busy[name]):
+                for value in (None, 7, "x", [{}]):
+                    put_down(room, {name: with_other(busy[name], way, last, value)})
+                    status, out, err = converted_in(room, "3", "3")
+                    stops = [line for line in err.splitlines() if line.startswith("stop ")]
+                    is_whole = len(stops) == 1 and not out if status == 2 else not stops and out.count("\n") == 1
+                    ask(status in (0, 1, 2) and is_whole, f"{value!r} at {name} {way} {last}: {status} {err}")
+                    tried += 1
+            put_down(room, {name: busy[name]})
+    return tried
+
+
+def with_other(answer: Json, way: list[str | int], last: str | int, value: Json) -> Json:
+    """An answer with another value at a place."""
+    changed_answer = at = copy.deepcopy(answer)
+    for step in way:
+        at = at[step]
+    at[last] = value
+    return changed_answer
+
+
 def try_ranges() -> int:
     """A range in parts is the range; a folder with a gap, without blocks or that is not there is refused."""
     whole, at_once, parts = (converted(PLAIN, *words)[1] for words in ([], ["--at-once"], ["1", "2"]))
@@ -271,9 +310,9 @@ def try_page() -> int:
 
 def main() -> None:
     built = sys.argv[1] if len(sys.argv) > 1 else ""
-    tried = try_lines() + try_votes(), try_stops(), try_ranges() + try_fetching(), try_page()
-    print("recipes: from_blocks.py: {} changes that become lines, {} that are refused or looked at, {} ranges, made and "
-          "fetched, {} commands of the page".format(*tried))
+    tried = try_lines() + try_votes(), try_stops(), try_shapes(), try_ranges() + try_fetching(), try_page()
+    print("recipes: from_blocks.py: {} changes that become lines, {} that are refused or looked at, {} values in the "
+          "place of others, {} ranges, made and fetched, {} commands of the page".format(*tried))
     if built:
         print(f"recipes: from_blocks.py: {try_replay(built)} transactions of a made chain, all accepted")
     else:

@@ -2,9 +2,9 @@
 """Times `from_blocks.py` over answers that `make.py` makes: bench/node/run.py [RUNS]
 
 Of 1,000 and 10,000 blocks with 10 validators and 2 transactions each, and of 1,000 blocks with 100 validators and 10
-transactions, the least processor time of RUNS runs (3) counts, which other work on the machine changes less than the time
-by the clock. Beside it stand the most memory, and the time in which Python reads and parses the same files and does
-nothing else. Works in a temporary folder (about 250 MB)."""
+transactions, the least processor time of RUNS runs (3) counts, which other work on the machine changes less than the
+time by the clock. Beside it stand the most memory, and the time in which Python reads and parses the same files and
+does nothing else. Works in a temporary folder (about 250 MB)."""
 from __future__ import annotations
 
 import os
@@ -46,8 +46,8 @@ def main() -> None:
                      for _ in range(runs)]
         seconds, parsing = min(recipe[0] for recipe, _ in tries), min(parse for _, parse in tries)
         memory = max(recipe[1] for recipe, _ in tries) / 1024
-        print(f"{blocks:<7} {validators:<11} {txs:<13} {size:<11.1f} {seconds:<8.2f} {blocks / seconds:<16.0f} {memory:<9.1f} MB "
-              f"{parsing:.2f}", flush=True)
+        print(f"{blocks:<7} {validators:<11} {txs:<13} {size:<11.1f} {seconds:<8.2f} {blocks / seconds:<16.0f} "
+              f"{memory:<5.1f} MB     {parsing:.2f}", flush=True)
 
 
 if __name__ == "__main__":
