@@ -215,7 +215,7 @@ def try_ranges() -> int:
 # ---- fetching
 
 class Node(http.server.BaseHTTPRequestHandler):
-    """A node with a made chain of four blocks, the third with 101 transactions, behind a server that answers in pages."""
+    """A node with a made chain of four blocks, the third with 101 transactions, which answers in pages."""
     answers: Answers = {}
     asked = 0
 
@@ -239,7 +239,7 @@ class Node(http.server.BaseHTTPRequestHandler):
 
 
 def try_fetching() -> int:
-    """Answers that are fetched from a server become the lines of the made ones; what is there is not asked for again."""
+    """What is fetched from a server becomes the same lines; what is there is not asked for again."""
     many = changed(sent(SEND[0]))
     block(many)["data"]["txs"] *= 101
     results(many)["txs_results"] *= 101
