@@ -89,29 +89,30 @@ def pay_ahead(state: State, results: Value) -> None:
 
 # ---- accounts
 
-def tell_accounts(document: Value) -> None:
+def tell_accounts(document: Value, accounts: dict[bytes, Coins]) -> None:
     """Tells of accounts that are more than this machine knows, and refuses one that stands for the reserve."""
-    balances = read_balances(document.at("app_state.bank"))
-    if RESERVE in balances:
-        document.at("app_state.bank.balances").fail(f"has {document.prefix.text_of(RESERVE)}, the reserve's", "reserve")
+    reserve = document.prefix.text_of(RESERVE)
+    if RESERVE in accounts:
+        document.at("app_state.bank.balances").fail(f"has {reserve}, the reserve's", "reserve")
     auth = document.member("app_state").maybe("auth")
     for entry in auth.list_at("accounts") if auth else []:
-        tell_account(entry, balances)
+        kind = entry.member("@type").text()
+        if kind != "/cosmos.auth.v1beta1.BaseAccount":
+            tell_account(entry, kind, accounts)
+        elif entry.member("address").text() == reserve:
+            entry.fail("has the address of the reserve", "reserve")
 
 
-def tell_account(entry: Value, balances: dict[bytes, Coins]) -> None:
+def tell_account(entry: Value, kind: str, accounts: dict[bytes, Coins]) -> None:
     """Tells of one account: that it is vesting, or the plain account of another module that has coins."""
-    kind = entry.member("@type").text()
     if kind.startswith("/cosmos.vesting."):
         address = (entry.maybe("base_vesting_account") or entry).at("base_account.address")
         look("vesting-account", f"{address.text()} is a plain account here: its locks are not kept")
     elif kind == "/cosmos.auth.v1beta1.ModuleAccount":
         address = entry.at("base_account.address")
         account = address.account()
-        if account not in MODULE_ACCOUNTS and balances.get(account):
+        if account not in MODULE_ACCOUNTS and accounts.get(account):
             note("module-account", f"{entry.member('name').text()} {address.text()} is a plain account here")
-    elif kind == "/cosmos.auth.v1beta1.BaseAccount" and entry.member("address").account() == RESERVE:
-        entry.fail("has the address of the reserve", "reserve")
 
 
 def make_store(words: argparse.Namespace) -> None:
@@ -121,7 +122,7 @@ def make_store(words: argparse.Namespace) -> None:
     ask_exported(document)
     time = time_of_head(document, words.head)
     export = read_export(document, words.power_reduction, time)
-    tell_accounts(document)
+    tell_accounts(document, export.accounts)
     judge = Judge(document, export)
     judge.judge()
     judge.settle_accounts()
@@ -136,7 +137,7 @@ def main() -> None:
     words = read_words()
     if words.genesis:
         document = read_document(words.export)
-        tell_accounts(document)
+        tell_accounts(document, read_balances(document.at("app_state.bank")))
         print(genesis_line(document, words.power_reduction, words.reserve))
     else:
         make_store(words)

@@ -87,6 +87,8 @@ def run(main: Callable[[], int | None]) -> NoReturn:
 
 LETTERS = "qpzry9x8gf2tvdw0s3jn54khce6mua7l"
 _VALUES = bytes.maketrans(LETTERS.encode(), bytes(range(32)))
+_DIGITS = str.maketrans(LETTERS, "0123456789abcdefghijklmnopqrstuv")       # those of `int(text, 32)`
+_OF_BASE32 = bytes.maketrans(b"ABCDEFGHIJKLMNOPQRSTUVWXYZ234567", LETTERS.encode())
 _BECH32 = re.compile(f"([!-@\\[-~]{{1,83}})1([{LETTERS}]{{6,}})")
 _GENERATOR = 0x3B6A57B2, 0x26508E6D, 0x1EA119FA, 0x3D4233DD, 0x2A1462B3
 
@@ -101,46 +103,37 @@ def _sum_of(top: int) -> int:
 _SUMS = [_sum_of(top) for top in range(32)]
 
 
-def _checksum(values: bytes) -> int:
-    check = 1
+def _checksum(values: bytes, check: int = 1) -> int:
     for value in values:
         check = (check & 0x1FFFFFF) << 5 ^ value ^ _SUMS[check >> 25]
     return check
 
 
 @functools.lru_cache(maxsize=64)
-def _expanded(prefix: str) -> bytes:
-    return bytes([ord(letter) >> 5 for letter in prefix] + [0] + [ord(letter) & 31 for letter in prefix])
-
-
-def _fives(number: int, count: int) -> bytes:
-    return bytes(number >> 5 * place & 31 for place in reversed(range(count)))
+def _begun(prefix: str) -> int:
+    """The checksum behind a prefix."""
+    return _checksum(bytes([ord(letter) >> 5 for letter in prefix] + [0] + [ord(letter) & 31 for letter in prefix]))
 
 
 def bech32(prefix: str, address: bytes) -> str:
     """The text of an address."""
-    bits = int.from_bytes(address, "big") << -len(address) * 8 % 5
-    values = _fives(bits, -(-len(address) * 8 // 5))
-    values += _fives(_checksum(_expanded(prefix) + values + bytes(6)) ^ 1, 6)
-    return prefix + "1" + "".join(LETTERS[value] for value in values)
+    letters = base64.b32encode(address).rstrip(b"=").translate(_OF_BASE32)
+    check = _checksum(letters.translate(_VALUES) + bytes(6), _begun(prefix)) ^ 1
+    return f"{prefix}1{letters.decode()}" + "".join(LETTERS[check >> 5 * place & 31] for place in (5, 4, 3, 2, 1, 0))
 
 
 @functools.lru_cache(maxsize=1 << 16)
 def from_bech32(text: str) -> tuple[str, bytes] | None:
     """The prefix and the bytes of a text; nothing where it is no bech32 in small letters."""
     found = _BECH32.fullmatch(text)
-    if not found:
+    if not found or _checksum(found[2].encode().translate(_VALUES), _begun(found[1])) != 1:
         return None
-    prefix, values = found[1], found[2].encode().translate(_VALUES)
-    if _checksum(_expanded(prefix) + values) != 1:
-        return None
-    count, bits = len(values) - 6, 0
-    for value in values[:-6]:
-        bits = bits << 5 | value
-    spare = count * 5 % 8
+    digits = found[2][:-6].translate(_DIGITS)
+    size, spare = divmod(len(digits) * 5, 8)
+    bits = int(digits or "0", 32)
     if spare >= 5 or bits & (1 << spare) - 1:
         return None
-    return prefix, (bits >> spare).to_bytes(count * 5 // 8, "big")
+    return found[1], (bits >> spare).to_bytes(size, "big")
 
 
 # ---- addresses

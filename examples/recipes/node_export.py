@@ -6,7 +6,7 @@ have both spellings. Nothing is judged here but the form of each member; `node_s
 """
 from __future__ import annotations
 
-from dataclasses import dataclass
+from dataclasses import dataclass, field
 from typing import Any, Callable, Iterable, TypeVar
 
 from node_data import (AUTHORITY, CHAIN_OF_HERE, COLLECTOR, RESERVE, SECOND, Coins, Prefix, Value, coins_json,
@@ -100,10 +100,11 @@ def write_members(record: Any, members: Members, into: Json) -> Json:
 
 @dataclass
 class Export:
-    """An export: its state, and the powers of the validators as the chain tells them."""
+    """An export: its state, the powers of the validators as the chain tells them, and the accounts that are listed."""
     state: State
     powers: dict[bytes, int]
     total_power: int
+    accounts: dict[bytes, Coins] = field(default_factory=dict)
 
 
 def keyed(elements: Iterable[Value], key: Callable[[Value], Any], record: Callable[[Value], Any]) -> dict[Any, Any]:
@@ -261,7 +262,8 @@ def read_export(document: Value, power_reduction: int, time: int) -> Export:
     height = document.member("initial_height").number() - 1
     state = State(height, time, read_params(document, power_reduction))
     bank = document.at("app_state.bank")
-    for account, coins in read_balances(bank).items():
+    accounts = read_balances(bank)
+    for account, coins in accounts.items():
         for denom, amount in coins.items():
             state.balances[account, denom] = amount
     state.supply = bank.member("supply").coins()
@@ -270,7 +272,7 @@ def read_export(document: Value, power_reduction: int, time: int) -> Export:
     _read_distribution(state, document.at("app_state.distribution"))
     powers = keyed(staking.list_at("last_validator_powers"), lambda value: value.member("address").operator(),
                    lambda value: value.member("power").number())
-    return Export(state, powers, staking.member("last_total_power").amount())
+    return Export(state, powers, staking.member("last_total_power").amount(), accounts)
 
 
 # ---- writing

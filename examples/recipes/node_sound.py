@@ -10,7 +10,7 @@ from typing import Iterable, NoReturn
 
 from node_data import BONDED, DISTRIBUTION, NOT_BONDED, ONE, RESERVE, SECOND, Coins, Value, coins_text, look, stop
 from node_export import Export, powers_of
-from node_state import BONDED_STATUS, UNBONDED_STATUS, Entry, Params, Signing, State, Validator
+from node_state import BONDED_STATUS, UNBONDED_STATUS, Entry, Params, State, Validator
 
 MOST_HEIGHT = 2 ** 63 - 1
 MOST_SECONDS = 10 ** 9
@@ -132,11 +132,9 @@ class Judge:
         """The shares of each validator are those of its delegations."""
         shares: Counter[bytes] = Counter()
         for (operator, delegator), amount in self.state.delegations.items():
-            path = f"staking.delegations[{self.account(delegator)}/{self.operator(operator)}]"
-            if operator not in self.state.validators:
-                self.fail("shares", path, "is to no validator")
-            if not amount:
-                self.fail("shares", path, "has no shares")
+            if operator not in self.state.validators or not amount:
+                names = f"{self.account(delegator)}/{self.operator(operator)}"
+                self.fail("shares", f"staking.delegations[{names}]", "is to no validator, or has no shares")
             shares[operator] += amount
         for operator, validator in self.state.validators.items():
             if shares[operator] != validator.shares or validator.tokens and not validator.shares:
@@ -144,40 +142,40 @@ class Judge:
 
     def ask_entries(self) -> None:
         """Entries are no more than they began with, and were made at a height that was."""
-        for (delegator, operator), entries in self.state.unbondings.items():
-            path = f"staking.unbonding_delegations[{self.account(delegator)}/{self.operator(operator)}]"
-            self.ask_entry_list(path, entries)
+        for unbonding, entries in self.state.unbondings.items():
+            fault = self.entries_fault(entries)
             if any(entry.left > entry.initial for entry in entries):
-                self.fail("entry", path, "has an entry with a balance above its initial one")
-        for (delegator, *ends), entries in self.state.redelegations.items():
-            names = "/".join([self.account(delegator)] + [self.operator(end) for end in ends])
-            self.ask_entry_list(f"staking.redelegations[{names}]", entries)
+                fault = "has an entry with a balance above its initial one"
+            if fault:
+                self.fail_entries("unbonding_delegations", unbonding, fault)
+        for redelegation, entries in self.state.redelegations.items():
+            if fault := self.entries_fault(entries):
+                self.fail_entries("redelegations", redelegation, fault)
 
-    def ask_entry_list(self, path: str, entries: list[Entry]) -> None:
-        """A list has 1 to 100 entries, made at heights that were."""
+    def entries_fault(self, entries: list[Entry]) -> str | None:
+        """What is wrong with a list: it has 1 to 100 entries, made at heights that were."""
         if not 1 <= len(entries) <= MOST_ENTRIES:
-            self.fail("entry", path, f"has {len(entries)} entries, and not from 1 to {MOST_ENTRIES}")
+            return f"has {len(entries)} entries, and not from 1 to {MOST_ENTRIES}"
         if any(entry.created > self.state.height for entry in entries):
-            self.fail("entry", path, "has an entry that was made above the last height")
+            return "has an entry that was made above the last height"
+        return None
+
+    def fail_entries(self, name: str, key: tuple[bytes, ...], fault: str) -> NoReturn:
+        names = [self.account(key[0])] + [self.operator(operator) for operator in key[1:]]
+        self.fail("entry", f"staking.{name}[{'/'.join(names)}]", fault)
 
     def ask_signings(self) -> None:
         """No more votes are counted than there were heights, and missed ones are just those of the window."""
         for cons, signing in self.state.signings.items():
-            name = self.prefix.text_of(cons, "valcons")
             if max(signing.counted, signing.start) > self.state.height:
-                self.fail("signing-info", f"slashing.signing_infos[{name}]",
-                          f"has a start or more votes ({signing.counted}) above the last height {self.state.height}")
-            self.ask_window(name, signing)
+                self.fail_signing("signing-info", cons, "starts or counts votes above the last height")
+            if len(signing.ring) != min(signing.counted, self.state.params.signed_blocks_window):
+                self.fail_signing("window", cons, f"has a missed place {len(signing.ring) - 1} behind its window")
+            if sum(signing.ring) != signing.missed:
+                self.fail_signing("window", cons, f"counts {signing.missed} missed votes of {sum(signing.ring)} places")
 
-    def ask_window(self, name: str, signing: Signing) -> None:
-        """The missed places are in the window, and as many as are counted."""
-        places = min(signing.counted, self.state.params.signed_blocks_window)
-        if len(signing.ring) != places:
-            self.fail("window", f"slashing.missed_blocks[{name}]",
-                      f"has a missed place {len(signing.ring) - 1} behind the {places} of the window")
-        if sum(signing.ring) != signing.missed:
-            self.fail("window", f"slashing.signing_infos[{name}]",
-                      f"counts {signing.missed} missed votes, and {sum(signing.ring)} places are missed")
+    def fail_signing(self, code: str, cons: bytes, fault: str) -> NoReturn:
+        self.fail(code, f"slashing.signing_infos[{self.prefix.text_of(cons, 'valcons')}]", fault)
 
     def ask_powers(self) -> None:
         """The powers that CometBFT was told are those of the bonded validators."""
