@@ -197,6 +197,8 @@ def try_ranges() -> int:
     whole, at_once, parts = (converted(PLAIN, *words)[1] for words in ([], ["--at-once"], ["1", "2"]))
     ask(whole == at_once, "--at-once writes other lines")
     ask(whole == parts + converted(PLAIN, "3", str(BLOCKS))[1], "two parts of a range are not the range")
+    status, out, _ = converted(changed(gone("txs_3")), "--at-once")
+    ask(status == 2 and out.splitlines() == whole.splitlines()[:2] and out.endswith("\n"), "--at-once cuts a line")
     no_next = converted(changed(gone("block_results_4")), "1", "3")[1].splitlines()
     ask(json.loads(no_next[2])["txs"] == [], "what the next block mints is paid where it isn't known")
     ask(no_next[:2] == whole.splitlines()[:2], "results that are missing behind a range change it")
@@ -209,7 +211,7 @@ def try_ranges() -> int:
     recipe = [sys.executable, "examples/recipes/from_blocks.py", "no-such-folder"]
     done = subprocess.run(recipe, capture_output=True, text=True)
     ask(done.returncode == 2 and done.stderr.startswith("stop file: no-such-folder"), f"no folder: {done.stderr}")
-    return 4 + len(tries)
+    return 5 + len(tries)
 
 
 # ---- fetching
