@@ -257,7 +257,9 @@ def try_fetching() -> int:
         return done.returncode, done.stderr
 
     with tempfile.TemporaryDirectory() as room:
-        ends = [fetched(room, 2), fetched(room, BLOCKS), fetched(room, BLOCKS + 1)]
+        ends = [fetched(room, 2)]
+        pathlib.Path(room, "block_2.json").write_text('{"result":')     # is asked for again
+        ends += [fetched(room, BLOCKS), fetched(room, BLOCKS + 1)]
         names, asked = os.listdir(room), Node.asked
         got = {name.removesuffix(".json"): json.loads(pathlib.Path(room, name).read_text()) for name in names}
     server.shutdown()
@@ -265,7 +267,7 @@ def try_fetching() -> int:
     ask([status for status, _ in ends] == [0, 0, 2], f"fetching ended with {ends}")
     ask("no results of block 5" in ends[1][1] and "no such" not in ends[0][1], f"fetching told {ends}")
     ask(ends[2][1].startswith("stop fetch: ") and "pruned" in ends[2][1], f"fetching told {ends[2]}")
-    ask("txs_3_2" in got and asked == len(names) + 2, f"{asked} answers were asked for, {len(names)} are there")
+    ask("txs_3_2" in got and asked == len(names) + 3, f"{asked} answers were asked for, {len(names)} are there")
     ask(converted(got)[:2] == wanted[:2], "what was fetched becomes other lines")
     return len(ends)
 
