@@ -20,7 +20,7 @@ from node_data import (COLLECTOR, MODULE_ACCOUNTS, RESERVE, Coins, Value, coins_
 from node_events import minted
 from node_export import read_balances, read_export
 from node_genesis import genesis_line
-from node_sound import Judge, fill_reserve, move
+from node_sound import Judge, fill_reserve
 from node_state import State, ask_free, write_store
 
 
@@ -52,7 +52,7 @@ def read_words() -> argparse.Namespace:
 def ask_exported(document: Value) -> None:
     """Refuses what is no export of a chain that ran."""
     staking = document.at("app_state.staking")
-    is_own = not any(document.has(name) for name in ("chain_id", "genesis_time", "app_hash", "app_version"))
+    is_own = not any(document.has(name) for name in ("chain_id", "genesis_time", "app_hash"))
     if not is_own or staking.has("exported"):
         exported = staking.member("exported")
         if not exported.truth():
@@ -84,7 +84,7 @@ def pay_ahead(state: State, results: Value) -> None:
         height.fail(f"has {coins_text(coins)} to be paid ahead, and the reserve has less", "reserve")
     if coins:
         note("paid-ahead", f"{coins_text(coins)} of block {height.raw} are at the fee collector already")
-    move(state, RESERVE, COLLECTOR, coins)
+    state.move(RESERVE, COLLECTOR, coins)
 
 
 # ---- accounts

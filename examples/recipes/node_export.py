@@ -301,7 +301,7 @@ def _take_away(state: State, account: bytes, coins: Coins) -> None:
         if amount > state.balances.get((account, denom), 0):
             stop("next", f"the fee collector has less than the {amount}{denom} that these results minted")
         state.add(account, denom, -amount)
-        state.supply[denom] -= amount
+        state.supply[denom] = state.supply.get(denom, 0) - amount
     state.supply = {denom: amount for denom, amount in state.supply.items() if amount}
 
 
@@ -350,9 +350,9 @@ class Writer:
                              "reference_count": historical.count}}
                 for (operator, period), historical in historicals],
             "validator_current_rewards": [
-                self.rewards(operator, "rewards", {"rewards": decimal_coins_json(state.purses[operator].current),
-                                                   "period": str(period)})
-                for operator, period in sorted(state.periods.items())],
+                self.rewards(operator, "rewards", {"rewards": decimal_coins_json(purse.current),
+                                                   "period": str(state.periods[operator])})
+                for operator, purse in purses if operator in state.periods],
             "delegator_starting_infos": [
                 {"delegator_address": self.account(delegator), "validator_address": self.operator(operator),
                  "starting_info": write_members(start, START, {})}

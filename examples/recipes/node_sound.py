@@ -289,14 +289,7 @@ class Judge:
         surplus = {denom: amount for denom, amount in surplus.items() if amount}
         if surplus:
             look("surplus", f"{self.name}: {name} holds {coins_text(surplus)} more than it owes; the reserve takes it")
-        move(self.state, account, RESERVE, surplus)
-
-
-def move(state: State, giver: bytes, taker: bytes, coins: Coins) -> None:
-    """Moves coins from one account to another."""
-    for denom, amount in coins.items():
-        state.add(giver, denom, -amount)
-        state.add(taker, denom, amount)
+        self.state.move(account, RESERVE, surplus)
 
 
 def fill_reserve(state: State, denoms: Iterable[str]) -> None:

@@ -147,6 +147,12 @@ class State:
         if amount:
             self.balances[account, denom] = amount
 
+    def move(self, giver: bytes, taker: bytes, coins: Coins) -> None:
+        """Moves coins from one account to another."""
+        for denom, amount in coins.items():
+            self.add(giver, denom, -amount)
+            self.add(taker, denom, amount)
+
     def coins(self, account: bytes) -> Coins:
         """What an account has."""
         return {denom: amount for (holder, denom), amount in self.balances.items() if holder == account}
