@@ -86,6 +86,8 @@ STOPS: list[tuple[str, Edit, str]] = [
      "stop chain-id: block_3.json: result.block.header.chain_id is made-2"),
     ("another block before", lambda a: block(a)["header"]["last_block_id"].update(hash=make.hashed("other")),
      "stop hash: block_3.json: result.block.header.last_block_id.hash is "),
+    ("a block without a hash", lambda a: a["block_3"]["result"]["block_id"].update(hash=""),
+     "stop shape: block_3.json: result.block_id.hash is no hash"),
     ("transactions of another block",
      lambda a: a["txs_3"]["block_id"].update(hash=make.in_base64(make.digest("other"))),
      "stop hash: txs_3.json: block_id.hash is "),

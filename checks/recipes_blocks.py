@@ -199,6 +199,9 @@ def try_ranges() -> int:
     ask(whole == parts + converted(PLAIN, "3", str(BLOCKS))[1], "two parts of a range are not the range")
     status, out, _ = converted(changed(gone("txs_3")), "--at-once")
     ask(status == 2 and out.splitlines() == whole.splitlines()[:2] and out.endswith("\n"), "--at-once cuts a line")
+    other = changed(lambda a: a["block_2"]["result"]["block_id"].update(hash=make.hashed("other")))
+    status, _, err = converted(other, "3", "4")
+    ask(status == 2 and "stop hash: block_3.json" in err, f"a part on another block ended with {status}: {err}")
     no_next = converted(changed(gone("block_results_4")), "1", "3")[1].splitlines()
     ask(json.loads(no_next[2])["txs"] == [], "what the next block mints is paid where it isn't known")
     ask(no_next[:2] == whole.splitlines()[:2], "results that are missing behind a range change it")
@@ -211,7 +214,7 @@ def try_ranges() -> int:
     recipe = [sys.executable, "examples/recipes/from_blocks.py", "no-such-folder"]
     done = subprocess.run(recipe, capture_output=True, text=True)
     ask(done.returncode == 2 and done.stderr.startswith("stop file: no-such-folder"), f"no folder: {done.stderr}")
-    return 5 + len(tries)
+    return 6 + len(tries)
 
 
 # ---- fetching

@@ -151,6 +151,7 @@ class EvidenceParameters:
 def lines(folder: Folder, first: int, last: int) -> Iterator[str]:
     """The lines of a range of blocks."""
     parameters, voters = EvidenceParameters(), Voters()
+    folder.begin(first)
     if before := folder.results(first - 1):
         parameters.follow(before)
     results = folder.results(first)
