@@ -150,6 +150,8 @@ STOPS: list[tuple[str, Edit, str]] = [
      "stop address: txs_3.json: txs[0].body.messages[0].from_address is the account of a module"),
     ("an account with the address of the reserve", sent(SEND[0] | {"to_address": NEAR_RESERVE}),
      "stop reserve: txs_3.json: txs[0].body.messages[0].to_address "),
+    ("coins that go to the account of the reserve", sent(DEPOSIT, make.moved(ONE, node_data.RESERVE, 9)),
+     "stop reserve: block_results_3.json: result.txs_results[0].events["),
     ("an amount above the highest", sent(SEND[0] | {"amount": [COIN | {"amount": str(10 ** 18 + 1)}]}),
      "stop limit: txs_3.json: txs[0].body.messages[0].amount[0].amount "),
     ("another kind of key",

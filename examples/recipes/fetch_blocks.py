@@ -114,6 +114,7 @@ def arguments() -> argparse.Namespace:
 
 
 def main() -> None:
+    """Fetches what a range needs."""
     words = arguments()
     os.makedirs(words.folder, exist_ok=True)
     fetcher = Fetcher(words.rpc, words.rest, words.folder)

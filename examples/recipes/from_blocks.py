@@ -29,9 +29,8 @@ from node_data import Value, look, moment_text, run, stop, told
 from node_flows import Beginning, Json, beginning, end
 from node_messages import transactions
 
-MOST_BYTES = 4_194_304  # of a line
-ABSENT, COMMIT, NIL = 1, 2, 3
-
+MOST_BYTES = 4_194_304          # of a line
+ABSENT, COMMIT, NIL = 1, 2, 3   # the flags of a signature
 
 compact = json.JSONEncoder(separators=(",", ":")).encode
 
@@ -55,8 +54,8 @@ class Voters:
 def texts_of_votes(validator: Value) -> tuple[str, str, str]:
     """A validator's address, and the texts of its vote, signed and not."""
     address, power = validator.member("address"), validator.member("voting_power").number()
-    vote = {"cons": address.hex_address().hex(), "power": power}
-    return address.raw, compact(vote | {"signed": True}), compact(vote | {"signed": False})
+    members = {"cons": address.hex_address().hex(), "power": power}
+    return address.raw, compact(members | {"signed": True}), compact(members | {"signed": False})
 
 
 def votes(answers: Answers, voters: Voters) -> str:
@@ -192,6 +191,7 @@ def watched(texts: Iterator[str], most: int) -> Iterator[str]:
 
 
 def main() -> None:
+    """Writes the lines of a range, and then how many notes of each code there were."""
     words = arguments()
     folder = Folder(words.folder)
     first, last = (words.first, words.last) if words.first else folder.heights()

@@ -6,7 +6,7 @@ from __future__ import annotations
 from collections import Counter
 from typing import Any, Iterator, NamedTuple
 
-from node_data import COLLECTOR, MODULE_ACCOUNTS, MOST_WHOLE, Coins, Value, coins_of
+from node_data import COLLECTOR, MODULE_ACCOUNTS, MOST_WHOLE, RESERVE, Coins, Value, coins_of
 
 
 class Moved(NamedTuple):
@@ -60,8 +60,11 @@ def bank_event(event: Value) -> BankEvent | None:
         event.fail(f"has no text of coins as its amount: {amount!r}", "events")
     if coins and max(coins.values()) > MOST_WHOLE:
         event.fail(f"has an amount above 10^18: {amount}", "limit")
-    known = event.prefix.seen.get(("", account))
-    return kind, attribute(event, role).account() if known is None else known, coins
+    if (known := event.prefix.seen.get(("", account))) is None:
+        known = attribute(event, role).account()
+    if known == RESERVE:
+        event.fail(f"moves coins of the account that stands for other modules here: {account}", "reserve")
+    return kind, known, coins
 
 
 PAIRS = {("coin_spent", "coin_received"), ("coin_received", "coinbase"), ("coin_spent", "burn")}

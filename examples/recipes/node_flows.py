@@ -83,8 +83,6 @@ class Flows:
         for account in gains | losses:
             if account in MODULE_ACCOUNTS:
                 refuse_flow(account, self.of(account), where)
-            if account == RESERVE:
-                where.fail(f"moves coins of the account that stands for other modules here, {RESERVE.hex()}", "reserve")
         return ([send(account, RESERVE, coins) for account, coins in losses.items()]
                 + [send(RESERVE, account, coins) for account, coins in gains.items()])
 
