@@ -1,5 +1,5 @@
-"""Small folders of a node's answers for the tries of `from_blocks.py`: those of `bench/node/make.py`, and changes of their
-third block.
+"""Small folders of a node's answers for the tries of `from_blocks.py`: those of `bench/node/make.py`, and changes of
+their third block.
 """
 from __future__ import annotations
 
@@ -24,19 +24,29 @@ Edit = Callable[[Answers], None]
 BLOCKS, VALIDATORS = 4, 3
 
 
-def converted(answers: Answers, *words: str) -> tuple[int, str, str]:
-    """Runs the recipe over a folder with these answers: its status, what it writes and what it tells."""
-    with tempfile.TemporaryDirectory() as room:
-        for name, answer in answers.items():
-            raw = answer if isinstance(answer, bytes) else json.dumps(answer).encode()
-            pathlib.Path(room, name + ".json").write_bytes(raw)
-        out, err, sys.argv = io.StringIO(), io.StringIO(), ["from_blocks.py", room, *words]
-        with contextlib.redirect_stdout(out), contextlib.redirect_stderr(err):
-            try:
-                node_data.run(from_blocks.main)
-            except SystemExit as end:
-                return int(end.code or 0), out.getvalue(), err.getvalue().replace(room + "/", "")
+def put_down(room: str, answers: Answers) -> None:
+    """Writes answers as files."""
+    for name, answer in answers.items():
+        raw = answer if isinstance(answer, bytes) else json.dumps(answer).encode()
+        pathlib.Path(room, name + ".json").write_bytes(raw)
+
+
+def converted_in(room: str, *words: str) -> tuple[int, str, str]:
+    """Runs the recipe over a folder: its status, what it writes and what it tells."""
+    out, err, sys.argv = io.StringIO(), io.StringIO(), ["from_blocks.py", room, *words]
+    with contextlib.redirect_stdout(out), contextlib.redirect_stderr(err):
+        try:
+            node_data.run(from_blocks.main)
+        except SystemExit as end:
+            return int(end.code or 0), out.getvalue(), err.getvalue().replace(room + "/", "")
     raise AssertionError
+
+
+def converted(answers: Answers, *words: str) -> tuple[int, str, str]:
+    """The same over a new folder with these answers."""
+    with tempfile.TemporaryDirectory() as room:
+        put_down(room, answers)
+        return converted_in(room, *words)
 
 
 # ---- where things stand in answers

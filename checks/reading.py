@@ -39,7 +39,7 @@ class Module:
         self.aliases: dict[str, pathlib.Path] = {}
         self.lines: dict[str, list[str]] = {}
         self.title = ""
-        current, in_record = "", False
+        current, in_record = "", -1  # the depth of the record's head, or -1
         for line in file.read_text(encoding="utf-8").splitlines():
             if line.startswith("--") and not self.title:
                 self.title = line.removeprefix("--").strip()
@@ -47,9 +47,11 @@ class Module:
                 self.take_import(line)
                 continue
             depth = len(line) - len(line.lstrip())
-            head = HEAD.match(line) if depth <= 2 and not line.lstrip().startswith("--") else None
-            if head and not (depth == 2 and in_record and re.match(r"\s+pub \w+ :", line)):
-                current, in_record = head[1], bool(re.search(r"\b(record|data)\b", line))
+            # definitions stand at the front, or in modules with what they share, where they begin by one of these words
+            begins = depth <= 2 or re.match(r"\s+(abbrev|unfoldable|pub (record|data))\b", line)
+            head = HEAD.match(line) if begins and not line.lstrip().startswith("--") else None
+            if head and not (in_record >= 0 and depth > in_record and re.match(r"\s+pub \w+ :", line)):
+                current, in_record = head[1], depth if re.search(r"\b(record|data)\b", line) else -1
                 self.lines.setdefault(current, [])
             if current and line.strip() and not line.lstrip().startswith("--"):
                 self.lines[current].append(line)

@@ -17,6 +17,7 @@ import subprocess
 import sys
 import tempfile
 import threading
+from typing import Iterator
 
 sys.dont_write_bytecode = True
 sys.path.insert(0, "checks")
@@ -24,8 +25,9 @@ sys.path.insert(0, "checks")
 import console  # noqa: E402
 from node_faults import LOOKS, RPC_ERROR, STOPS, gone  # noqa: E402
 from node_folders import (A, B, BLOCKS, DEPOSIT, DUPLICATE, MESSAGES, ONE, PASSED, PLAIN, REJECTED, SEND,  # noqa: E402
-                          TWO, VALIDATORS, VOTE, Answers, Edit, Json, begun, block, carried, changed, converted, ended,
-                          indexed, make, node_data, results, sent, signatures, then, validators)
+                          TWO, VALIDATORS, VOTE, Answers, Edit, Json, begun, block, carried, changed, converted,
+                          converted_in, ended, indexed, make, node_data, put_down, results, sent, signatures, then,
+                          validators)
 
 RESERVE, GOV = node_data.RESERVE.hex(), node_data.AUTHORITY.hex()
 bad: list[str] = []
@@ -153,11 +155,53 @@ def try_stops() -> int:
     return len(STOPS) + len(LOOKS)
 
 
+def places(value: Json, at: tuple[str | int, ...] = ()) -> Iterator[tuple[str | int, ...]]:
+    """Where each member and element stands; of a list the first three."""
+    for step in value if isinstance(value, dict) else range(min(3, len(value))) if isinstance(value, list) else ():
+        yield (*at, step)
+        yield from places(value[step], (*at, step))
+
+
+def try_shapes() -> int:
+    """Whatever stands in the place of a member, the recipe ends by what it tells: no line is half written."""
+    busy = changed(then(sent(carried(DEPOSIT, SEND[0]), indexed(make.moved(ONE, make.GOV, 9), 0)),
+                        ended(REJECTED, PASSED),
+                        lambda a: block(a).update(evidence={"evidence": [DUPLICATE, LIGHT]})))
+    tried = 0
+    with tempfile.TemporaryDirectory() as room:
+        put_down(room, busy)
+        for name in ("block_3", "block_results_3", "validators_2", "txs_3"):
+            for *way, last in places(busy[name]):
+                for value in (None, 7, "x", [{}]):
+                    put_down(room, {name: with_other(busy[name], way, last, value)})
+                    status, out, err = converted_in(room, "3", "3")
+                    stops = [line for line in err.splitlines() if line.startswith("stop ")]
+                    is_whole = len(stops) == 1 and not out if status == 2 else not stops and out.count("\n") == 1
+                    ask(status in (0, 1, 2) and is_whole, f"{value!r} at {name} {way} {last}: {status} {err}")
+                    tried += 1
+            put_down(room, {name: busy[name]})
+    return tried
+
+
+def with_other(answer: Json, way: list[str | int], last: str | int, value: Json) -> Json:
+    """An answer with another value at a place."""
+    changed_answer = at = copy.deepcopy(answer)
+    for step in way:
+        at = at[step]
+    at[last] = value
+    return changed_answer
+
+
 def try_ranges() -> int:
     """A range in parts is the range; a folder with a gap, without blocks or that is not there is refused."""
     whole, at_once, parts = (converted(PLAIN, *words)[1] for words in ([], ["--at-once"], ["1", "2"]))
     ask(whole == at_once, "--at-once writes other lines")
     ask(whole == parts + converted(PLAIN, "3", str(BLOCKS))[1], "two parts of a range are not the range")
+    status, out, _ = converted(changed(gone("txs_3")), "--at-once")
+    ask(status == 2 and out.splitlines() == whole.splitlines()[:2] and out.endswith("\n"), "--at-once cuts a line")
+    other = changed(lambda a: a["block_2"]["result"]["block_id"].update(hash=make.hashed("other")))
+    status, _, err = converted(other, "3", "4")
+    ask(status == 2 and "stop hash: block_3.json" in err, f"a part on another block ended with {status}: {err}")
     no_next = converted(changed(gone("block_results_4")), "1", "3")[1].splitlines()
     ask(json.loads(no_next[2])["txs"] == [], "what the next block mints is paid where it isn't known")
     ask(no_next[:2] == whole.splitlines()[:2], "results that are missing behind a range change it")
@@ -170,13 +214,13 @@ def try_ranges() -> int:
     recipe = [sys.executable, "examples/recipes/from_blocks.py", "no-such-folder"]
     done = subprocess.run(recipe, capture_output=True, text=True)
     ask(done.returncode == 2 and done.stderr.startswith("stop file: no-such-folder"), f"no folder: {done.stderr}")
-    return 4 + len(tries)
+    return 6 + len(tries)
 
 
 # ---- fetching
 
 class Node(http.server.BaseHTTPRequestHandler):
-    """A node with a made chain of four blocks, the third with 101 transactions, behind a server that answers in pages."""
+    """A node with a made chain of four blocks, the third with 101 transactions, which answers in pages."""
     answers: Answers = {}
     asked = 0
 
@@ -200,7 +244,7 @@ class Node(http.server.BaseHTTPRequestHandler):
 
 
 def try_fetching() -> int:
-    """Answers that are fetched from a server become the lines of the made ones; what is there is not asked for again."""
+    """What is fetched from a server becomes the same lines; what is there is not asked for again."""
     many = changed(sent(SEND[0]))
     block(many)["data"]["txs"] *= 101
     results(many)["txs_results"] *= 101
@@ -216,7 +260,9 @@ def try_fetching() -> int:
         return done.returncode, done.stderr
 
     with tempfile.TemporaryDirectory() as room:
-        ends = [fetched(room, 2), fetched(room, BLOCKS), fetched(room, BLOCKS + 1)]
+        ends = [fetched(room, 2)]
+        pathlib.Path(room, "block_2.json").write_text('{"result":')     # is asked for again
+        ends += [fetched(room, BLOCKS), fetched(room, BLOCKS + 1)]
         names, asked = os.listdir(room), Node.asked
         got = {name.removesuffix(".json"): json.loads(pathlib.Path(room, name).read_text()) for name in names}
     server.shutdown()
@@ -224,7 +270,7 @@ def try_fetching() -> int:
     ask([status for status, _ in ends] == [0, 0, 2], f"fetching ended with {ends}")
     ask("no results of block 5" in ends[1][1] and "no such" not in ends[0][1], f"fetching told {ends}")
     ask(ends[2][1].startswith("stop fetch: ") and "pruned" in ends[2][1], f"fetching told {ends[2]}")
-    ask("txs_3_2" in got and asked == len(names) + 2, f"{asked} answers were asked for, {len(names)} are there")
+    ask("txs_3_2" in got and asked == len(names) + 3, f"{asked} answers were asked for, {len(names)} are there")
     ask(converted(got)[:2] == wanted[:2], "what was fetched becomes other lines")
     return len(ends)
 
@@ -271,9 +317,9 @@ def try_page() -> int:
 
 def main() -> None:
     built = sys.argv[1] if len(sys.argv) > 1 else ""
-    tried = try_lines() + try_votes(), try_stops(), try_ranges() + try_fetching(), try_page()
-    print("recipes: from_blocks.py: {} changes that become lines, {} that are refused or looked at, {} ranges, made and "
-          "fetched, {} commands of the page".format(*tried))
+    tried = try_lines() + try_votes(), try_stops(), try_shapes(), try_ranges() + try_fetching(), try_page()
+    print("recipes: from_blocks.py: {} changes that become lines, {} that are refused or looked at, {} values in the "
+          "place of others, {} ranges, made and fetched, {} commands of the page".format(*tried))
     if built:
         print(f"recipes: from_blocks.py: {try_replay(built)} transactions of a made chain, all accepted")
     else:

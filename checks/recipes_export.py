@@ -266,6 +266,9 @@ REFUSED = [
     ("ratio", changed(EXPORT, ("distribution.validator_historical_rewards.0.rewards.cumulative_reward_ratio",
                                [{"denom": "uatom", "amount": "9.000000000000000000"}]))),
     ("reference-count", changed(EXPORT, ("distribution.validator_historical_rewards.0.rewards.reference_count", 9))),
+    ("reference-count", changed(EXPORT, ("distribution.validator_historical_rewards.+", {
+        "validator_address": VALIDATORS[0]["operator_address"], "period": "0",
+        "rewards": {"cumulative_reward_ratio": [], "reference_count": 0}}))),
     ("stake", changed(EXPORT, ("distribution.delegator_starting_infos.0.starting_info.stake",
                                "9000000.000000000000000000"))),
     ("pool", moved(EXPORT, POOL, USER, 1)), ("pool", moved(EXPORT, DISTRIBUTION, USER, 1)),

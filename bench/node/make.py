@@ -250,8 +250,8 @@ def main() -> None:
     parser.add_argument("folder", metavar="FOLDER", nargs="?", help="where the answers go")
     parser.add_argument("blocks", metavar="BLOCKS", nargs="?", type=int, help="how many blocks")
     parser.add_argument("--genesis", action="store_true", help="write the genesis line alone, to standard output")
-    parser.add_argument("--validators", metavar="N", type=int, default=20, help="in each block (20)")
-    parser.add_argument("--transactions", metavar="N", type=int, default=3, help="in each block (3)")
+    parser.add_argument("--validators", metavar="N", type=int, default=10, help="in each block (10)")
+    parser.add_argument("--transactions", metavar="N", type=int, default=2, help="in each block (2)")
     words = parser.parse_args()
     if words.genesis:
         print(compact(genesis(words.validators)))

@@ -88,7 +88,7 @@ BOXES = [
     ("law", "law_: of the machine", RED, ["law_runs", "law_rewards", "law_soundness"], (40, 470, 170), 1),
     ("rule", "rule_: what is right, as definitions", RED, ["rule_machine", "rule_modules"], (40, 694, 760), 2),
     ("base", "base_: values, tables, and the roles between modules", GREY,
-     ["base_roles", "base_messages", "base_records", "base_table", "base_io", "base_lists", "base_coins", "base_shares",
+     ["base_roles", "base_messages", "base_records", "base_table", "base_io", "base_lists", "base_bech32", "base_coins", "base_shares",
       "base_types", "base_decimals"], (40, 796, 760), 5),
 ]
 ASIDE = [

@@ -24,18 +24,15 @@ import tempfile
 import time
 from typing import Any, Iterator
 
-from node_answers import Answers, Folder, Pages
+from node_answers import Answers, Folder, Pages, length
 from node_data import Value, look, moment_text, run, stop, told
 from node_flows import Beginning, Json, beginning, end
 from node_messages import transactions
 
-MOST_BYTES = 4_194_304  # of a line
-ABSENT, COMMIT, NIL = 1, 2, 3
+MOST_BYTES = 4_194_304          # of a line
+ABSENT, COMMIT, NIL = 1, 2, 3   # the flags of a signature
 
-
-def compact(value: Json) -> str:
-    """A value as a text of JSON."""
-    return json.dumps(value, separators=(",", ":"))
+compact = json.JSONEncoder(separators=(",", ":")).encode
 
 
 # ---- votes and evidence
@@ -57,18 +54,17 @@ class Voters:
 def texts_of_votes(validator: Value) -> tuple[str, str, str]:
     """A validator's address, and the texts of its vote, signed and not."""
     address, power = validator.member("address"), validator.member("voting_power").number()
-    vote = {"cons": address.hex_address().hex(), "power": power}
-    return address.raw, compact(vote | {"signed": True}), compact(vote | {"signed": False})
+    members = {"cons": address.hex_address().hex(), "power": power}
+    return address.raw, compact(members | {"signed": True}), compact(members | {"signed": False})
 
 
 def votes(answers: Answers, voters: Voters) -> str:
     """The list of votes for the block before: signature by signature, with the validators of its height."""
     voters.follow(answers.validators)
     signatures = answers.block.at("last_commit.signatures")
-    count = len(signatures.raw if isinstance(signatures.raw, list) else signatures.elements(or_null=True))
-    if count != len(voters.votes):
+    if length(signatures) != len(voters.votes):
         before = f"height {answers.height - 1} has {len(voters.votes)} validators"
-        signatures.fail(f"has {count} signatures, and {before}", "votes")
+        signatures.fail(f"has {length(signatures)} signatures, and {before}", "votes")
     return f"[{','.join([vote(signatures, place, voter) for place, voter in enumerate(voters.votes)])}]"
 
 
@@ -113,13 +109,11 @@ def punished(cons: Value, height: Value, value: Value, power: Value) -> Json:
 
 def block_transactions(answers: Answers) -> Iterator[Json]:
     """The transactions of a block, decoded, with their results."""
-    results = answers.results.member("txs_results").elements(or_null=True)
-    sent = answers.block.at("data.txs").elements(or_null=True)
-    decoded = len(answers.txs.raw)
-    if not len(results) == len(sent) == decoded:
-        there = f"there are {len(sent)} transactions, {decoded} of them decoded"
-        answers.results.member("txs_results").fail(f"has {len(results)} elements, and {there}", "txs")
-    for tx, result in zip(answers.txs.elements(), results):
+    results, sent = answers.results.member("txs_results"), length(answers.block.at("data.txs"))
+    if not length(results) == sent == len(answers.txs.raw):
+        there = f"there are {sent} transactions, {len(answers.txs.raw)} of them decoded"
+        results.fail(f"has {length(results)} elements, and {there}", "txs")
+    for tx, result in zip(answers.txs.elements(), results.elements(or_null=True)):
         yield from transactions(tx, result)
 
 
@@ -156,6 +150,7 @@ class EvidenceParameters:
 def lines(folder: Folder, first: int, last: int) -> Iterator[str]:
     """The lines of a range of blocks."""
     parameters, voters = EvidenceParameters(), Voters()
+    folder.begin(first)
     if before := folder.results(first - 1):
         parameters.follow(before)
     results = folder.results(first)
@@ -196,6 +191,7 @@ def watched(texts: Iterator[str], most: int) -> Iterator[str]:
 
 
 def main() -> None:
+    """Writes the lines of a range, and then how many notes of each code there were."""
     words = arguments()
     folder = Folder(words.folder)
     first, last = (words.first, words.last) if words.first else folder.heights()

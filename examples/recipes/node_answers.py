@@ -17,7 +17,13 @@ from typing import Any, Callable
 from node_data import Prefix, Stop, Value, read_answer, read_document, stop
 
 BLOCK_VERSION = "11"
+_HASH = re.compile("[0-9A-F]{64}")
 _BLOCK_FILE = re.compile(r"block_([1-9][0-9]{0,18})\.json")
+
+
+def length(value: Value) -> int:
+    """How many elements a list has; CometBFT may write null for an empty one."""
+    return len(value.raw) if isinstance(value.raw, list) else len(value.elements(or_null=True))
 
 
 class Pages:
@@ -25,15 +31,11 @@ class Pages:
 
     def __init__(self, lists: list[Value]):
         self.lists = lists
-        self.raw: list[Any] = [raw for one in lists for raw in one.raw]
-
-    def at(self, place: int) -> Value:
-        """The element of that place, which knows its file."""
-        return self.elements()[place]
+        self.raw: list[Any] = [raw for one in lists for raw in one.raw or ()]
 
     def elements(self) -> list[Value]:
         """All elements."""
-        return [element for one in self.lists for element in one.elements()]
+        return [element for one in self.lists for element in one.elements(or_null=True)]
 
 
 @dataclass(frozen=True)
@@ -98,18 +100,26 @@ class Folder:
             told.fail(f"is {told.raw}, not {height}", "results")
         return results
 
+    def begin(self, first: int) -> None:
+        """Reads the block before a range, where there is one, so that the range is held against it."""
+        if os.path.exists(self.name("block", first - 1)):
+            self.block(first - 1)
+
     def answers(self, height: int, results: Value | None) -> Answers:
         """What there is of a block, whose results were read before."""
-        answer = self.answer("block", height)
+        block, is_first = self.block(height)
         if results is None:
             stop("height", f"block_results_{height}.json: is missing")
-        block, block_hash = answer.member("block"), answer.at("block_id.hash").text()
-        is_first = self.follow(height, block.member("header"), block_hash)
         validators = Pages([]) if is_first else self.validators(height - 1)
-        return Answers(height, block, results, validators, self.transactions(height, block_hash))
+        return Answers(height, block, results, validators, self.transactions(height))
 
-    def follow(self, height: int, header: Value, block_hash: str) -> bool:
-        """Holds a block against the one before it; whether it is the first of its chain."""
+    def block(self, height: int) -> tuple[Value, bool]:
+        """A block, held against the one that was read before it; and whether it is the first of its chain."""
+        answer = self.answer("block", height)
+        block, block_hash = answer.member("block"), answer.at("block_id.hash")
+        if not _HASH.fullmatch(block_hash.text()):
+            block_hash.fail("is no hash of 64 capital hexadecimal digits")
+        header = block.member("header")
         told, chain, before = header.member("height"), header.member("chain_id"), header.at("last_block_id.hash")
         version = header.at("version.block")
         if version.raw != BLOCK_VERSION:
@@ -120,8 +130,8 @@ class Folder:
             chain.fail(f"is {chain.raw}, and of the block before {self.chain_id}", "chain-id")
         if before.text() != (self.last_hash or before.raw):
             before.fail(f"is {before.raw}, and the block before has {self.last_hash}", "hash")
-        self.chain_id, self.last_hash = chain.raw, block_hash
-        return not before.raw
+        self.chain_id, self.last_hash = chain.raw, block_hash.raw
+        return block, not before.raw
 
     def validators(self, height: int) -> Pages:
         """The validators of a height."""
@@ -132,14 +142,14 @@ class Folder:
             return answer.member("validators"), answer.member("total")
         return self.pages("validators", height, read_answer, read)
 
-    def transactions(self, height: int, block_hash: str) -> Pages:
-        """The transactions of a block, decoded."""
+    def transactions(self, height: int) -> Pages:
+        """The transactions of the block that was read last, decoded."""
         def read(answer: Value) -> tuple[Value, Value]:
             if not answer.has("txs"):
                 answer.fail(f"has no txs: {str(answer.raw.get('message', answer.raw))[:200]}", "rest-error")
             told = answer.at("block_id.hash")
-            if hexadecimal(told) != block_hash:
-                told.fail(f"is {hexadecimal(told)}, and in block_{height}.json {block_hash}", "hash")
+            if hexadecimal(told) != self.last_hash:
+                told.fail(f"is {hexadecimal(told)}, and in block_{height}.json {self.last_hash}", "hash")
             return answer.member("txs"), answer.at("pagination.total")
         return self.pages("txs", height, read_document, read)
 
@@ -147,13 +157,13 @@ class Folder:
               read: Callable[[Value], tuple[Value, Value]]) -> Pages:
         """The lists of an answer's pages; `read` gives of a page its list, and how many elements all lists have."""
         first, first_total = read(self.answer(kind, height, load))
-        lists, count, wanted = [first], len(first.elements()), first_total.number()
+        lists, count, wanted = [first], length(first), first_total.number()
         while os.path.exists(path := self.name(kind, height, len(lists) + 1)):
             elements, total = read(load(path, self.prefix))
             if total.number() != wanted:
                 total.fail(f"is {total.raw}, and {wanted} on the first page", kind)
             lists.append(elements)
-            count += len(elements.elements())
+            count += length(elements)
         if count != wanted:
             first_total.fail(f"is {wanted}, and there are {count} in {len(lists)} pages", kind)
         return Pages(lists)

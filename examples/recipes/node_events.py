@@ -6,7 +6,7 @@ from __future__ import annotations
 from collections import Counter
 from typing import Any, Iterator, NamedTuple
 
-from node_data import COLLECTOR, MODULE_ACCOUNTS, MOST_WHOLE, Coins, Value, coins_of
+from node_data import COLLECTOR, MODULE_ACCOUNTS, MOST_WHOLE, RESERVE, Coins, Value, coins_of
 
 
 class Moved(NamedTuple):
@@ -41,10 +41,11 @@ def attributes(event: Value) -> dict[str, Any]:
 
 BANK_EVENTS = {"coin_spent": "spender", "coin_received": "receiver", "coinbase": "minter", "burn": "burner"}
 BANK_KINDS = frozenset(BANK_EVENTS)
+BankEvent = tuple[str, bytes, Coins]    # the type, the account and the coins
 
 
-def bank_event(event: Value) -> tuple[str, bytes, Coins] | None:
-    """The type, account and coins of an event that tells a change of a balance; nothing of another event."""
+def bank_event(event: Value) -> BankEvent | None:
+    """What an event tells of a change of a balance; nothing of another event."""
     kind = event.raw.get("type") if isinstance(event.raw, dict) else None
     if not isinstance(kind, str):
         event.member("type").text()     # refuses it
@@ -59,8 +60,11 @@ def bank_event(event: Value) -> tuple[str, bytes, Coins] | None:
         event.fail(f"has no text of coins as its amount: {amount!r}", "events")
     if coins and max(coins.values()) > MOST_WHOLE:
         event.fail(f"has an amount above 10^18: {amount}", "limit")
-    known = event.prefix.seen.get(("", account))
-    return kind, attribute(event, role).account() if known is None else known, coins
+    if (known := event.prefix.seen.get(("", account))) is None:
+        known = attribute(event, role).account()
+    if known == RESERVE:
+        event.fail(f"moves coins of the account that stands for other modules here: {account}", "reserve")
+    return kind, known, coins
 
 
 PAIRS = {("coin_spent", "coin_received"), ("coin_received", "coinbase"), ("coin_spent", "burn")}

@@ -12,7 +12,7 @@ from typing import Any, Iterator, NoReturn
 
 from node_data import (AUTHORITY, BONDED, COLLECTOR, DISTRIBUTION, MODULE_ACCOUNTS, MODULES, NOT_BONDED, RESERVE, Coins,
                        Value, coins_json, coins_text, look, note)
-from node_events import BANK_KINDS, Moved, attributes, bank_event, is_mint, moves
+from node_events import BANK_KINDS, BankEvent, Moved, attributes, is_mint, moves
 
 Json = dict[str, Any]
 
@@ -49,10 +49,10 @@ class Flows:
         for denom, amount in coins.items():
             self.net[account, denom] += sign * amount
 
-    def add_event(self, event: Value) -> None:
-        """Adds what an event tells."""
-        if (told := bank_event(event)) and told[0] in ("coin_spent", "coin_received"):
-            self.add(told[1], told[2], -1 if told[0] == "coin_spent" else 1)
+    def add_event(self, event: BankEvent | None) -> None:
+        """Adds what an event tells; minted and burned coins are told by the event beside as well."""
+        if event and event[0] in ("coin_spent", "coin_received"):
+            self.add(event[1], event[2], -1 if event[0] == "coin_spent" else 1)
 
     def add_pair(self, move: Moved) -> None:
         """Adds what a pair of events tells, in which none of the four modules may be."""
@@ -83,8 +83,6 @@ class Flows:
         for account in gains | losses:
             if account in MODULE_ACCOUNTS:
                 refuse_flow(account, self.of(account), where)
-            if account == RESERVE:
-                where.fail(f"moves coins of the account that stands for other modules here, {RESERVE.hex()}", "reserve")
         return ([send(account, RESERVE, coins) for account, coins in losses.items()]
                 + [send(RESERVE, account, coins) for account, coins in gains.items()])
 

@@ -9,7 +9,7 @@ from dataclasses import dataclass
 from typing import Callable
 
 from node_data import COLLECTOR, RESERVE, Coins, Value, coins_json, coins_of, coins_text, decimal_text, note
-from node_events import BANK_KINDS, attribute, attributes
+from node_events import BANK_KINDS, attribute, attributes, bank_event
 from node_flows import Flows, Json, picked, transaction
 
 Places = tuple[int, ...]    # the place of a message within the message that carries it out, and so on inwards
@@ -60,11 +60,13 @@ def decimal(message: Value, name: str) -> str:
 # ---- messages of this machine
 
 def send(message: Value) -> list[Json]:
+    """Coins of one account for another."""
     return [{"kind": "send", "from": user(message, "from_address"), "to": account(message, "to_address"),
              "coins": coins(message, "amount")}]
 
 
 def multi_send(message: Value) -> list[Json]:
+    """Coins of one account for several, as a send to each; a line has no other way."""
     inputs = message.member("inputs").elements()
     if len(inputs) != 1:
         message.fail(f"has {len(inputs)} inputs, and each of a line's sends has one giver", "multi-send")
@@ -74,6 +76,7 @@ def multi_send(message: Value) -> list[Json]:
 
 
 def create_validator(message: Value) -> list[Json]:
+    """A new validator, with what its operator delegates."""
     commission = message.member("commission")
     return [{"kind": "create_validator", "validator": operator(message),
              "cons": message.member("pubkey").key_address().hex(), "rate": decimal(commission, "rate"),
@@ -83,6 +86,7 @@ def create_validator(message: Value) -> list[Json]:
 
 
 def edit_validator(message: Value) -> list[Json]:
+    """Another commission rate or least self-delegation; what stays is left out."""
     edit = {"kind": "edit_validator", "validator": operator(message)}
     if message.has("commission_rate"):
         edit["rate"] = decimal(message, "commission_rate")
@@ -97,43 +101,51 @@ def of_delegation(kind: str, message: Value) -> Json:
 
 
 def delegate(message: Value) -> list[Json]:
+    """Coins that are staked."""
     return [of_delegation("delegate", message) | {"amount": coin(message, "amount")}]
 
 
 def undelegate(message: Value) -> list[Json]:
+    """Coins that begin to unbond."""
     return [of_delegation("undelegate", message) | {"amount": coin(message, "amount")}]
 
 
 def begin_redelegate(message: Value) -> list[Json]:
+    """Coins that go on from one validator to another."""
     return [{"kind": "begin_redelegate", "delegator": user(message, "delegator_address"),
              "source": operator(message, "validator_src_address"), "target": operator(message, "validator_dst_address"),
              "amount": coin(message, "amount")}]
 
 
 def cancel_unbonding(message: Value) -> list[Json]:
+    """Coins that unbond, and are staked again."""
     height = message.member("creation_height").number()
     return [of_delegation("cancel_unbonding", message) | {"amount": coin(message, "amount"), "creation_height": height}]
 
 
 def unjail(message: Value) -> list[Json]:
+    """A validator that leaves jail."""
     return [{"kind": "unjail", "validator": operator(message, "validator_addr")}]
 
 
 def withdraw_reward(message: Value) -> list[Json]:
+    """A delegation's reward."""
     return [of_delegation("withdraw_reward", message)]
 
 
 def withdraw_commission(message: Value) -> list[Json]:
+    """A validator's commission."""
     return [{"kind": "withdraw_commission", "validator": operator(message)}]
 
 
 def set_withdraw_address(message: Value) -> list[Json]:
+    """Another payee of rewards."""
     return [{"kind": "set_withdraw_address", "delegator": user(message, "delegator_address"),
              "withdraw": account(message, "withdraw_address")}]
 
 
 def fund_community_pool(message: Value) -> list[Json]:
-    """On a chain a message without coins passes, and does nothing."""
+    """Coins for the community pool; a message without any passes on a chain and does nothing, and is left out."""
     given = coins(message, "amount")
     return [{"kind": "fund_community_pool", "depositor": user(message, "depositor"), "coins": given}] if given else []
 
@@ -179,7 +191,7 @@ class Passed:
         """Adds what a message of another module moved."""
         flows = Flows()
         for event in events:
-            flows.add_event(event)
+            flows.add_event(bank_event(event))
         for denom, amount in flows.take_gain(COLLECTOR).items():
             self.to_collector[denom] = self.to_collector.get(denom, 0) + amount
         sends = flows.sends(message)
@@ -220,8 +232,11 @@ def fee_of(events: list[Value]) -> tuple[bytes, Coins] | None:
 
 def check_ante(events: list[Value], paid: tuple[bytes, Coins] | None, result: Value) -> None:
     """What comes before the messages may move the fee, and nothing else."""
+    told = [found for event in events if (found := bank_event(event))]
+    if told == ([("coin_spent", *paid), ("coin_received", COLLECTOR, paid[1])] if paid and paid[1] else []):
+        return
     flows = Flows()
-    for event in events:
+    for event in told:
         flows.add_event(event)
     if paid:
         flows.add(paid[0], paid[1], 1)

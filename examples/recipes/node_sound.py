@@ -238,7 +238,7 @@ class Judge:
         for key in references.keys() | self.state.historicals.keys():
             if key not in self.state.historicals:
                 self.fail_historical("reference-count", key, f"is missing, and {references[key]} refer to it")
-            if self.state.historicals[key].count != references[key]:
+            if not references[key] or self.state.historicals[key].count != references[key]:
                 self.fail_historical("reference-count", key,
                                      f"counts {self.state.historicals[key].count} references, of {references[key]}")
 

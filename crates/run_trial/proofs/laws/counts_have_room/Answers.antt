@@ -1,5 +1,5 @@
 use Rattle.run_trial.proofs.Room.{counts_have_room}
-use Rattle.run_trial.proofs.counts_have_room.Goals as goal
+use Rattle.run_trial.proofs.laws.counts_have_room.Goals as goal
 
 pub returns : goal.returns
 returns c = counts_have_room

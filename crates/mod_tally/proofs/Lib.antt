@@ -1,0 +1,12 @@
+pub mod Sums
+pub mod Entries
+pub mod Told
+pub mod Casting
+pub mod Walking
+pub mod Swapping
+pub mod Stepping
+pub mod Nearness
+pub mod Parts
+pub mod Exactness
+pub mod Tallied
+pub mod States
