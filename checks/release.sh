@@ -1,7 +1,7 @@
 #!/usr/bin/env bash
 # Compares the release with what stands here: its sums are those that it tells, and it unpacks to the program that it tells.
 # Where the sources are those of the release, the program that the gate built is the released one, byte by byte, and
-# stakeplay.sh runs it, without the kit, within a second; else it is said how many commits ago its sources stood.
+# stakeplay.sh runs it, without the kit; else it is said how many commits ago its sources stood.
 set -u
 cd "$(dirname "$0")/.."
 . release/release.bash
@@ -18,7 +18,10 @@ if ! is_of_release .; then
     exit $bad
 fi
 . checks/program.bash
-need_program release
+if [ -z "$built" ]; then
+    [ $bad = 0 ] && echo "release: of $(release_word . made), whole, of these sources; not compared with a build, since there is none here"
+    exit $bad
+fi
 gzip -dc release/stakeplay.gz | cmp -s - "$built" || say "the program that was built here is not the released one, though the sources are the same"
 # as on a machine without the kit: a copy of what git has, and nothing on the path but what any Linux has
 room="$(mktemp -d)"
