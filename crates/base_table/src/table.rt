@@ -15,6 +15,9 @@ use std::hash::Hash;
 use std::marker::Model;
 use std::sync::ledger::Ledger;
 
+/// The longest list of touched keys whose room is kept when the table settles: a block's is mostly shorter.
+const ROOM_KEPT: usize = 64;
+
 /// A map in the order of its keys that can be marked and gone back, and that lists what was touched since
 /// it was last settled. Contracts see it as a `Tabled`.
 ///
@@ -227,8 +230,12 @@ impl<K: Ord + Hash + Copied, V: Copied> Table<K, V> {
         requires closed { self.old.marks ≡ [] }
         ensures { self.new ≡ settled_now self.old }
     {
-        // A new list rather than a cleared one: no later settling pays for the room of a large one.
-        self.touched = IndexMap::new(self.alloc);
+        // A short list keeps its room; a long one is let go of, so that no later settling pays for it.
+        if self.touched.len() <= ROOM_KEPT {
+            self.touched.clear();
+        } else {
+            self.touched = IndexMap::new(self.alloc);
+        }
     }
 }
 
