@@ -1,13 +1,17 @@
 -- What an edit leaves of the rows.
-use Rattle.std.proofs.Common.{◌≡◌, inl, inr, ℤ, Bool, true, false, not, List, [], ◌∷◌, filter, IsTrue, Ordering, Less, Equal, Greater, is_eq, refl, sym, ap, ◌∙◌, subst, true≢false}
+use Rattle.std.proofs.Common.{◌≡◌, inl, inr, ℤ, Bool, true, false, not, cond, List, [], ◌∷◌, filter, IsTrue, Ordering, Less, Equal, Greater, is_eq, refl, sym, ap, ◌∙◌, subst, true≢false}
 use Rattle.std.specs.List.{AllByRecursion}
 use Rattle.std.proofs.lemmas.Bool.{cases_Bool, not-true, both_ways}
 use Rattle.std.proofs.lemmas.Cmp.{tied_itself}
-use Rattle.sqlite_value.specs.declared.value.Value.TheVariants.{Int}
+use Rattle.sqlite_value.specs.declared.value.Value.{Value}
+use Rattle.sqlite_value.specs.declared.value.Value.TheVariants.{Null, Int}
 use Rattle.sqlite_value.specs.Order.{Row, value_cmp}
 use Rattle.sqlite_value.proofs.OrderLemmas.{value_cmp_total}
 use Rattle.sqlite_trees.specs.Tree.{rowid, has_rowid, without_rowid, IsTable}
 use Rattle.sqlite_trees.specs.View.{is_int}
+use Rattle.sqlite_sql.specs.Ops.{unary}
+use Rattle.sqlite_schema.specs.declared.schema.Kind.TheVariants.{Integer}
+use Rattle.sqlite.specs.Cast.{cast}
 use Rattle.sqlite_rules.specs.Edit.{id_in, without_all}
 use Rattle.sqlite_rules.specs.Calls.{ids_of}
 use Rattle.sqlite_rules.specs.Lists.{Has}
@@ -66,3 +70,20 @@ module _ (rows : List Row) (up : IsTable rows) (keyed : AllByRecursion (λ r. Is
 
   pub left_keyed : AllByRecursion (λ r. IsTrue (is_int (rowid r))) (without_all rows (ids_of found))
   left_keyed = all_from _ _ (λ r h. all_has _ rows r keyed (has_left (ids_of found) rows r h).0)
+
+-- ---- what the number of a row is cast to
+
+either : (b : Bool) (x : Value) → cond b x x ≡ x
+either true x = refl
+either false x = refl
+
+pub cast_null : cast Integer Null ≡ Null
+unfolding unary
+cast_null = either _ Null
+
+cast_int : (n : ℤ) → cast Integer (Int n) ≡ Int n
+unfolding unary
+cast_int n = either _ (Int n)
+
+pub cast_number : (v : Value) → IsTrue (is_int v) → cast Integer v ≡ v
+cast_number v keyed = let is = int_is v keyed in ap (cast Integer) is ∙ cast_int (id_in v) ∙ sym is

@@ -1,13 +1,15 @@
 -- The rows of the table as a finite map.
-use Rattle.std.proofs.Common.{◌≡◌, ◌⊎◌, inl, inr, ℕ, Bool, true, false, not, ◌&&◌, ◌||◌, cond, List, [], ◌∷◌, drop, None, Some, IsTrue, Ordering, Less, Equal, Greater, is_eq, refl, sym, ◌∙◌, subst, subst₂, true≢false}
+use Rattle.std.proofs.Common.{◌≡◌, ◌⊎◌, inl, inr, ℕ, Bool, true, false, not, ◌&&◌, ◌||◌, cond, List, [], ◌∷◌, drop, None, Some, IsTrue, Ordering, Less, Equal, Greater, is_eq, refl, sym, ap, ◌∙◌, subst, subst₂, true≢false}
 use Rattle.std.proofs.lemmas.Bool.{and_parts, and_from, not-true, both_ways}
 use Rattle.std.proofs.lemmas.Cmp.{tied_back}
+use Rattle.std.specs.Ordering.{ordering_reverse}
 use Rattle.sqlite_value.specs.declared.value.Value.{Value}
 use Rattle.sqlite_value.specs.declared.value.Value.TheVariants.{Null, Int, Real, Text, Blob}
 use Rattle.sqlite_value.specs.declared.keys.Collation.{Collation}
 use Rattle.sqlite_value.specs.declared.keys.Collation.TheVariants.{Binary}
 use Rattle.sqlite_value.specs.Order.{Row, column, bytes, value_cmp}
 use Rattle.sqlite_value.specs.Keys.{collated, first_key}
+use Rattle.sqlite_value.proofs.OrderLemmas.{value_cmp_total}
 use Rattle.sqlite_trees.specs.Tree.{rowid, IsTable, IsAscending}
 use Rattle.sqlite_trees.specs.View.{is_int}
 use Rattle.sqlite_sql.specs.Ops.{binary, is_null, is_true, from_truth}
@@ -16,6 +18,7 @@ use Rattle.sqlite_schema.specs.declared.schema.Constraint.TheVariants.{Datatype,
 use Rattle.sqlite_schema.specs.Rules.{Keeps, is_of, are_typed, are_present, agree, differ, equal, clashes}
 use Rattle.sqlite_rules.specs.Lists.{Has}
 use Rattle.sqlite_rules.proofs.ListLemmas.{all_has, all_from, some_from}
+use Rattle.sqlite_rules.proofs.PlaceLemmas.{tied_same}
 use Rattle.sqlite_catalog.specs.Listing.{automatic}
 use Rattle.sqlite_schema.specs.declared.schema.Index.{Index}
 use Rattle.sqlite.specs.Effect.{Database}
@@ -106,11 +109,7 @@ pub agree_named : (a b : Row) → AreBlobs a → AreBlobs b → key_cmp (pair_in
 unfolding first_key
 agree_named a b p q tie = and_from _ _ (equal_from Binary (column a 1) (column b 1) (blob_not_null _ p.0) (blob_not_null _ q.0) (name_cmp a b p.0 q.0 ∙ tie)) refl
 
-pub named_agree : (a b : Row) → AreBlobs a → AreBlobs b → agree name_index.order (1 ∷ []) a (1 ∷ []) b ≡ true → key_cmp (pair_in a).0 (pair_in b).0 ≡ Equal
-unfolding first_key
-named_agree a b p q h = sym (name_cmp a b p.0 q.0) ∙ equal_tied Binary (column a 1) (column b 1) (and_parts _ _ h).0
-
-apart_names : (db : Database) → IsHeld db → (a b : Row) → Has (db.trees 0) a → Has (db.trees 0) b → value_cmp (rowid a) (rowid b) ≡ Less → key_cmp (pair_in a).0 (pair_in b).0 ≡ Equal → ⊥
+pub apart_names : (db : Database) → IsHeld db → (a b : Row) → Has (db.trees 0) a → Has (db.trees 0) b → value_cmp (rowid a) (rowid b) ≡ Less → key_cmp (pair_in a).0 (pair_in b).0 ≡ Equal → ⊥
 apart_names db held a b h k lower tie =
     let keeps : Keeps Unique kept_schema db.trees = subst (λ s. Keeps Unique s db.trees) held.schema (held.sound.obeys.rules Unique) in
     let pass = and_parts _ _ (all_has _ (db.trees 0) b keeps.0 k) in
@@ -120,12 +119,21 @@ apart_names db held a b h k lower tie =
     (differ_from (rowid a) (rowid b) (int_not_null _ (all_has _ (db.trees 0) a held.keyed h)) (int_not_null _ (all_has _ (db.trees 0) b held.keyed k)) lower)) in
     both_ways _ (not-true _ pass.0) clash
 
-ascending_by : (Q : Row → Row → Type 0) (rows : List Row) → IsTable rows → ((a b : Row) → Has rows a → Has rows b → value_cmp (rowid a) (rowid b) ≡ Less → Q a b) → IsAscending Q rows
+pub ascending_by : (Q : Row → Row → Type 0) (rows : List Row) → IsTable rows → ((a b : Row) → Has rows a → Has rows b → value_cmp (rowid a) (rowid b) ≡ Less → Q a b) → IsAscending Q rows
 ascending_by Q [] up each = tt
 ascending_by Q (r ∷ rows) up each = (all_from _ rows (λ b h. each r b (inl refl) (inr h) (all_has _ rows b up.0 h)), ascending_by Q rows up.1 (λ a b h k. each a b (inr h) (inr k)))
 
 pub are_named : (db : Database) → IsHeld db → AreNamed (db.trees 0)
 are_named db held = ascending_by _ (db.trees 0) held.rising (apart_names db held)
+
+-- rows with one name are one row
+pub same_named : (db : Database) → IsHeld db → (a b : Row) → Has (db.trees 0) a → Has (db.trees 0) b → key_cmp (pair_in a).0 (pair_in b).0 ≡ Equal → a ≡ b
+same_named db held a b h k tie = go (value_cmp (rowid a) (rowid b)) refl
+  where
+    go : (o : Ordering) → value_cmp (rowid a) (rowid b) ≡ o → a ≡ b
+    go Less is = absurd (apart_names db held a b h k is tie)
+    go Equal is = tied_same (db.trees 0) a b held.rising h k is
+    go Greater is = absurd (apart_names db held b a k h (value_cmp_total.antisymm (rowid b) (rowid a) ∙ ap ordering_reverse is) (tied_back total (pair_in a).0 (pair_in b).0 tie))
 
 -- ---- the map of rows
 

@@ -39,13 +39,13 @@ went (inr on) = on
 pub same_value : {B E : Type 0} {a b : B} → ◌≡◌ {A = Result B E} (Ok a) (Ok b) → a ≡ b
 same_value e = cc
 
-abbrev IsAsked : List ℕ → Row → Type 0
+abbrev pub IsAsked : List ℕ → Row → Type 0
 IsAsked name r = list_all (holds ((Blob name ∷ []) ∷ r ∷ [])) name_is ≡ true
 
 value_named : (name : List ℕ) (r : Row) → AreBlobs r → value_cmp (column r 1) (Blob name) ≡ key_cmp (pair_in r).0 name
 value_named name r are = subst (λ v. value_cmp v (Blob name) ≡ key_cmp (bytes (column r 1)) name) (sym are.0) (blob_cmp (bytes (column r 1)) name)
 
-asked_named : (name : List ℕ) (r : Row) → AreBlobs r → IsAsked name r → key_cmp (pair_in r).0 name ≡ Equal
+pub asked_named : (name : List ℕ) (r : Row) → AreBlobs r → IsAsked name r → key_cmp (pair_in r).0 name ≡ Equal
 asked_named name r are h = sym (value_named name r are) ∙ equal_tied Binary (column r 1) (Blob name) (and_parts _ _ h).0
 
 named_asked : (name : List ℕ) (r : Row) → AreBlobs r → key_cmp (pair_in r).0 name ≡ Equal → IsAsked name r

@@ -5,10 +5,9 @@ use Rattle.sqlite.specs.Term.{Term, lit, col}
 use Rattle.sqlite.specs.Query.{Query, inner, end}
 use Rattle.sqlite.specs.Source.TheVariants.{Values}
 use Rattle.sqlite_schema.specs.declared.program.Program.{Program}
-use Rattle.sqlite_schema.specs.declared.command.Conflict.TheVariants.{Replace}
 use Rattle.sqlite_sql.specs.declared.ops.CompareOp.TheVariants.{Eq}
 use Rattle.sqlite_rules.specs.Probe.{comparison}
-use Rattle.sqlite.specs.Command.TheVariants.{InsertOr, Delete, Select, CreateTable}
+use Rattle.sqlite.specs.Command.TheVariants.{Insert, Update, Delete, Select, CreateTable}
 use Rattle.sqlite.specs.Collation.TheVariants.{Binary}
 use Rattle.sqlite.specs.Compile.{table_defined_by}
 use Rattle.sqlite_tied.specs.Compute.{everything}
@@ -22,8 +21,11 @@ create_text = codes "CREATE TABLE kept (name BLOB NOT NULL PRIMARY KEY, body BLO
 abbrev pub select_text : List ℕ
 select_text = codes "SELECT name, body FROM kept"
 
-abbrev pub put_text : List ℕ
-put_text = codes "INSERT OR REPLACE INTO kept (name, body) VALUES (?1, ?2)"
+abbrev pub insert_text : List ℕ
+insert_text = codes "INSERT INTO kept (name, body) VALUES (?1, ?2)"
+
+abbrev pub update_text : List ℕ
+update_text = codes "UPDATE kept SET body = ?2 WHERE name = ?1"
 
 abbrev pub delete_text : List ℕ
 delete_text = codes "DELETE FROM kept WHERE name = ?1"
@@ -80,14 +82,29 @@ pub delete_plain : IsPlain (understood kept_schema delete_text)
 unfolding understood everything
 delete_plain = (refl, refl)
 
--- the row that is put: no number, and the two parameters
-abbrev pub put_terms : List Term
-put_terms = lit Null ∷ col 0 0 ∷ col 0 1 ∷ []
+-- the row that is inserted: no number, and the two parameters
+abbrev pub insert_terms : List Term
+insert_terms = lit Null ∷ col 0 0 ∷ col 0 1 ∷ []
 
-pub put_is : command_of (understood kept_schema put_text) ≡ InsertOr 0 Replace (Values put_terms 3) []
+pub insert_is : command_of (understood kept_schema insert_text) ≡ Insert 0 (Values insert_terms 3)
 unfolding understood everything
-put_is = refl
+insert_is = refl
 
-pub put_plain : IsPlain (understood kept_schema put_text)
+pub insert_plain : IsPlain (understood kept_schema insert_text)
 unfolding understood everything
-put_plain = (refl, refl)
+insert_plain = (refl, refl)
+
+-- the number of the row that is taken out, and the row that is put in its place
+abbrev pub update_query : Query
+update_query = record { from = inner 0 end; filter = name_is; group = None; project = col 1 0 ∷ col 1 0 ∷ col 1 1 ∷ col 0 1 ∷ []; distinct = false; collations = []; order = []; limit = lit (Int (negsuc 0)); offset = lit (Int (pos 0)) }
+
+abbrev pub update_program : Program
+update_program = record { lets = []; body = update_query }
+
+pub update_is : command_of (understood kept_schema update_text) ≡ Update 0 update_program
+unfolding understood everything
+update_is = refl
+
+pub update_plain : IsPlain (understood kept_schema update_text)
+unfolding understood everything
+update_plain = (refl, refl)

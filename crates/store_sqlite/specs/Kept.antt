@@ -66,6 +66,12 @@ abbrev pub map_of : List Row → List Pair
 map_of [] = []
 map_of (row ∷ rows) = put (pair_in row) (map_of rows)
 
+-- What was made of the rows, by how many were changed: none, and all are as they were; or one, and the pair stands in
+-- its place.
+abbrev pub IsUpdated : ℕ → Pair → List Pair → List Pair → Type 0
+IsUpdated count new before after =
+    ((count ≡ 0) × (after ≡ before)) ⊎ ((count ≡ 1) × (after ≡ put new before))
+
 -- the database is the table alone, and obeys its schema; the numbers of the rows rise
 pub record IsHeld (db : Database) : Type 0 where
   pub schema : db.schema ≡ kept_schema
