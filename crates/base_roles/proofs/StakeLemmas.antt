@@ -13,7 +13,7 @@ use Rattle.base_roles.specs.Owing.{Lists}
 use Rattle.base_roles.specs.Lent.{IsBurned}
 use Rattle.base_roles.specs.Holdings.{balance_of}
 use Rattle.base_roles.specs.Staked.{Staked, validator_by_cons, is_unbonded}
-use Rattle.base_roles.specs.StakeChanges.{of_bond, HoldsStake, StakeFalls, StillStandByCons}
+use Rattle.base_roles.specs.StakeChanges.{of_bond, HoldsStake, StakeFalls, StillStand, StillStandByCons}
 use Rattle.base_roles.specs.World.{View}
 use Rattle.base_roles.proofs.HookLemmas.{Stand-same}
 
@@ -54,6 +54,18 @@ holds-jailed old v facts b o b1 o1 b2 o2 c f e g h = holds-same (record v { fact
 pub on_ok : {A E P Q : Type 0} (r : Result A E) → (P → Q) → OnOk r P → OnOk r Q
 on_ok (Ok a) f p = f p
 on_ok (Err e) f p = tt
+
+-- what follows of two
+pub on_both : {A E P Q T : Type 0} (r : Result A E) → (P → Q → T) → OnOk r P → OnOk r Q → OnOk r T
+on_both (Ok a) f p q = f p q
+on_both (Err e) f p q = tt
+
+-- who stands after one change and another
+pub still-then : (s s1 s2 : Staked) → StillStand s s1 → StillStand s1 s2 → StillStand s s2
+still-then s s1 s2 a b = λ o x e n.
+    let first = a o x e n in
+    let second = b o first.0 first.1.0 (ap (λ y. is_unbonded y) first.1.2 ∙ n) in
+    (second.0, (second.1.0, second.1.1 ∙ first.1.1, second.1.2 ∙ first.1.2))
 
 -- it still stands after a slash
 pub still_known : (old new : Staked) (cons : List ℕ) → StillStandByCons old new → (v : Validator) × ((validator_by_cons old cons ≡ Some v) × (is_unbonded v.status ≡ false)) → IsSome (validator_by_cons new cons)

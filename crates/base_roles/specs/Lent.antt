@@ -23,11 +23,17 @@ pub record Unbonds (D H : Type 0) : Type 0 where
   pub stake : D → Staked
   pub unbond : List ℕ → List ℕ → ℕ → World D H → Result (ℕ × World D H) Over
 
--- What a call answers and leaves that follows a rule over lent delegations: what the rule gives, or its excess; or memory
--- is wanting.
-abbrev pub FollowsLent : {S D H : Type 0} → Result (ℕ × S × World D H) Over → S → D → (H → Type 0) → View → Result ℕ HookFault → Type 0
-FollowsLent rule s d holds v answer = AsRuled rule answer
-    (λ due n. (n ≡ due.0) × (s ≡ due.1) × (d ≡ due.2.mine) × holds due.2.hooks × (v ≡ due.2.view)) WantsMemory ExceedsAs
+-- what a call is told of the unbonding entries that it is lent
+pub record Following (U : Type 0) : Type 0 where
+  -- what the entries of a delegator and an operator that were made at a height or later lose, of at most so many tokens:
+  -- the sum, the entries and the ground after it
+  pub follow : List ℕ → List ℕ → ℕ → ℕ → U → View → ℕ × U × View
+
+-- What a call answers and leaves that follows a rule over lent delegations and unbonding entries: what the rule gives, or
+-- its excess; or memory is wanting.
+abbrev pub FollowsLent : {S U D H : Type 0} → Result (ℕ × S × U × World D H) Over → S → U → D → (H → Type 0) → View → Result ℕ HookFault → Type 0
+FollowsLent rule s u d holds v answer = AsRuled rule answer
+    (λ due n. (n ≡ due.0) × (s ≡ due.1) × (u ≡ due.2) × (d ≡ due.3.mine) × holds due.3.hooks × (v ≡ due.3.view)) WantsMemory ExceedsAs
 
 -- what a call counted, and leaves, that follows a rule without hooks
 abbrev pub IsAsTold : {S : Type 0} → ℕ × S × View → S → View → ℕ → Type 0

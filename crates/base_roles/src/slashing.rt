@@ -11,7 +11,7 @@ ghost use Rattle.base_roles.specs.Answers.{Follows};
 ghost use Rattle.base_roles.specs.Entries.{at};
 ghost use Rattle.base_roles.specs.Ground.{seen, IsInOrder, CanBeUndone};
 ghost use Rattle.base_roles.specs.Hooks.{Stands};
-ghost use Rattle.base_roles.specs.Lent.{Unbonds, FollowsLent, IsAsTold, IsBurned, jail_told, IsBanned};
+ghost use Rattle.base_roles.specs.Lent.{Unbonds, Following, FollowsLent, IsAsTold, IsBurned, jail_told, IsBanned};
 ghost use Rattle.base_roles.specs.Log.{Log};
 ghost use Rattle.base_roles.specs.Staked.{Staked, validator_by_cons, lists_of, bonded_tokens, other_tokens};
 ghost use Rattle.base_roles.specs.StakeChanges.{HoldsStake, StakeFalls, StillStand, StillStandByCons, SameButJailed, SameButJailedByCons, IsJailed};
@@ -45,6 +45,10 @@ pub trait UnbondingSlash {
     /// What a slash of an operator's entries since a height by a factor gives: what was counted, and what
     /// stands then.
     ghost slashes: { List ℕ → ℕ → ℕ → Held → View → ℕ × Held × View };
+
+    /// What the entries of a delegator and an operator lose that were made at a height or later, of at most so
+    /// many tokens: the sum, and what stands then.
+    ghost follows: { List ℕ → List ℕ → ℕ → ℕ → Held → View → ℕ × Held × View };
 
     /// What its open marks would give back.
     ghost Marks: { Type 0 };
@@ -81,6 +85,38 @@ pub trait UnbondingSlash {
         ensures undone { CanBeUndone B.marks g.old g.new }
         ensures bank { B.most_steps g.new.bank ≡ B.most_steps g.old.bank }
         ensures marks { marks self.new ≡ marks self.old };
+
+    /// Takes at most so many tokens from the entries of a delegator and an operator that were made at a height
+    /// or later and are not mature, from each in the order of making, and burns the sum at once. Answers the
+    /// sum. The only error is `NoMemory`.
+    fn slash_followed<B: Bank, L: Ledger>(
+        &mut self,
+        alloc: Global,
+        g: &mut Ground<B>,
+        delegator: &Addr,
+        operator: &Addr,
+        from: u64,
+        tokens: u128,
+        steps: &mut Steps<L>,
+    ) -> Result<u128, HookFault>
+        requires sound { sound (held self.old) }
+        requires in_order { IsInOrder (seen B.holdings g.old) }
+        requires account { HoldsStake (seen B.holdings g.old) 0 (owed (held self.old)) }
+
+        ensures told { IfOk result (IsAsTold (follows delegator.now operator.now from tokens
+            (held self.old) (seen B.holdings g.old)) (held self.new) (seen B.holdings g.new)) }
+        ensures most { IfOk result (λ sum. sum ≤ tokens) }
+        ensures burned { OnOk result (IsBurned (seen B.holdings g.old) (seen B.holdings g.new)
+            (owed (held self.old)) (owed (held self.new))) }
+        ensures sum { IfOk result (λ sum. owed (held self.new) + sum ≡ owed (held self.old)) }
+        ensures sound { OnOk result (sound (held self.new)) }
+        ensures in_order { OnOk result (IsInOrder (seen B.holdings g.new)) }
+        ensures fault { IfErr result (λ fault. fault ≡ NoMemory) }
+
+        // Whatever the answer.
+        ensures undone { CanBeUndone B.marks g.old g.new }
+        ensures bank { B.most_steps g.new.bank ≡ B.most_steps g.old.bank }
+        ensures marks { marks self.new ≡ marks self.old };
 }
 
 /// Redelegation entries that can be slashed (Cosmos SDK v0.47: `x/staking/keeper`, `SlashRedelegation`).
@@ -94,9 +130,10 @@ pub trait RedelegationSlash {
     ghost sound: { Held → Type 0 };
 
     /// What a slash of the entries from an operator since a height by a factor gives, over delegations of
-    /// which it is told what unbonding gives: what was counted, and what stands then; or an excess.
-    ghost slashes: { (D H : Type 0) → Unbonds D H → List ℕ → ℕ → ℕ → Held → World D H
-        → Result (ℕ × Held × World D H) Over };
+    /// which it is told what unbonding gives, and unbonding entries of which it is told what those lose that
+    /// follow: what was counted, and what stands then; or an excess.
+    ghost slashes: { (D U H : Type 0) → Unbonds D H → Following U → List ℕ → ℕ → ℕ → Held → U
+        → World D H → Result (ℕ × Held × U × World D H) Over };
 
     /// What its open marks would give back.
     ghost Marks: { Type 0 };
@@ -104,15 +141,16 @@ pub trait RedelegationSlash {
     ghost marks: { Self → Marks };
 
     /// Slashes the entries from an operator that were made at the infraction's height or later and are not
-    /// mature, by a factor of at most one: unbonds shares at their targets, and burns what goes out. Answers
-    /// what was counted, and 10^18 where that is more. The errors are `NoMemory` and `Over`, which comes exactly
-    /// where an unbonding exceeds.
-    fn slash_redelegations<B: Bank, H: StakingHooks, D: Unbonder, L: Ledger>(
+    /// mature, by a factor of at most one: first takes from the unbonding entries that follow each, then unbonds
+    /// shares at its target for what is left, and burns what goes out. Answers what was counted, and 10^18 where
+    /// that is more. The errors are `NoMemory` and `Over`, which comes exactly where an unbonding exceeds.
+    fn slash_redelegations<B: Bank, H: StakingHooks, D: Unbonder, U: UnbondingSlash, L: Ledger>(
         &mut self,
         alloc: Global,
         g: &mut Ground<B>,
         hooks: &mut H,
         delegations: &mut D,
+        unbondings: &mut U,
         operator: &Addr,
         infraction: u64,
         factor: Dec,
@@ -121,33 +159,37 @@ pub trait RedelegationSlash {
         requires factor { factor ≤ 10 ^ 18 }
         requires sound { sound (held self.old) }
         requires delegations { D.sound (D.held delegations.old) }
+        requires unbondings { U.sound (U.held unbondings.old) }
         requires stand { Stands (H.holds hooks.old) H.tells (seen B.holdings g.old)
             (lists_of (D.stake (D.held delegations.old))) }
         requires accounts { HoldsStake (seen B.holdings g.old) (bonded_tokens
-            (D.stake (D.held delegations.old))) (other_tokens (D.stake (D.held delegations.old))) }
+            (D.stake (D.held delegations.old))) (other_tokens (D.stake (D.held delegations.old))
+            + U.owed (U.held unbondings.old)) }
 
         ensures told { (h : H.Held) → H.holds hooks.old h → (log : Log) → FollowsLent
-            (slashes D.Held H.Held (record {
+            (slashes D.Held U.Held H.Held (record {
               stake = D.stake;
               unbond = D.unbonds H.Held
                   H.tells.told;
-            }) operator.now infraction factor (held self.old)
-            (record {
+            }) (record { follow = U.follows }) operator.now infraction factor (held self.old)
+            (U.held unbondings.old) (record {
               mine = D.held delegations.old;
               hooks = h;
               view = seen B.holdings g.old;
               log = log;
-            })) (held self.new) (D.held delegations.new) (H.holds hooks.new)
-            (seen B.holdings g.new) result }
+            })) (held self.new) (U.held unbondings.new) (D.held delegations.new)
+            (H.holds hooks.new) (seen B.holdings g.new) result }
         ensures most { IfOk result (λ counted. counted ≤ 10 ^ 18) }
         ensures falls { OnOk result (StakeFalls (seen B.holdings g.old) (seen B.holdings g.new)
             (bonded_tokens (D.stake (D.held delegations.old))) (other_tokens
-            (D.stake (D.held delegations.old))) (bonded_tokens (D.stake (D.held delegations.new)))
-            (other_tokens (D.stake (D.held delegations.new)))) }
+            (D.stake (D.held delegations.old)) + U.owed (U.held unbondings.old)) (bonded_tokens
+            (D.stake (D.held delegations.new))) (other_tokens (D.stake (D.held delegations.new))
+            + U.owed (U.held unbondings.new))) }
         ensures still { OnOk result
             (StillStand (D.stake (D.held delegations.old)) (D.stake (D.held delegations.new))) }
         ensures sound { OnOk result (sound (held self.new)) }
         ensures delegations { OnOk result (D.sound (D.held delegations.new)) }
+        ensures unbondings { OnOk result (U.sound (U.held unbondings.new)) }
         ensures stand { OnOk result (Stands (H.holds hooks.new) H.tells (seen B.holdings g.new)
             (lists_of (D.stake (D.held delegations.new)))) }
 
@@ -156,7 +198,8 @@ pub trait RedelegationSlash {
         ensures bank { B.most_steps g.new.bank ≡ B.most_steps g.old.bank }
         ensures marks { marks self.new ≡ marks self.old }
         ensures hook_marks { H.marks hooks.new ≡ H.marks hooks.old }
-        ensures delegation_marks { D.marks delegations.new ≡ D.marks delegations.old };
+        ensures delegation_marks { D.marks delegations.new ≡ D.marks delegations.old }
+        ensures unbonding_marks { U.marks unbondings.new ≡ U.marks unbondings.old };
 }
 
 /// Validators that can be slashed and jailed (Cosmos SDK: what `x/slashing` and `x/evidence` use of

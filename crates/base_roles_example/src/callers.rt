@@ -144,8 +144,8 @@ pub fn punish<B: Bank, H: StakingHooks, S: Slasher, N: Signers, L: Ledger>(
 }
 
 /// What a slash through entries does: the unbonding entries of an operator are slashed, then the redelegation
-/// entries from it over lent delegations, then the tokens of the validator itself burn. Answers what was
-/// counted of entries.
+/// entries from it over lent delegations and the same unbonding entries, then the tokens of the validator itself
+/// burn. Answers what was counted of entries.
 pub fn slash_through_entries<
     B: Bank,
     H: StakingHooks,
@@ -186,6 +186,7 @@ pub fn slash_through_entries<
         g,
         hooks,
         delegations,
+        unbondings,
         operator,
         infraction,
         factor,

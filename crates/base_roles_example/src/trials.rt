@@ -232,6 +232,8 @@ impl UnbondingSlash for NoEntries {
 
     ghost slashes = { λ operator infraction factor h v. (0, h, v) };
 
+    ghost follows = { λ delegator operator from tokens h v. (0, h, v) };
+
     ghost Marks = { Unit {0} };
 
     ghost marks = { λ _. tt };
@@ -247,6 +249,19 @@ impl UnbondingSlash for NoEntries {
     ) -> Result<u128, HookFault> {
         Ok(0)
     }
+
+    fn slash_followed<B: Bank, L: Ledger>(
+        &mut self,
+        _alloc: Global,
+        _g: &mut Ground<B>,
+        _delegator: &Addr,
+        _operator: &Addr,
+        _from: u64,
+        _tokens: u128,
+        _steps: &mut Steps<L>,
+    ) -> Result<u128, HookFault> {
+        Ok(0)
+    }
 }
 
 impl RedelegationSlash for NoEntries {
@@ -256,18 +271,19 @@ impl RedelegationSlash for NoEntries {
 
     ghost sound = { λ h. Unit {0} };
 
-    ghost slashes = { λ D H unbonds operator infraction factor h w. Ok (0, h, w) };
+    ghost slashes = { λ D U H unbonds following operator infraction factor h u w. Ok (0, h, u, w) };
 
     ghost Marks = { Unit {0} };
 
     ghost marks = { λ _. tt };
 
-    fn slash_redelegations<B: Bank, H: StakingHooks, D: Unbonder, L: Ledger>(
+    fn slash_redelegations<B: Bank, H: StakingHooks, D: Unbonder, U: UnbondingSlash, L: Ledger>(
         &mut self,
         _alloc: Global,
         _g: &mut Ground<B>,
         _hooks: &mut H,
         _delegations: &mut D,
+        _unbondings: &mut U,
         _operator: &Addr,
         _infraction: u64,
         _factor: Dec,

@@ -1,6 +1,6 @@
 -- A start, and the message that withdraws a reward, as steps of a state, are the deeds of their rules.
 use Rattle.std.proofs.Common.{◌≡◌, ℕ, ◌+◌, ◌<◌, ◌≤◌, ◌≢◌, Bool, true, false, List, [], ◌∷◌, ◌++◌, map, refl, arith, sym, ap, subst, ◌∙◌, Option, Some, None, Result, Ok, Err, append_assoc}
-use Rattle.std.specs.Prelude.{unwrap_or, is_some, IfOk, sum}
+use Rattle.std.specs.Prelude.{unwrap_or, is_some, sum}
 use Rattle.std.specs.List.{AllByRecursion, slice_get, insert, remove}
 use Rattle.std.specs.BTreeMap.{is_at}
 use Rattle.std.specs.Ordering.{is_eq}
@@ -20,6 +20,7 @@ use Rattle.base_roles.specs.Orders.{pair_cmp, same_addr}
 use Rattle.base_roles.specs.Staked.{validator_at, delegation}
 use Rattle.base_roles.specs.Flow.{◌>>=◌, or_stop, stopping}
 use Rattle.base_roles.specs.World.{View}
+pub use Rattle.rule_modules.proofs.GoingLemmas.{if_ok}
 use Rattle.rule_modules.specs.Chain.{State, with_shared}
 use Rattle.rule_modules.specs.Distribution.{Shared, started, reward_withdrawn, reward_renewed, payee_of}
 use Rattle.rule_modules.specs.Effects.{withdraw_reward}
@@ -201,10 +202,6 @@ taken_reached w who operator x sound e reached =
     let own : operator ≡ v.operator = under_own w operator v sound found in
     renewal_reached w v who two.0 x (ready_in w v.operator sound) (ap (λ o. validator_at w.mine.staked o) (sym own) ∙ found) (ap (λ o. delegation w.mine.staked who o) (sym own) ∙ held)
     (went_on Overflow (reward_renewed v who two.0 w.hooks.0 w.view) x two.2) reached
-
-pub if_ok : {A E : Type 0} (P : A → Type 0) (r : Result A E) → ((a : A) → r ≡ Ok a → P a) → IfOk r P
-if_ok P (Ok a) f = f a refl
-if_ok P (Err e) f = tt
 
 message_reached : (who operator : List ℕ) (w new : State) → IsSound w → withdraw_reward who operator w ≡ Ok new → ReachedStays w new
 message_reached who operator w new sound e reached =

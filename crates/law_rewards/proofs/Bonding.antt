@@ -1,6 +1,6 @@
 -- Making the bonded set anew keeps accounts reached: only statuses change.
 use Rattle.std.proofs.Common.{◌≡◌, ℕ, Bool, true, false, cond, List, [], ◌∷◌, ◌++◌, filter, refl, sym, ap, subst, ◌∙◌, Some, Result, Ok, append-nil}
-use Rattle.std.specs.Prelude.{◌&&◌, not, if◌then◌else◌, nat_lt}
+use Rattle.std.specs.Prelude.{◌&&◌, not, nat_lt}
 use Rattle.std.specs.List.{AllByRecursion}
 use Rattle.std.specs.Map.{values_of}
 use Rattle.std.proofs.lemmas.List.Elements.{recursion_from_All}
@@ -15,7 +15,7 @@ use Rattle.base_roles.specs.World.{View, World, bonded, call, over_view}
 use Rattle.rule_modules.proofs.EntryLemmas.{to_all}
 use Rattle.rule_modules.proofs.OperatorLemmas.{ordered_all}
 use Rattle.rule_modules.proofs.OrderLemmas.{addr_total}
-use Rattle.rule_modules.specs.BondedSet.{stands_before, placed, by_power, joining_of, leaving_of, tokens_of, difference_moved, is_in_bonded_set, joined_set, left_set, set_updated}
+use Rattle.rule_modules.specs.BondedSet.{joining_of, leaving_of, tokens_of, difference_moved, is_in_bonded_set, joined_set, left_set, set_updated}
 use Rattle.rule_modules.specs.Chain.{Hooks, State, chain_told, staked_in, with_staked, set_step}
 use Rattle.rule_modules.specs.Sound.{IsSound}
 use Rattle.rule_modules.specs.Stakes.{changed}

@@ -28,7 +28,8 @@ use Rattle.law_rewards.proofs.Hooked.{IsIdle, hook_gave, call_parts, same_told, 
 use Rattle.law_rewards.proofs.Growing.{more_of, more_world, behind_hook}
 use Rattle.law_rewards.proofs.Leaving.{less_of}
 use Rattle.law_rewards.proofs.Undelegating.{left_then, leaving}
-use Rattle.law_rewards.proofs.Slashing.{event_put, slash_parts, rule_told}
+use Rattle.rule_modules.proofs.SlashParts.{event_put}
+use Rattle.law_rewards.proofs.Slashing.{recorded_parts, rule_told}
 use Rattle.law_rewards.proofs.Withdrawing.{IsMade, made_is}
 use Rattle.law_rewards.proofs.Paying.{ended_with}
 use Rattle.law_rewards.proofs.Staking.{removed_with}
@@ -118,7 +119,7 @@ module _ (Q : Shared → Log → Type 0) (carries : IsCarried Q) where
       let s : Shared × View × Log = started v who shares d u in
       given_kept s.0 z.0 s.1 z.1 s.2 z.2 l e (carries.starts v who shares d u l r)
   told_kept (hook.slashing v fraction) d u z l m e r =
-      let parts : (y : ℕ × Shared × View × Log) × (ended v d u ≡ Ok y) × ((event_put v fraction y, y.2, y.3) ≡ z) = slash_parts v fraction d u z (rule_told (slash_recorded v fraction d u) z e) in
+      let parts : (y : ℕ × Shared × View × Log) × (ended v d u ≡ Ok y) × ((event_put v fraction y, y.2, y.3) ≡ z) = recorded_parts v fraction d u z (rule_told (slash_recorded v fraction d u) z e) in
       let y : ℕ × Shared × View × Log = parts.0 in
       subst (λ (q : Shared × View × Log). Q q.0 (l ++ q.2)) parts.2 (carries.same y.1 (event_put v fraction y) (l ++ y.3) refl refl (ended_kept v d u y l parts.1 r))
 

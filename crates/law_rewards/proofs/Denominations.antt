@@ -1,6 +1,6 @@
 -- In each denomination, the reward in coins is the reward in that denomination.
-use Rattle.std.proofs.Common.{◌≡◌, ℕ, ◌+◌, ◌-◌, ◌==◌, Bool, true, false, cond, List, [], ◌∷◌, map, refl, arith, ap, sym, ◌∙◌, subst, Ok, Err}
-use Rattle.std.specs.Prelude.{Result, nat_le}
+use Rattle.std.proofs.Common.{◌≡◌, ℕ, ◌+◌, ◌-◌, ◌==◌, Bool, true, false, cond, List, [], ◌∷◌, map, arith, ap, sym, ◌∙◌, subst, Ok}
+use Rattle.std.specs.Prelude.{nat_le}
 use Rattle.std.specs.List.{AllByRecursion}
 use Rattle.std.proofs.lemmas.Grind.{common_steps}
 use Rattle.std.proofs.lemmas.List.Elements.{recursion_from_All}
@@ -13,14 +13,10 @@ use Rattle.base_coins.proofs.Parts.{by_is_money, below_is, zero_mul_cut}
 use Rattle.base_roles.specs.Flow.{◌>>=◌}
 use Rattle.base_roles.specs.declared.entities.StartingInfo.{StartingInfo}
 use Rattle.rule_modules.specs.Periods.{Periods, Stretch, ratio_at, earned, stretches_of, reward_of}
+pub use Rattle.rule_modules.proofs.GoingLemmas.{step_parts}
 use Rattle.law_rewards.specs.Account.{product_cut, earned_in, reward_in, ratio_in}
 use Rattle.law_rewards.specs.Laws.{RewardsGoByDenomination}
 use Rattle.law_rewards.proofs.Lists.{sum_more}
-
--- a step that gave something, and what the next gave of it
-pub step_parts : {A B E : Type 0} (r : Result A E) (f : A → Result B E) (z : B) → (r >>= f) ≡ Ok z → (a : A) × (r ≡ Ok a) × (f a ≡ Ok z)
-step_parts (Ok a) f z h = (a, refl, h)
-step_parts (Err e) f z h = absurd cc
 
 pub product_is : (n by m : ℕ) → mul_cut_of n by ≡ Ok m → m ≡ product_cut n by
 product_is n by m e = grind (arith, common_steps)

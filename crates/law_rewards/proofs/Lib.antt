@@ -1,7 +1,6 @@
 pub mod Acts
 pub mod Allocating
 pub mod Beginnings
-pub mod Beside
 pub mod Bonding
 pub mod Carried
 pub mod CarriedSlashes

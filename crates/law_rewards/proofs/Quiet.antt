@@ -1,13 +1,12 @@
 -- Messages that touch no rewards keep accounts reached; the payment of commission is its deed.
-use Rattle.std.proofs.Common.{◌≡◌, ℕ, ◌-◌, ◌*◌, ◌/◌, ◌^◌, ◌≤◌, Bool, true, false, cond, List, [], ◌∷◌, ◌++◌, refl, arith, sym, ap, subst, ◌∙◌, Some, Result, Ok, min, append-nil}
+use Rattle.std.proofs.Common.{◌≡◌, ℕ, ◌-◌, ◌*◌, ◌/◌, ◌^◌, ◌≤◌, Bool, true, false, List, [], ◌∷◌, ◌++◌, refl, arith, sym, ap, subst, ◌∙◌, Some, Result, Ok, min, append-nil}
 use Rattle.std.specs.Prelude.{unwrap_or, IfSome, not, ⊤}
 use Rattle.std.specs.BTreeMap.{is_at}
-use Rattle.std.specs.Map.{lookup}
 use Rattle.std.proofs.lemmas.Map.Entries.{All-lookup}
 use Rattle.base_types.specs.declared.account.Account.{Account as Holder}
 use Rattle.base_types.specs.declared.account.Account.TheVariants as account
 use Rattle.base_types.specs.declared.account.Module.TheVariants as holder
-use Rattle.base_types.specs.Orders.{addr_cmp, denom_cmp}
+use Rattle.base_types.specs.Orders.{addr_cmp}
 use Rattle.base_decimals.specs.declared.over.Over.{Over}
 use Rattle.base_decimals.specs.Decimals.{trunc_of}
 use Rattle.base_coins.specs.Coins.{Money, amount_of, coins_added, whole_coins}
@@ -27,6 +26,7 @@ use Rattle.base_roles.specs.Log as log
 use Rattle.base_roles.specs.Orders.{same_addr}
 use Rattle.base_roles.specs.Flow.{◌>>=◌, ◌>>◌, stop_if, or_stop, stopping}
 use Rattle.base_roles.specs.World.{View, sent, over_view, noted}
+pub use Rattle.rule_modules.proofs.GoingLemmas.{same_ok}
 use Rattle.rule_modules.proofs.PartLemmas.{amount_in_units}
 use Rattle.rule_modules.specs.Amounts.{in_units, is_empty, over_facts}
 use Rattle.rule_modules.specs.Chain.{State, with_shared}
@@ -54,9 +54,6 @@ use Rattle.law_rewards.proofs.Beginnings.{found_is, went_on, if_ok}
 pub passed : {A E : Type 0} (b : Bool) (e : E) (r : Result A E) (a : A) → (stop_if b e >> r) ≡ Ok a → r ≡ Ok a
 passed true e r a h = absurd cc
 passed false e r a h = h
-
-pub same_ok : {A E : Type 0} (x y : A) → Path (Result A E) (Ok x) (Ok y) → x ≡ y
-same_ok x y h = cc
 
 -- ---- where rewards, purses and history stay
 

@@ -1,9 +1,8 @@
 -- The slash of a validator that has tokens is its deed; every other account stays.
-use Rattle.std.proofs.Common.{◌≡◌, ℕ, ◌-◌, ◌^◌, ◌<◌, ◌≤◌, ◌==◌, Bool, true, false, List, [], ◌∷◌, ◌++◌, refl, arith, sym, ap, subst, ◌∙◌, Option, Some, None, Result, Ok, Err, min}
-use Rattle.std.specs.Prelude.{unwrap_or, is_some, if◌then◌else◌}
+use Rattle.std.proofs.Common.{◌≡◌, ℕ, ◌-◌, ◌^◌, ◌<◌, ◌≤◌, Bool, true, false, List, [], ◌∷◌, ◌++◌, refl, arith, sym, ap, subst, ◌∙◌, Some, Result, Ok, Err}
+use Rattle.std.specs.Prelude.{unwrap_or, is_some}
 use Rattle.std.specs.List.Sorted.{IsStrictlySortedBy}
 use Rattle.std.specs.Map.{keys_of}
-use Rattle.std.proofs.lemmas.Bool.Decides.{nat_tests}
 use Rattle.base_decimals.specs.declared.over.Over.{Over}
 use Rattle.base_types.specs.Orders.{addr_cmp}
 use Rattle.base_roles.specs.declared.entities.Validator.{Validator}
@@ -13,12 +12,11 @@ use Rattle.base_roles.specs.Log.{Log, LogEntry}
 use Rattle.base_roles.specs.Log as log
 use Rattle.base_roles.specs.Orders.{pair_cmp, same_addr}
 use Rattle.base_roles.specs.Staked.{Staked, validator_at, put_validator}
-use Rattle.base_roles.specs.Flow.{◌>>=◌}
-use Rattle.base_roles.specs.World.{View, Hook, Told, gives, exceeds, World, hooked, call, slashing, noted, burnt, over_view, over_mine, logged}
+use Rattle.base_roles.specs.World.{View, gives, World, noted, burnt}
 use Rattle.rule_modules.specs.Chain.{Stakes, State, with_staked}
-use Rattle.rule_modules.specs.Distribution.{Shared, distribution_told, ended, slash_recorded, told_of}
-use Rattle.rule_modules.specs.Periods.{Periods, initial_records, periods_of, with_periods, event_recorded}
-use Rattle.rule_modules.specs.Slashing.{slash_fraction, slash_told, validator_slashed, rest_slashed}
+use Rattle.rule_modules.specs.Distribution.{Shared, ended, slash_recorded, told_of}
+use Rattle.rule_modules.specs.Periods.{Periods, initial_records, periods_of, event_recorded}
+use Rattle.rule_modules.specs.Slashing.{slash_fraction}
 use Rattle.rule_modules.specs.Stakes.{pool_of}
 use Rattle.rule_modules.specs.Window.{Window}
 use Rattle.law_rewards.specs.Account.{Account, IsReached, account_after}
@@ -34,24 +32,17 @@ use Rattle.law_rewards.proofs.Quiet.{same_ok}
 use Rattle.law_rewards.proofs.Hooked.{same_told}
 use Rattle.law_rewards.proofs.Growing.{apart_back}
 use Rattle.law_rewards.proofs.Fits.{HasLists, Fits, nobody, put_then, ended_lists, ended_starts, put_fits, ready_fits}
-use Rattle.law_rewards.proofs.Beside.{raised}
+use Rattle.rule_modules.proofs.BesideLemmas.{raised}
+use Rattle.rule_modules.proofs.SlashParts.{burnt_with, event_put, poorer, slash_noted}
 
 -- ---- what a slash records and burns
 
--- behind the end of the period, the slash event
-abbrev pub event_put : Validator → ℕ → ℕ × Shared × View × Log → Shared
-event_put v fraction z = record z.1 { rewards = with_periods v.operator (event_recorded z.2.ctx.height fraction (periods_of z.1.rewards v.operator)) z.1.rewards }
-
-pub slash_parts : (v : Validator) (fraction : ℕ) (d : Shared) (u : View) (y : Shared × View × Log) → slash_recorded v fraction d u ≡ Ok y
+pub recorded_parts : (v : Validator) (fraction : ℕ) (d : Shared) (u : View) (y : Shared × View × Log) → slash_recorded v fraction d u ≡ Ok y
     → (z : ℕ × Shared × View × Log) × (ended v d u ≡ Ok z) × ((event_put v fraction z, z.2, z.3) ≡ y)
-slash_parts v fraction d u y e =
+recorded_parts v fraction d u y e =
     let one : (z : ℕ × Shared × View × Log) × (ended v d u ≡ Ok z) × (Path (Result (Shared × View × Log) Over) (Ok (event_put v fraction z, z.2, z.3)) (Ok y)) =
     step_parts (ended v d u) (λ z. Ok (event_put v fraction z, z.2, z.3)) y e in
     (one.0, one.1, same_ok (event_put v fraction one.0, one.0.2, one.0.3) y one.2)
-
--- the validator with fewer tokens
-abbrev pub poorer : Validator → ℕ → Validator
-poorer v burn = record v { tokens = v.tokens - burn }
 
 abbrev burn_entry : Validator → ℕ → LogEntry
 burn_entry v burn = log.slashed burn v.tokens (slash_fraction burn v.tokens)
@@ -108,9 +99,9 @@ record MayLose (w : State) (v : Validator) (burn : ℕ) (z : ℕ × Shared × Vi
   few : v.tokens ≤ 10 ^ 18
   within : burn ≤ v.tokens
 
-slashed_at : (d : List ℕ) (w : State) (v x : Validator) (burn : ℕ) (z : ℕ × Shared × View × Log) (u : View) → MayLose w v burn z → u.ctx.height ≡ z.2.ctx.height → AreReached w
+slashed_each : (d : List ℕ) (w : State) (v x : Validator) (burn : ℕ) (z : ℕ × Shared × View × Log) (u : View) → MayLose w v burn z → u.ctx.height ≡ z.2.ctx.height → AreReached w
     → validator_at (put_validator (poorer v burn) w.mine.staked) x.operator ≡ Some x → (b : Bool) → same_addr x.operator v.operator ≡ b → IsReached d (account_in d (state_slashed w v burn z u) x)
-slashed_at d w v x burn z u m height reached there true is =
+slashed_each d w v x burn z u m height reached there true is =
     let less : Validator = poorer v burn in
     let t : Staked = put_validator less w.mine.staked in
     let k : IsEnded d v w.hooks.0 w.view z = end_is d w v z m.ready m.ends in
@@ -119,12 +110,12 @@ slashed_at d w v x burn z u m height reached there true is =
     (subst (λ a. IsReached d a) (sym (slashed_account d w v burn z u k height))
     (deeds_lead_on d (account_in d w v) (deed.slash burn k.increment k.ratio ∷ []) (reached d v m.found)
     ((record { increment_is = k.increment_is; ratio_is = k.ratio_is }, m.some, m.few, m.within), tt)))
-slashed_at d w v x burn z u m height reached there false is =
+slashed_each d w v x burn z u m height reached there false is =
     subst (λ a. IsReached d a) (sym (slashed_other d w v x burn z u height is))
     (ended_reached w v z m.ready m.found m.ends reached d x (sym (put_elsewhere v.operator x.operator (poorer v burn) w.mine.staked.validators is) ∙ there))
 
 slashed_reached : (w : State) (v : Validator) (burn : ℕ) (z : ℕ × Shared × View × Log) (u : View) → MayLose w v burn z → u.ctx.height ≡ z.2.ctx.height → AreReached w → AreReached (state_slashed w v burn z u)
-slashed_reached w v burn z u m height reached d x there = slashed_at d w v x burn z u m height reached there (same_addr x.operator v.operator) refl
+slashed_reached w v burn z u m height reached d x there = slashed_each d w v x burn z u m height reached there (same_addr x.operator v.operator) refl
 
 -- ---- what is left fits
 
@@ -159,90 +150,36 @@ pub record Going (c : Stakes) (i : Window) (x : World Staked Shared) : Type 0 wh
   pub fits : Fits nobody x.mine x.hooks
   pub reached : AreReached (whole_of c i x)
 
--- what distribution told
-pub told_parts : (hook : Hook) (w y : World Staked Shared) → call distribution_told hook w ≡ Ok y
-    → (z : Shared × View × Log) × (distribution_told w.hooks hook w.view ≡ gives z.0 z.1 z.2) × (record { mine = w.mine; hooks = z.0; view = z.1; log = w.log ++ z.2 } ≡ y)
-told_parts hook w y e = by (distribution_told w.hooks hook w.view) refl e
-  where
-    by : (t : Told Shared) → distribution_told w.hooks hook w.view ≡ t → hooked t w ≡ Ok y
-        → (z : Shared × View × Log) × (distribution_told w.hooks hook w.view ≡ gives z.0 z.1 z.2) × (record { mine = w.mine; hooks = z.0; view = z.1; log = w.log ++ z.2 } ≡ y)
-    by (gives d u k) is h = let out : World Staked Shared = record { mine = w.mine; hooks = d; view = u; log = w.log ++ k } in ((d, u, k), is, same_ok out y h)
-    by (exceeds over) is h = absurd cc
-
 -- a rule's answer is what is told of it
 pub rule_told : (r : Result (Shared × View × Log) Over) (z : Shared × View × Log) → told_of r ≡ gives z.0 z.1 z.2 → r ≡ Ok z
 rule_told (Ok p) z h = let parts : (p.0 ≡ z.0) × (p.1 ≡ z.1) × (p.2 ≡ z.2) = same_told p.0 z.0 p.1 z.1 p.2 z.2 h in λ i. Ok (parts.0 i, parts.1 i, parts.2 i)
 rule_told (Err over) z h = absurd cc
 
--- a validator burns an amount
-abbrev pub burnt_with : Validator → ℕ → List ℕ → World Staked Shared → World Staked Shared
-burnt_with v burn denom x = over_view (burnt (pool_of v.status) denom burn) (over_mine (put_validator (poorer v burn)) x)
-
-told_going : (c : Stakes) (i : Window) (x y : World Staked Shared) (v : Validator) (burn : ℕ) (denom : List ℕ) → Going c i x → validator_at x.mine v.operator ≡ Some v → burn ≤ v.tokens → slash_told distribution_told v burn x ≡ Ok y
-    → Going c i (burnt_with v burn denom y)
-told_going c i x y v burn denom g found within e = by (v.tokens == 0) refl e
+-- a validator without tokens burns none
+pub empty_going : (c : Stakes) (i : Window) (x : World Staked Shared) (v : Validator) (burn : ℕ) (denom : List ℕ) → Going c i x → validator_at x.mine v.operator ≡ Some v → v.tokens ≡ 0 → Going c i (burnt_with v burn denom x)
+empty_going c i x v burn denom g found empty = record {
+  fits = put_fits nobody x.mine x.hooks v (poorer v burn) g.fits found (fewer v.tokens (g.fits.tokens v.operator v found));
+  reached = λ d u there. standing_reached (whole_of c i x) (poorer v burn) v (record { operator = refl; tokens = none v.tokens empty; shares = refl }) found g.reached d u there;
+}
   where
-    w : State
-    w = whole_of c i x
-
-    few : v.tokens ≤ 10 ^ 18
-    few = g.fits.tokens v.operator v found
-
     fewer : (t : ℕ) → t ≤ 10 ^ 18 → t - burn ≤ 10 ^ 18
     fewer t h = omega (arith, h)
 
-    none : (t : ℕ) → (t == 0) ≡ true → t - burn ≡ t
-    none t h = grind (arith, nat_tests)
+    none : (t : ℕ) → t ≡ 0 → t - burn ≡ t
+    none t h = omega (arith, h)
 
-    some : (t : ℕ) → (t == 0) ≡ false → 0 < t
-    some t h = grind (arith, nat_tests)
-
-    fraction : ℕ
-    fraction = slash_fraction burn v.tokens
-
-    by : (b : Bool) → (v.tokens == 0) ≡ b
-        → (if b then Ok x else (call distribution_told (slashing v fraction) x >>= λ t. Ok (over_view (noted (fact.Slashed v.operator fraction burn)) (logged v.operator (log.slashed burn v.tokens fraction) t)))) ≡ Ok y
-        → Going c i (burnt_with v burn denom y)
-    by true is h =
-        let now : Going c i (burnt_with v burn denom x) = record {
-          fits = put_fits nobody x.mine x.hooks v (poorer v burn) g.fits found (fewer v.tokens few);
-          reached = λ d u there. standing_reached w (poorer v burn) v (record { operator = refl; tokens = none v.tokens is; shares = refl }) found g.reached d u there;
-        } in
-        subst (λ t. Going c i (burnt_with v burn denom t)) (same_ok x y h) now
-    by false is h =
-        let last : World Staked Shared → World Staked Shared = λ t. over_view (noted (fact.Slashed v.operator fraction burn)) (logged v.operator (log.slashed burn v.tokens fraction) t) in
-        let one : (t : World Staked Shared) × (call distribution_told (slashing v fraction) x ≡ Ok t) × (Path (Result (World Staked Shared) Over) (Ok (last t)) (Ok y)) =
-        step_parts (call distribution_told (slashing v fraction) x) (λ t. Ok (last t)) y h in
-        let told : (z : Shared × View × Log) × (distribution_told x.hooks (slashing v fraction) x.view ≡ gives z.0 z.1 z.2) × (record { mine = x.mine; hooks = z.0; view = z.1; log = x.log ++ z.2 } ≡ one.0) =
-        told_parts (slashing v fraction) x one.0 one.1 in
-        let parts : (z : ℕ × Shared × View × Log) × (ended v x.hooks x.view ≡ Ok z) × ((event_put v fraction z, z.2, z.3) ≡ told.0) =
-        slash_parts v fraction x.hooks x.view told.0 (rule_told (slash_recorded v fraction x.hooks x.view) told.0 told.1) in
-        let z : ℕ × Shared × View × Log = parts.0 in
-        let out : World Staked Shared = record { mine = x.mine; hooks = event_put v fraction z; view = z.2; log = x.log ++ z.3 } in
-        let is_one : out ≡ one.0 = ap (λ q. let t : World Staked Shared = record { mine = x.mine; hooks = q.0; view = q.1; log = x.log ++ q.2 } in t) parts.2 ∙ told.2 in
-        let may : MayLose w v burn z = record { found = found; ready = ready_fits w v.operator v g.fits found; ends = parts.1; some = some v.tokens is; few = few; within = within } in
-        let now : Going c i (burnt_with v burn denom (last out)) = record {
-          fits = put_fits nobody x.mine (event_put v fraction z) v (poorer v burn) (event_fits x.mine x.hooks x.view v fraction z g.fits found parts.1) found (fewer v.tokens few);
-          reached = λ d u there. slashed_reached w v burn z (burnt (pool_of v.status) denom burn (noted (fact.Slashed v.operator fraction burn) z.2)) may refl g.reached d u there;
-        } in
-        subst (λ t. Going c i (burnt_with v burn denom t)) (ap last is_one ∙ same_ok (last one.0) y one.2) now
-
-validator_going : (c : Stakes) (i : Window) (x : World Staked Shared) (v : Validator) (amount : ℕ) (y : ℕ × World Staked Shared) → Going c i x → validator_at x.mine v.operator ≡ Some v
-    → validator_slashed distribution_told v amount x ≡ Ok y → Going c i y.1
-validator_going c i x v amount y g found e =
-    let burn : ℕ = min amount v.tokens in
-    let denom : List ℕ = x.view.ctx.params.bond_denom in
-    let one : (t : World Staked Shared) × (slash_told distribution_told v burn x ≡ Ok t) × (Path (Result (ℕ × World Staked Shared) Over) (Ok (burn, burnt_with v burn denom t)) (Ok y)) =
-    step_parts (slash_told distribution_told v burn x) (λ t. Ok (burn, burnt_with v burn denom t)) y e in
-    subst (λ t. Going c i t) (ap (λ a. a.1) (same_ok (burn, burnt_with v burn denom one.0) y one.2)) (told_going c i x one.0 v burn denom g found (at_most amount v.tokens) one.1)
+-- one with tokens burns some of them, behind the end of the period
+pub burnt_going : (c : Stakes) (i : Window) (x : World Staked Shared) (v : Validator) (burn : ℕ) (denom : List ℕ) (z : ℕ × Shared × View × Log) → Going c i x → validator_at x.mine v.operator ≡ Some v
+    → 0 < v.tokens → burn ≤ v.tokens → ended v x.hooks x.view ≡ Ok z → Going c i (burnt_with v burn denom (slash_noted v burn z x))
+burnt_going c i x v burn denom z g found some within ends =
+    let w : State = whole_of c i x in
+    let fraction : ℕ = slash_fraction burn v.tokens in
+    let few : v.tokens ≤ 10 ^ 18 = g.fits.tokens v.operator v found in
+    let may : MayLose w v burn z = record { found = found; ready = ready_fits w v.operator v g.fits found; ends = ends; some = some; few = few; within = within } in
+    record {
+      fits = put_fits nobody x.mine (event_put v fraction z) v (poorer v burn) (event_fits x.mine x.hooks x.view v fraction z g.fits found ends) found (fewer v.tokens few);
+      reached = λ d u there. slashed_reached w v burn z (burnt (pool_of v.status) denom burn (noted (fact.Slashed v.operator fraction burn) z.2)) may refl g.reached d u there;
+    }
   where
-    at_most : (a t : ℕ) → min a t ≤ t
-    at_most a t = omega arith
-
--- the same of a validator that may be gone
-pub rest_going : (c : Stakes) (i : Window) (x : World Staked Shared) (o : List ℕ) (amount : ℕ) (y : ℕ × World Staked Shared) → Going c i x → rest_slashed distribution_told (validator_at x.mine o) amount x ≡ Ok y → Going c i y.1
-rest_going c i x o amount y g e = by (validator_at x.mine o) refl e
-  where
-    by : (r : Option Validator) → validator_at x.mine o ≡ r → rest_slashed distribution_told r amount x ≡ Ok y → Going c i y.1
-    by None is h = subst (λ t. Going c i t) (ap (λ a. a.1) (same_ok (0, x) y h)) g
-    by (Some v) is h = validator_going c i x v amount y g (ap (validator_at x.mine) (g.fits.own o v is) ∙ is) h
+    fewer : (t : ℕ) → t ≤ 10 ^ 18 → t - burn ≤ 10 ^ 18
+    fewer t h = omega (arith, h)

@@ -1,5 +1,5 @@
 -- In a sound state whose accounts are reached, what a message logs is fair, and it tells the payments that it logs.
-use Rattle.std.proofs.Common.{◌≡◌, ℕ, ◌≤◌, ◌==◌, Bool, true, false, List, [], ◌∷◌, ◌++◌, length, refl, sym, ap, subst, ◌∙◌, Option, Some, None, Result, Ok, Err, append_assoc}
+use Rattle.std.proofs.Common.{◌≡◌, ℕ, ◌≤◌, ◌==◌, Bool, true, false, List, [], ◌∷◌, ◌++◌, length, refl, sym, ap, subst, ◌∙◌, Some, None, Result, Ok, Err, append_assoc}
 use Rattle.std.specs.Prelude.{IfOk, if◌then◌else◌, not, nat_lt, nat_le, find, is_some, ⊤}
 use Rattle.base_decimals.specs.Decimals.{trunc_of}
 use Rattle.base_types.specs.declared.account.Account.{Account as Holder}
@@ -23,7 +23,7 @@ use Rattle.base_roles.specs.Log.{Log}
 use Rattle.base_roles.specs.Log as log
 use Rattle.base_roles.specs.Orders.{same_addr}
 use Rattle.base_roles.specs.Staked.{Staked, validator_at, validator_by_cons, delegation, is_bonded}
-use Rattle.base_roles.specs.Flow.{◌>>=◌, ◌>>◌, stop_if, or_stop, stopping}
+use Rattle.base_roles.specs.Flow.{◌>>=◌, ◌>>◌, stopping}
 use Rattle.base_roles.specs.World.{View, World, noted, sent, over_view}
 use Rattle.rule_modules.specs.Amounts.{bond_coins, in_units, is_empty}
 use Rattle.rule_modules.specs.Chain.{Hooks, State, chain_told, staked_in, with_staked}

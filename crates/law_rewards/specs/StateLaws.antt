@@ -19,7 +19,6 @@ use Rattle.rule_modules.specs.StepLaws.{KeptByStep}
 use Rattle.rule_modules.specs.Periods.{periods_of, ratio_at}
 use Rattle.rule_modules.specs.Purses.{Purses, purse_of}
 use Rattle.rule_modules.specs.Sound.{IsSound}
-use Rattle.law_rewards.specs.Account.{Account}
 use Rattle.law_rewards.specs.States.{AreReached}
 
 -- In a sound state whose accounts are reached, each delegation's claim is bracketed, as the rules state it.

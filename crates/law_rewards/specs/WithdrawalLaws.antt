@@ -1,5 +1,5 @@
 -- Laws of withdrawals: which steps pay fairly, and that payments are told.
-use Rattle.std.specs.Prelude.{◌≡◌, ℕ, ◌+◌, ◌-◌, ◌*◌, ◌^◌, ◌≤◌, List, [], ◌∷◌, ◌++◌, is_some, IfOk, Some, None, Ok}
+use Rattle.std.specs.Prelude.{◌≡◌, ℕ, ◌-◌, ◌*◌, ◌^◌, ◌≤◌, List, [], ◌∷◌, ◌++◌, is_some, IfOk, Some, None, Ok}
 use Rattle.base_coins.specs.Coins.{Money, IsMoney, amount_of, smaller_of, whole_coins, fractions}
 use Rattle.base_roles.specs.declared.entities.Validator.{Validator}
 use Rattle.base_roles.specs.declared.facts.Fact.{Fact}

@@ -11,7 +11,6 @@ use Rattle.base_roles.specs.Holdings.{transfer_told}
 use Rattle.base_roles.specs.Log.{Log, LogEntry}
 use Rattle.base_roles.specs.Log as log
 use Rattle.rule_modules.specs.Amounts.{count_where}
-use Rattle.rule_modules.specs.Distribution.{ended}
 use Rattle.rule_modules.specs.Ideal.{Span, Brackets, span_of, history_of, ideal_reward, slack_of, is_left}
 use Rattle.rule_modules.specs.Purses.{pooled_told}
 use Rattle.law_rewards.specs.Account.{lost_of}

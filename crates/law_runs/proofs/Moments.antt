@@ -14,7 +14,7 @@ use Rattle.rule_machine.specs.Machine.{Step, going_on, run_of, step}
 use Rattle.rule_machine.specs.Promises.{Replayed}
 use Rattle.rule_modules.specs.Chain.{State}
 use Rattle.rule_modules.specs.Ideal.{Brackets, Span, ideal_reward, slack_of}
-use Rattle.law_rewards.specs.Withdrawals.{AreFair, AreInTurn, IsFairEntry}
+use Rattle.law_rewards.specs.Withdrawals.{AreFair, IsFairEntry}
 use Rattle.law_rewards.proofs.Acts.{moments_do_not_matter}
 use Rattle.law_rewards.proofs.Finding.{in_turn_at}
 use Rattle.law_rewards.proofs.Paying.{fair_joined}

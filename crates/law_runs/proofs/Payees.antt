@@ -12,7 +12,6 @@ use Rattle.base_shares.specs.Shares.{value_cut_of}
 use Rattle.base_roles.specs.declared.facts.Fact.{Fact}
 use Rattle.base_roles.specs.declared.facts.Fact.TheVariants as fact
 use Rattle.base_roles.specs.declared.params.Ctx.{Ctx}
-use Rattle.base_roles.specs.declared.refusal.Refusal.{Refusal}
 use Rattle.base_roles.specs.declared.refusal.Refusal.TheVariants.{FeeUnpaid as Unpaid}
 use Rattle.base_roles.specs.Entries.{at}
 use Rattle.base_roles.specs.Holdings.{is_short, transfer_told}

@@ -1,5 +1,5 @@
 -- What the laws say of runs: wherever blocks lead to, accounts are reached.
-use Rattle.std.specs.Prelude.{◌≡◌, ◌+◌, [], ◌++◌}
+use Rattle.std.specs.Prelude.{◌≡◌, [], ◌++◌}
 use Rattle.base_roles.specs.Log.{Log}
 use Rattle.rule_modules.specs.Chain.{State}
 use Rattle.rule_machine.specs.Machine.{Step}

@@ -76,13 +76,13 @@ own_within u who op = found_or u who op (λ es. balances_of es ≤ entry_balance
 
 -- ---- a pair with other entries
 
-put_entries : (height : ℕ) (who op : List ℕ) (e : UnbondingEntry) (es : Entries) (u : UnbondingLists) → PairsFit height u → PairFits height (e ∷ es) → PairsFit height (with_entries who op (e ∷ es) u)
+pub put_entries : (height : ℕ) (who op : List ℕ) (e : UnbondingEntry) (es : Entries) (u : UnbondingLists) → PairsFit height u → PairFits height (e ∷ es) → PairsFit height (with_entries who op (e ∷ es) u)
 put_entries height who op e es u h k = record {
   ascend = ascend-put pair_cmp pair_total u (who, op) (e ∷ es) h.ascend;
   pairs = all_put (λ (p : (List ℕ × List ℕ) × Entries). PairFits height p.1) pair_cmp exact_pair (who, op) (e ∷ es) u k h.pairs;
 }
 
-put_balances : (height : ℕ) (who op : List ℕ) (e : UnbondingEntry) (es : Entries) (u : UnbondingLists) → PairsFit height u → entry_balances (with_entries who op (e ∷ es) u) + balances_of (entries_of u who op) ≡ entry_balances u + balances_of (e ∷ es)
+pub put_balances : (height : ℕ) (who op : List ℕ) (e : UnbondingEntry) (es : Entries) (u : UnbondingLists) → PairsFit height u → entry_balances (with_entries who op (e ∷ es) u) + balances_of (entries_of u who op) ≡ entry_balances u + balances_of (e ∷ es)
 put_balances height who op e es u h = by (at pair_cmp u (who, op)) refl
   where
     by : (r : Option Entries) → at pair_cmp u (who, op) ≡ r → entry_balances (with_entries who op (e ∷ es) u) + balances_of (unwrap_or r []) ≡ entry_balances u + balances_of (e ∷ es)

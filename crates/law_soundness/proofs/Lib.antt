@@ -2,7 +2,6 @@ pub mod Allocating
 pub mod Answered
 pub mod Apart
 pub mod Bank
-pub mod Beside
 pub mod Bonding
 pub mod Burns
 pub mod Causes

@@ -1,5 +1,5 @@
 -- Slashes keep what fits: what burns leaves the accounts as it leaves validators and entries.
-use Rattle.std.proofs.Common.{◌≡◌, ◌∙◌, ℕ, ◌+◌, ◌*◌, ◌^◌, ◌<◌, ◌≤◌, ◌==◌, Bool, true, false, cond, List, [], ◌∷◌, ◌++◌, length, map, refl, sym, ap, subst, arith}
+use Rattle.std.proofs.Common.{◌≡◌, ◌∙◌, ℕ, ◌+◌, ◌*◌, ◌^◌, ◌<◌, ◌≤◌, ◌==◌, Bool, true, false, cond, List, [], ◌∷◌, ◌++◌, length, map, Option, Some, None, refl, sym, ap, subst, arith}
 use Rattle.std.specs.Prelude.{◌-◌, min, filter, sum, unwrap_or, if◌then◌else◌, IfOk}
 use Rattle.std.specs.BTreeMap.{is_at}
 use Rattle.std.proofs.lemmas.Bool.Decides.{nat_tests}
@@ -15,11 +15,12 @@ use Rattle.base_roles.specs.declared.params.Ctx.{Ctx}
 use Rattle.base_roles.specs.Owing.{Lists}
 use Rattle.base_roles.specs.World.{View, World, burnt, over_view}
 use Rattle.base_roles.proofs.BurnLemmas.{burns_by_amounts}
-use Rattle.rule_modules.specs.EntrySlashes.{is_hit, part_of, burned_of, entry_slashed, entries_slashed}
+use Rattle.rule_modules.specs.EntrySlashes.{is_hit, part_of, burned_of, entry_slashed, entries_slashed, entries_followed, followed}
 use Rattle.std.specs.List.{AllByRecursion}
 use Rattle.std.specs.List.Sorted.{IsStrictlySortedBy}
 use Rattle.std.specs.Map.{keys_of}
 use Rattle.base_roles.proofs.HoldingLemmas.{backed-burned}
+use Rattle.base_roles.specs.Entries.{at}
 use Rattle.base_roles.specs.Holdings.{Holdings, IsBacked, balance_of, burned, coin_burned}
 use Rattle.base_roles.specs.Orders.{pair_cmp, same_addr}
 use Rattle.base_roles.specs.Staked.{Staked, bonded_tokens, other_tokens}
@@ -27,21 +28,22 @@ use Rattle.base_roles.specs.StakeChanges.{of_bond}
 use Rattle.law_soundness.proofs.Burns.{total_burnt}
 use Rattle.law_soundness.proofs.Bank.{AreHeld, held_with, name_held}
 use Rattle.law_soundness.proofs.Ending.{under}
-use Rattle.law_soundness.proofs.Entries.{Entries, PairFits, PairsFit, sum_more}
-use Rattle.law_soundness.proofs.Lists.{joined_all, weaker}
+use Rattle.law_soundness.proofs.Entries.{Entries, PairFits, PairsFit, put_balances, put_entries, sum_more}
+use Rattle.law_soundness.proofs.Lists.{joined_all, looked_up, weaker}
 use Rattle.law_soundness.proofs.Moves.{HooksFit, Leaves}
 use Rattle.law_soundness.proofs.Periods.{ended_with, periods_put}
 use Rattle.law_soundness.proofs.Points.{EventFits, PeriodsFit, SharedFits, StakeFits}
 use Rattle.law_soundness.proofs.Rewards.{EndFits, end_fits, own_periods}
 use Rattle.law_soundness.proofs.Steps.{on_then}
 use Rattle.rule_modules.proofs.TotalLemmas.{total_more}
+use Rattle.rule_modules.proofs.EntryLemmas.{without_none}
 use Rattle.rule_modules.proofs.OrderLemmas.{pair_total, same_back, same_itself}
 use Rattle.rule_modules.specs.Chain.{Hooks}
 use Rattle.rule_modules.specs.Distribution.{Shared, slash_recorded, ended}
 use Rattle.rule_modules.specs.Owed.{balances_of, entry_balances}
 use Rattle.rule_modules.specs.Periods.{Periods, event_recorded, initial_records, last_ended, periods_of, with_periods}
 use Rattle.rule_modules.specs.Sound.{GrowWithHeight, UnbondingIsSound}
-use Rattle.rule_modules.specs.Unbondings.{UnbondingLists}
+use Rattle.rule_modules.specs.Unbondings.{UnbondingLists, entries_of, with_entries}
 
 -- ---- slash events
 
@@ -305,3 +307,74 @@ module _ (P : List ℕ → Type 0) (T : List ℕ → ℕ) where
     ascend = subst (IsStrictlySortedBy pair_cmp) (sym (entries_keys operator infraction factor u v)) h.ascend;
     pairs = entries_pairs operator infraction factor height u v h.pairs;
   }
+
+  -- ---- entries that follow
+
+  followed_balances : (from now left : ℕ) (es : Entries) → balances_of (entries_followed from now left es).1 + (entries_followed from now left es).0 ≡ balances_of es
+  followed_balances from now left [] = refl
+  followed_balances from now left (e ∷ es) = by (if is_hit from now e.created e.completes then min left e.balance else 0) (at_most (is_hit from now e.created e.completes)) (λ n. followed_balances from now n es)
+    where
+      at_most : (c : Bool) → (if c then min left e.balance else 0) ≤ e.balance
+      at_most true = omega arith
+      at_most false = omega arith
+
+      by : (lost : ℕ) → lost ≤ e.balance → ((n : ℕ) → balances_of (entries_followed from now n es).1 + (entries_followed from now n es).0 ≡ balances_of es)
+          → balances_of (record e { balance = e.balance - lost } ∷ (entries_followed from now (left - lost) es).1) + (lost + (entries_followed from now (left - lost) es).0) ≡ balances_of (e ∷ es)
+      by lost le rest = omega (arith, le, rest (left - lost), sum_more e es, sum_more (record e { balance = e.balance - lost }) (entries_followed from now (left - lost) es).1)
+
+  followed_length : (from now left : ℕ) (es : Entries) → length (entries_followed from now left es).1 ≡ length es
+  followed_length from now left [] = refl
+  followed_length from now left (e ∷ es) = omega (arith, followed_length from now (left - (if is_hit from now e.created e.completes then min left e.balance else 0)) es)
+
+  followed_sound : (from now left height : ℕ) (es : Entries) → AllByRecursion (UnbondingIsSound height) es → AllByRecursion (UnbondingIsSound height) (entries_followed from now left es).1
+  followed_sound from now left height [] h = tt
+  followed_sound from now left height (e ∷ es) h =
+      let own : UnbondingIsSound height e = h.0 in
+      let lost : ℕ = if is_hit from now e.created e.completes then min left e.balance else 0 in (
+        record { initial = own.initial; balance = omega (arith, own.balance); created = own.created },
+        followed_sound from now (left - lost) height es h.1,
+      )
+
+  followed_pair : (from now left height : ℕ) (es : Entries) → PairFits height es → PairFits height (entries_followed from now left es).1
+  followed_pair from now left height es h =
+      let same = followed_length from now left es in
+      let some = h.some in
+      let most = h.most in
+      record { some = omega (arith, same, some); most = omega (arith, same, most); entries = followed_sound from now left height es h.entries }
+
+  -- what follows a redelegation is taken from the entries of a pair
+  record Followed (height : ℕ) (u : UnbondingLists) (lost : ℕ) (v : UnbondingLists) : Type 0 where
+    fits : PairsFit height v
+    balances : entry_balances v + lost ≡ entry_balances u
+
+  followed_fits : (height from now left : ℕ) (who op : List ℕ) (u : UnbondingLists) → PairsFit height u
+      → Followed height u (entries_followed from now left (entries_of u who op)).0 (with_entries who op (entries_followed from now left (entries_of u who op)).1 u)
+  followed_fits height from now left who op u h = by (at pair_cmp u (who, op)) refl
+    where
+      put : (old es : Entries) (lost : ℕ) → at pair_cmp u (who, op) ≡ Some old → balances_of es + lost ≡ balances_of old → PairFits height es → Followed height u lost (with_entries who op es u)
+      put old [] lost is f k = let none : 0 < 0 = k.some in absurd (omega (arith, none))
+      put old (e ∷ es) lost is f k =
+          let all : entry_balances (with_entries who op (e ∷ es) u) + balances_of old ≡ entry_balances u + balances_of (e ∷ es) =
+          ap (λ r. entry_balances (with_entries who op (e ∷ es) u) + balances_of (unwrap_or r [])) (sym is) ∙ put_balances height who op e es u h in
+          record { fits = put_entries height who op e es u h k; balances = omega (arith, all, f) }
+
+      same : (n : ℕ) → n + 0 ≡ n
+      same n = omega arith
+
+      by : (r : Option Entries) → at pair_cmp u (who, op) ≡ r
+          → Followed height u (entries_followed from now left (unwrap_or r [])).0 (with_entries who op (entries_followed from now left (unwrap_or r [])).1 u)
+      by None is = subst (Followed height u 0) (sym (without_none pair_cmp (who, op) u is)) (record { fits = h; balances = same (entry_balances u) })
+      by (Some es) is =
+          put es (entries_followed from now left es).1 (entries_followed from now left es).0 is (followed_balances from now left es)
+          (followed_pair from now left height es (looked_up (λ (p : (List ℕ × List ℕ) × Entries). PairFits height p.1) (is_at (pair_cmp (who, op))) (PairFits height) (λ k x t g. g) u es is h.pairs))
+
+  pub followed_pairs : (height from tokens : ℕ) (who op : List ℕ) (u : UnbondingLists) (v : View) → PairsFit height u → PairsFit height (followed who op from tokens u v).1
+  followed_pairs height from tokens who op u v h = (followed_fits height from v.ctx.time tokens who op u h).fits
+
+  -- the not-bonded account holds less by what followed
+  pub followed_fit : (height from tokens : ℕ) (who op : List ℕ) (u : UnbondingLists) (l : Lists) (w : World Staked Hooks) → PairsFit height u → StakeFits P T 0 (entry_balances u) l w
+      → StakeFits P T 0 (entry_balances (followed who op from tokens u w.view).1) l (under P T (followed who op from tokens u w.view).2 w)
+  followed_fit height from tokens who op u l w pairs h =
+      let k = followed_fits height from w.view.ctx.time tokens who op u pairs in
+      let lost = followed who op from tokens u w.view in
+      stake_burnt false 0 (entry_balances lost.1) l w lost.0 (subst (λ m. StakeFits P T 0 m l w) (sym k.balances) h)

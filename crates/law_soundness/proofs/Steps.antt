@@ -1,18 +1,10 @@
 -- What holds of the answer of steps, one after another, where they go on.
-use Rattle.std.proofs.Common.{◌≡◌, Bool, true, false, List, [], ◌∷◌, Option, Some, None, Result, Ok, Err, refl, subst}
+use Rattle.std.proofs.Common.{List, [], ◌∷◌, Result, Ok, Err}
 use Rattle.std.specs.Prelude.{IfOk}
 use Rattle.std.specs.List.{AllByRecursion}
-use Rattle.base_roles.specs.Flow.{◌>>=◌, ◌>>◌, stop_if, or_stop, stopping, each}
+use Rattle.base_roles.specs.Flow.{◌>>=◌, stopping, each}
 use Rattle.rule_modules.proofs.GoingLemmas.{on_bind}
-
--- the answer of a rule is had where what holds of it is known
-pub if_ok : {A E : Type 0} (P : A → Type 0) (r : Result A E) → ((a : A) → r ≡ Ok a → P a) → IfOk r P
-if_ok P (Ok a) f = f a refl
-if_ok P (Err e) f = tt
-
-pub from_if : {A E : Type 0} (P : A → Type 0) (r : Result A E) (a : A) → r ≡ Ok a → IfOk r P → P a
-from_if P (Ok b) a e h = let same : b ≡ a = cc in subst P same h
-from_if P (Err d) a e h = absurd cc
+pub use Rattle.rule_modules.proofs.GoingLemmas.{from_if, if_ok, weaker_if}
 
 -- the same over one step for each item
 pub on_each : {A S E : Type 0} (f : A → S → Result S E) (P : S → Type 0) (Q : A → Type 0) → ((x : A) (s : S) → Q x → P s → IfOk (f x s) P) → (xs : List A) (s : S) → AllByRecursion Q xs → P s → IfOk (each f xs s) P
@@ -30,10 +22,6 @@ on_lifted_then g (Err d) f R Q p h = tt
 pub lifted_if : {A D E : Type 0} (g : D → E) (r : Result A D) (Q : A → Type 0) → IfOk r Q → IfOk (stopping g r) Q
 lifted_if g (Ok a) Q h = h
 lifted_if g (Err d) Q h = tt
-
-pub weaker_if : {A E : Type 0} (r : Result A E) (R Q : A → Type 0) → IfOk r R → ((a : A) → R a → Q a) → IfOk r Q
-weaker_if (Ok a) R Q h f = f a h
-weaker_if (Err e) R Q h f = tt
 
 -- both of two
 pub and_also : {A B : Type 0} → A → B → A × B

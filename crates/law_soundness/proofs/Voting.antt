@@ -1,6 +1,6 @@
 -- Votes and evidence keep a state sound.
-use Rattle.std.proofs.Common.{◌≡◌, ◌∙◌, ℕ, ◌<◌, Bool, true, false, cond, List, [], ◌∷◌, ◌++◌, length, Some, None, Option, Ok, refl, sym, ap, subst, arith}
-use Rattle.std.specs.Prelude.{◌-◌, ◌||◌, not, if◌then◌else◌, IfOk, IsSome, Contains, ⊤}
+use Rattle.std.proofs.Common.{◌≡◌, ◌∙◌, ℕ, ◌<◌, Bool, true, false, cond, List, [], ◌∷◌, ◌++◌, length, Some, None, Option, refl, sym, ap, subst, arith}
+use Rattle.std.specs.Prelude.{◌-◌, not, IfOk, IsSome, Contains}
 use Rattle.std.specs.BTreeMap.{is_at}
 use Rattle.std.proofs.lemmas.List.Elements.{All-from_recursion, recursion_from_All}
 use Rattle.base_types.specs.Orders.{cons_cmp}
@@ -9,20 +9,17 @@ use Rattle.base_roles.specs.declared.facts.Fact.TheVariants as fact
 use Rattle.base_roles.specs.declared.messages.Evidence.{Evidence}
 use Rattle.base_roles.specs.declared.messages.Vote.{Vote}
 use Rattle.base_roles.specs.Lent.{jail_told}
-use Rattle.base_roles.specs.Flow.{◌>>=◌}
-use Rattle.base_roles.specs.World.{World, noted, over_view, over_mine}
-use Rattle.rule_modules.specs.Evidence.{window_bans, banned, banned_of, forever, is_too_old, jailed_if_not, evidence_weighed, equivocation_handled}
-use Rattle.rule_modules.specs.Slashing.{plain_slash, core_slashes, slashed, jail_lent, jailed_of}
-use Rattle.rule_modules.specs.Window.{Signing, Window, signing_of, is_downtime, reset_at, vote_counted}
-use Rattle.base_decimals.specs.declared.over.Over.{Over}
+use Rattle.base_roles.specs.World.{World, noted, over_view}
+use Rattle.rule_modules.specs.Evidence.{window_bans, banned, banned_of, forever, jailed_if_not, equivocation_handled}
+use Rattle.rule_modules.specs.Slashing.{plain_slash, core_slashes}
+use Rattle.rule_modules.specs.Window.{Signing, Window, signing_of, reset_at, voted}
 use Rattle.base_roles.specs.Entries.{with}
-use Rattle.base_roles.specs.Staked.{is_unbonded, validator_by_cons, validator_at}
+use Rattle.base_roles.specs.Staked.{validator_by_cons, validator_at}
 use Rattle.base_roles.specs.declared.facts.Fact.{Fact}
 use Rattle.law_soundness.proofs.Burns.{total_in, SayNoMore, quiet_behind}
 use Rattle.law_soundness.proofs.Allocating.{found_by_cons}
 use Rattle.law_soundness.proofs.Lists.{all_put, looked_up, weaker}
 use Rattle.law_soundness.proofs.Points.{IsRecorded, StateFits, from_fits, to_fits}
-use Rattle.law_soundness.proofs.Punishing.{SlashLeft, slashed_fits}
 use Rattle.law_soundness.proofs.Standing.{stake_told, state_standing}
 use Rattle.law_soundness.proofs.Steps.{on_then, weaker_if}
 use Rattle.law_soundness.specs.StepLaws.{EvidenceKeepsSoundness, IsSoundAfter, VotesKeepSoundness}
@@ -34,6 +31,8 @@ use Rattle.rule_modules.specs.Chain.{Stakes, State, beside_window, evidence_step
 use Rattle.rule_modules.specs.Distribution.{Shared, distribution_told}
 use Rattle.rule_modules.specs.Sound.{SigningIsSound, WindowIsSound}
 use Rattle.law_soundness.proofs.Entries.{PairsFit}
+use Rattle.rule_modules.proofs.SlashParts.{GoesThroughPunishing, evidence_leaves, punished_goes, after_jailing, slash_jail_goes, vote_leaves}
+use Rattle.law_soundness.proofs.Punishing.{StaysSound, slashes_stay_sound}
 
 -- a record is put at a consensus address
 record_put : (height : ℕ) (cons : List ℕ) (s : Signing) (i : Window) → WindowIsSound height i → SigningIsSound height s → WindowIsSound height (with cons_cmp i cons s)
@@ -76,25 +75,26 @@ module _ (P : List ℕ → Type 0) (T : List ℕ → ℕ) where
   state_told : (w : State) (f : List Fact → List Fact) → SayNoMore w.view.facts (f w.view.facts) → StateFits P T w → StateFits P T (over_view (over_facts f) w)
   state_told w f q h = record { stake = stake_told P T 0 _ _ (staked_in w) f q h.stake; unbondings = h.unbondings; redelegations = h.redelegations }
 
-  jail_fits : (i : Window) (cons : List ℕ) (w : World Stakes Shared) → StateFits P T (with_window i w) → StateFits P T (with_window i (jail_lent (core_slashes distribution_told plain_slash) cons w))
-  jail_fits i cons w h = by (validator_by_cons w.mine.staked cons) refl
-    where
-      by : (r : Option Validator) → validator_by_cons w.mine.staked cons ≡ r
-          → StateFits P T (with_window i (over_view (λ u. record u { facts = jail_told r u.facts }) (over_mine (λ c. record c { staked = jailed_of r c.staked }) w)))
-      by None e = state_told (with_window i w) (λ facts. facts) (λ d. refl) h
-      by (Some v) e =
-          let k = h.stake.staked.validators v.operator v found in
-          (state_standing P T (with_window i w) (record v { jailed = true }) v (λ facts. jail_told (Some v) facts) (quiet_behind w.view.facts (fact.Jailed v.operator) (λ d. refl)) h found (record {
-            operator = refl;
-            cons = refl;
-            status = refl;
-            tokens = refl;
-            shares = refl;
-            sound = record { max_rate = k.max_rate; rate = k.rate; max_change = k.max_change; tokens = k.tokens; empty = k.empty; unbonding_height = k.unbonding_height };
-          })).fits
-        where
-          found : validator_at w.mine.staked v.operator ≡ Some v
-          found = found_by_cons w.view.ctx.height w.mine.staked cons v h.stake.staked e
+  jailed_fits : (i : Window) (cons : List ℕ) (v : Validator) (w : World Stakes Shared) → validator_by_cons w.mine.staked cons ≡ Some v → StateFits P T (with_window i w) → StateFits P T (with_window i (after_jailing v w))
+  jailed_fits i cons v w e h =
+      let found : validator_at w.mine.staked v.operator ≡ Some v = found_by_cons w.view.ctx.height w.mine.staked cons v h.stake.staked e in
+      let k = h.stake.staked.validators v.operator v found in
+      (state_standing P T (with_window i w) (record v { jailed = true }) v (λ facts. jail_told (Some v) facts) (quiet_behind w.view.facts (fact.Jailed v.operator) (λ d. refl)) h found (record {
+        operator = refl;
+        cons = refl;
+        status = refl;
+        tokens = refl;
+        shares = refl;
+        sound = record { max_rate = k.max_rate; rate = k.rate; max_change = k.max_change; tokens = k.tokens; empty = k.empty; unbonding_height = k.unbonding_height };
+      })).fits
+
+  -- what was sound stays so, where a slash is followed by jailing and by a ban
+  punishing_stays_sound : (i : Window) → GoesThroughPunishing (StaysSound P T i)
+  punishing_stays_sound i = record {
+    slashes = slashes_stay_sound P T i;
+    jails = λ cons v w e h. record { fits = jailed_fits i cons v w e h; ctx = refl; pairs = λ m g. g };
+    bans = λ v w h. record { fits = state_told (with_window i w) (λ facts. facts ++ fact.Tombstoned v.operator ∷ []) (quiet_behind w.view.facts (fact.Tombstoned v.operator) (λ d. refl)) h; ctx = refl; pairs = λ m g. g };
+  }
 
   -- ---- votes
 
@@ -110,53 +110,26 @@ module _ (P : List ℕ → Type 0) (T : List ℕ → ℕ) where
 
   pub vote_fits : (t : Vote) (w : State) → StateFits P T w → ((s : Signing) → signing_of w.hooks.1 t.cons ≡ Some s → length s.votes < w.view.ctx.height) → IfOk (vote_step t w) (VoteLeft t.cons w)
   vote_fits t w h fewer =
-      on_then (vote_counted (core_slashes distribution_told plain_slash) (validator_by_cons w.mine.staked t.cons) (signing_of w.hooks.1 t.cons) t w.hooks.1 (beside_window w)) _ (λ x. VoteLeft t.cons w (with_window x.1 x.2)) _
-      (by (validator_by_cons w.mine.staked t.cons) (signing_of w.hooks.1 t.cons) refl) (λ x k. k)
+      on_then (voted (core_slashes distribution_told plain_slash) t w.hooks.1 (beside_window w)) _ (λ x. VoteLeft t.cons w (with_window x.1 x.2)) _
+      (vote_leaves (core_slashes distribution_told plain_slash) t w.hooks.1 (beside_window w) (λ j y. VoteLeft t.cons w (with_window j y))
+      (record { fits = h; ctx = refl; others = λ q e. refl; pairs = λ m k. k })
+      (λ s e. (
+      let now : Signing = record s { votes = not t.signed ∷ s.votes } in
+      record { fits = window_put w t.cons now h (counted s e); ctx = refl; others = λ q f. others_put t.cons q now w.hooks.1 f; pairs = λ m k. k }))
+      (λ s z e k. (
+      let reset : Signing = reset_at w.view.ctx (record s { votes = not t.signed ∷ s.votes }) in
+      let i : Window = with cons_cmp w.hooks.1 t.cons reset in
+      let left = slash_jail_goes (StaysSound P T i) (punishing_stays_sound i) t.cons (w.view.ctx.height - 2) t.power w.view.ctx.params.slash_fraction_downtime (beside_window w) z k (window_put w t.cons reset h (anew s e)) in
+      record { fits = left.fits; ctx = left.ctx; others = λ q f. others_put t.cons q reset w.hooks.1 f; pairs = left.pairs }))) (λ x k. k)
     where
-      height : ℕ
-      height = w.view.ctx.height
+      own : (s : Signing) → signing_of w.hooks.1 t.cons ≡ Some s → SigningIsSound w.view.ctx.height s
+      own s e = own_record w.view.ctx.height t.cons s w.hooks.1 h.stake.window e
 
-      stays : VoteLeft t.cons w w
-      stays = record { fits = h; ctx = refl; others = λ q e. refl; pairs = λ m k. k }
+      counted : (s : Signing) → signing_of w.hooks.1 t.cons ≡ Some s → SigningIsSound w.view.ctx.height (record s { votes = not t.signed ∷ s.votes })
+      counted s e = let below : length s.votes < w.view.ctx.height = fewer s e in record { counted = omega (arith, below); start = (own s e).start }
 
-      by : (v : Option Validator) (s : Option Signing) → signing_of w.hooks.1 t.cons ≡ s → IfOk (vote_counted (core_slashes distribution_told plain_slash) v s t w.hooks.1 (beside_window w)) (λ x. VoteLeft t.cons w (with_window x.1 x.2))
-      by None s e = stays
-      by (Some v) None e = stays
-      by (Some v) (Some s) e = chosen v.jailed (is_downtime w.view.ctx now v)
-        where
-          own : SigningIsSound height s
-          own = own_record height t.cons s w.hooks.1 h.stake.window e
-
-          below : length s.votes < height
-          below = fewer s e
-
-          now : Signing
-          now = record s { votes = not t.signed ∷ s.votes }
-
-          counted : SigningIsSound height now
-          counted = record { counted = omega (arith, below); start = own.start }
-
-          reset : Signing
-          reset = reset_at w.view.ctx now
-
-          anew : SigningIsSound height reset
-          anew = record { counted = omega arith; start = own.start }
-
-          chosen : (a b : Bool) → IfOk {T = ⊤ × Window × World Stakes Shared} {E = Over} (if a then Ok (tt, w.hooks.1, beside_window w) else (
-              if b then (slashed distribution_told plain_slash t.cons (w.view.ctx.height - 2) t.power w.view.ctx.params.slash_fraction_downtime (beside_window w) >>= λ z.
-              Ok (tt, with cons_cmp w.hooks.1 t.cons reset, jail_lent (core_slashes distribution_told plain_slash) t.cons z.1))
-              else Ok (tt, with cons_cmp w.hooks.1 t.cons now, beside_window w))) (λ x. VoteLeft t.cons w (with_window x.1 x.2))
-          chosen true b = stays
-          chosen false false = record { fits = window_put w t.cons now h counted; ctx = refl; others = λ q f. others_put t.cons q now w.hooks.1 f; pairs = λ m k. k }
-          chosen false true =
-              let i = with cons_cmp w.hooks.1 t.cons reset in
-              on_then (slashed distribution_told plain_slash t.cons (w.view.ctx.height - 2) t.power w.view.ctx.params.slash_fraction_downtime (beside_window w)) _ (λ z. SlashLeft P T i (beside_window w) z.1) _
-              (slashed_fits P T i t.cons (w.view.ctx.height - 2) t.power w.view.ctx.params.slash_fraction_downtime (beside_window w) (window_put w t.cons reset h anew)) (λ z k. record {
-                fits = jail_fits i t.cons z.1 k.fits;
-                ctx = k.ctx;
-                others = λ q f. others_put t.cons q reset w.hooks.1 f;
-                pairs = λ m g. k.pairs m g;
-              })
+      anew : (s : Signing) → signing_of w.hooks.1 t.cons ≡ Some s → SigningIsSound w.view.ctx.height (reset_at w.view.ctx (record s { votes = not t.signed ∷ s.votes }))
+      anew s e = record { counted = omega arith; start = (own s e).start }
 
   -- ---- evidence
 
@@ -166,8 +139,8 @@ module _ (P : List ℕ → Type 0) (T : List ℕ → ℕ) where
     pub ctx : x.view.ctx ≡ w.view.ctx
     pub pairs : (m : ℕ) → PairsFit m w.mine.unbondings → PairsFit m x.mine.unbondings
 
-  banned_sound : (height : ℕ) (cons : List ℕ) (i : Window) (w : State) → StateFits P T w → StateFits P T (record { mine = w.mine; hooks = (w.hooks.0, banned cons forever w.hooks.1); view = w.view; log = w.log })
-  banned_sound height cons i w h = by (signing_of w.hooks.1 cons) refl
+  banned_sound : (cons : List ℕ) (w : State) → StateFits P T w → StateFits P T (record { mine = w.mine; hooks = (w.hooks.0, banned cons forever w.hooks.1); view = w.view; log = w.log })
+  banned_sound cons w h = by (signing_of w.hooks.1 cons) refl
     where
       by : (r : Option Signing) → signing_of w.hooks.1 cons ≡ r → StateFits P T (record { mine = w.mine; hooks = (w.hooks.0, banned_of r cons forever w.hooks.1); view = w.view; log = w.log })
       by None e = h
@@ -175,58 +148,17 @@ module _ (P : List ℕ → Type 0) (T : List ℕ → ℕ) where
           let own = own_record w.view.ctx.height cons s w.hooks.1 h.stake.window e in
           window_put w cons (record s { jailed_until = forever; tombstoned = true }) h (record { counted = own.counted; start = own.start })
 
-  not_jailed_fits : (i : Window) (r : Option Validator) (cons : List ℕ) (w : World Stakes Shared) → StateFits P T (with_window i w) → StateFits P T (with_window i (jailed_if_not (core_slashes distribution_told plain_slash) window_bans r cons w))
-  not_jailed_fits i None cons w h = h
-  not_jailed_fits i (Some v) cons w h = by v.jailed
-    where
-      by : (b : Bool) → StateFits P T (with_window i (if b then w else jail_lent (core_slashes distribution_told plain_slash) cons w))
-      by true = h
-      by false = jail_fits i cons w h
-
-  jailed_ctx : (r : Option Validator) (cons : List ℕ) (w : World Stakes Shared) → (jailed_if_not (core_slashes distribution_told plain_slash) window_bans r cons w).view.ctx ≡ w.view.ctx
-  jailed_ctx None cons w = refl
-  jailed_ctx (Some v) cons w = by v.jailed
-    where
-      by : (b : Bool) → (if b then w else jail_lent (core_slashes distribution_told plain_slash) cons w).view.ctx ≡ w.view.ctx
-      by true = refl
-      by false = refl
-
-  jailed_pairs : (r : Option Validator) (cons : List ℕ) (w : World Stakes Shared) → (jailed_if_not (core_slashes distribution_told plain_slash) window_bans r cons w).mine.unbondings ≡ w.mine.unbondings
-  jailed_pairs None cons w = refl
-  jailed_pairs (Some v) cons w = by v.jailed
-    where
-      by : (b : Bool) → (if b then w else jail_lent (core_slashes distribution_told plain_slash) cons w).mine.unbondings ≡ w.mine.unbondings
-      by true = refl
-      by false = refl
-
   pub evidence_fits : (e : Evidence) (w : State) → StateFits P T w → IfOk (evidence_step e w) (EvidenceLeft w)
   evidence_fits e w h =
       on_then (equivocation_handled (core_slashes distribution_told plain_slash) window_bans e w.hooks.1 (beside_window w)) _ (λ x. EvidenceLeft w (with_window x.1 x.2)) _
-      (by (validator_by_cons w.mine.staked e.cons) (window_bans.tombstoned w.hooks.1 e.cons)) (λ x k. k)
+      (evidence_leaves (core_slashes distribution_told plain_slash) e w.hooks.1 (beside_window w) (λ j y. EvidenceLeft w (with_window j y))
+      (record { fits = h; ctx = refl; pairs = λ m k. k })
+      (λ v z k. (
+      let left = punished_goes (StaysSound P T w.hooks.1) (punishing_stays_sound w.hooks.1) e v (beside_window w) z k h in
+      record { fits = banned_sound e.cons (with_window w.hooks.1 (tombstoned_then v e z)) left.fits; ctx = left.ctx; pairs = left.pairs }))) (λ x k. k)
     where
-      stays : EvidenceLeft w w
-      stays = record { fits = h; ctx = refl; pairs = λ m k. k }
-
-      by : (v : Option Validator) (t : Option Bool) → IfOk (evidence_weighed (core_slashes distribution_told plain_slash) window_bans v t e w.hooks.1 (beside_window w)) (λ x. EvidenceLeft w (with_window x.1 x.2))
-      by None t = stays
-      by (Some v) None = stays
-      by (Some v) (Some t) = chosen (is_unbonded v.status || t || is_too_old w.view.ctx e)
-        where
-          chosen : (a : Bool) → IfOk {T = Bool × Window × World Stakes Shared} {E = Over} (if a then Ok (false, w.hooks.1, beside_window w) else (
-              slashed distribution_told plain_slash e.cons (e.height - 1) e.power w.view.ctx.params.slash_fraction_double_sign (beside_window w) >>= λ z.
-              Ok (true, banned e.cons forever w.hooks.1, over_view (noted (fact.Tombstoned v.operator)) (jailed_if_not (core_slashes distribution_told plain_slash) window_bans (validator_by_cons z.1.mine.staked e.cons) e.cons z.1)))) (λ x. EvidenceLeft w (with_window x.1 x.2))
-          chosen true = stays
-          chosen false =
-              on_then (slashed distribution_told plain_slash e.cons (e.height - 1) e.power w.view.ctx.params.slash_fraction_double_sign (beside_window w)) _ (λ z. SlashLeft P T w.hooks.1 (beside_window w) z.1) _
-              (slashed_fits P T w.hooks.1 e.cons (e.height - 1) e.power w.view.ctx.params.slash_fraction_double_sign (beside_window w) h) (λ z k.
-              let r = validator_by_cons z.1.mine.staked e.cons in
-              let x : World Stakes Shared = jailed_if_not (core_slashes distribution_told plain_slash) window_bans r e.cons z.1 in
-              let jailed = not_jailed_fits w.hooks.1 r e.cons z.1 k.fits in
-              record {
-                fits = state_told (with_window (banned e.cons forever w.hooks.1) x) (λ facts. facts ++ fact.Tombstoned v.operator ∷ []) (quiet_behind x.view.facts (fact.Tombstoned v.operator) (λ d. refl)) (banned_sound 0 e.cons w.hooks.1 (with_window w.hooks.1 x) jailed);
-                ctx = jailed_ctx r e.cons z.1 ∙ k.ctx;
-                pairs = λ m g. subst (PairsFit m) (sym (jailed_pairs r e.cons z.1)) (k.pairs m g);
-              })
+      tombstoned_then : Validator → Evidence → ℕ × World Stakes Shared → World Stakes Shared
+      tombstoned_then v e z = over_view (noted (fact.Tombstoned v.operator)) (jailed_if_not (core_slashes distribution_told plain_slash) window_bans (validator_by_cons z.1.mine.staked e.cons) e.cons z.1)
 
 pub votes_keep_soundness : VotesKeepSoundness
 votes_keep_soundness t w s power fewer =

@@ -27,33 +27,12 @@ use Rattle.rule_modules.proofs.OrderLemmas.{same_is}
 use Rattle.mod_staking.proofs.GroundLemmas.{holds-kept}
 use Rattle.mod_redelegation.specs.Scenes.{IsSlashed}
 
--- ---- one slash after another
-
 -- nothing was slashed yet
 pub slashed-none : (v : View) (s : Staked) → IsSlashed v v s s
 slashed-none v s = record {
   falls = record { from_bonded = λ d. refl; from_not_bonded = λ d. refl; supply = λ d. refl };
   still = λ o x e n. (x, (e, refl, refl));
 }
-
-pub slashed-then : (v v1 v2 : View) (s s1 s2 : Staked) → v1.ctx ≡ v.ctx → IsSlashed v v1 s s1 → IsSlashed v1 v2 s1 s2 → IsSlashed v v2 s s2
-slashed-then v v1 v2 s s1 s2 c a b = record {
-  falls = record {
-    from_bonded = λ d. together _ _ _ _ _ _ (a.falls.from_bonded d) (here d _ _ _ _ (b.falls.from_bonded d));
-    from_not_bonded = λ d. together _ _ _ _ _ _ (a.falls.from_not_bonded d) (here d _ _ _ _ (b.falls.from_not_bonded d));
-    supply = λ d. together _ _ _ _ _ _ (a.falls.supply d) (here d _ _ _ _ (b.falls.supply d));
-  };
-  still = λ o x e n.
-      let first = a.still o x e n in
-      let second = b.still o first.0 first.1.0 (ap (λ y. is_unbonded y) first.1.2 ∙ n) in
-      (second.0, (second.1.0, second.1.1 ∙ first.1.1, second.1.2 ∙ first.1.2));
-}
-  where
-    together : (b1 b2 b3 x1 x2 x3 : ℕ) → b2 + x1 ≡ b1 + x2 → b3 + x2 ≡ b2 + x3 → b3 + x1 ≡ b1 + x3
-    together b1 b2 b3 x1 x2 x3 p q = omega (arith, p, q)
-
-    here : (d : List ℕ) (m n x y : ℕ) → x + of_bond v1 d m ≡ y + of_bond v1 d n → x + of_bond v d m ≡ y + of_bond v d n
-    here d m n x y p = subst (λ (k : Ctx). x + cond (is_at (denom_cmp k.params.bond_denom) d) m 0 ≡ y + cond (is_at (denom_cmp k.params.bond_denom) d) n 0) c p
 
 -- ---- one unbonding, and its burn
 

@@ -9,27 +9,18 @@ use Rattle.base_roles.specs.declared.faults.HookFault.TheVariants as hook
 use Rattle.base_roles.specs.declared.params.Ctx.{Ctx}
 use Rattle.base_roles.specs.Answers.{Follows}
 use Rattle.base_roles.specs.Ground.{CanBeUndone}
-use Rattle.base_roles.specs.Lent.{Unbonds, FollowsLent}
+use Rattle.base_roles.specs.Lent.{Unbonds}
 use Rattle.base_roles.specs.Flow.{◌>>=◌}
 use Rattle.base_roles.specs.World.{View, World, burnt, over_view}
 use Rattle.rule_modules.specs.Answers.{Leaves}
 use Rattle.rule_modules.specs.Stakes.{pool_of}
 use Rattle.mod_entries.proofs.UndoneLemmas.{undone-none, undone-then}
-use Rattle.mod_redelegation.specs.Scenes.{LentGoesOn}
+use Rattle.mod_redelegation.specs.Scenes.{LentGoesOn, BothGoOn}
 use Rattle.mod_redelegation.specs.Slashed.{unbonded_burnt}
 
 module _ {B M H N D O : Type 0} (bank_marks : B → M) (most_steps : B → ℕ) (hook_marks : H → N) (lent_marks : D → O) where
   pub goes-none : (g : Ground B) (hooks : H) (d : D) → LentGoesOn bank_marks most_steps hook_marks lent_marks g g hooks hooks d d
   goes-none g hooks d = record { undone = undone-none bank_marks g; bank = refl; hooks = refl; delegations = refl }
-
-  pub goes-then : (g g1 g2 : Ground B) (hooks hooks1 hooks2 : H) (d d1 d2 : D) → LentGoesOn bank_marks most_steps hook_marks lent_marks g g1 hooks hooks1 d d1 → LentGoesOn bank_marks most_steps hook_marks lent_marks g1 g2 hooks1 hooks2 d1 d2
-      → LentGoesOn bank_marks most_steps hook_marks lent_marks g g2 hooks hooks2 d d2
-  goes-then g g1 g2 hooks hooks1 hooks2 d d1 d2 a b = record {
-    undone = undone-then bank_marks g g1 g2 a.undone b.undone;
-    bank = b.bank ∙ a.bank;
-    hooks = b.hooks ∙ a.hooks;
-    delegations = b.delegations ∙ a.delegations;
-  }
 
   -- a call that changes the ground alone behind one
   pub goes-burnt : (g g1 g2 : Ground B) (hooks hooks1 : H) (d d1 : D) → LentGoesOn bank_marks most_steps hook_marks lent_marks g g1 hooks hooks1 d d1 → CanBeUndone bank_marks g1 g2 → most_steps g2.bank ≡ most_steps g1.bank
@@ -39,6 +30,32 @@ module _ {B M H N D O : Type 0} (bank_marks : B → M) (most_steps : B → ℕ) 
     bank = t ∙ a.bank;
     hooks = a.hooks;
     delegations = a.delegations;
+  }
+
+-- the same of what is lent together
+module _ {B M H N D O U P : Type 0} (bank_marks : B → M) (most_steps : B → ℕ) (hook_marks : H → N) (lent_marks : D → O) (entry_marks : U → P) where
+  pub both_go-none : (g : Ground B) (hooks : H) (d : D) (u : U) → BothGoOn bank_marks most_steps hook_marks lent_marks entry_marks g g hooks hooks d d u u
+  both_go-none g hooks d u = record { undone = undone-none bank_marks g; bank = refl; hooks = refl; delegations = refl; entries = refl }
+
+  pub both_go-then : (g g1 g2 : Ground B) (hooks hooks1 hooks2 : H) (d d1 d2 : D) (u u1 u2 : U) → BothGoOn bank_marks most_steps hook_marks lent_marks entry_marks g g1 hooks hooks1 d d1 u u1
+      → BothGoOn bank_marks most_steps hook_marks lent_marks entry_marks g1 g2 hooks1 hooks2 d1 d2 u1 u2 → BothGoOn bank_marks most_steps hook_marks lent_marks entry_marks g g2 hooks hooks2 d d2 u u2
+  both_go-then g g1 g2 hooks hooks1 hooks2 d d1 d2 u u1 u2 a b = record {
+    undone = undone-then bank_marks g g1 g2 a.undone b.undone;
+    bank = b.bank ∙ a.bank;
+    hooks = b.hooks ∙ a.hooks;
+    delegations = b.delegations ∙ a.delegations;
+    entries = b.entries ∙ a.entries;
+  }
+
+  -- a call that changes the ground and the entries before one
+  pub both_go-followed : (g g1 g2 : Ground B) (hooks hooks2 : H) (d d2 : D) (u u1 : U) → CanBeUndone bank_marks g g1 → most_steps g1.bank ≡ most_steps g.bank → entry_marks u1 ≡ entry_marks u
+      → LentGoesOn bank_marks most_steps hook_marks lent_marks g1 g2 hooks hooks2 d d2 → BothGoOn bank_marks most_steps hook_marks lent_marks entry_marks g g2 hooks hooks2 d d2 u u1
+  both_go-followed g g1 g2 hooks hooks2 d d2 u u1 a t m b = record {
+    undone = undone-then bank_marks g g1 g2 a b.undone;
+    bank = b.bank ∙ t;
+    hooks = b.hooks;
+    delegations = b.delegations;
+    entries = m;
   }
 
 -- ---- answers

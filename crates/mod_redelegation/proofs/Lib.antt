@@ -1,8 +1,10 @@
 pub mod AskedLemmas
+pub mod BothLemmas
 pub mod BurntLemmas
 pub mod CompletedLemmas
 pub mod EntryLemmas
 pub mod GoesOnLemmas
+pub mod HitLemmas
 pub mod ItemLemmas
 pub mod LeftLemmas
 pub mod LoggedLemmas

@@ -1,6 +1,8 @@
-//! The slash of entries that are not mature: shares are unbonded at their targets, and what goes out burns.
+//! The slash of entries that are not mature: of each, what is counted is taken from the unbonding entries that follow
+//! it, then shares are unbonded at its target, and what goes out burns.
 
-ghost use Rattle.std.specs.Prelude.{◌≡◌, ◌<◌, ◌≤◌, ◌*◌, ◌^◌, ◌==◌, ℕ, List, Some, None, if◌then◌else◌, OnOk, IfOk, IfSome};
+ghost use Rattle.std.specs.Prelude.{◌≡◌, ◌<◌, ◌≤◌, ◌*◌, ◌^◌, ◌==◌, ℕ, List, Some, None, Ok, if◌then◌else◌, All, OnOk, IfOk, IfSome};
+ghost use Rattle.base_decimals.specs.Decimals.{mul_int_quo_int_of};
 ghost use Rattle.base_decimals.specs.Rounding.{even};
 ghost use Rattle.base_roles.specs.declared.entities.RedelegationEntry.{RedelegationEntry};
 ghost use Rattle.base_roles.specs.declared.entities.Validator.{Validator};
@@ -10,24 +12,24 @@ ghost use Rattle.base_roles.specs.Orders.{triple_cmp};
 ghost use Rattle.base_roles.specs.Staked.{validator_at, delegation};
 ghost use Rattle.base_roles.specs.StakeChanges.{HasShares};
 ghost use Rattle.rule_modules.specs.Answers.{Leaves};
-ghost use Rattle.rule_modules.specs.EntrySlashes.{burned_at_target, targets_slashed, redelegations_slashed};
+ghost use Rattle.rule_modules.specs.EntrySlashes.{burned_at_target, part_left, entry_hit, targets_slashed, redelegations_slashed};
 ghost use Rattle.rule_modules.specs.Redelegations.{RedelegationLists};
 ghost use Rattle.mod_staking.specs.Calls.{behind_log};
 ghost use Rattle.mod_entries.specs.Kept.{Behind, behind};
 ghost use Rattle.mod_entries.specs.Lists.{list_at};
 ghost use Rattle.mod_redelegation.specs.Calls.{AreSoundLists};
-ghost use Rattle.mod_redelegation.specs.Scenes.{IsLentScene, IsSlashed, LentGoesOn};
-ghost use Rattle.mod_redelegation.specs.Slashed.{lent_of, unbonded_burnt, part_hit, entry_slashed};
+ghost use Rattle.mod_redelegation.specs.Scenes.{IsLentScene, IsSlashed, LentGoesOn, IsBothScene, AreBothSlashed, BothGoOn, LeavesBoth};
+ghost use Rattle.mod_redelegation.specs.Slashed.{lent_of, following_of, unbonded_burnt, part_hit, entry_slashed};
 
 use crate::keyed::{Key, known};
 use crate::redelegations::Redelegations;
 use base_decimals::Dec;
 use base_roles::{
     Bank, Ground, HookFault, RedelegationEntry, RedelegationSlash, StakingHooks, Unbonder,
-    Validator,
+    UnbondingSlash, Validator,
 };
 use base_types::{Addr, Steps};
-use mod_entries::is_hit;
+use mod_entries::{is_hit, part_of};
 use mod_staking::{burn_bond, pool_of};
 use std::alloc::Global;
 use std::sync::ledger::Ledger;
@@ -39,18 +41,19 @@ impl RedelegationSlash for Redelegations {
 
     ghost sound = { AreSoundLists };
 
-    ghost slashes = { λ D H lent. redelegations_slashed lent };
+    ghost slashes = { λ D U H lent unbondings. redelegations_slashed lent unbondings };
 
     ghost Marks = { Behind (List ℕ × List ℕ × List ℕ) RedelegationEntry };
 
     ghost marks = { behind };
 
-    fn slash_redelegations<B: Bank, H: StakingHooks, D: Unbonder, L: Ledger>(
+    fn slash_redelegations<B: Bank, H: StakingHooks, D: Unbonder, U: UnbondingSlash, L: Ledger>(
         &mut self,
         alloc: Global,
         g: &mut Ground<B>,
         hooks: &mut H,
         delegations: &mut D,
+        unbondings: &mut U,
         operator: &Addr,
         infraction: u64,
         factor: Dec,
@@ -63,7 +66,17 @@ impl RedelegationSlash for Redelegations {
             .counted(operator, infraction, factor, now, steps);
         let keys = self.entries.keys_from(alloc, operator, steps)?;
         for key in &keys {
-            self.slash_at(alloc, g, hooks, delegations, key, infraction, factor, steps)?;
+            self.slash_at(
+                alloc,
+                g,
+                hooks,
+                delegations,
+                unbondings,
+                key,
+                infraction,
+                factor,
+                steps,
+            )?;
         }
         Ok(counted)
     }
@@ -71,34 +84,40 @@ impl RedelegationSlash for Redelegations {
 
 impl Redelegations {
     /// Slashes the entries of a key.
-    fn slash_at<B: Bank, H: StakingHooks, D: Unbonder, L: Ledger>(
+    fn slash_at<B: Bank, H: StakingHooks, D: Unbonder, U: UnbondingSlash, L: Ledger>(
         &self,
         alloc: Global,
         g: &mut Ground<B>,
         hooks: &mut H,
         delegations: &mut D,
+        unbondings: &mut U,
         key: &Key,
         infraction: u64,
         factor: Dec,
         steps: &mut Steps<L>,
     ) -> Result<(), HookFault>
         requires factor { factor ≤ 10 ^ 18 }
-        requires scene { IsLentScene H.tells (H.holds hooks.old) D.sound D.stake
-            (seen B.holdings g.old) (D.held delegations.old) }
+        requires entries { AreSoundLists self.now.lists }
+        requires scene { IsBothScene H.tells (H.holds hooks.old) D.sound D.stake U.sound U.owed
+            (seen B.holdings g.old) (D.held delegations.old) (U.held unbondings.old) }
         ensures told { (h : H.Held) → H.holds hooks.old h → (log : Log)
-            → Leaves (targets_slashed (lent_of D.stake (D.unbonds H.Held H.tells.told))
-            key.now.0 key.now.2 infraction factor
+            → LeavesBoth (targets_slashed (lent_of D.stake (D.unbonds H.Held H.tells.told))
+            (following_of U.follows) key.now.0 key.now.2 infraction factor
             (list_at triple_cmp self.now.lists key.now)
+            (U.held unbondings.old)
             (behind_log log (D.held delegations.old) h (seen B.holdings g.old)))
-            (D.held delegations.new) (H.holds hooks.new) (seen B.holdings g.new) result }
-        ensures scene { OnOk result (IsLentScene H.tells (H.holds hooks.new) D.sound D.stake
-            (seen B.holdings g.new) (D.held delegations.new)) }
-        ensures slashed { OnOk result (IsSlashed (seen B.holdings g.old) (seen B.holdings g.new)
-            (D.stake (D.held delegations.old)) (D.stake (D.held delegations.new))) }
+            (U.held unbondings.new) (D.held delegations.new) (H.holds hooks.new)
+            (seen B.holdings g.new) result }
+        ensures scene { OnOk result (IsBothScene H.tells (H.holds hooks.new) D.sound D.stake
+            U.sound U.owed (seen B.holdings g.new) (D.held delegations.new)
+            (U.held unbondings.new)) }
+        ensures slashed { OnOk result (AreBothSlashed (seen B.holdings g.old)
+            (seen B.holdings g.new) (D.stake (D.held delegations.old)) (D.stake (D.held delegations.new))
+            (U.owed (U.held unbondings.old)) (U.owed (U.held unbondings.new))) }
 
         // Whatever the answer.
-        ensures goes_on { LentGoesOn B.marks B.most_steps H.marks D.marks
-            g.old g.new hooks.old hooks.new delegations.old delegations.new }
+        ensures goes_on { BothGoOn B.marks B.most_steps H.marks D.marks U.marks g.old g.new
+            hooks.old hooks.new delegations.old delegations.new unbondings.old unbondings.new }
     {
         let entries = self.list_at(key, steps);
         slash_all(
@@ -106,6 +125,7 @@ impl Redelegations {
             g,
             hooks,
             delegations,
+            unbondings,
             &key.0,
             &key.2,
             entries,
@@ -117,11 +137,12 @@ impl Redelegations {
 }
 
 /// Slashes the entries of a delegator and a target, one after another.
-fn slash_all<B: Bank, H: StakingHooks, D: Unbonder, L: Ledger>(
+fn slash_all<B: Bank, H: StakingHooks, D: Unbonder, U: UnbondingSlash, L: Ledger>(
     alloc: Global,
     g: &mut Ground<B>,
     hooks: &mut H,
     delegations: &mut D,
+    unbondings: &mut U,
     delegator: &Addr,
     target: &Addr,
     entries: &[RedelegationEntry],
@@ -130,21 +151,26 @@ fn slash_all<B: Bank, H: StakingHooks, D: Unbonder, L: Ledger>(
     steps: &mut Steps<L>,
 ) -> Result<(), HookFault>
     requires factor { factor ≤ 10 ^ 18 }
-    requires scene { IsLentScene H.tells (H.holds hooks.old) D.sound D.stake
-        (seen B.holdings g.old) (D.held delegations.old) }
+    requires initials { All (λ e. e.initial ≤ 10 ^ 18) entries.now }
+    requires scene { IsBothScene H.tells (H.holds hooks.old) D.sound D.stake U.sound U.owed
+        (seen B.holdings g.old) (D.held delegations.old) (U.held unbondings.old) }
     ensures told { (h : H.Held) → H.holds hooks.old h → (log : Log)
-        → Leaves (targets_slashed (lent_of D.stake (D.unbonds H.Held H.tells.told))
-        delegator.now target.now infraction factor entries.now
+        → LeavesBoth (targets_slashed (lent_of D.stake (D.unbonds H.Held H.tells.told))
+        (following_of U.follows) delegator.now target.now infraction factor entries.now
+        (U.held unbondings.old)
         (behind_log log (D.held delegations.old) h (seen B.holdings g.old)))
-        (D.held delegations.new) (H.holds hooks.new) (seen B.holdings g.new) result }
-    ensures scene { OnOk result (IsLentScene H.tells (H.holds hooks.new) D.sound D.stake
-        (seen B.holdings g.new) (D.held delegations.new)) }
-    ensures slashed { OnOk result (IsSlashed (seen B.holdings g.old) (seen B.holdings g.new)
-        (D.stake (D.held delegations.old)) (D.stake (D.held delegations.new))) }
+        (U.held unbondings.new) (D.held delegations.new) (H.holds hooks.new)
+        (seen B.holdings g.new) result }
+    ensures scene { OnOk result (IsBothScene H.tells (H.holds hooks.new) D.sound D.stake
+        U.sound U.owed (seen B.holdings g.new) (D.held delegations.new)
+        (U.held unbondings.new)) }
+    ensures slashed { OnOk result (AreBothSlashed (seen B.holdings g.old)
+        (seen B.holdings g.new) (D.stake (D.held delegations.old)) (D.stake (D.held delegations.new))
+        (U.owed (U.held unbondings.old)) (U.owed (U.held unbondings.new))) }
 
     // Whatever the answer.
-    ensures goes_on { LentGoesOn B.marks B.most_steps H.marks D.marks
-        g.old g.new hooks.old hooks.new delegations.old delegations.new }
+    ensures goes_on { BothGoOn B.marks B.most_steps H.marks D.marks U.marks g.old g.new
+        hooks.old hooks.new delegations.old delegations.new unbondings.old unbondings.new }
 {
     for entry in entries {
         slash_one(
@@ -152,6 +178,7 @@ fn slash_all<B: Bank, H: StakingHooks, D: Unbonder, L: Ledger>(
             g,
             hooks,
             delegations,
+            unbondings,
             delegator,
             target,
             entry,
@@ -163,12 +190,13 @@ fn slash_all<B: Bank, H: StakingHooks, D: Unbonder, L: Ledger>(
     Ok(())
 }
 
-/// Slashes one entry, where it is hit: unbonds shares at the target, and burns what goes out.
-fn slash_one<B: Bank, H: StakingHooks, D: Unbonder, L: Ledger>(
+/// Slashes one entry, where it is hit.
+fn slash_one<B: Bank, H: StakingHooks, D: Unbonder, U: UnbondingSlash, L: Ledger>(
     alloc: Global,
     g: &mut Ground<B>,
     hooks: &mut H,
     delegations: &mut D,
+    unbondings: &mut U,
     delegator: &Addr,
     target: &Addr,
     entry: &RedelegationEntry,
@@ -177,36 +205,119 @@ fn slash_one<B: Bank, H: StakingHooks, D: Unbonder, L: Ledger>(
     steps: &mut Steps<L>,
 ) -> Result<(), HookFault>
     requires factor { factor ≤ 10 ^ 18 }
-    requires scene { IsLentScene H.tells (H.holds hooks.old) D.sound D.stake
-        (seen B.holdings g.old) (D.held delegations.old) }
+    requires initial { entry.now.initial ≤ 10 ^ 18 }
+    requires scene { IsBothScene H.tells (H.holds hooks.old) D.sound D.stake U.sound U.owed
+        (seen B.holdings g.old) (D.held delegations.old) (U.held unbondings.old) }
     ensures told { (h : H.Held) → H.holds hooks.old h → (log : Log)
-        → Leaves (entry_slashed (lent_of D.stake (D.unbonds H.Held H.tells.told))
-        delegator.now target.now infraction factor entry.now
+        → LeavesBoth (entry_slashed (lent_of D.stake (D.unbonds H.Held H.tells.told))
+        (following_of U.follows) delegator.now target.now infraction factor entry.now
+        (U.held unbondings.old)
         (behind_log log (D.held delegations.old) h (seen B.holdings g.old)))
-        (D.held delegations.new) (H.holds hooks.new) (seen B.holdings g.new) result }
-    ensures scene { OnOk result (IsLentScene H.tells (H.holds hooks.new) D.sound D.stake
-        (seen B.holdings g.new) (D.held delegations.new)) }
-    ensures slashed { OnOk result (IsSlashed (seen B.holdings g.old) (seen B.holdings g.new)
-        (D.stake (D.held delegations.old)) (D.stake (D.held delegations.new))) }
+        (U.held unbondings.new) (D.held delegations.new) (H.holds hooks.new)
+        (seen B.holdings g.new) result }
+    ensures scene { OnOk result (IsBothScene H.tells (H.holds hooks.new) D.sound D.stake
+        U.sound U.owed (seen B.holdings g.new) (D.held delegations.new)
+        (U.held unbondings.new)) }
+    ensures slashed { OnOk result (AreBothSlashed (seen B.holdings g.old)
+        (seen B.holdings g.new) (D.stake (D.held delegations.old)) (D.stake (D.held delegations.new))
+        (U.owed (U.held unbondings.old)) (U.owed (U.held unbondings.new))) }
 
     // Whatever the answer.
-    ensures goes_on { LentGoesOn B.marks B.most_steps H.marks D.marks
-        g.old g.new hooks.old hooks.new delegations.old delegations.new }
+    ensures goes_on { BothGoOn B.marks B.most_steps H.marks D.marks U.marks g.old g.new
+        hooks.old hooks.new delegations.old delegations.new unbondings.old unbondings.new }
 {
     if !is_hit(entry, infraction, g.ctx.time) {
         return Ok(());
     }
+    slash_hit(
+        alloc,
+        g,
+        hooks,
+        delegations,
+        unbondings,
+        delegator,
+        target,
+        entry,
+        factor,
+        steps,
+    )
+}
+
+/// Slashes an entry that is hit: what is counted of it is taken from the unbonding entries that follow it; for what is
+/// left shares are unbonded at the target, and what goes out burns.
+fn slash_hit<B: Bank, H: StakingHooks, D: Unbonder, U: UnbondingSlash, L: Ledger>(
+    alloc: Global,
+    g: &mut Ground<B>,
+    hooks: &mut H,
+    delegations: &mut D,
+    unbondings: &mut U,
+    delegator: &Addr,
+    target: &Addr,
+    entry: &RedelegationEntry,
+    factor: Dec,
+    steps: &mut Steps<L>,
+) -> Result<(), HookFault>
+    requires factor { factor ≤ 10 ^ 18 }
+    requires initial { entry.now.initial ≤ 10 ^ 18 }
+    requires scene { IsBothScene H.tells (H.holds hooks.old) D.sound D.stake U.sound U.owed
+        (seen B.holdings g.old) (D.held delegations.old) (U.held unbondings.old) }
+    ensures told { (h : H.Held) → H.holds hooks.old h → (log : Log)
+        → LeavesBoth (entry_hit (lent_of D.stake (D.unbonds H.Held H.tells.told))
+        (following_of U.follows) delegator.now target.now factor entry.now
+        (U.held unbondings.old)
+        (behind_log log (D.held delegations.old) h (seen B.holdings g.old)))
+        (U.held unbondings.new) (D.held delegations.new) (H.holds hooks.new)
+        (seen B.holdings g.new) result }
+    ensures scene { OnOk result (IsBothScene H.tells (H.holds hooks.new) D.sound D.stake
+        U.sound U.owed (seen B.holdings g.new) (D.held delegations.new)
+        (U.held unbondings.new)) }
+    ensures slashed { OnOk result (AreBothSlashed (seen B.holdings g.old)
+        (seen B.holdings g.new) (D.stake (D.held delegations.old)) (D.stake (D.held delegations.new))
+        (U.owed (U.held unbondings.old)) (U.owed (U.held unbondings.new))) }
+
+    // Whatever the answer.
+    ensures goes_on { BothGoOn B.marks B.most_steps H.marks D.marks U.marks g.old g.new
+        hooks.old hooks.new delegations.old delegations.new unbondings.old unbondings.new }
+{
+    let from = entry.created;
+    let count = part_of(entry, factor);
+    let lost = unbondings.slash_followed(alloc, g, delegator, target, from, count, steps)?;
+    let left = part_left(factor, entry.shares_dst, count, lost);
     let held = delegations.shares_of(delegator, target, steps);
-    let part = part_hit(factor, entry.shares_dst, &held);
+    let part = part_hit(left, &held);
     burn_at_target(alloc, g, hooks, delegations, delegator, target, part, steps)
 }
 
-/// The factor of the shares that an entry gave, at most what the delegation has.
-fn part_hit(factor: Dec, given: Dec, held: &Option<Dec>) -> Dec
+/// The shares that the slash of an entry takes, of the count and of what the unbonding entries that follow lost: the
+/// factor of the shares that it gave, or of that the part of the count that is left.
+fn part_left(factor: Dec, given: Dec, count: u128, lost: u128) -> Dec
     requires factor { factor ≤ 10 ^ 18 }
-    ensures { result ≡ part_hit factor given held.now }
+    requires count { count ≤ 10 ^ 18 }
+    requires lost { lost ≤ count }
+    ensures { part_left factor given count lost ≡ Ok result }
 {
     let part = share_of(factor, given);
+    if lost == 0 {
+        return part;
+    }
+    rest_of(part, count - lost, count)
+}
+
+/// Of shares the part that so many of so many are, cut.
+#[tactic(auto, using(crate::proofs::PartLemmas::rest_fits))]
+fn rest_of(part: Dec, some: u128, all: u128) -> Dec
+    requires positive { 0 < all }
+    requires most { all ≤ 10 ^ 18 }
+    requires within { some ≤ all }
+    ensures { mul_int_quo_int_of part some all ≡ Ok result }
+{
+    part.mul_int_quo_int(some, all).unwrap()
+}
+
+/// So many shares, at most what the delegation has.
+fn part_hit(part: Dec, held: &Option<Dec>) -> Dec
+    ensures { result ≡ part_hit part held.now }
+{
     let most = match held {
         Some(held) => *held,
         None => Dec::from_raw(0).unwrap(),

@@ -1,5 +1,4 @@
 mod AmountLemmas
 mod BurntLemmas
-pub mod FallLemmas
 mod StillLemmas
 mod ToldLemmas

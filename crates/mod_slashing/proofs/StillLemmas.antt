@@ -1,10 +1,10 @@
 -- Who still stands, and under which consensus address, once validators changed.
 use Rattle.std.proofs.Common.{◌≡◌, ◌∙◌, ℕ, ◌+◌, Bool, true, false, cond, List, refl, sym, ap, subst, arith}
-use Rattle.std.specs.Prelude.{Option, Some, None, option_map, Result, Ok, Err, OnOk}
+use Rattle.std.specs.Prelude.{Option, Some, None, option_map}
 use Rattle.base_types.specs.declared.status.BondStatus.{BondStatus}
 use Rattle.base_roles.specs.declared.entities.Validator.{Validator}
 use Rattle.base_roles.specs.Orders.{same_addr}
-use Rattle.base_roles.specs.Staked.{Staked, validator_at, validator_by_cons, put_validator, is_unbonded, lists_of, is_bonded, tokens_where, bonded_tokens, other_tokens}
+use Rattle.base_roles.specs.Staked.{Staked, validator_at, validator_by_cons, put_validator, lists_of, is_bonded, tokens_where, bonded_tokens, other_tokens}
 use Rattle.base_roles.specs.StakeChanges.{but_jailed, StillStand, StillStandByCons, SameButJailed, SameButJailedByCons, IsJailed}
 use Rattle.mod_staking.specs.Calls.{IsSoundStake, with_if, changed_at}
 use Rattle.mod_staking.specs.Registered.{operator_by_cons}
@@ -48,12 +48,6 @@ stands-by_cons s o v sound f = by (validator_by_cons s v.cons) refl
         sym k.0 ∙ ap (validator_at s) same ∙ f
 
 -- ---- who was not unbonded
-
-pub still-then : (s s2 s3 : Staked) → StillStand s s2 → StillStand s2 s3 → StillStand s s3
-still-then s s2 s3 a b = λ o v f n.
-    let p = a o v f n in
-    let q = b o p.0 p.1.0 (ap is_unbonded p.1.2 ∙ n) in
-    (q.0, (q.1.0, q.1.1 ∙ p.1.1, q.1.2 ∙ p.1.2))
 
 -- a validator is put in the place of one with its consensus address and status
 pub still-put : (s : Staked) (w v : Validator) → validator_at s w.operator ≡ Some v → w.cons ≡ v.cons → w.status ≡ v.status → StillStand s (put_validator w s)
@@ -160,14 +154,3 @@ module _ (s : Staked) (c : List ℕ) (v : Validator) (sound : IsSoundStake s) (f
 
     pub jail-other : other_tokens s2 ≡ other_tokens s
     jail-other = owed-same (λ status. cond (is_bonded status) false true)
-
--- ---- clauses on an answer of Ok
-
--- what follows of one, and of two
-pub on_ok : {A E P Q : Type 0} (r : Result A E) → (P → Q) → OnOk r P → OnOk r Q
-on_ok (Ok a) f p = f p
-on_ok (Err e) f p = tt
-
-pub on_both : {A E P Q T : Type 0} (r : Result A E) → (P → Q → T) → OnOk r P → OnOk r Q → OnOk r T
-on_both (Ok a) f p q = f p q
-on_both (Err e) f p q = tt

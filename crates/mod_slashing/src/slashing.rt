@@ -36,7 +36,8 @@ impl<U: UnbondingSlash, R: RedelegationSlash> Slasher for Core<U, R> {
 
     ghost slashes = { λ H told. slashed told (record {
       of_unbondings = U.slashes;
-      of_redelegations = R.slashes Staked H;
+      of_followed = record { follow = U.follows };
+      of_redelegations = R.slashes Staked U.Held H;
     }) };
 
     ghost jails = { jailed_by_cons };
@@ -72,6 +73,7 @@ impl<U: UnbondingSlash, R: RedelegationSlash> Slasher for Core<U, R> {
             g,
             hooks,
             &mut self.staking,
+            &mut self.unbondings,
             &v.operator,
             infraction,
             factor,

@@ -3,6 +3,7 @@ pub mod CancelLemmas
 pub mod ChangeLemmas
 pub mod CompletedLemmas
 pub mod EntriesLemmas
+pub mod FollowedLemmas
 pub mod ItemLemmas
 pub mod MadeLemmas
 pub mod PaidLemmas

@@ -30,6 +30,18 @@ pub(crate) fn part_burned(entry: &UnbondingEntry, infraction: u64, factor: Dec, 
     0
 }
 
+/// What an entry loses that follows a redelegation of a height, where so much is left of the count: that, or
+/// its balance.
+pub(crate) fn part_followed(entry: &UnbondingEntry, from: u64, now: Moment, left: u128) -> u128
+    ensures { result ≡ (if is_hit from now entry.now.created entry.now.completes
+        then min left entry.now.balance else 0) }
+{
+    if is_hit(entry, from, now) {
+        return at_most(left, entry.balance);
+    }
+    0
+}
+
 /// The smaller of two amounts.
 fn at_most(amount: u128, most: u128) -> u128
     ensures { result ≡ min amount most }

@@ -5,6 +5,7 @@ mod cancelling;
 mod changing;
 mod completing;
 mod entries;
+mod following;
 mod items;
 mod records;
 mod slashing;

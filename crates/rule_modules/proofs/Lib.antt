@@ -1,9 +1,11 @@
+pub mod BesideLemmas
 pub mod EntryLemmas
 pub mod GoingLemmas
 pub mod OperatorLemmas
 pub mod OrderLemmas
 pub mod PartLemmas
 pub mod RefusalLemmas
+pub mod SlashParts
 pub mod SoundLemmas
 pub mod TieLemmas
 pub mod TokenLemmas

@@ -1,19 +1,20 @@
 -- The slash of unbonding and of redelegation entries (`x/staking/keeper`: `SlashUnbondingDelegation`,
 -- `SlashRedelegation`).
-use Rattle.std.specs.Prelude.{ℕ, ◌-◌, ◌*◌, ◌^◌, ◌==◌, ◌&&◌, not, min, Bool, nat_le, if◌then◌else◌, List, [], ◌∷◌, filter, Option, Some, None, unwrap_or, Result, Ok, map, sum}
+use Rattle.std.specs.Prelude.{ℕ, ◌+◌, ◌-◌, ◌*◌, ◌^◌, ◌==◌, ◌&&◌, not, min, Bool, nat_le, if◌then◌else◌, List, [], ◌∷◌, filter, Option, Some, None, unwrap_or, Result, Ok, map, sum}
 use Rattle.base_decimals.specs.declared.over.Over.{Over}
 use Rattle.base_decimals.specs.Rounding.{cut, even}
+use Rattle.base_decimals.specs.Decimals.{mul_int_quo_int_of}
 use Rattle.base_types.specs.declared.account.Module.TheVariants as holder
 use Rattle.base_roles.specs.declared.entities.Validator.{Validator}
 use Rattle.base_roles.specs.declared.entities.UnbondingEntry.{UnbondingEntry}
 use Rattle.base_roles.specs.declared.entities.RedelegationEntry.{RedelegationEntry}
-use Rattle.base_roles.specs.Lent.{Unbonds}
+use Rattle.base_roles.specs.Lent.{Unbonds, Following}
 use Rattle.base_roles.specs.Orders.{same_addr}
 use Rattle.base_roles.specs.Staked.{validator_at, delegation}
 use Rattle.base_roles.specs.Flow.{◌>>=◌}
 use Rattle.base_roles.specs.World.{View, World, burnt, over_view}
 use Rattle.rule_modules.specs.Stakes.{pool_of}
-use Rattle.rule_modules.specs.Unbondings.{UnbondingLists}
+use Rattle.rule_modules.specs.Unbondings.{UnbondingLists, entries_of, with_entries}
 use Rattle.rule_modules.specs.Redelegations.{RedelegationLists}
 
 -- An entry that was made at this height, and completes then, is slashed by an infraction at a height: it was made at
@@ -81,11 +82,42 @@ unbondings_slashed operator infraction factor u v =
     let rest = entries_slashed operator infraction factor u v in
     (counted (all_counted operator infraction factor v.ctx.time u), rest.0, rest.1)
 
+-- ---- unbonding entries that follow a redelegation
+
+-- What a delegator moved to a target and then undelegated there is no safer than what stayed. So a slash of a
+-- redelegation entry first takes from the delegator's unbonding entries at the target that were made at the entry's height
+-- or later and are not mature: of each, in the order of making, the smaller of its balance and what is left of the count
+-- (own: v0.47 takes from the shares at the target alone).
+abbrev pub entries_followed : ℕ → ℕ → ℕ → List UnbondingEntry → ℕ × List UnbondingEntry
+entries_followed from now left [] = (0, [])
+entries_followed from now left (e ∷ es) =
+    let lost = if is_hit from now e.created e.completes then min left e.balance else 0 in
+    let rest = entries_followed from now (left - lost) es in
+    (lost + rest.0, record e { balance = e.balance - lost } ∷ rest.1)
+
+-- The same of the entries of a delegator and an operator, with one burn of the sum from the not-bonded account: the sum,
+-- the entries and the ground after it.
+abbrev pub followed : List ℕ → List ℕ → ℕ → ℕ → UnbondingLists → View → ℕ × UnbondingLists × View
+followed delegator operator from tokens u v =
+    let lost = entries_followed from v.ctx.time tokens (entries_of u delegator operator) in
+    (lost.0, with_entries delegator operator lost.1 u, burnt holder.NotBonded v.ctx.params.bond_denom lost.0 v)
+
+-- what a call is told that is lent plain lists of unbonding entries
+abbrev pub plain_following : Following UnbondingLists
+plain_following = record { follow = followed }
+
 -- ---- redelegation entries
 
 -- what an entry's slash counts
 abbrev pub redelegation_made : RedelegationEntry → Made
 redelegation_made e = record { created = e.created; completes = e.completes; initial = e.initial }
+
+-- The shares that an entry's slash takes, of the count and of what was burned in the unbonding entries that follow: the
+-- factor of what the entry gave, or of that the part of the count that is left.
+abbrev pub part_left : ℕ → ℕ → ℕ → ℕ → Result ℕ Over
+part_left factor given count lost =
+    let part = even (factor * given) (10 ^ 18) in
+    if lost == 0 then Ok part else mul_int_quo_int_of part (count - lost) count
 
 module _ {D H : Type 0} (lent : Unbonds D H) where
   -- Shares are unbonded at the target, and what goes out is burned from the account of the target's status as it was
@@ -96,32 +128,44 @@ module _ {D H : Type 0} (lent : Unbonds D H) where
     (out, w1) ← lent.unbond delegator t.operator part w
     Ok (over_view (burnt (pool_of t.status) w.view.ctx.params.bond_denom out) w1))
 
-  -- the shares that one entry's slash unbonds: the factor of what it gave, at most what the delegation has
-  abbrev pub shares_hit : List ℕ → List ℕ → ℕ → RedelegationEntry → World D H → ℕ
-  shares_hit delegator target factor e w = min (even (factor * e.shares_dst) (10 ^ 18)) (unwrap_or (delegation (lent.stake w.mine) delegator target) 0)
+  -- at most what the delegation has
+  abbrev pub shares_hit : List ℕ → List ℕ → ℕ → World D H → ℕ
+  shares_hit delegator target part w = min part (unwrap_or (delegation (lent.stake w.mine) delegator target) 0)
 
-  -- the slash of the entries of one delegator and target, one after another
-  abbrev pub targets_slashed : List ℕ → List ℕ → ℕ → ℕ → List RedelegationEntry → World D H → Result (World D H) Over
-  targets_slashed delegator target infraction factor [] w = Ok w
-  targets_slashed delegator target infraction factor (e ∷ es) w =
-      if is_hit infraction w.view.ctx.time e.created e.completes then (do
-        w1 ← burned_at_target (validator_at (lent.stake w.mine) target) delegator (shares_hit delegator target factor e w) w
-        targets_slashed delegator target infraction factor es w1)
-      else targets_slashed delegator target infraction factor es w
+  module _ {U : Type 0} (unbondings : Following U) where
+    -- The slash of one entry: of the unbonding entries that follow it, and then of shares at the target for what is left.
+    abbrev pub entry_hit : List ℕ → List ℕ → ℕ → RedelegationEntry → U → World D H → Result (U × World D H) Over
+    entry_hit delegator target factor e u w = do
+      let count = part_of factor e.initial
+      let (lost, u1, view) = unbondings.follow delegator target e.created count u w.view
+      part ← part_left factor e.shares_dst count lost
+      let w1 : World D H = record w { view = view }
+      w2 ← burned_at_target (validator_at (lent.stake w1.mine) target) delegator (shares_hit delegator target part w1) w1
+      Ok (u1, w2)
 
-  -- the same of all entries from an operator, by ascending delegator and target
-  abbrev pub sources_slashed : List ℕ → ℕ → ℕ → RedelegationLists → World D H → Result (World D H) Over
-  sources_slashed operator infraction factor [] w = Ok w
-  sources_slashed operator infraction factor (p ∷ ps) w =
-      if same_addr p.0.1 operator then (do
-        w1 ← targets_slashed p.0.0 p.0.2 infraction factor p.1 w
-        sources_slashed operator infraction factor ps w1)
-      else sources_slashed operator infraction factor ps w
+    -- the slash of the entries of one delegator and target, one after another
+    abbrev pub targets_slashed : List ℕ → List ℕ → ℕ → ℕ → List RedelegationEntry → U → World D H → Result (U × World D H) Over
+    targets_slashed delegator target infraction factor [] u w = Ok (u, w)
+    targets_slashed delegator target infraction factor (e ∷ es) u w =
+        if is_hit infraction w.view.ctx.time e.created e.completes then (do
+          (u1, w1) ← entry_hit delegator target factor e u w
+          targets_slashed delegator target infraction factor es u1 w1)
+        else targets_slashed delegator target infraction factor es u w
 
-  -- The slash of the redelegation entries from an operator: what is counted, the entries, which stay as they are, and the
-  -- world (`SlashRedelegation`).
-  abbrev pub redelegations_slashed : List ℕ → ℕ → ℕ → RedelegationLists → World D H → Result (ℕ × RedelegationLists × World D H) Over
-  redelegations_slashed operator infraction factor r w = do
-    w1 ← sources_slashed operator infraction factor r w
-    let all = sum (map (λ p. counted_of infraction factor w.view.ctx.time (map redelegation_made p.1)) (filter (λ p. same_addr p.0.1 operator) r))
-    Ok (counted all, r, w1)
+    -- the same of all entries from an operator, by ascending delegator and target
+    abbrev pub sources_slashed : List ℕ → ℕ → ℕ → RedelegationLists → U → World D H → Result (U × World D H) Over
+    sources_slashed operator infraction factor [] u w = Ok (u, w)
+    sources_slashed operator infraction factor (p ∷ ps) u w =
+        if same_addr p.0.1 operator then (do
+          (u1, w1) ← targets_slashed p.0.0 p.0.2 infraction factor p.1 u w
+          sources_slashed operator infraction factor ps u1 w1)
+        else sources_slashed operator infraction factor ps u w
+
+    -- The slash of the redelegation entries from an operator: what is counted, the entries, which stay as they are, the
+    -- unbonding entries and the world (`SlashRedelegation`). What is counted is of each entry the part of its initial
+    -- amount, whatever of it was burned where.
+    abbrev pub redelegations_slashed : List ℕ → ℕ → ℕ → RedelegationLists → U → World D H → Result (ℕ × RedelegationLists × U × World D H) Over
+    redelegations_slashed operator infraction factor r u w = do
+      (u1, w1) ← sources_slashed operator infraction factor r u w
+      let all = sum (map (λ p. counted_of infraction factor w.view.ctx.time (map redelegation_made p.1)) (filter (λ p. same_addr p.0.1 operator) r))
+      Ok (counted all, r, u1, w1)

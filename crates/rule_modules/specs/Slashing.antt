@@ -5,7 +5,7 @@ use Rattle.base_decimals.specs.Rounding.{cut}
 use Rattle.base_shares.specs.Burns.{recorded_fraction}
 use Rattle.base_roles.specs.declared.entities.Validator.{Validator}
 use Rattle.base_roles.specs.declared.facts.Fact.TheVariants as fact
-use Rattle.base_roles.specs.Lent.{Unbonds, jail_told}
+use Rattle.base_roles.specs.Lent.{Unbonds, Following, jail_told}
 use Rattle.base_roles.specs.Log as log
 use Rattle.base_roles.specs.Staked.{Staked, validator_at, validator_by_cons, put_validator, is_unbonded}
 use Rattle.base_roles.specs.Flow.{◌>>=◌}
@@ -14,7 +14,7 @@ use Rattle.rule_modules.specs.Stakes.{pool_of}
 use Rattle.rule_modules.specs.Unbonding.{shares_unbonded}
 use Rattle.rule_modules.specs.Unbondings.{UnbondingLists}
 use Rattle.rule_modules.specs.Redelegations.{RedelegationLists}
-use Rattle.rule_modules.specs.EntrySlashes.{unbondings_slashed, redelegations_slashed}
+use Rattle.rule_modules.specs.EntrySlashes.{unbondings_slashed, plain_following, redelegations_slashed}
 
 -- what staking holds: validators and delegations, unbonding entries, and redelegation entries
 pub record Core (U R : Type 0) : Type 0 where
@@ -25,11 +25,16 @@ pub record Core (U R : Type 0) : Type 0 where
 -- how entries are slashed, of whatever form they are
 pub record EntriesSlash (U R H : Type 0) : Type 0 where
   pub of_unbondings : List ℕ → ℕ → ℕ → U → View → ℕ × U × View
-  pub of_redelegations : Unbonds Staked H → List ℕ → ℕ → ℕ → R → World Staked H → Result (ℕ × R × World Staked H) Over
+  pub of_followed : Following U
+  pub of_redelegations : Unbonds Staked H → Following U → List ℕ → ℕ → ℕ → R → U → World Staked H → Result (ℕ × R × U × World Staked H) Over
 
 -- plain lists of entries are slashed by their rules
 abbrev pub plain_slash : {H : Type 0} → EntriesSlash UnbondingLists RedelegationLists H
-plain_slash = record { of_unbondings = unbondings_slashed; of_redelegations = redelegations_slashed }
+plain_slash = record {
+  of_unbondings = unbondings_slashed;
+  of_followed = plain_following;
+  of_redelegations = λ lent unbondings. redelegations_slashed lent unbondings;
+}
 
 -- The amount of a slash: the factor of the tokens that the power stands for, cut (`Slash`: `TokensFromConsensusPower`,
 -- `TruncateInt`).
@@ -67,17 +72,17 @@ module _ {H : Type 0} (told : H → Hook → View → Told H) where
   rest_slashed (Some v) amount w = validator_slashed v amount w
 
   module _ {U R : Type 0} (entries : EntriesSlash U R H) where
-    -- The slash of a validator: of its unbonding entries, of the redelegation entries from it, then of itself by the
-    -- amount less all that was counted. An unbonded validator is not slashed (own: v0.47 panics), nor one that is not known.
+    -- The slash of a validator: of its unbonding entries, of the redelegation entries from it and the unbonding entries
+    -- that follow these, then of itself by the amount less all that was counted. An unbonded validator is not slashed (own: v0.47 panics), nor one that is not known.
     abbrev pub slashed_at : Option Validator → ℕ → ℕ → ℕ → World (Core U R) H → Result (ℕ × World (Core U R) H) Over
     slashed_at None infraction power factor w = Ok (0, w)
     slashed_at (Some v) infraction power factor w = if is_unbonded v.status then Ok (0, w) else (do
       let (some, u, view) = entries.of_unbondings v.operator infraction factor w.mine.unbondings w.view
       let w1 : World Staked H = record { mine = w.mine.staked; hooks = w.hooks; view = view; log = w.log }
-      (more, r, w2) ← entries.of_redelegations staked_unbonds v.operator infraction factor w.mine.redelegations w1
+      (more, r, u2, w2) ← entries.of_redelegations staked_unbonds entries.of_followed v.operator infraction factor w.mine.redelegations u w1
       let amount = slash_amount power w.view.ctx.params.power_reduction factor - (some + more)
       (burned, w3) ← rest_slashed (validator_at w2.mine v.operator) amount w2
-      Ok (burned, record { mine = record { staked = w3.mine; unbondings = u; redelegations = r }; hooks = w3.hooks; view = w3.view; log = w3.log }))
+      Ok (burned, record { mine = record { staked = w3.mine; unbondings = u2; redelegations = r }; hooks = w3.hooks; view = w3.view; log = w3.log }))
 
     -- The slash of a consensus address since a height, by the power of then and a factor (`Slash`). Answers what the
     -- validator itself burns.

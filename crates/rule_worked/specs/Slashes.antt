@@ -15,7 +15,7 @@ use Rattle.base_roles.specs.Flow.{◌>>=◌}
 use Rattle.base_roles.specs.World.{over_view, over_mine}
 use Rattle.rule_modules.specs.Amounts.{seconds}
 use Rattle.rule_modules.specs.Chain.{State, shared_in, window_in}
-use Rattle.rule_modules.specs.Effects.{accepted, refused_at, withdraw_reward, begin_redelegate, unjail}
+use Rattle.rule_modules.specs.Effects.{accepted, refused_at, withdraw_reward, begin_redelegate, undelegate, unjail}
 use Rattle.rule_modules.specs.Window.{signing_of, missed_of}
 use Rattle.rule_modules.specs.Fixtures.{addr, cons, uatom, coin, decimals, params, time_of, validates, stakes, Beginning, Block, begins, given, pays, says, block, empty, signs, misses, proves, begun, after, last_endings, begun_facts, balance}
 
@@ -123,6 +123,72 @@ abbrev pub WithdrawnInTheBlock : Type 0
 WithdrawnInTheBlock =
     after two_validators (redelegated_at_5 ++ block 8 [] (proves 1 6 1 ∷ proves 2 7 2 ∷ []) (says (withdraw_reward (addr 3) (addr 2)) ∷ []) ∷ []) third_and_pool
     ≡ Ok (0, [])
+
+-- ---- the same, where the delegator undelegates a part from the second at height 6
+
+-- the same beginning, and a payer of more fees
+abbrev pub with_more_fees : Beginning
+with_more_fees = record two_validators { holdings = (9, 18515) ∷ [] }
+
+-- so much is undelegated from the second at height 6
+abbrev pub undelegated_at_6 : ℕ → List Block
+undelegated_at_6 amount =
+    empty 1 ∷ empty 2 ∷ empty 3 ∷ empty 4
+    ∷ block 5 [] [] (says (begin_redelegate (addr 3) (addr 1) (addr 2) (coin 1000000)) ∷ [])
+    ∷ block 6 [] [] (says (undelegate (addr 3) (addr 2) (coin amount)) ∷ [])
+    ∷ empty 7
+    ∷ []
+
+-- evidence for both, and fees of 18,515
+abbrev pub evidence_and_fees : Block
+evidence_and_fees = block 8 [] (proves 1 6 1 ∷ proves 2 7 2 ∷ []) (pays 9 18515 [] ∷ [])
+
+-- The first counts 50,000: the entry of 30,000 follows and is burned, and 20,000 shares are taken of the delegation. The
+-- second counts 1,500 at the entry, of which nothing is left, and burns 98,500 of the 1,950,000 of validator 2.
+abbrev pub FollowedIntoAnEntry : Type 0
+FollowedIntoAnEntry =
+    begun_facts with_more_fees (undelegated_at_6 30000) evidence_and_fees
+    ≡ Ok (
+    fact.Burn holder.NotBonded (coin 30000)
+    ∷ fact.Period (addr 2) 4 []
+    ∷ fact.Paid (addr 3) (addr 2) (addr 3) [] []
+    ∷ fact.Started (addr 3) (addr 2) 4 (950000 * 10 ^ 18)
+    ∷ fact.Burn holder.Bonded (coin 20000)
+    ∷ fact.Period (addr 1) 4 []
+    ∷ fact.Slashed (addr 1) 0 0
+    ∷ fact.Jailed (addr 1)
+    ∷ fact.Tombstoned (addr 1)
+    ∷ fact.Period (addr 2) 5 []
+    ∷ fact.Slashed (addr 2) 50512820512820513 98500
+    ∷ fact.Burn holder.Bonded (coin 98500)
+    ∷ fact.Jailed (addr 2)
+    ∷ fact.Tombstoned (addr 2)
+    ∷ [])
+
+-- the stake is 902012.820512820512650000: of fees of 18,515 over 1,851,500 tokens it withdraws a hundredth
+abbrev pub WithdrawnBehindTheEntry : Type 0
+WithdrawnBehindTheEntry =
+    after with_more_fees (undelegated_at_6 30000 ++ evidence_and_fees ∷ block 9 (signs 2 1 ∷ []) [] (says (withdraw_reward (addr 3) (addr 2)) ∷ []) ∷ []) third_and_pool
+    ≡ Ok (9020, decimals 128205128205126500)
+
+-- An entry of 60,000 takes all of the first 50,000: no share is taken, and no reward starts. The second burns 3,000 of the
+-- 10,000 that are left, and a twentieth of the 1,940,000 of validator 2.
+abbrev pub AllBurnedInAnEntry : Type 0
+AllBurnedInAnEntry =
+    begun_facts with_more_fees (undelegated_at_6 60000) evidence_and_fees
+    ≡ Ok (
+    fact.Burn holder.NotBonded (coin 50000)
+    ∷ fact.Period (addr 1) 4 []
+    ∷ fact.Slashed (addr 1) 0 0
+    ∷ fact.Jailed (addr 1)
+    ∷ fact.Tombstoned (addr 1)
+    ∷ fact.Burn holder.NotBonded (coin 3000)
+    ∷ fact.Period (addr 2) 4 []
+    ∷ fact.Slashed (addr 2) 50000000000000000 97000
+    ∷ fact.Burn holder.Bonded (coin 97000)
+    ∷ fact.Jailed (addr 2)
+    ∷ fact.Tombstoned (addr 2)
+    ∷ [])
 
 -- ---- evidence that counts once, and evidence that is too old: more than 100 seconds and more than 10 blocks
 

@@ -2,7 +2,7 @@
 
 ghost use Rattle.rule_worked.specs.Fees.{WithTaxAndCommission, WithoutTaxAndCommission, SharedByThree, RewardIsPending, DelegatingWithReward, DelegatingTooMuch, NothingLeftToDelegate, AllocatedWithoutTokens, WithdrawingWithoutTokens, PoolAndCommission};
 ghost use Rattle.rule_worked.specs.Shares.{DelegatingTen, UndelegatingTen, UndelegatingAlmostAll, StartedAtOldTokens, IssuingTooMany, UndelegatingAll, NothingIsLeft, CreatedAgain, BurningOneOfThree};
-ghost use Rattle.rule_worked.specs.Slashes.{UnbondingsUnderEvidence, SlashedTwice, WithdrawnAfterBoth, WithdrawnInTheBlock, PunishedOnce, NeverUnjailed, TooOld, FiveMissed, SixMissed, StillInJail, OutOfJail};
+ghost use Rattle.rule_worked.specs.Slashes.{UnbondingsUnderEvidence, SlashedTwice, WithdrawnAfterBoth, WithdrawnInTheBlock, FollowedIntoAnEntry, WithdrawnBehindTheEntry, AllBurnedInAnEntry, PunishedOnce, NeverUnjailed, TooOld, FiveMissed, SixMissed, StillInJail, OutOfJail};
 ghost use Rattle.rule_worked.specs.Stakes.{TransitiveIsRefused, LowerIsBonded, SetChanges, UnbondingsMature, CommissionEdits, Cancelling};
 
 /// One validator shares fees of 1,000 between stakes of 1,000,000 and 2,000,000.
@@ -55,6 +55,13 @@ pub fn removed_and_created_again()
 /// Evidence slashes the unbonding entries of its time.
 pub fn unbondings_under_evidence()
     ensures { UnbondingsUnderEvidence }
+{}
+
+/// A slash of what was redelegated follows into what was undelegated from the target since.
+pub fn slash_follows_into_unbondings()
+    ensures facts { FollowedIntoAnEntry }
+    ensures reward { WithdrawnBehindTheEntry }
+    ensures whole { AllBurnedInAnEntry }
 {}
 
 /// A delegation that was redelegated is slashed for both validators.

@@ -35,7 +35,17 @@ fn trials_are_slashed<L: Ledger>(rt: &(impl Abort + AllocGlobal), blank: Blank) 
         half,
         &mut steps,
     );
+    let followed = NoEntries.slash_followed(
+        rt.alloc(),
+        &mut g,
+        &v.operator,
+        &v.operator,
+        1,
+        5,
+        &mut steps,
+    );
     unbondings == Ok(0)
+        && followed == Ok(0)
         && redelegations_are_slashed(rt, &v, half, &mut steps)
         && is_slashed(rt, &v, half, &mut steps)
         && is_jailed(rt, &v, &mut steps)
@@ -58,6 +68,7 @@ fn redelegations_are_slashed<L: Ledger>(
         &mut g,
         &mut NoHooks,
         &mut one,
+        &mut NoEntries,
         &v.operator,
         1,
         factor,

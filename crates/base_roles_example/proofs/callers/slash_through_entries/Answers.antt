@@ -1,6 +1,6 @@
 use Rattle.base_roles.specs.Ground.{seen}
 use Rattle.base_roles.specs.Staked.{lists_of, bonded_tokens, other_tokens}
-use Rattle.base_roles.proofs.StakeLemmas.{holds-part, holds-rest, holds-burned, stands-burned}
+use Rattle.base_roles.proofs.StakeLemmas.{holds-rest, holds-burned, stands-burned}
 use Rattle.base_roles_example.proofs.StakeLemmas.{stands-burnt}
 use Rattle.base_roles_example.proofs.callers.slash_through_entries.Goals as goal
 
@@ -21,8 +21,7 @@ slash_redelegations-requires-clause-accounts g c =
     let owed = g.U.UnbondingSlash.owed (g.U.UnbondingSlash.held c.args.unbondings.now) in
     let owed2 = g.U.UnbondingSlash.owed (g.U.UnbondingSlash.held c.slash_unbondings.new.self) in
     let v = seen g.B.Bank.holdings c.slash_unbondings.new.g in
-    holds-part v (bonded_tokens s) (other_tokens s) owed2
-    (holds-burned (seen g.B.Bank.holdings c.args.g.now) v (bonded_tokens s) (other_tokens s) owed owed2 c.slash_unbondings.ensures.undone.ctx c.in_ok-some.ensures.burned c.requires.accounts)
+    holds-burned (seen g.B.Bank.holdings c.args.g.now) v (bonded_tokens s) (other_tokens s) owed owed2 c.slash_unbondings.ensures.undone.ctx c.in_ok-some.ensures.burned c.requires.accounts
 
 pub burn_known-requires : goal.burn_known-requires
 burn_known-requires g c = c.in_ok-more.ensures.stand.1.1.in_order.bank
