@@ -34,7 +34,7 @@ INVARIANTS = [
     ("One module alone cites laws", "mod_", NEVER, "law_", {"mod_distribution": "law_soundness"}),
     ("Lines know no chain", "line_", ONLY, "base_ rule_ line_", {}),
     ("Stores know no lines", "store_", NEVER, "line_ run_", {}),
-    ("Rows know no state", "store_rows store_sqlite", ONLY, "base_", {}),
+    ("Rows know no state", "store_rows store_history store_sqlite", ONLY, "base_", {}),
     ("Only run_app joins lines, chain and store", "line_ chain_ run_words run_generated run_trial", NEVER,
      "store_items store_commits store_loading store_resuming", {}),
     ("The program needs no examples", "stakeplay", NEVER,

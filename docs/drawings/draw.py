@@ -84,7 +84,7 @@ BOXES = [
     ("records", "law_: of records", RED, ["law_records"], (590, 354, 210), 1),
     ("mod", "mod_: the modules", GREEN, ["mod_"], (260, 470, 290), 2),
     ("rows", "store_: rows and records", AMBER,
-     ["store_items", "store_rows", "store_sqlite", "store_records", "store_soundness"], (590, 470, 210), 1),
+     ["store_items", "store_rows", "store_history", "store_sqlite", "store_records", "store_soundness"], (590, 470, 210), 1),
     ("law", "law_: of the machine", RED, ["law_runs", "law_rewards", "law_soundness"], (40, 470, 170), 1),
     ("rule", "rule_: what is right, as definitions", RED, ["rule_machine", "rule_modules"], (40, 694, 760), 2),
     ("base", "base_: values, tables, and the roles between modules", GREY,

@@ -1,0 +1,16 @@
+pub mod ChangeLemmas
+pub mod FormLemmas
+pub mod KeepingLemmas
+pub mod KeyLemmas
+pub mod LeftLemmas
+pub mod ListLemmas
+pub mod LoadLemmas
+pub mod MapLemmas
+pub mod PastLemmas
+pub mod ReadLemmas
+pub mod ReadingLemmas
+pub mod RestoreLemmas
+pub mod TakenLemmas
+pub mod TellLemmas
+pub mod TreeLemmas
+pub mod UndoLemmas

@@ -1,0 +1,50 @@
+-- What is loaded from a keeper.
+use Rattle.std.proofs.Common.{◌≡◌, ◌∙◌, ℕ, List, Option, Some, None, Ok, Err, Result, sym, ap, subst}
+use Rattle.std.specs.Prelude.{IfOk, IfSome, IsErrOf}
+use Rattle.base_io.specs.declared.keeper.KeepFault.{KeepFault}
+use Rattle.base_io.specs.declared.keeper.KeepFault.TheVariants as keep
+use Rattle.base_io.specs.Keeping.{UnlessLost}
+use Rattle.base_io.specs.Rows.{Pair}
+use Rattle.base_io.specs.Changes.{Rises}
+use Rattle.store_history.specs.declared.loading.OpenFault.{OpenFault}
+use Rattle.store_history.specs.declared.loading.OpenFault.TheVariants.{BadHistory, Failed}
+use Rattle.store_history.specs.Held.{Knows}
+use Rattle.store_history.specs.History.{stored_base, visible}
+use Rattle.store_history.specs.Opened.{open_fault}
+
+pub told_visible : (told : Option (List Pair)) (xs ys : List Pair) → IfSome told (λ p. xs ≡ p) → ys ≡ visible xs → IfSome told (λ p. ys ≡ visible p)
+told_visible None xs ys same is = tt
+told_visible (Some rows) xs ys same is = is ∙ ap visible same
+
+pub told_list : (told : Option (List Pair)) (xs ys : List Pair) → IfSome told (λ p. xs ≡ p) → ys ≡ xs → IfSome told (λ p. ys ≡ p)
+told_list None xs ys same is = tt
+told_list (Some rows) xs ys same is = is ∙ same
+
+pub knows_from : (told : Option (List Pair)) (list : List Pair) (base : Option ℕ) (vis : List Pair) → IfSome told (λ p. list ≡ p) → IfSome told Rises → (Rises list → vis ≡ visible list) → (Rises list → base ≡ stored_base list) → Knows told base vis
+knows_from None list base vis same up vis_is base_is = record { base_is = tt; seen_are = tt }
+knows_from (Some rows) list base vis same up vis_is base_is =
+    let rises : Rises list = subst (λ (ps : List Pair). Rises ps) (sym same) up in
+    record { base_is = base_is rises ∙ ap stored_base same; seen_are = vis_is rises ∙ ap visible same }
+
+-- what was found of the list holds of the rows that are told
+pub told_so : (told : Option (List Pair)) (list : List Pair) (P : List Pair → Type 0) → IfSome told (λ p. list ≡ p) → IfSome told Rises → (Rises list → P list) → IfSome told P
+told_so None list P same up found = tt
+told_so (Some rows) list P same up found = subst P same (found (subst (λ (ps : List Pair). Rises ps) (sym same) up))
+
+pub open_cause : {X Y : Type 0} (r : Result X KeepFault) (s : Result Y OpenFault) (fault : KeepFault) (R : Type 0) → r ≡ Err fault → s ≡ Err (open_fault fault) → (IsErrOf r keep.Failed → R) → IsErrOf s Failed → R
+open_cause r s keep.Failed R e f cause is = cause e
+open_cause r s keep.NoMemory R e f cause is = absurd cc
+
+pub open_quiet : {X Y : Type 0} (r : Result X KeepFault) (s : Result Y OpenFault) (fault : KeepFault) (R : Type 0) → r ≡ Err fault → s ≡ Err (open_fault fault) → UnlessLost r R → (IsErrOf s Failed → ⊥) → R
+open_quiet r s keep.Failed R e f quiet other = absurd (other f)
+open_quiet {X = X} r s keep.NoMemory R e f quiet other = subst (λ (r : Result X KeepFault). UnlessLost r R) e quiet
+
+pub open_not_bad : {Y : Type 0} (s : Result Y OpenFault) (fault : KeepFault) → s ≡ Err (open_fault fault) → IsErrOf s BadHistory → ⊥
+open_not_bad s keep.Failed f is = cc
+open_not_bad s keep.NoMemory f is = cc
+
+-- ---- under an answer
+
+pub if_ok_both : {X E : Type 0} (r : Result X E) (P Q R : X → Type 0) → IfOk r P → IfOk r Q → ((x : X) → P x → Q x → R x) → IfOk r R
+if_ok_both (Ok x) P Q R p q leads = leads x p q
+if_ok_both (Err e) P Q R p q leads = tt

@@ -1,0 +1,10 @@
+use Rattle.store_history.proofs.keeper.open.Goals as goal
+
+pub over-requires-clause-takes : goal.over-requires-clause-takes
+over-requires-clause-takes g c = λ changes distinct. c.in-Ok.ensures.takes changes (c.requires changes distinct)
+
+pub returns-in-Ok-clause-same : goal.returns-in-Ok-clause-same
+returns-in-Ok-clause-same g c = rw c.over.ensures.same c.in-Ok.ensures.same
+
+pub returns-in-Ok-clause-takes : goal.returns-in-Ok-clause-takes
+returns-in-Ok-clause-takes g c = rw c.over.ensures.same (λ changes distinct. c.in-Ok.ensures.takes changes (c.requires changes distinct))

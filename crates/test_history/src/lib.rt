@@ -1,0 +1,9 @@
+//! Tests of `store_history`. They stand apart so that they are proved without it, and nothing waits for them.
+#![tactic(auto)]
+
+#[cfg(test)]
+mod checked;
+#[cfg(test)]
+mod keeper_tests;
+#[cfg(test)]
+mod past_tests;
