@@ -21,6 +21,8 @@ STORE is a file that keeps the state, made where there is none, or - for none. C
   query account|validator|delegations|rewards|unbondings|redelegations|signing ADDRESS
                           answers from what STORE has
                             stakeplay.sh chain.db query supply
+  tally                   reads ballots, a line each, and counts them by the stake of what STORE has
+                            stakeplay.sh chain.db tally < ballots.jsonl
   gen SEED COUNT          writes a generated input with COUNT blocks
                             stakeplay.sh - gen 7 100 | stakeplay.sh - replay
   trial SEED COUNT        replays that input and writes a summary of one line

@@ -32,7 +32,7 @@ INVARIANTS = [
      "mod_staking mod_slashing mod_bonded_set mod_unbonding mod_redelegation mod_entries", {}),
     ("Slashing knows no entries", "mod_slashing", NEVER, "mod_entries mod_unbonding mod_redelegation", {}),
     ("One module alone cites laws", "mod_", NEVER, "law_", {"mod_distribution": "law_soundness"}),
-    ("Lines know no chain", "line_", ONLY, "base_ rule_ line_", {}),
+    ("Lines know no chain", "line_", ONLY, "base_ rule_ line_", {"line_ballots": "mod_tally"}),
     ("Stores know no lines", "store_", NEVER, "line_ run_", {}),
     ("Rows know no state", "store_rows store_history store_sqlite", ONLY, "base_", {}),
     ("Only run_app joins lines, chain and store", "line_ chain_ run_words run_generated run_trial", NEVER,

@@ -7,7 +7,8 @@ EMPTY, FULL = (9, "stakeplay: store is empty"), (9, "stakeplay: store is not emp
 DONE = (0, "")
 SCHEMA = "CREATE TABLE kept (name BLOB NOT NULL PRIMARY KEY, body BLOB NOT NULL) STRICT"
 LINES = pathlib.Path("examples/history.jsonl").read_bytes().splitlines(keepends=True)[:5]
-COMMANDS = (["replay"], ["resume"], ["query", "supply"])
+COMMANDS = (["replay"], ["resume"], ["query", "supply"], ["tally"])
+OPTIONS = ("yes", "abstain", "no", "no_with_veto")
 ONE = 10 ** 18
 bad, count = [], 0
 
@@ -35,9 +36,10 @@ def content(store):
 
 
 def try_all(store, wanted, what, **how):
-    """Each command ends as is wanted of it, prints nothing where that is no success, and leaves the file as it was."""
+    """Each command ends as is wanted of it (a tally as a question), prints nothing where that is no success, and leaves the
+    file as it was."""
     before = content(store)
-    for words, end in zip(COMMANDS, wanted):
+    for words, end in zip(COMMANDS, (*wanted, wanted[-1])):
         ended, printed = ran(store, words, b"".join(LINES) if words == ["replay"] else b"", **how)
         ask(ended, end, f"{' '.join(words)} on {what}")
         ask(bool(printed), end == DONE, f"whether {' '.join(words)} on {what} prints something")
@@ -424,6 +426,63 @@ def try_refused(room, genesis, block, first):
     ask(changes(first, rows_of(room / "refused")), [HEAD], "the rows that a refused transaction changes")
 
 
+def raw(decimal):
+    """A decimal in units of 10^-18."""
+    return int(decimal.replace(".", ""))
+
+
+def worth(validator, part):
+    """What a part of a validator's shares is worth: a quotient of 36 places, rounded half to even to 18."""
+    quotient = part * int(validator["tokens"]) * ONE * ONE // raw(validator["shares"])
+    whole, rest = divmod(quotient, ONE)
+    return whole + (2 * rest > ONE or (2 * rest == ONE and whole % 2))
+
+
+def line_of_tally(report, ballots):
+    """The line of a tally, counted from the lines of a report, validator by validator."""
+    cast, totals, bonded = dict(ballots), dict.fromkeys(OPTIONS, 0), 0
+    for validator in report:
+        if validator["kind"] != "validator" or validator["status"] != "bonded":
+            continue
+        bonded += int(validator["tokens"])
+        left = raw(validator["shares"])
+        for line in report:
+            if line["kind"] == "delegation" and line["validator"] == validator["operator"] and line["delegator"] in cast:
+                left -= raw(line["shares"])
+                totals[cast[line["delegator"]]] += worth(validator, raw(line["shares"]))
+        if validator["operator"] in cast and raw(validator["shares"]):
+            totals[cast[validator["operator"]]] += worth(validator, left)
+    line = {name: f"{total // ONE}.{total % ONE:018}" for name, total in totals.items()}
+    return json.dumps({**line, "bonded": str(bonded), "kind": "tally"}, sort_keys=True, separators=(",", ":")) + "\n"
+
+
+def text_of(ballots):
+    return "".join(json.dumps({"kind": "ballot", "voter": voter, "option": option}) + "\n" for voter, option in ballots)
+
+
+def try_tally(room):
+    """Ballots over the store of a generated run, and inputs that are not ballots to their end."""
+    store = room / "tally"
+    ran(store, ["replay"], ran("-", ["gen", "7", "300"])[1])
+    report = [json.loads(line) for line in ran(store, ["resume"])[1].splitlines()]
+    before, voters = content(store), sorted({line["delegator"] for line in report if line["kind"] == "delegation"})
+    for step in range(8):
+        ballots = [(voter, OPTIONS[(at * at + step) % 4]) for at, voter in enumerate([*voters, NOBODY, *voters[:step]])
+                   if (at + step) % 8 >= step]
+        ask(ran(store, ["tally"], text_of(ballots).encode()), (DONE, line_of_tally(report, ballots).encode()),
+            f"a tally of {len(ballots)} ballots")
+    good = text_of([(voters[0], "yes")]).encode()
+    for given, end in ((b"x\n", "line 2: not JSON"), (b"\n", "line 2: not JSON"), (b'{"kind":"block"}', "line 2: bad shape 140"),
+                       (good.replace(b'voter', b'sender'), "line 2: bad shape 141"),
+                       (good.replace(b'"yes"', b'"veto"'), "line 2: bad shape 142"),
+                       (good.replace(b'}', b',"weight":"1"}'), "line 2: bad shape 0")):
+        ask(ran(store, ["tally"], good + given), ((2, f"stakeplay: {end}"), b""), f"a tally of {given!r} behind a ballot")
+    for more, end in ((0, (DONE, line_of_tally(report, [(voters[0], "yes")]).encode())),
+                      (1, ((3, "stakeplay: line 2: limit line"), b""))):
+        ask(ran(store, ["tally"], good + good.rstrip().rjust(4194304 + more)), end, f"a ballot of {4194304 + more} bytes")
+    ask(content(store) == before, True, "whether tallies leave the store byte for byte as it was")
+
+
 def main():
     with tempfile.TemporaryDirectory(prefix="stores-") as name:
         room, good = pathlib.Path(name), pathlib.Path(name) / "good"
@@ -436,6 +495,7 @@ def main():
         try_new(room)
         try_held(room)
         try_one_send(room)
+        try_tally(room)
     for line in bad:
         print(f"stores: {line}")
     print(f"stores: {count} answers compared, {len(bad)} differ")

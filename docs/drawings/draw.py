@@ -99,7 +99,7 @@ ASIDE = [
 # what stands on what: the arrows of the picture, along which each dependency goes
 ARROWS = [("stakeplay", "run"), ("run", "line"), ("run", "chain"), ("run", "store"), ("store", "chain"),
           ("store", "rows"), ("chain", "records"), ("chain", "mod"), ("records", "mod"), ("records", "rows"),
-          ("mod", "law"), ("mod", "rule"), ("law", "rule"), ("line", "rule"), ("rows", "rule"), ("rule", "base")]
+          ("mod", "law"), ("mod", "rule"), ("law", "rule"), ("line", "rule"), ("line", "mod"), ("rows", "rule"), ("rule", "base")]
 ROW = 20
 
 
@@ -172,6 +172,7 @@ def layers():
     arrow([(405, bottom("mod")), (405, top("rule"))])
     arrow([(150, bottom("law")), (150, top("rule"))])
     arrow([(40, 262), (22, 262), (22, 716), (39, 716)])
+    arrow([(210, 262), (236, 262), (236, 446), (300, 446), (300, top("mod"))])
     arrow([(695, bottom("rows")), (695, top("rule"))])
     arrow([(420, bottom("rule")), (420, top("base"))])
 

@@ -5,7 +5,7 @@ use Rattle.base_io.specs.Rows.{Pair}
 use Rattle.run_generated.specs.Writing.{generated_text}
 use Rattle.run_trial.specs.Trial.{trial_of}
 use Rattle.run_words.specs.declared.mode.Mode.{Mode}
-use Rattle.run_words.specs.declared.mode.Mode.TheVariants.{Replay, Resume, Query, Gen, Trial}
+use Rattle.run_words.specs.declared.mode.Mode.TheVariants.{Replay, Resume, Query, Tally, Gen, Trial}
 use Rattle.run_app.specs.declared.status.Status.{Status}
 use Rattle.run_app.specs.declared.status.Status.TheVariants.{Done, Usage, ReadFault, WriteFault, KeepFault, NoMemory, WrongStore}
 use Rattle.run_app.specs.Kept.{AreSome}
@@ -14,6 +14,7 @@ use Rattle.run_app.specs.Writes.{IsWritten}
 use Rattle.run_app.proofs.DriveLemmas.{untroubled_run}
 use Rattle.run_app.proofs.ModeLemmas.{finds_none, nothing, nothing_done, rows_left, same_rows, tried_without_memory, unbegun_replay, untouched, written_to_end}
 use Rattle.run_app.proofs.ResumeLemmas.{untroubled_query, untroubled_resume}
+use Rattle.run_app.proofs.TallyLemmas.{untroubled_tally}
 
 -- before anything is taken, a run may end where memory is wanting, and leaves all as it was
 pub ends_unbegun : (o : Option Mode) (left w : Option (List ℕ)) (rows : Option (List Pair)) (honest : Type 0) (leaves : List Pair → Type 0) → ModeEnds o left left w w rows rows honest leaves leaves NoMemory
@@ -21,6 +22,7 @@ ends_unbegun None left w rows honest leaves = (nothing_done left w, untouched ro
 ends_unbegun (Some Replay) left w rows honest leaves = inr (tt, nothing_done left w, rows_left rows rows honest leaves leaves (same_rows rows) (λ h l x. x))
 ends_unbegun (Some Resume) left w rows honest leaves = inr (tt, nothing_done left w, rows_left rows rows honest leaves leaves (same_rows rows) (λ h l x. x))
 ends_unbegun (Some (Query what)) left w rows honest leaves = (refl, (rows_left rows rows honest leaves leaves (same_rows rows) (λ h l x. x), inr (tt, nothing w _ refl)))
+ends_unbegun (Some Tally) left w rows honest leaves = (rows_left rows rows honest leaves leaves (same_rows rows) (λ h l x. x), inr (tt, nothing_done left w))
 ends_unbegun (Some (Gen seed count)) left w rows honest leaves = ((refl, nothing w _ (record { rest = generated_text seed count; text_is = refl })), untouched rows leaves)
 ends_unbegun (Some (Trial seed count)) left w rows honest leaves = ((refl, tried_without_memory (trial_of seed count) w), untouched rows leaves)
 
@@ -39,6 +41,8 @@ untroubled_command Resume left left' w w' keeps rows rows' honest' leaves leaves
     untroubled_resume left left' w w' rows rows' honest' leaves leaves' faults faults' s ends calm busy read write keep
 untroubled_command (Query what) left left' w w' keeps rows rows' honest' leaves leaves' faults faults' s ends calm busy read write keep kept =
     untroubled_query what w w' rows rows' honest' leaves leaves' faults faults' s ends.1 calm write keep
+untroubled_command Tally left left' w w' keeps rows rows' honest' leaves leaves' faults faults' s ends calm busy read write keep kept =
+    untroubled_tally left left' w w' rows rows' honest' leaves leaves' faults faults' s ends calm read write keep
 untroubled_command (Gen seed count) left left' w w' keeps rows rows' honest' leaves leaves' faults faults' s ends calm busy read write keep kept =
     let e = ends.0.1 calm.0 calm.1 in
     written_to_end (generated_text seed count) e.0 s e.2 write

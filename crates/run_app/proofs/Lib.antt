@@ -1,5 +1,6 @@
 pub mod AnswerLemmas
 pub mod AskingLemmas
+pub mod BallotLemmas
 pub mod CommandLemmas
 pub mod CutLemmas
 pub mod DriveLemmas
@@ -16,4 +17,5 @@ pub mod RunLemmas
 pub mod SizeLemmas
 pub mod SoundLemmas
 pub mod StopLemmas
+pub mod TallyLemmas
 pub mod WholeLemmas

@@ -15,7 +15,7 @@ use Rattle.run_trial.specs.declared.fault.TrialFault.{TrialFault}
 use Rattle.run_trial.specs.declared.fault.TrialFault.TheVariants as trial
 use Rattle.run_trial.specs.Trying.{IsTrialFault}
 use Rattle.run_words.specs.declared.mode.Mode.{Mode}
-use Rattle.run_words.specs.declared.mode.Mode.TheVariants.{Replay, Resume, Query, Gen, Trial}
+use Rattle.run_words.specs.declared.mode.Mode.TheVariants.{Replay, Resume, Query, Tally, Gen, Trial}
 use Rattle.line_report.specs.declared.question.Query.{Query as Question}
 use Rattle.run_words.specs.Questions.{address_asked, kind_asked}
 use Rattle.run_words.specs.Words.{alone, begins_with_zero, count_of, generating, mode_of, seed_of, with_input, with_word, with_words}
@@ -171,12 +171,13 @@ input_is_few form h (Some s) None m few e = absurd cc
 input_is_few form h None c m few e = absurd cc
 
 few_alone : (name : List ℕ) (m : Mode) → alone name ≡ Some m → HasFewBlocks m
-few_alone name m e = by (bytes_eq name (codes "replay")) (bytes_eq name (codes "resume")) e
+few_alone name m e = by (bytes_eq name (codes "replay")) (bytes_eq name (codes "resume")) (bytes_eq name (codes "tally")) e
   where
-    by : (b d : Bool) → (if b then Some Replay else (if d then Some Resume else None)) ≡ Some m → HasFewBlocks m
-    by true d f = subst FewIn f tt
-    by false true f = subst FewIn f tt
-    by false false f = absurd cc
+    by : (b c d : Bool) → (if b then Some Replay else (if c then Some Resume else (if d then Some Tally else None))) ≡ Some m → HasFewBlocks m
+    by true c d f = subst FewIn f tt
+    by false true d f = subst FewIn f tt
+    by false false true f = subst FewIn f tt
+    by false false false f = absurd cc
 
 few_asked : (o : Option Question) (m : Mode) → option_map Query o ≡ Some m → HasFewBlocks m
 few_asked (Some what) m e = subst FewIn e tt

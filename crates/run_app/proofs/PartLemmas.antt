@@ -208,7 +208,7 @@ pub last_stops : (L : Standing → Standing → Type 0) (n : ℕ) (s : Standing)
 last_stops L n s line w w' stop some stops = rw (last-some line some) (λ old told. let o = stops old told in (o.0, o.1, last_ends L n s line o.0 stop o.2))
 
 -- no line is left
-last-none : (line : List ℕ) → length line ≡ 0 → last_line line ≡ []
+pub last-none : (line : List ℕ) → length line ≡ 0 → last_line line ≡ []
 last-none [] h = refl
 last-none (b ∷ line) h = absurd (omega (arith, h))
 
@@ -232,7 +232,7 @@ pub fed_first : (n : ℕ) (s : Standing) (line piece : List ℕ) (w : Option (Li
 fed_first n s line piece w short = record { done = []; piece_is = refl; fed = none_fed n s line w short }
 
 -- the rest begins with bytes and the end of a line
-parted : (rest : List ℕ) (i : ℕ) → drop i rest ≡ 10 ∷ drop (i + 1) rest → rest ≡ (take i rest ++ 10 ∷ []) ++ drop (i + 1) rest
+pub parted : (rest : List ℕ) (i : ℕ) → drop i rest ≡ 10 ∷ drop (i + 1) rest → rest ≡ (take i rest ++ 10 ∷ []) ++ drop (i + 1) rest
 parted rest i e = sym (take-append-drop i rest) ∙ ap (λ (t : List ℕ). take i rest ++ t) e ∙ sym (append_assoc (take i rest) (10 ∷ []) (drop (i + 1) rest))
 
 pub fed_to_end : (n : ℕ) (s : Standing) (line piece rest : List ℕ) (n1 : ℕ) (s1 : Standing) (line1 : List ℕ) (i n2 : ℕ) (s2 : Standing) (line2 : List ℕ) (w w1 w2 : Option (List ℕ)) → FedTo n s line piece rest n1 s1 line1 w w1

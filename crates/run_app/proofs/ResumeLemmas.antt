@@ -43,7 +43,7 @@ were_loaded (Some r) (Some now) honest P loaded same h =
     some_same : Some r ≡ Some same.0 → r ≡ same.0
     some_same e = cc
 
-at_rows : (rows : Option (List Pair)) (now : List Pair) (P : List Pair → Type 0) → rows ≡ Some now → IfSome rows P → P now
+pub at_rows : (rows : Option (List Pair)) (now : List Pair) (P : List Pair → Type 0) → rows ≡ Some now → IfSome rows P → P now
 at_rows rows now P is h = subst (λ (o : Option (List Pair)). IfSome o P) is h
 
 -- ---- a run that goes on
@@ -177,7 +177,7 @@ has_rows p e = let none : items_of p ≡ [] = no_items (items_of p) e in absurd 
 
 module _ (p : State) (rows rows' : Option (List Pair)) (honest' : Type 0) (faults faults' : ℕ) (fits : FitsState p rows honest' faults faults') (same : Makes (λ before. before) rows rows') where
   -- the rows of a state are not refused
-  never_unresumed : (s : Status) → IsUnresumed s rows rows' honest' → (s ≡ KeepFault → Rose faults faults') → (s ≡ Done) ⊎ (s ≡ NoMemory)
+  pub never_unresumed : (s : Status) → IsUnresumed s rows rows' honest' → (s ≡ KeepFault → Rose faults faults') → (s ≡ Done) ⊎ (s ≡ NoMemory)
   never_unresumed Done h keep = inl refl
   never_unresumed Usage h keep = absurd h
   never_unresumed (BadInput n fault) h keep = absurd h

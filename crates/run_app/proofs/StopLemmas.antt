@@ -8,7 +8,7 @@ use Rattle.base_io.specs.Rows.{Pair}
 use Rattle.store_resuming.specs.Restored.{IsStorable, rows_of}
 use Rattle.rule_modules.specs.Chain.{State}
 use Rattle.run_words.specs.declared.mode.Mode.{Mode}
-use Rattle.run_words.specs.declared.mode.Mode.TheVariants.{Replay, Resume, Query, Gen, Trial}
+use Rattle.run_words.specs.declared.mode.Mode.TheVariants.{Replay, Resume, Query, Tally, Gen, Trial}
 use Rattle.run_app.specs.declared.status.LimitKind.TheVariants.{Line, Input, Ratio}
 use Rattle.run_app.specs.declared.status.Status.{Status}
 use Rattle.run_app.specs.declared.status.Status.TheVariants.{Done, Usage, BadInput, Limit, ReadFault, WriteFault, KeepFault, NoMemory, BadStore, WrongStore, NotFound}
@@ -40,7 +40,7 @@ behind done front text f = record { rest = f.rest; text_is = ap (λ (t : List �
 -- ---- lines
 
 -- the lines that have ended are a front of all
-ended_first : (lines : List (List ℕ)) (taken rest : List ℕ) → AreEnded lines taken rest → (more : List (List ℕ)) × (lines_of (taken ++ rest) ≡ lines ++ more)
+pub ended_first : (lines : List (List ℕ)) (taken rest : List ℕ) → AreEnded lines taken rest → (more : List (List ℕ)) × (lines_of (taken ++ rest) ≡ lines ++ more)
 ended_first lines taken rest (inl is) = (lines_from (rest_from [] taken) rest, lines-append taken [] rest ∙ ap (λ (l : List (List ℕ)). l ++ lines_from (rest_from [] taken) rest) (sym is))
 ended_first lines taken rest (inr h) = ([], ap lines_of (ap (λ (r : List ℕ). taken ++ r) h.0 ∙ append-nil taken) ∙ sym h.1 ∙ sym (append-nil lines))
 
@@ -197,6 +197,7 @@ mode_stops None left left' written written' rows rows' honest' leaves leaves' st
 mode_stops (Some Replay) left left' written written' rows rows' honest' leaves leaves' status ends = replay_stops left left' written written' rows rows' honest' leaves leaves' status ends
 mode_stops (Some Resume) left left' written written' rows rows' honest' leaves leaves' status ends = resume_stops left left' written written' rows rows' honest' leaves leaves' status ends
 mode_stops (Some (Query what)) left left' written written' rows rows' honest' leaves leaves' status ends = λ good now may. ends.1.0.stop good now may
+mode_stops (Some Tally) left left' written written' rows rows' honest' leaves leaves' status ends = λ good now may. ends.0.stop good now may
 mode_stops (Some (Gen seed count)) left left' written written' rows rows' honest' leaves leaves' status ends = λ good now may. ends.1.stop now may
 mode_stops (Some (Trial seed count)) left left' written written' rows rows' honest' leaves leaves' status ends = λ good now may. ends.1.stop now may
 
@@ -209,5 +210,6 @@ stops_unbegun None left written rows honest leaves = λ good now may. may
 stops_unbegun (Some Replay) left written rows honest leaves = still None left written rows honest leaves
 stops_unbegun (Some Resume) left written rows honest leaves = λ p storable told. still (Some p) left written rows honest leaves
 stops_unbegun (Some (Query what)) left written rows honest leaves = λ good now may. may
+stops_unbegun (Some Tally) left written rows honest leaves = λ good now may. may
 stops_unbegun (Some (Gen seed count)) left written rows honest leaves = λ good now may. may
 stops_unbegun (Some (Trial seed count)) left written rows honest leaves = λ good now may. may

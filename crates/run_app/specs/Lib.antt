@@ -1,3 +1,4 @@
+pub mod Ballots
 pub mod Ending
 pub mod Kept
 pub mod Laws
@@ -11,4 +12,5 @@ pub mod Resumes
 pub mod Runs
 pub mod Sizes
 pub mod Stops
+pub mod Tallies
 pub mod Writes

@@ -4,7 +4,7 @@ use Rattle.base_io.specs.Outside.{Rose}
 use Rattle.base_io.specs.Rows.{Pair}
 use Rattle.base_roles.specs.declared.refusal.Refusal.{Refusal}
 use Rattle.run_words.specs.declared.mode.Mode.{Mode}
-use Rattle.run_words.specs.declared.mode.Mode.TheVariants.{Replay, Resume, Query, Gen, Trial}
+use Rattle.run_words.specs.declared.mode.Mode.TheVariants.{Replay, Resume, Query, Tally, Gen, Trial}
 use Rattle.run_generated.specs.Writing.{generated_text}
 use Rattle.run_trial.specs.Summary.{Stopped}
 use Rattle.run_trial.specs.Trial.{trial_of}
@@ -15,6 +15,7 @@ use Rattle.run_app.specs.Machine.{not_applied}
 use Rattle.run_app.specs.Outcome.{IsUntroubled, RunEnds}
 use Rattle.run_app.specs.Ending.{status_of}
 use Rattle.run_app.specs.Resumes.{AsksCalmly, QueryEnds, ResumeEnds, ResumesCalmly}
+use Rattle.run_app.specs.Tallies.{TalliesCalmly, TallyEnds}
 use Rattle.run_app.specs.Writes.{Adds, IsWritten, Leaves}
 
 -- ---- a trial
@@ -36,6 +37,7 @@ abbrev pub HasFewBlocks : Mode → Type 0
 HasFewBlocks Replay = Unit {0}
 HasFewBlocks Resume = Unit {0}
 HasFewBlocks (Query what) = Unit {0}
+HasFewBlocks Tally = Unit {0}
 HasFewBlocks (Gen seed count) = count ≤ 100000
 HasFewBlocks (Trial seed count) = count ≤ 100000
 
@@ -45,13 +47,14 @@ ReplayEnds left left' written written' rows rows' honest' leaves leaves' status 
     RunEnds None (LeftIn (on_none rows) rows' honest' leaves') left left' written written' status
     ⊎ (IsUnbegun status (AreSome rows rows' honest') × Leaves left left' written written' (λ text. text ≡ []) × AreLeft rows rows' honest' leaves leaves')
 
--- What was taken, written and kept at the end of a run: of no command, of a replay, of a run that goes on, of a question, of the
--- generated input, of a trial.
+-- What was taken, written and kept at the end of a run: of no command, of a replay, of a run that goes on, of a question, of a
+-- tally, of the generated input, of a trial.
 abbrev pub ModeEnds : Option Mode → Option (List ℕ) → Option (List ℕ) → Option (List ℕ) → Option (List ℕ) → Option (List Pair) → Option (List Pair) → Type 0 → (List Pair → Type 0) → (List Pair → Type 0) → Status → Type 0
 ModeEnds None left left' written written' rows rows' honest' leaves leaves' status = Leaves left left' written written' (λ text. text ≡ []) × AreUntouched rows rows' leaves leaves'
 ModeEnds (Some Replay) left left' written written' rows rows' honest' leaves leaves' status = ReplayEnds left left' written written' rows rows' honest' leaves leaves' status
 ModeEnds (Some Resume) left left' written written' rows rows' honest' leaves leaves' status = ResumeEnds left left' written written' rows rows' honest' leaves leaves' status
 ModeEnds (Some (Query what)) left left' written written' rows rows' honest' leaves leaves' status = (left' ≡ left) × QueryEnds what written written' rows rows' honest' leaves leaves' status
+ModeEnds (Some Tally) left left' written written' rows rows' honest' leaves leaves' status = TallyEnds left left' written written' rows rows' honest' leaves leaves' status
 ModeEnds (Some (Gen seed count)) left left' written written' rows rows' honest' leaves leaves' status =
     Leaves left left' written written' (IsWritten (generated_text seed count) status) × AreUntouched rows rows' leaves leaves'
 ModeEnds (Some (Trial seed count)) left left' written written' rows rows' honest' leaves leaves' status =
@@ -64,11 +67,12 @@ pub record FitsReplay (keeps : Bool) (rows : Option (List Pair)) (honest' : Type
   pub quiet : ¬ Rose faults faults'
 
 -- A sink that tells, and an input free of faults: that of the source, or one whose blocks all follow; what `gen` writes needs none.
--- A replay has a keeper that fits it, and so have a run that goes on and a question, which has an answer.
+-- A replay has a keeper that fits it, and so have a run that goes on, a tally, and a question, which has an answer.
 abbrev pub IsUntroubledAt : Option Mode → Option (List ℕ) → Option (List ℕ) → Bool → Option (List Pair) → Type 0 → ℕ → ℕ → Type 0
 IsUntroubledAt None left written keeps rows honest' faults faults' = ⊥
 IsUntroubledAt (Some Replay) left written keeps rows honest' faults faults' = IsUntroubled None left written × FitsReplay keeps rows honest' faults faults'
 IsUntroubledAt (Some Resume) left written keeps rows honest' faults faults' = ResumesCalmly left written rows honest' faults faults'
 IsUntroubledAt (Some (Query what)) left written keeps rows honest' faults faults' = AsksCalmly what written rows honest' faults faults'
+IsUntroubledAt (Some Tally) left written keeps rows honest' faults faults' = TalliesCalmly left written rows honest' faults faults'
 IsUntroubledAt (Some (Gen seed count)) left written keeps rows honest' faults faults' = (old : List ℕ) × (written ≡ Some old)
 IsUntroubledAt (Some (Trial seed count)) left written keeps rows honest' faults faults' = ((old : List ℕ) × (written ≡ Some old)) × ((summary : List ℕ) × (trial_of seed count ≡ Ok (Ok summary)))

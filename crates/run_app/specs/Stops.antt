@@ -5,7 +5,7 @@ use Rattle.base_io.specs.Rows.{Pair}
 use Rattle.store_resuming.specs.Restored.{IsStorable, rows_of}
 use Rattle.rule_modules.specs.Chain.{State}
 use Rattle.run_words.specs.declared.mode.Mode.{Mode}
-use Rattle.run_words.specs.declared.mode.Mode.TheVariants.{Replay, Resume, Query, Gen, Trial}
+use Rattle.run_words.specs.declared.mode.Mode.TheVariants.{Replay, Resume, Query, Tally, Gen, Trial}
 use Rattle.run_app.specs.Kept.{AreRowsOf}
 use Rattle.run_app.specs.Lines.{lines_of}
 use Rattle.run_app.specs.Machine.{Standing, report_of}
@@ -48,5 +48,6 @@ ModeStops None left written written' rows honest' leaves leaves' = LeavesAsBefor
 ModeStops (Some Replay) left written written' rows honest' leaves leaves' = RunStops None left written written' rows honest' leaves leaves'
 ModeStops (Some Resume) left written written' rows honest' leaves leaves' = (p : State) → IsStorable p → rows ≡ Some (rows_of p) → RunStops (Some p) left written written' rows honest' leaves leaves'
 ModeStops (Some (Query what)) left written written' rows honest' leaves leaves' = LeavesAsBefore honest' leaves leaves'
+ModeStops (Some Tally) left written written' rows honest' leaves leaves' = LeavesAsBefore honest' leaves leaves'
 ModeStops (Some (Gen seed count)) left written written' rows honest' leaves leaves' = LeavesAsBefore honest' leaves leaves'
 ModeStops (Some (Trial seed count)) left written written' rows honest' leaves leaves' = LeavesAsBefore honest' leaves leaves'

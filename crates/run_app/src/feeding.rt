@@ -26,7 +26,7 @@ pub struct Progress {
 }
 
 /// Where the first end of a line stands.
-fn end_of_line(bytes: &[u8]) -> Option<usize>
+pub(crate) fn end_of_line(bytes: &[u8]) -> Option<usize>
     ensures within { IfSome result (λ i. i < length bytes.now) }
     ensures before { IfSome result (λ i. HasNoEnd (take i bytes.now)) }
     ensures end { IfSome result (λ i. drop i bytes.now ≡ 10 ∷ drop (i + 1) bytes.now) }
@@ -36,7 +36,7 @@ fn end_of_line(bytes: &[u8]) -> Option<usize>
 }
 
 /// The bytes from a place on.
-fn after(bytes: &[u8], place: usize) -> &[u8]
+pub(crate) fn after(bytes: &[u8], place: usize) -> &[u8]
     requires { place ≤ length bytes.now }
     ensures { result.now ≡ drop place bytes.now }
 {
@@ -44,7 +44,7 @@ fn after(bytes: &[u8], place: usize) -> &[u8]
 }
 
 /// Adds bytes to a line of which no end has come.
-fn extend(number: u64, line: &mut Vec<u8>, bytes: &[u8]) -> Result<(), LineStop>
+pub(crate) fn extend(number: u64, line: &mut Vec<u8>, bytes: &[u8]) -> Result<(), LineStop>
     requires short { length line.old.items ≤ longest }
     ensures line { OnOk result (line.new.items ≡ line.old.items ++ bytes.now) }
     ensures short { OnOk result (length line.new.items ≤ longest) }

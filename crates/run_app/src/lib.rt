@@ -3,6 +3,7 @@
 #![tactic(auto)]
 
 mod answer;
+mod balloting;
 mod feeding;
 mod finishing;
 mod generating;
@@ -11,6 +12,7 @@ mod report;
 mod resuming;
 mod running;
 mod status;
+mod tallying;
 
 pub use running::run;
 pub use status::{InputFault, LimitKind, Status};

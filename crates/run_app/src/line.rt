@@ -27,7 +27,7 @@ use store_commits::{commit_first, commit_next};
 pub const LONGEST: usize = 4_194_304;
 
 /// Why a line is not read.
-fn not_read(number: u64, fault: LineFault) -> LineStop
+pub(crate) fn not_read(number: u64, fault: LineFault) -> LineStop
     ensures { result ≡ not_read number fault }
 {
     match fault {

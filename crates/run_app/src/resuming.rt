@@ -23,7 +23,7 @@ use std::alloc::Global;
 use store_resuming::{RestoreFault, restore};
 
 /// How a run ends where no chain comes of its keeper.
-fn status_of_restore(fault: RestoreFault) -> Status
+pub(crate) fn status_of_restore(fault: RestoreFault) -> Status
     ensures { result ≡ status_of_restore fault }
 {
     match fault {

@@ -40,13 +40,14 @@ record IsNoName (w : List ℕ) : Type 0 where
   tried : bytes_eq w (codes "trial") ≡ false
   replayed : bytes_eq w (codes "replay") ≡ false
   resumed : bytes_eq w (codes "resume") ≡ false
+  tallied : bytes_eq w (codes "tally") ≡ false
   asked : bytes_eq w (codes "query") ≡ false
 
 no_name : (w : List ℕ) → is_option w ≡ true → IsNoName w
 no_name [] h = absurd (true≢false (sym h))
 no_name (x ∷ xs) h =
     let is : x ≡ 45 = grind (arith, h) in
-    rw is (record { generated = refl; tried = refl; replayed = refl; resumed = refl; asked = refl })
+    rw is (record { generated = refl; tried = refl; replayed = refl; resumed = refl; tallied = refl; asked = refl })
 
 -- and of no question
 no_kind : (w : List ℕ) → is_option w ≡ true → kind_asked w ≡ None
@@ -142,7 +143,7 @@ not_asked b c q = elim (either_true (is_option b) (list_any is_option (c ∷ [])
 refused_options : (words : List (List ℕ)) → list_any is_option words ≡ true → mode_of words ≡ None
 refused_options [] h = absurd (true≢false (sym h))
 refused_options (a ∷ []) h = elim (either_true (is_option a) false h) [
-  | inl p ↦ rw ((no_name a p).replayed, (no_name a p).resumed) refl
+  | inl p ↦ rw ((no_name a p).replayed, (no_name a p).resumed, (no_name a p).tallied) refl
   | inr q ↦ absurd (true≢false (sym q))
 ]
 refused_options (a ∷ b ∷ []) h = elim (either_true (is_option a) (list_any is_option (b ∷ [])) h) [

@@ -39,7 +39,8 @@ generating name seed count =
 abbrev pub alone : List ℕ → Option Mode
 alone name =
     if bytes_eq name (codes "replay") then Some mode.Replay
-    else (if bytes_eq name (codes "resume") then Some mode.Resume else None)
+    else (if bytes_eq name (codes "resume") then Some mode.Resume
+    else (if bytes_eq name (codes "tally") then Some mode.Tally else None))
 
 -- the command of this name with one word
 abbrev pub with_word : List ℕ → List ℕ → Option Mode
@@ -50,8 +51,8 @@ abbrev pub with_words : List ℕ → List ℕ → List ℕ → Option Mode
 with_words name first second =
     if bytes_eq name (codes "query") then option_map mode.Query (address_asked first second) else generating name first second
 
--- `replay`; `resume`; `query` with a kind; `query` with a kind and an address; `gen SEED COUNT`; `trial SEED COUNT`; and no
--- other words
+-- `replay`; `resume`; `tally`; `query` with a kind; `query` with a kind and an address; `gen SEED COUNT`; `trial SEED
+-- COUNT`; and no other words
 abbrev pub mode_of : List (List ℕ) → Option Mode
 mode_of [] = None
 mode_of (name ∷ []) = alone name

@@ -1,7 +1,7 @@
 -- Worked rows of words.
 use Rattle.std.specs.Prelude.{◌≡◌, ℕ, List, [], ◌∷◌, ◌++◌, codes, replicate, Option, Some, None}
 use Rattle.run_words.specs.declared.mode.Mode.{Mode}
-use Rattle.run_words.specs.declared.mode.Mode.TheVariants.{Replay, Resume, Query, Gen, Trial}
+use Rattle.run_words.specs.declared.mode.Mode.TheVariants.{Replay, Resume, Query, Tally, Gen, Trial}
 use Rattle.base_types.specs.declared.account.Account.TheVariants as account
 use Rattle.base_types.specs.declared.account.Module.TheVariants as holder
 use Rattle.line_report.specs.declared.question.Query.TheVariants as question
@@ -14,6 +14,7 @@ pub record Commands : Type 0 where
   pub greatest : mode_of (codes "gen" ∷ codes "18446744073709551615" ∷ codes "100000" ∷ []) ≡ Some (Gen 18446744073709551615 100000)
   pub zeros : mode_of (codes "gen" ∷ codes "00000000000000000007" ∷ codes "10" ∷ []) ≡ Some (Gen 7 10)
   pub trial : mode_of (codes "trial" ∷ codes "7" ∷ codes "1000" ∷ []) ≡ Some (Trial 7 1000)
+  pub tally : mode_of (codes "tally" ∷ []) ≡ Some Tally
 
 -- an address: thirty-nine digits 0, then this one
 abbrev pub address_text : List ℕ → List ℕ
@@ -63,6 +64,7 @@ pub record NoCommands : Type 0 where
   pub short : mode_of (codes "gen" ∷ codes "1" ∷ []) ≡ None
   pub long : mode_of (codes "gen" ∷ codes "1" ∷ codes "1" ∷ codes "1" ∷ []) ≡ None
   pub more_than_alone : mode_of (codes "replay" ∷ codes "1" ∷ codes "1" ∷ []) ≡ None
+  pub tally_of_one : mode_of (codes "tally" ∷ codes "7" ∷ []) ≡ None
   pub no_blocks : mode_of (codes "gen" ∷ codes "1" ∷ codes "0" ∷ []) ≡ None
   pub too_many : mode_of (codes "gen" ∷ codes "1" ∷ codes "100001" ∷ []) ≡ None
   pub zero_first : mode_of (codes "gen" ∷ codes "1" ∷ codes "01" ∷ []) ≡ None

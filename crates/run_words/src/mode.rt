@@ -1,4 +1,4 @@
-//! The commands, each with what its words say: `replay`, `resume`, `query`, `gen` and `trial`.
+//! The commands, each with what its words say: `replay`, `resume`, `query`, `tally`, `gen` and `trial`.
 use line_report::Query;
 
 /// What the words ask for.
@@ -10,6 +10,8 @@ pub enum Mode {
     Resume,
     /// Lines of the report of a stored chain are written.
     Query(Query),
+    /// Ballots are counted by the stake of a stored chain, and the totals are written.
+    Tally,
     /// An input is generated and written.
     Gen {
         /// What its draws begin with.

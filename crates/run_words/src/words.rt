@@ -70,6 +70,8 @@ fn alone(name: &str) -> Option<Mode>
         Some(Mode::Replay)
     } else if name == "resume" {
         Some(Mode::Resume)
+    } else if name == "tally" {
+        Some(Mode::Tally)
     } else {
         None
     }
@@ -129,8 +131,8 @@ fn mode_at(name: Option<&str>, first: Option<&str>, second: Option<&str>) -> Opt
 
 /// What the words ask for: `replay`; `resume`; `query` with `supply`, `pool` or `validators`; `query` with `account`,
 /// `validator`, `delegations`, `rewards`, `unbondings`, `redelegations` or `signing` and an address of forty hexadecimal
-/// digits with small letters; `gen SEED COUNT`, where SEED is 1 to 20 digits below 2^64 and COUNT is from 1 to 100,000
-/// without zeros in front; or `trial SEED COUNT`.
+/// digits with small letters; `tally`; `gen SEED COUNT`, where SEED is 1 to 20 digits below 2^64 and COUNT is from 1 to
+/// 100,000 without zeros in front; or `trial SEED COUNT`.
 ///
 /// The errors are `Usage`, only where the words are none of these, and `NoMemory`.
 #[tactic(auto, using(crate::proofs::RowLemmas::long_texts, crate::proofs::RowLemmas::optional_texts, crate::proofs::RowLemmas::texts_by_places))]

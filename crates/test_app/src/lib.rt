@@ -6,4 +6,6 @@ mod outside_tests;
 #[cfg(test)]
 mod samples;
 #[cfg(test)]
+mod tally_tests;
+#[cfg(test)]
 mod tests;

@@ -62,6 +62,11 @@ pub fn push_genesis(rt: &impl Abort, text: &mut Vec<u8>, accounts: &str) {
     push_all(rt, text, &[GENESIS_HEAD, accounts, GENESIS_TAIL, "\n"]);
 }
 
+/// Adds a genesis without accounts, of these validators and delegations.
+pub fn push_staked_genesis(rt: &impl Abort, text: &mut Vec<u8>, staked: &str) {
+    push_all(rt, text, &[GENESIS_HEAD, staked, "\n"]);
+}
+
 /// Adds a block of these transactions.
 pub fn push_block(rt: &impl Abort, text: &mut Vec<u8>, height: &str, time: &str, txs: &[&str]) {
     push_all(

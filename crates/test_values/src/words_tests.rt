@@ -29,6 +29,7 @@ fn commands_are_read(rt: HostRuntime) -> Result<(), Fail> {
     assert!(rt; read(alloc, "query supply") == Ok(Mode::Query(Query::Supply)));
     assert!(rt; read(alloc, "query pool") == Ok(Mode::Query(Query::Pool)));
     assert!(rt; read(alloc, "query validators") == Ok(Mode::Query(Query::Validators)));
+    assert!(rt; read(alloc, "tally") == Ok(Mode::Tally));
     assert!(rt; read(alloc, "gen 0 1") == Ok(Mode::Gen { seed: 0, count: 1 }));
     assert!(rt;
         read(alloc, "gen 18446744073709551615 100000")
@@ -77,6 +78,7 @@ fn other_words_are_no_command(rt: HostRuntime) -> Result<(), Fail> {
         "query account 000000000000000000000000000000000000004",
         "query balance 0000000000000000000000000000000000000004",
         "resume 1",
+        "tally 1",
         "--help",
         "-",
         "replays",

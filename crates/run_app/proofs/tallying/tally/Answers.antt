@@ -1,0 +1,50 @@
+use Rattle.std.proofs.Common.{refl}
+use Rattle.run_app.proofs.ModeLemmas.{quiet_at, quiet_keep, quiet_read}
+use Rattle.run_app.proofs.ResumeLemmas.{unresumed_busy, unresumed_cause, unresumed_quiet, unresumed_undone, unresumed_unread, unresumed_unwritten}
+use Rattle.run_app.proofs.TallyLemmas.{not_tallied, tallied}
+use Rattle.run_app.proofs.tallying.tally.Goals as goal
+
+pub count_ballots-requires : goal.count_ballots-requires
+count_ballots-requires g c =
+    let chain = c.in-Ok.ensures.chain in
+    record { sound = (chain.first, chain.storable.sound, chain.stands chain.first chain.storable refl) }
+
+pub returns-in-Ok-clause-ends : goal.returns-in-Ok-clause-ends
+returns-in-Ok-clause-ends g c =
+    let e = c.restore.ensures in
+    tallied _ _ _ _ _ _ _ _ _ e.same e.stop _ _ c.in-Ok.ensures.chain c.count_ballots.ensures.counts
+
+pub returns-in-Ok-clause-keep_cause : goal.returns-in-Ok-clause-keep_cause
+returns-in-Ok-clause-keep_cause g c = λ e. absurd (c.count_ballots.ensures.keep e)
+
+pub returns-in-Ok-clause-keep_quiet : goal.returns-in-Ok-clause-keep_quiet
+returns-in-Ok-clause-keep_quiet g c = quiet_keep _ _ c.in-Ok.ensures.quiet
+
+pub returns-in-Err-clause-ends : goal.returns-in-Err-clause-ends
+returns-in-Err-clause-ends g c =
+    let e = c.restore.ensures in
+    rw c.status_of_restore.ensures (not_tallied c.in-Err.fault _ _ _ _ _ _ _ c.in-Err.ensures.fault e.same e.stop)
+
+pub returns-in-Err-clause-busy : goal.returns-in-Err-clause-busy
+returns-in-Err-clause-busy g c = rw c.status_of_restore.ensures (unresumed_busy c.in-Err.fault)
+
+pub returns-in-Err-clause-clean : goal.returns-in-Err-clause-clean
+returns-in-Err-clause-clean g c = rw c.status_of_restore.ensures (λ e. absurd (unresumed_undone c.in-Err.fault e))
+
+pub returns-in-Err-clause-read_cause : goal.returns-in-Err-clause-read_cause
+returns-in-Err-clause-read_cause g c = rw c.status_of_restore.ensures (λ e. absurd (unresumed_unread c.in-Err.fault e))
+
+pub returns-in-Err-clause-write_cause : goal.returns-in-Err-clause-write_cause
+returns-in-Err-clause-write_cause g c = rw c.status_of_restore.ensures (λ e. absurd (unresumed_unwritten c.in-Err.fault e))
+
+pub returns-in-Err-clause-read_quiet : goal.returns-in-Err-clause-read_quiet
+returns-in-Err-clause-read_quiet g c = quiet_read _ _ refl
+
+pub returns-in-Err-clause-write_quiet : goal.returns-in-Err-clause-write_quiet
+returns-in-Err-clause-write_quiet g c = quiet_at _ _ refl
+
+pub returns-in-Err-clause-keep_cause : goal.returns-in-Err-clause-keep_cause
+returns-in-Err-clause-keep_cause g c = rw c.status_of_restore.ensures (unresumed_cause c.in-Err.fault _ c.in-Err.ensures.cause)
+
+pub returns-in-Err-clause-keep_quiet : goal.returns-in-Err-clause-keep_quiet
+returns-in-Err-clause-keep_quiet g c = rw c.status_of_restore.ensures (unresumed_quiet c.in-Err.fault _ c.in-Err.ensures.quiet)

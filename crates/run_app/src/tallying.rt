@@ -1,0 +1,138 @@
+//! The command `tally`: the ballots of an input are counted by the stake of the chain that a keeper has.
+
+ghost use Rattle.std.specs.Prelude.{◌≡◌, IfOk, IfErr, true};
+ghost use Rattle.base_io.specs.Outside.{Rose};
+ghost use Rattle.base_roles.specs.Entries.{at};
+ghost use Rattle.base_types.specs.Orders.{addr_cmp};
+ghost use Rattle.chain_modules.specs.Kept.{StandsFor};
+ghost use Rattle.line_ballots.specs.Ballots.{text_of_tally};
+ghost use Rattle.mod_tally.specs.Tally.{tally_of};
+ghost use Rattle.rule_modules.specs.Chain.{State};
+ghost use Rattle.rule_modules.specs.Sound.{IsSound};
+ghost use Rattle.run_app.specs.Kept.{UnlessKeepFault};
+ghost use Rattle.run_app.specs.Outcome.{UnlessReadFault, UnlessWriteFault};
+ghost use Rattle.run_app.specs.Tallies.{Counts, TallyEnds};
+ghost use Rattle.run_app.specs.Writes.{Writes};
+
+use crate::balloting::{Balloting, read_ballots};
+use crate::generating::status_of_sink;
+use crate::resuming::status_of_restore;
+use crate::status::{EndStop, Status};
+use base_io::{Keeper, Sink, Source};
+use base_messages::LineFault;
+use chain_whole::{Chain, ChainFault};
+use json::Scratch;
+use line_ballots::push_line_of_tally;
+use mod_tally::laws::sound_states_are_tallied;
+use mod_tally::{Ballots, count};
+use run_generated::write_text;
+use std::alloc::Global;
+use store_resuming::restore;
+
+/// The line of the tally of ballots over a chain. The only error is `NoMemory`.
+fn tally_text(alloc: Global, chain: &Chain, ballots: &Ballots) -> Result<Vec<u8>, EndStop>
+    requires sound { (p : State) × IsSound p × StandsFor chain.now.kept p }
+    ensures text { (p : State) → IsSound p → StandsFor chain.now.kept p
+        → IfOk result (λ text. text.items
+        ≡ text_of_tally (tally_of p.mine.staked (at addr_cmp ballots.now))) }
+    ensures fault { IfErr result (λ stop. stop ≡ EndStop.NoMemory) }
+{
+    sound_states_are_tallied();
+    let items = match chain.items(alloc) {
+        Ok(items) => items,
+        Err(ChainFault::NoMemory) => return Err(EndStop::NoMemory),
+        Err(_) => unreachable!(),
+    };
+    let Ok(tally) = count(alloc, &items, ballots) else {
+        return Err(EndStop::NoMemory);
+    };
+    let mut text = Vec::new(alloc);
+    match push_line_of_tally(alloc, &mut text, &tally) {
+        Ok(()) => Ok(text),
+        Err(LineFault::NoMemory) => Err(EndStop::NoMemory),
+        Err(_) => unreachable!(),
+    }
+}
+
+/// Writes the line of the tally of ballots over a chain.
+fn write_tally<K: Sink>(alloc: Global, sink: &mut K, chain: &Chain, ballots: &Ballots) -> Status
+    requires sound { (p : State) × IsSound p × StandsFor chain.now.kept p }
+    ensures ends { (p : State) → IsSound p → StandsFor chain.now.kept p
+        → Writes (text_of_tally (tally_of p.mine.staked (at addr_cmp ballots.now)))
+        (K.written sink.old) (K.written sink.new) result }
+    ensures busy { result ≡ Status.Usage → ⊥ }
+    ensures read { result ≡ Status.ReadFault → ⊥ }
+    ensures keep { result ≡ Status.KeepFault → ⊥ }
+    ensures clean { result ≡ Status.Done → K.clean sink.new ≡ true }
+    ensures write_cause { result ≡ Status.WriteFault
+        → Rose (K.faults sink.old) (K.faults sink.new) }
+    ensures write_quiet { UnlessWriteFault result (K.faults sink.new ≡ K.faults sink.old) }
+{
+    match tally_text(alloc, chain, ballots) {
+        Ok(text) => status_of_sink(write_text(sink, &text)),
+        Err(_) => Status::NoMemory,
+    }
+}
+
+/// Counts the ballots of the source over a chain. Nothing is written unless the source was read to its end, and each of
+/// its lines is a ballot.
+fn count_ballots<S: Source, K: Sink>(
+    alloc: Global,
+    source: &mut S,
+    sink: &mut K,
+    chain: &Chain,
+) -> Status
+    requires sound { (p : State) × IsSound p × StandsFor chain.now.kept p }
+    ensures counts { (p : State) → IsSound p → StandsFor chain.now.kept p
+        → Counts p.mine.staked (S.left source.old) (S.left source.new)
+        (K.written sink.old) (K.written sink.new) result }
+    ensures busy { result ≡ Status.Usage → ⊥ }
+    ensures keep { result ≡ Status.KeepFault → ⊥ }
+    ensures clean { result ≡ Status.Done → K.clean sink.new ≡ true }
+    ensures read_cause { result ≡ Status.ReadFault
+        → Rose (S.faults source.old) (S.faults source.new) }
+    ensures write_cause { result ≡ Status.WriteFault
+        → Rose (K.faults sink.old) (K.faults sink.new) }
+    ensures read_quiet { UnlessReadFault result (S.faults source.new ≡ S.faults source.old) }
+    ensures write_quiet { UnlessWriteFault result (K.faults sink.new ≡ K.faults sink.old) }
+{
+    let mut balloting = Balloting {
+        number: 1,
+        line: Vec::new(alloc),
+        ballots: Ballots::new(alloc),
+        scratch: Scratch::new(alloc),
+    };
+    match read_ballots(alloc, source, &mut balloting) {
+        Ok(()) => write_tally(alloc, sink, chain, &balloting.ballots),
+        Err(status) => status,
+    }
+}
+
+/// The command `tally`: the ballots of the source are counted, the line of their tally is written, and nothing is
+/// committed.
+pub(crate) fn tally<S: Source, K: Sink, D: Keeper>(
+    alloc: Global,
+    source: &mut S,
+    sink: &mut K,
+    keeper: &mut D,
+) -> Status
+    ensures ends { TallyEnds (S.left source.old) (S.left source.new)
+        (K.written sink.old) (K.written sink.new) (D.rows keeper.old) (D.rows keeper.new)
+        (D.is_honest keeper.new) (D.may_leave keeper.old) (D.may_leave keeper.new) result }
+    ensures busy { result ≡ Status.Usage → ⊥ }
+    ensures clean { result ≡ Status.Done → K.clean sink.new ≡ true }
+    ensures read_cause { result ≡ Status.ReadFault
+        → Rose (S.faults source.old) (S.faults source.new) }
+    ensures write_cause { result ≡ Status.WriteFault
+        → Rose (K.faults sink.old) (K.faults sink.new) }
+    ensures read_quiet { UnlessReadFault result (S.faults source.new ≡ S.faults source.old) }
+    ensures write_quiet { UnlessWriteFault result (K.faults sink.new ≡ K.faults sink.old) }
+    ensures keep_cause { result ≡ Status.KeepFault
+        → Rose (D.faults keeper.old) (D.faults keeper.new) }
+    ensures keep_quiet { UnlessKeepFault result (D.faults keeper.new ≡ D.faults keeper.old) }
+{
+    match restore(alloc, keeper) {
+        Ok(chain) => count_ballots(alloc, source, sink, &chain),
+        Err(fault) => status_of_restore(fault),
+    }
+}

@@ -1,0 +1,102 @@
+//! Ballots read from lines, the faults of lines that spell none, and the line of a tally.
+
+use base_decimals::Dec;
+use base_messages::LineFault;
+use base_types::Addr;
+use json::Scratch;
+use line_ballots::{Ballot, push_line_of_tally, read_ballot};
+use mod_tally::{Choice, Tally};
+use std::alloc::Global;
+use std::process::Abort;
+
+const TALLY_LINE: &str =
+    "{\"abstain\":\"0.000000000000000002\",\"bonded\":\"1000000\",\"kind\":\"tally\",\"no\":\"99999999999999999999.999999999999999999\",\"no_with_veto\":\"0.000000000000000000\",\"yes\":\"1.500000000000000000\"}\n";
+
+fn read(alloc: Global, line: &str) -> Result<Ballot, LineFault> {
+    read_ballot(alloc, &mut Scratch::new(alloc), line.as_bytes())
+}
+
+#[test]
+fn each_choice_is_read(rt: HostRuntime) {
+    let voter = Addr::of([0x11; 20]).expect(&rt, "a user");
+    for (line, choice) in [
+        (
+            r#"{"kind":"ballot","voter":"1111111111111111111111111111111111111111","option":"yes"}"#,
+            Choice::Yes,
+        ),
+        (
+            r#" {"option":"abstain", "voter":"1111111111111111111111111111111111111111","kind":"ballot"}"#,
+            Choice::Abstain,
+        ),
+        (
+            r#"{"kind":"ballot","voter":"","option":"no","voter":"1111111111111111111111111111111111111111"}"#,
+            Choice::No,
+        ),
+        (
+            r#"{"kind":"ballot","voter":"1111111111111111111111111111111111111111","option":"no_with\u005fveto"}"#,
+            Choice::Veto,
+        ),
+    ] {
+        assert!(rt; read(rt.alloc(), line) == Ok(Ballot { voter, choice }));
+    }
+}
+
+#[test]
+fn lines_that_are_no_ballot_have_their_fault(rt: HostRuntime) {
+    for (line, fault) in [
+        ("", LineFault::NotJson),
+        (r#"{"kind":"ballot""#, LineFault::NotJson),
+        ("7", LineFault::BadShape(140)),
+        (r#"{"kind":"block"}"#, LineFault::BadShape(140)),
+        (r#"{"kind":"ballot"}"#, LineFault::BadShape(141)),
+        (
+            r#"{"kind":"ballot","voter":"fee_collector","option":"yes"}"#,
+            LineFault::BadShape(141),
+        ),
+        (
+            r#"{"kind":"ballot","voter":"0000000000000000000000000000000000000001","option":"yes"}"#,
+            LineFault::BadShape(141),
+        ),
+        (
+            r#"{"kind":"ballot","voter":"111111111111111111111111111111111111111A","option":"yes"}"#,
+            LineFault::BadShape(141),
+        ),
+        (
+            r#"{"kind":"ballot","voter":"1111111111111111111111111111111111111111"}"#,
+            LineFault::BadShape(142),
+        ),
+        (
+            r#"{"kind":"ballot","voter":"1111111111111111111111111111111111111111","option":"veto"}"#,
+            LineFault::BadShape(142),
+        ),
+        (
+            r#"{"kind":"ballot","voter":"1111111111111111111111111111111111111111","option":1}"#,
+            LineFault::BadShape(142),
+        ),
+        (
+            r#"{"kind":"ballot","voter":"1111111111111111111111111111111111111111","option":"no","weight":"1"}"#,
+            LineFault::BadShape(0),
+        ),
+    ] {
+        assert!(rt; read(rt.alloc(), line) == Err(fault));
+    }
+}
+
+/// A decimal of so many units of 10^-18.
+fn dec(rt: &impl Abort, raw: u128) -> Dec {
+    Dec::from_raw(raw).expect(rt, "below the limit")
+}
+
+#[test]
+fn a_tally_is_written(rt: HostRuntime) {
+    let tally = Tally {
+        yes: dec(&rt, 1_500_000_000_000_000_000),
+        abstain: dec(&rt, 2),
+        no: dec(&rt, 99_999_999_999_999_999_999_999_999_999_999_999_999),
+        veto: dec(&rt, 0),
+        bonded: 1_000_000,
+    };
+    let mut out = Vec::new(rt.alloc());
+    assert!(rt; push_line_of_tally(rt.alloc(), &mut out, &tally).is_ok());
+    assert!(rt; out.as_slice() == TALLY_LINE.as_bytes());
+}
