@@ -1,0 +1,14 @@
+pub mod Rounded
+pub mod Stretches
+pub mod Places
+pub mod Amounts
+pub mod Exact
+pub mod Shared
+pub mod Spans
+pub mod Bracketing
+pub mod Slacks
+pub mod Walks
+pub mod Bounding
+pub mod Chains
+pub mod Covering
+pub mod Listing

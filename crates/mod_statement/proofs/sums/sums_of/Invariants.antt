@@ -1,0 +1,11 @@
+use Rattle.std.proofs.Common.{◌≡◌, drop, take}
+use Rattle.std.specs.Prelude.{All}
+use Rattle.mod_statement.specs.Entries.{HasMoney}
+use Rattle.mod_statement.specs.Sums.{no_sums, sums_over}
+use Rattle.mod_statement.proofs.sums.sums_of.Given as goal
+
+abbrev pub invariant-loop-entry : goal.invariant-loop-entry
+invariant-loop-entry l = record {
+  so_far : sums_over (no_sums l.fn.start) l.rest ≡ sums_over l.sums (drop l.entry-index l.rest);
+  money : All HasMoney (take l.entry-index l.rest);
+}

@@ -1,0 +1,10 @@
+pub mod Rounding
+pub mod Faults
+pub mod Entries
+pub mod Sums
+pub mod Slack
+pub mod Bounds
+pub mod Answers
+pub mod Bracketed
+pub mod Worked
+pub mod Covers
