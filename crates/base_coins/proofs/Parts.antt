@@ -1,6 +1,6 @@
 -- How the loops over one list end.
 use Rattle.std.proofs.Common.{◌≡◌, ℕ, ◌+◌, ◌/◌, ◌%◌, ◌^◌, ◌<◌, ◌≤◌, Bool, true, false, List, [], ◌∷◌, ◌++◌, map, length, drop, get_or, refl, sym, ap, ◌∙◌, subst, arith, append-nil, add-one, drop-cons}
-use Rattle.std.specs.Prelude.{Result, Ok, Err, if◌then◌else◌, nat_lt}
+use Rattle.std.specs.Prelude.{Result, Ok, if◌then◌else◌, nat_lt}
 use Rattle.std.proofs.lemmas.Bool.{ltb-true}
 use Rattle.std.proofs.lemmas.List.{get_or-map, drop_all, length-map}
 use Rattle.base_decimals.specs.declared.over.Over.{Over}
@@ -13,7 +13,7 @@ use Rattle.base_coins.specs.Scaling.{scaled_by}
 use Rattle.base_coins.specs.Coins.{Money, IsMoney, by_coin, all_coins, coin_then, whole_coins, fractions}
 use Rattle.base_coins.proofs.Order.{rises_from_money, money_from_rises}
 use Rattle.base_coins.proofs.Amounts.{ok, over, same_ok, err_not_ok, rises_by, rises_all}
-use Rattle.base_coins.proofs.Loops.{joined, joined_end, joined_more, joined_over, put_more}
+use Rattle.base_coins.proofs.Loops.{joined, joined_end, joined_more, put_more}
 
 below_test : (t : Bool) (e : Over) (n m : ℕ) → (t ≡ true → n < 10 ^ 38) → (if t then ok n else over e) ≡ ok m → m < 10 ^ 38
 below_test true e n m l h = subst (λ k. k < 10 ^ 38) (same_ok h) (l refl)

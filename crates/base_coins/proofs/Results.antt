@@ -2,8 +2,7 @@
 use Rattle.std.proofs.Common.{◌≡◌, ℕ, ◌-◌, ◌^◌, ◌<◌, min, List, [], ◌++◌, sym, ap, ◌∙◌, subst, arith, append-nil}
 use Rattle.std.specs.Prelude.{Ok}
 use Rattle.base_decimals.specs.Decimals.{add_of}
-use Rattle.base_coins.specs.declared.pairs.Pair.{Pair}
-use Rattle.base_coins.specs.Pairs.{side_by_side}
+use Rattle.base_coins.specs.Pairs.{Pair, side_by_side}
 use Rattle.base_coins.specs.Coins.{Money, IsMoney, coins_added, coins_taken, first_short, smaller_of, amount_of}
 use Rattle.base_coins.proofs.Order.{rises_from_money, money_from_rises}
 use Rattle.base_coins.proofs.Amounts.{rises_added, rises_all}

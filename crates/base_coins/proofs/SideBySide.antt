@@ -12,8 +12,7 @@ use Rattle.base_decimals.specs.declared.over.Over.{Over}
 use Rattle.base_decimals.specs.Decimals.{add_of}
 use Rattle.base_types.specs.Orders.{denom_cmp}
 use Rattle.base_coins.specs.Steps.{◌>>=◌}
-use Rattle.base_coins.specs.declared.pairs.Pair.{Pair}
-use Rattle.base_coins.specs.Pairs.{pair_of, side_by_side}
+use Rattle.base_coins.specs.Pairs.{Pair, pair_of, side_by_side}
 use Rattle.base_coins.specs.Coins.{Money, amount_of, with_amount, coin_then, all_coins, coins_added, first_short}
 use Rattle.base_coins.proofs.Order.{by_order, less_back, equal_back, greater_back, same_name, Above, Rises, above_lower, amount-above, amount-first_greater, amount-first}
 use Rattle.base_coins.proofs.Amounts.{add_fits, add_sum}

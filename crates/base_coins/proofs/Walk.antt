@@ -2,8 +2,7 @@
 use Rattle.std.proofs.Common.{◌≡◌, ℕ, suc, ◌+◌, ◌^◌, ◌<◌, ◌==◌, Bool, true, false, List, ◌∷◌, map, length, sym, ap, ◌∙◌, subst, arith}
 use Rattle.std.specs.Prelude.{if◌then◌else◌}
 use Rattle.std.proofs.lemmas.Bool.{ne_eqb}
-use Rattle.base_coins.specs.declared.pairs.Pair.{Pair}
-use Rattle.base_coins.specs.Pairs.{pair_of}
+use Rattle.base_coins.specs.Pairs.{Pair, pair_of}
 use Rattle.base_coins.specs.Coins.{IsMoney}
 use Rattle.base_coins.proofs.Order.{money_rest, money_first}
 

@@ -16,7 +16,7 @@ returns-clause-money c =
 pub loop-coin-init : goal.loop-coin-init
 loop-coin-init c =
     let all : Money = map (λ (x : Coin). (x.denom, x.amount)) c.args.list.now in
-    subst (λ l. as_decimals all ≡ joined (map (λ (x : DecCoin). (x.denom, x.amount)) l) (as_decimals all)) (sym c.new-decimals.ensures.items) (joined-nil (as_decimals all))
+    subst (λ l. as_decimals all ≡ joined (map (λ (x : DecCoin). (x.denom, x.amount)) l) (as_decimals all)) (sym c.in_ok-decimals.ensures.items) (joined-nil (as_decimals all))
 
 pub loop-coin-preserved : goal.loop-coin-preserved
 loop-coin-preserved c =

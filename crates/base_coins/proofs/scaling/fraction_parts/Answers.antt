@@ -14,7 +14,7 @@ pub loop-coin-init : goal.loop-coin-init
 loop-coin-init c =
     let seen : DecCoin → List ℕ × ℕ = λ x. (x.denom, x.amount) in
     let due : Money = fractions (map seen c.args.list.now) in
-    subst (λ l. due ≡ map seen l ++ due) (sym c.new-rest.ensures.items) refl
+    subst (λ l. due ≡ map seen l ++ due) (sym c.in_ok-rest.ensures.items) refl
 
 pub loop-coin-preserved : goal.loop-coin-preserved
 loop-coin-preserved c =

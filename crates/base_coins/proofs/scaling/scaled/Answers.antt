@@ -16,7 +16,7 @@ pub loop-coin-init : goal.loop-coin-init
 loop-coin-init c =
     let seen : DecCoin → List ℕ × ℕ = λ x. (x.denom, x.amount) in
     let due = by_coin (scaled_by c.args.scaling c.args.by) (map seen c.args.list.now) in
-    subst (λ l. due ≡ joined (map seen l) due) (sym c.new-amounts.ensures.items) (joined-nil due)
+    subst (λ l. due ≡ joined (map seen l) due) (sym c.in_ok-amounts.ensures.items) (joined-nil due)
 
 pub loop-coin-preserved : goal.loop-coin-preserved
 loop-coin-preserved c =

@@ -20,7 +20,7 @@ returns-clause-money c =
 pub loop-coin-init : goal.loop-coin-init
 loop-coin-init c =
     let due : Money = whole_coins (map (λ (x : DecCoin). (x.denom, x.amount)) c.args.list.now) in
-    subst (λ l. due ≡ map (λ (x : Coin). (x.denom, x.amount)) l ++ due) (sym c.new-whole.ensures.items) refl
+    subst (λ l. due ≡ map (λ (x : Coin). (x.denom, x.amount)) l ++ due) (sym c.in_ok-whole.ensures.items) refl
 
 pub loop-coin-preserved : goal.loop-coin-preserved
 loop-coin-preserved c =
