@@ -12,7 +12,11 @@ use Rattle.mod_statement.specs.Answers.{IsRight, stated}
 
 -- bounds in uatom
 abbrev pub in_uatom : ℕ → ℕ → ℕ → Bounds
-in_uatom low high slack = record { low = decimals low; high = decimals high; slack = decimals slack }
+in_uatom low high slack = record {
+  low = decimals low;
+  high = decimals high;
+  slack = decimals slack;
+}
 
 -- ---- one period
 

@@ -19,7 +19,8 @@ pub(crate) fn denoms_of(
     ratio: &DecCoins,
     entries: &[Entry],
 ) -> Result<Vec<Denom>, CoinFault>
-    ensures denoms { IfOk result (λ denoms. denoms.items ≡ denoms_of_entries ratio.now entries.now) }
+    ensures denoms { IfOk result
+        (λ denoms. denoms.items ≡ denoms_of_entries ratio.now entries.now) }
     ensures fault { IfErr result (λ fault. fault ≡ NoMemory) }
 {
     let mut denoms = Vec::new(alloc);

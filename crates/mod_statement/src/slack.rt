@@ -31,7 +31,8 @@ pub(crate) fn slack_of(
     ratio: &DecCoins,
 ) -> Result<DecCoins, CoinFault>
     requires { AreBehind rest.now }
-    ensures slack { IfOk result (λ slack. slack_coins first rest.now removals ratio.now ≡ Ok slack) }
+    ensures slack { IfOk result
+        (λ slack. slack_coins first rest.now removals ratio.now ≡ Ok slack) }
     ensures fault { IfErr result (IsOverDue (slack_coins first rest.now removals ratio.now)) }
 {
     let denoms = denoms_of(alloc, ratio, rest)?;
@@ -45,7 +46,8 @@ pub(crate) fn slack_of(
 
 /// Puts a denomination with its slack at the end.
 fn put_slack(slacks: &mut Vec<DecCoin>, denom: Denom, amount: Dec) -> Result<(), CoinFault>
-    ensures coin { IfOk result (λ _. map {B = List ℕ × ℕ} (λ c. (c.denom, c.amount)) slacks.new.items
+    ensures coin { IfOk result
+        (λ _. map {B = List ℕ × ℕ} (λ c. (c.denom, c.amount)) slacks.new.items
         ≡ map (λ c. (c.denom, c.amount)) slacks.old.items ++ (denom, amount) ∷ []) }
     ensures fault { IfErr result (λ fault. fault ≡ NoMemory) }
 {
