@@ -17,6 +17,6 @@ pub use faults::{BlockFault, LineFault};
 pub use genesis::{Genesis, GenesisAccount, GenesisDelegation, GenesisValidator};
 pub use message::{
     BeginRedelegate, CancelUnbonding, CommunityPoolSpend, Delegate, FundCommunityPool, Msg, Send,
-    SetWithdrawAddress, Undelegate, Unjail, WithdrawCommission, WithdrawReward,
+    SetWithdrawAddress, Undelegate, Unjail, UpdateParams, WithdrawCommission, WithdrawReward,
 };
 pub use report::{BlockReport, Outcome, Pending, TxReport};

@@ -3,7 +3,7 @@
 ghost use Rattle.std.specs.Prelude.{⊤};
 
 use base_coins::{Coin, Coins};
-use base_roles::{CreateValidator, EditValidator};
+use base_roles::{CreateValidator, EditValidator, Params};
 use base_types::{Account, Addr, Copied, TableFault};
 
 /// A message of a transaction.
@@ -22,6 +22,7 @@ pub enum Msg {
     SetWithdrawAddress(SetWithdrawAddress),
     FundCommunityPool(FundCommunityPool),
     CommunityPoolSpend(CommunityPoolSpend),
+    UpdateParams(UpdateParams),
 }
 
 /// Coins move from a user to an account (`banktypes.MsgSend`).
@@ -114,6 +115,14 @@ pub struct CommunityPoolSpend {
     pub authority: Addr,
     pub recipient: Account,
     pub coins: Coins,
+}
+
+/// The parameters are replaced (the `MsgUpdateParams` of `x/staking`, `x/distribution` and `x/slashing`, as one
+/// message).
+#[derive(Clone, Copy, Debug, PartialEq, Eq)]
+pub struct UpdateParams {
+    pub authority: Addr,
+    pub params: Params,
 }
 
 impl Copied for Send {
@@ -209,6 +218,14 @@ impl Copied for SetWithdrawAddress {
     }
 }
 
+impl Copied for UpdateParams {
+    ghost is_infallible = { ⊤ };
+
+    fn copied(&self) -> Result<UpdateParams, TableFault> {
+        Ok(*self)
+    }
+}
+
 impl Copied for Msg {
     fn copied(&self) -> Result<Msg, TableFault> {
         Ok(match self {
@@ -225,6 +242,7 @@ impl Copied for Msg {
             Msg::SetWithdrawAddress(message) => Msg::SetWithdrawAddress(*message),
             Msg::FundCommunityPool(message) => Msg::FundCommunityPool(message.copied()?),
             Msg::CommunityPoolSpend(message) => Msg::CommunityPoolSpend(message.copied()?),
+            Msg::UpdateParams(message) => Msg::UpdateParams(*message),
         })
     }
 }

@@ -4,4 +4,6 @@ pub mod EntryLemmas
 pub mod FallLemmas
 pub mod HoldingLemmas
 pub mod HookLemmas
+pub mod MomentLemmas
+pub mod RangeLemmas
 pub mod StakeLemmas

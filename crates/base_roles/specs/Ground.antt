@@ -2,6 +2,7 @@
 use Rattle.std.specs.Prelude.{◌≡◌, ℕ, ◌*◌, ◌^◌, ◌<◌, ◌≤◌, List, ◌++◌}
 use Rattle.base_roles.specs.declared.bank.Ground.{Ground}
 use Rattle.base_roles.specs.declared.facts.Fact.{Fact}
+use Rattle.base_roles.specs.declared.params.Ctx.{Ctx}
 use Rattle.base_roles.specs.declared.params.Params.{Params}
 use Rattle.base_roles.specs.Holdings.{Holdings, IsBacked}
 use Rattle.base_roles.specs.World.{View}
@@ -48,3 +49,11 @@ pub record CanBeUndone {B M : Type 0} (marks_of : B → M) (old new : Ground B) 
   pub marks : marks_of new.bank ≡ marks_of old.bank
   pub ctx : new.ctx ≡ old.ctx
   pub facts : (more : List Fact) × (new.facts ≡ old.facts ++ more)
+
+-- Calls happen at one moment, under parameters of which those are one that never change: one height and time, one bond
+-- denomination, and as many tokens for a unit of power.
+pub record SameMoment (old new : Ctx) : Type 0 where
+  pub height : new.height ≡ old.height
+  pub time : new.time ≡ old.time
+  pub bond_denom : new.params.bond_denom ≡ old.params.bond_denom
+  pub power_reduction : new.params.power_reduction ≡ old.params.power_reduction

@@ -12,6 +12,7 @@ pub mod NoHooks
 pub mod Orders
 pub mod Owing
 pub mod Pair
+pub mod Ranges
 pub mod Refusals
 pub mod StakeChanges
 pub mod Staked

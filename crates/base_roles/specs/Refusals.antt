@@ -1,7 +1,7 @@
--- The numbers of refusals. 38 and 39 stand for none.
+-- The numbers of refusals.
 use Rattle.std.specs.Prelude.{ℕ}
 use Rattle.base_roles.specs.declared.refusal.Refusal.{Refusal}
-use Rattle.base_roles.specs.declared.refusal.Refusal.TheVariants.{InsufficientFunds, ModuleRecipient, WrongDenom, NonPositive, NoValidator, ValidatorExists, ConsKeyExists, CommissionRange, CommissionBelowMinimum, CommissionTooSoon, CommissionAboveMax, CommissionStep, MinSelfNotPositive, SelfBelowMinimum, MinSelfNotRaised, NoDelegation, TooManyShares, NoTokens, RateInvalid, UnbondingsFull, SelfRedelegation, Transitive, RedelegationsFull, TinyRedelegation, Jailed, NoEntry, CancelTooMuch, NotJailed, NoSelfDelegation, StillJailed, Tombstoned, NoCommission, PoolTooSmall, NotAuthority, Overflow, WithdrawFixed, TinyDelegation, FeeUnpaid}
+use Rattle.base_roles.specs.declared.refusal.Refusal.TheVariants.{InsufficientFunds, ModuleRecipient, WrongDenom, NonPositive, NoValidator, ValidatorExists, ConsKeyExists, CommissionRange, CommissionBelowMinimum, CommissionTooSoon, CommissionAboveMax, CommissionStep, MinSelfNotPositive, SelfBelowMinimum, MinSelfNotRaised, NoDelegation, TooManyShares, NoTokens, RateInvalid, UnbondingsFull, SelfRedelegation, Transitive, RedelegationsFull, TinyRedelegation, Jailed, NoEntry, CancelTooMuch, NotJailed, NoSelfDelegation, StillJailed, Tombstoned, NoCommission, PoolTooSmall, NotAuthority, Overflow, WithdrawFixed, TinyDelegation, ParamRange, ParamFixed, FeeUnpaid}
 
 -- the number that printed lines have
 abbrev pub refusal_number : Refusal → ℕ
@@ -42,4 +42,6 @@ refusal_number NotAuthority = 34
 refusal_number (Overflow over) = 35
 refusal_number WithdrawFixed = 36
 refusal_number TinyDelegation = 37
+refusal_number (ParamRange number) = 38
+refusal_number (ParamFixed number) = 39
 refusal_number FeeUnpaid = 40

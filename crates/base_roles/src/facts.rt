@@ -88,6 +88,10 @@ pub enum Fact {
     Removed {
         validator: Addr,
     },
+    /// The parameters were replaced, by this authority.
+    ParamsChanged {
+        authority: Addr,
+    },
 }
 
 /// A list of facts that grows. Contracts see the list.

@@ -77,7 +77,7 @@ pub enum Refusal {
     NoCommission,
     /// Some coin is above what the community pool holds.
     PoolTooSmall,
-    /// The sender may not spend from the community pool.
+    /// The sender is not the authority.
     NotAuthority,
     /// A result would be 10^38 units or more; its operands.
     Overflow(Over),
@@ -85,6 +85,10 @@ pub enum Refusal {
     WithdrawFixed,
     /// The amount would give no shares.
     TinyDelegation,
+    /// The parameter of this number, by which lines name it, is out of its range.
+    ParamRange(u16),
+    /// The parameter of this number never changes.
+    ParamFixed(u16),
     /// The payer is short of the fee: of a whole transaction, never of a message.
     FeeUnpaid,
 }
@@ -132,6 +136,8 @@ impl Refusal {
             Refusal::Overflow(_) => 35,
             Refusal::WithdrawFixed => 36,
             Refusal::TinyDelegation => 37,
+            Refusal::ParamRange(_) => 38,
+            Refusal::ParamFixed(_) => 39,
             Refusal::FeeUnpaid => 40,
         }
     }

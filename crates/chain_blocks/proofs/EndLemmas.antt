@@ -1,5 +1,5 @@
 -- The end of a block: from what the modules' calls answer and leave to what its steps do.
-use Rattle.std.proofs.Common.{◌≡◌, ◌∙◌, ℕ, List, [], ◌∷◌, true, Result, Ok, Err, refl, sym, ap, subst}
+use Rattle.std.proofs.Common.{◌≡◌, ◌∙◌, ℕ, List, [], ◌∷◌, true, Result, Ok, Err, sym, ap, subst}
 use Rattle.std.specs.Prelude.{⊤, not, OnOk, IfOk, IfErr, Contains, filter}
 use Rattle.std.specs.List.{AllByRecursion}
 use Rattle.base_decimals.specs.declared.over.Over.{Over}
@@ -46,7 +46,7 @@ module _ (f : State → Result State Over) where
   step_next : (p : State) (s : IsSound p) → AreWhole p → IfOk (f p) (λ due. StateLeft (Contains s.few.some) (total_in p.view) p due) → IfOk (f p) (IsNext p)
   step_next p s whole h =
       weaker_if (f p) (StateLeft (Contains s.few.some) (total_in p.view) p) (IsNext p) h
-      (λ due k. record { sound = from_fits due s.few.some (total_in p.view) s.few.few k.fits; whole = from_whole due (k.whole (to_whole p whole)); ctx = k.ctx })
+      (λ due k. record { sound = from_fits due s.few.some (total_in p.view) s.few.few k.fits; whole = from_whole due (k.whole (to_whole p whole)) })
 
   -- a step that leaves what represents the state that is due leaves what stands for it
   pub step_leads : (p : State) (k2 : KeptState) (answer : Result ⊤ HookFault) → IfOk (f p) (IsNext p) → Leads Keeps (f p) k2 answer → Leads StandsWhole (f p) k2 answer
@@ -100,13 +100,12 @@ unbondings_next p s whole =
     record {
       sound = from_fits due s.few.some T s.few.few k.0;
       whole = from_whole due (subst (λ (c : Ctx). AllByRecursion (λ q. WholeEntries c.height q.1) u) (sym k.1) (completed_whole p.view.ctx.height p.mine.unbondings p.view (to_whole p whole)));
-      ctx = k.1;
     }
 
 pub redelegations_next : (p : State) (s : IsSound p) → AreWhole p → IfOk (redelegations_step p) (IsNext p)
 redelegations_next p s whole =
     let k = redelegations_fit (Contains s.few.some) (total_in p.view) p (to_fits p s) in
-    record { sound = from_fits _ s.few.some (total_in p.view) s.few.few k.0; whole = whole; ctx = refl }
+    record { sound = from_fits _ s.few.some (total_in p.view) s.few.few k.0; whole = whole }
 
 -- ---- calls of staking, over the modules' hooks
 

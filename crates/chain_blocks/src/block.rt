@@ -86,7 +86,6 @@ fn apply_parts<L: Ledger>(
         → AnswersStep (parts_stepped block.now p) (kept_of modules.new) result }
     ensures steady { OnOk result (AreSteady modules.new) }
     ensures none { OnOk result (modules.new.ground.facts ≡ []) }
-    ensures ctx { OnOk result (modules.new.ground.ctx ≡ modules.old.ground.ctx) }
 
     // Whatever the answer.
     ensures behind { behind_of modules.new ≡ behind_of modules.old }

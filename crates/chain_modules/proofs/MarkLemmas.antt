@@ -3,9 +3,10 @@ use Rattle.std.proofs.Common.{◌≡◌, ◌∙◌, List, [], ◌∷◌, ◌++�
 use Rattle.std.specs.Prelude.{◌≢◌}
 use Rattle.std.proofs.lemmas.List.{same_from_push}
 use Rattle.base_roles.specs.declared.facts.Fact.{Fact}
+use Rattle.base_roles.proofs.MomentLemmas.{same_moment, same_moment_twice}
 use Rattle.chain_modules.specs.declared.modules.Modules.{Modules}
 use Rattle.chain_modules.specs.Kept.{parts_of}
-use Rattle.chain_modules.specs.Marks.{Marks, AreClosed, AreOpen, Follow, GoOn, behind_of, marks_of, opened}
+use Rattle.chain_modules.specs.Marks.{Marks, AreClosed, AreOpen, Follow, GoOn, MessagesGoOn, behind_of, marks_of, opened}
 
 -- modules that keep what others kept, with the same open marks
 pub record IsRestored (old new : Modules) : Type 0 where
@@ -90,6 +91,17 @@ pub then_on : (a b c : Modules) → GoOn a b → GoOn b c → GoOn a c
 then_on a b c g h = record {
   behind = h.behind ∙ g.behind;
   ctx = h.ctx ∙ g.ctx;
+  facts = follow_on a.ground.facts b.ground.facts c.ground.facts g.facts h.facts;
+}
+
+-- where the context stays, so does its moment
+pub at_moment : (old new : Modules) → GoOn old new → MessagesGoOn old new
+at_moment old new g = record { behind = g.behind; moment = same_moment old.ground.ctx new.ground.ctx g.ctx; facts = g.facts }
+
+pub then_messages : (a b c : Modules) → MessagesGoOn a b → MessagesGoOn b c → MessagesGoOn a c
+then_messages a b c g h = record {
+  behind = h.behind ∙ g.behind;
+  moment = same_moment_twice a.ground.ctx b.ground.ctx c.ground.ctx g.moment h.moment;
   facts = follow_on a.ground.facts b.ground.facts c.ground.facts g.facts h.facts;
 }
 

@@ -4,6 +4,7 @@ use Rattle.base_roles.specs.declared.entities.RedelegationEntry.{RedelegationEnt
 use Rattle.base_roles.specs.declared.entities.UnbondingEntry.{UnbondingEntry}
 use Rattle.base_roles.specs.declared.facts.Fact.{Fact}
 use Rattle.base_roles.specs.declared.params.Ctx.{Ctx}
+use Rattle.base_roles.specs.Ground.{SameMoment}
 use Rattle.base_roles.specs.Holdings.{Holdings}
 use Rattle.base_roles.specs.Staked.{Staked}
 use Rattle.rule_modules.specs.Chain.{State, Stakes}
@@ -143,6 +144,12 @@ Follow old new = (more : List Fact) × (new ≡ old ++ more)
 pub record GoOn (old new : Modules) : Type 0 where
   pub behind : behind_of new ≡ behind_of old
   pub ctx : new.ground.ctx ≡ old.ground.ctx
+  pub facts : Follow old.ground.facts new.ground.facts
+
+-- The same of messages, of which one may replace the parameters: the moment stays, and what never changes of the parameters.
+pub record MessagesGoOn (old new : Modules) : Type 0 where
+  pub behind : behind_of new ≡ behind_of old
+  pub moment : SameMoment old.ground.ctx new.ground.ctx
   pub facts : Follow old.ground.facts new.ground.facts
 
 -- ---- between two blocks

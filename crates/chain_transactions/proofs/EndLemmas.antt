@@ -29,7 +29,7 @@ use Rattle.rule_machine.specs.Promises.{MessageHasCoins}
 use Rattle.law_soundness.proofs.Burns.{total_in}
 use Rattle.law_soundness.proofs.Leaving.{to_whole}
 use Rattle.law_soundness.proofs.Lists.{weaker}
-use Rattle.law_soundness.proofs.Points.{AreAllWhole, StateLeft, WholeEntries, from_fits, to_fits}
+use Rattle.law_soundness.proofs.Points.{AreAllWhole, MessageLeft, WholeEntries, from_fits, to_fits}
 use Rattle.law_soundness.proofs.Steps.{weaker_if}
 use Rattle.law_soundness.proofs.Transactions.{message_fits}
 use Rattle.mod_signing.specs.Stands.{Signings}
@@ -49,18 +49,17 @@ from_whole w h =
     (weaker (λ p. WholeEntries w.view.ctx.height p.1) (λ p. All (λ e. e.created ≡ w.view.ctx.height → e.balance ≡ e.initial) p.1)
     (λ p k. All-from_recursion (λ e. e.created ≡ w.view.ctx.height → e.balance ≡ e.initial) p.1 k) w.mine.unbondings h)
 
--- a state that is as sound as the one before, at the same height and time
+-- a state that is as sound as the one before
 pub record IsNext (p due : State) : Type 0 where
   pub sound : IsSound due
   pub whole : AreWhole due
-  pub ctx : due.view.ctx ≡ p.view.ctx
 
 pub sound_next : (m : Msg) (p : State) → MessageHasCoins m → IsSound p → AreWhole p → IfOk (effect_of m p) (IsNext p)
 sound_next m p coins s whole =
     let P : List ℕ → Type 0 = Contains s.few.some in
     let T : List ℕ → ℕ = total_in p.view in
-    weaker_if (effect_of m p) (StateLeft P T p) (IsNext p) (message_fits P T m p coins (to_fits p s) (to_whole p whole))
-    (λ due k. record { sound = from_fits due s.few.some T s.few.few k.fits; whole = from_whole due (k.whole (to_whole p whole)); ctx = k.ctx })
+    weaker_if (effect_of m p) (MessageLeft P T p) (IsNext p) (message_fits P T m p coins (to_fits p s) (to_whole p whole))
+    (λ due k. record { sound = from_fits due s.few.some T s.few.few k.fits; whole = from_whole due (k.whole (to_whole p whole)) })
 
 -- a message that leaves what represents the state that is due leaves what stands for it
 pub message_ends : (m : Msg) (k k2 : KeptState) (p : State) (answer : Result ⊤ MessageFault) → MessageHasCoins m → StandsWhole k p

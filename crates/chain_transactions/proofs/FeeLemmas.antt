@@ -29,7 +29,7 @@ fee_next payer fee p money s whole =
     let P : List ℕ → Type 0 = Contains s.few.some in
     let T : List ℕ → ℕ = total_in p.view in
     weaker_if (fee_paid payer fee p) (StateLeft P T p) (IsNext p) (fee_fits P T payer fee money p (to_fits p s))
-    (λ due k. record { sound = from_fits due s.few.some T s.few.few k.fits; whole = from_whole due (k.whole (to_whole p whole)); ctx = k.ctx })
+    (λ due k. record { sound = from_fits due s.few.some T s.few.few k.fits; whole = from_whole due (k.whole (to_whole p whole)) })
 
 -- what represents the state after a fee stands for it
 pub fee_stands : (payer : List ℕ) (fee : Money) (p : State) (k k2 : KeptState) → IsMoney fee → StandsWhole k p → (due : State) × (fee_paid payer fee p ≡ Ok due) × Keeps k2 due → (due : State) × (fee_paid payer fee p ≡ Ok due) × StandsWhole k2 due

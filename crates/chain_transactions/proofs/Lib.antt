@@ -6,3 +6,4 @@ pub mod GoLemmas
 pub mod HeldLemmas
 pub mod MessageLemmas
 pub mod TransactionLemmas
+pub mod UpdateLemmas

@@ -9,8 +9,8 @@ use Rattle.rule_modules.specs.Effects.{effects_of}
 use Rattle.rule_machine.specs.Messages.{effect_of}
 use Rattle.chain_modules.specs.declared.modules.Modules.{Modules}
 use Rattle.chain_modules.specs.Kept.{KeptState, StandsWhole, kept_of, AreSteady}
-use Rattle.chain_modules.specs.Marks.{GoOn}
-use Rattle.chain_modules.proofs.MarkLemmas.{stay_on, then_on}
+use Rattle.chain_modules.specs.Marks.{MessagesGoOn}
+use Rattle.chain_modules.proofs.MarkLemmas.{at_moment, stay_on, then_messages}
 use Rattle.chain_transactions.specs.Answers.{MessageEnds, MessagesEnd}
 
 -- ---- lists from a place on
@@ -50,13 +50,13 @@ refused (Err due) k why e = ap (λ x. Err x) (sym e)
 -- that stands now.
 pub record SoFar (messages : List Msg) (place : ℕ) (old new : Modules) : Type 0 where
   pub steady : AreSteady new
-  pub go_on : GoOn old new
+  pub go_on : MessagesGoOn old new
   pub rest : (p : State) → StandsWhole (kept_of old) p
       → (q : State) × StandsWhole (kept_of new) q × (effects_of place (map effect_of (drop place messages)) q ≡ effects_of 0 (map effect_of messages) p)
 
 -- before the first of them
 pub none_yet : (messages : List Msg) (m : Modules) → AreSteady m → SoFar messages 0 m m
-none_yet messages m s = record { steady = s; go_on = stay_on m; rest = λ p k. (p, k, refl) }
+none_yet messages m s = record { steady = s; go_on = at_moment m m (stay_on m); rest = λ p k. (p, k, refl) }
 
 module _ (messages : List Msg) (place : ℕ) (message : Msg) (old new : Modules) (lt : place < length messages) (is : message ≡ get_or messages place message) (so : SoFar messages place old new) where
   -- what the messages from here on come to, by what this one comes to
@@ -68,10 +68,10 @@ module _ (messages : List Msg) (place : ℕ) (message : Msg) (old new : Modules)
       ∙ (so.rest p k).2
 
   pub one_more : (last : Modules) → ((p : State) → StandsWhole (kept_of new) p → MessageEnds (effect_of message p) (kept_of last) (Ok tt))
-      → AreSteady last → GoOn new last → SoFar messages (place + 1) old last
+      → AreSteady last → MessagesGoOn new last → SoFar messages (place + 1) old last
   one_more last ends s g = record {
     steady = s;
-    go_on = then_on old new last so.go_on g;
+    go_on = then_messages old new last so.go_on g;
     rest = λ p k.
         let q = so.rest p k in
         let d = done (effect_of message q.0) (kept_of last) (ends q.0 q.1) in

@@ -3,6 +3,8 @@ use Rattle.std.proofs.Common.{◌≡◌, ◌∙◌, ℕ, ◌+◌, ◌<◌, List,
 use Rattle.std.specs.Prelude.{IfOk}
 use Rattle.base_roles.specs.declared.facts.Fact.{Fact}
 use Rattle.base_roles.specs.declared.refusal.Refusal.{Refusal}
+use Rattle.base_roles.specs.Ground.{SameMoment}
+use Rattle.base_roles.proofs.MomentLemmas.{same_moment_twice}
 use Rattle.base_messages.specs.declared.block.Tx.{Tx}
 use Rattle.base_messages.specs.declared.report.TxReport.{TxReport}
 use Rattle.rule_modules.specs.Chain.{State}
@@ -14,7 +16,7 @@ use Rattle.rule_machine.specs.GenesisState.{without_facts}
 use Rattle.rule_machine.specs.Machine.{TxSteps, reported_as, tx_applied, txs_applied}
 use Rattle.chain_modules.specs.declared.modules.Modules.{Modules}
 use Rattle.chain_modules.specs.Kept.{KeptState, StandsWhole, kept_of, kept_over, parts_of, AreSteady}
-use Rattle.chain_modules.specs.Marks.{Follow, GoOn, behind_of, marks_of, opened}
+use Rattle.chain_modules.specs.Marks.{Follow, MessagesGoOn, behind_of, marks_of, opened}
 use Rattle.chain_modules.proofs.MarkLemmas.{marks_behind, restored}
 use Rattle.chain_modules.proofs.StandLemmas.{begins_so, whole_cleared, whole_same}
 use Rattle.chain_modules.proofs.StandLemmas.{cleared as without_told}
@@ -67,16 +69,16 @@ take_front (x ∷ xs) ys = ap (λ l. x ∷ l) (take_front xs ys)
 pub cut_back : (old new : List Fact) → Follow old new → take (length old) new ≡ old
 cut_back old new f = ap (take (length old)) f.1 ∙ take_front old f.0
 
--- where a message was refused, modules that are gone back keep what they kept before it, with the facts that were told before
-pub undone : (old marked applied back : Modules) (told : ℕ) (facts : List Fact) → kept_of marked ≡ kept_of old → marks_of marked ≡ opened old → GoOn marked applied → opened back ≡ marks_of applied
-    → back.ground.ctx ≡ applied.ground.ctx → back.ground.facts ≡ applied.ground.facts → told ≡ length old.ground.facts → facts ≡ take told back.ground.facts
-    → kept_over (parts_of back) back.ground.ctx facts ≡ kept_of old
-undone old marked applied back told facts same opens on closes d f t cut =
+-- where a message was refused, modules that are gone back keep what they kept before it, with the context and the facts that were
+-- told before
+pub undone : (old marked applied back : Modules) (told : ℕ) (facts : List Fact) → kept_of marked ≡ kept_of old → marks_of marked ≡ opened old → MessagesGoOn marked applied → opened back ≡ marks_of applied
+    → back.ground.facts ≡ applied.ground.facts → told ≡ length old.ground.facts → facts ≡ take told back.ground.facts
+    → kept_over (parts_of back) old.ground.ctx facts ≡ kept_of old
+undone old marked applied back told facts same opens on closes f t cut =
     let r = restored old back (closes ∙ marks_behind marked applied on.behind ∙ opens) in
-    let ctx : back.ground.ctx ≡ old.ground.ctx = d ∙ on.ctx ∙ ap (λ (k : KeptState). k.view.ctx) same in
     let first : marked.ground.facts ≡ old.ground.facts = ap (λ (k : KeptState). k.view.facts) same in
     let left : facts ≡ old.ground.facts = cut ∙ ap (λ n. take n back.ground.facts) (t ∙ sym (ap length first)) ∙ ap (take (length marked.ground.facts)) f ∙ cut_back marked.ground.facts applied.ground.facts on.facts ∙ first in
-    λ i. kept_over (r.same_parts i) (ctx i) (left i)
+    λ i. kept_over (r.same_parts i) old.ground.ctx (left i)
 
 -- ---- transactions so far
 
@@ -98,7 +100,7 @@ starts_cleared (tx ∷ txs) w = refl
 pub record AppliedSoFar (txs : List Tx) (place : ℕ) (old new : Modules) (reports : List TxReport) : Type 0 where
   pub steady : AreSteady new
   pub none : new.ground.facts ≡ []
-  pub same_ctx : new.ground.ctx ≡ old.ground.ctx
+  pub moment : SameMoment old.ground.ctx new.ground.ctx
   pub same_behind : behind_of new ≡ behind_of old
   pub rest : (p : State) → StandsWhole (kept_of old) p
       → (q : State) × StandsWhole (kept_of new) q × (before reports (cleared (txs_applied (drop place txs) q)) ≡ cleared (txs_applied txs p))
@@ -106,12 +108,12 @@ pub record AppliedSoFar (txs : List Tx) (place : ℕ) (old new : Modules) (repor
 pub applied_next : (txs : List Tx) (place : ℕ) (tx : Tx) (old new last : Modules) (reports reports2 : List TxReport) (report : TxReport) → place < length txs → tx ≡ get_or txs place tx
     → AppliedSoFar txs place old new reports → ((q : State) → StandsWhole (kept_of new) q → report ≡ (tx_applied tx q).report)
     → ((q : State) → StandsWhole (kept_of new) q → StandsWhole (kept_of last) (without_facts (tx_applied tx q).state))
-    → reports2 ≡ reports ++ report ∷ [] → AreSteady last → last.ground.facts ≡ [] → last.ground.ctx ≡ new.ground.ctx → behind_of last ≡ behind_of new
+    → reports2 ≡ reports ++ report ∷ [] → AreSteady last → last.ground.facts ≡ [] → SameMoment new.ground.ctx last.ground.ctx → behind_of last ≡ behind_of new
     → AppliedSoFar txs (place + 1) old last reports2
 applied_next txs place tx old new last reports reports2 report lt is so told left more s n c k = record {
   steady = s;
   none = n;
-  same_ctx = c ∙ so.same_ctx;
+  moment = same_moment_twice old.ground.ctx new.ground.ctx last.ground.ctx so.moment c;
   same_behind = k ∙ so.same_behind;
   rest = λ p stood.
       let r = so.rest p stood in

@@ -9,6 +9,7 @@ mod moving;
 mod staking;
 mod transaction;
 mod unbonding;
+mod updating;
 
 pub use message::apply_message;
 pub use transaction::apply_transactions;

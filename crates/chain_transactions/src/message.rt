@@ -4,7 +4,7 @@ ghost use Rattle.std.specs.Prelude.{OnOk};
 ghost use Rattle.rule_modules.specs.Chain.{State};
 ghost use Rattle.rule_machine.specs.Messages.{effect_of};
 ghost use Rattle.chain_modules.specs.Kept.{StandsWhole, kept_of, AreSteady};
-ghost use Rattle.chain_modules.specs.Marks.{GoOn};
+ghost use Rattle.chain_modules.specs.Marks.{MessagesGoOn};
 ghost use Rattle.chain_transactions.specs.Answers.{MessageEnds};
 
 use crate::distributing::{
@@ -14,6 +14,7 @@ use crate::distributing::{
 use crate::moving::send;
 use crate::staking::{create_validator, delegate, edit_validator, unjail};
 use crate::unbonding::{begin_redelegate, cancel_unbonding, undelegate};
+use crate::updating::update_params;
 use base_messages::Msg;
 use base_roles::MessageFault;
 use base_types::Steps;
@@ -23,6 +24,7 @@ use std::sync::ledger::Ledger;
 
 /// Carries out a message, or answers why it is refused (`MsgServiceRouter.Handler`). After a refusal some of it
 /// may stand.
+#[tactic(auto, using(chain_modules::proofs::MarkLemmas::at_moment))]
 pub fn apply_message<L: Ledger>(
     alloc: Global,
     modules: &mut Modules,
@@ -35,7 +37,7 @@ pub fn apply_message<L: Ledger>(
     ensures steady { OnOk result (AreSteady modules.new) }
 
     // Whatever the answer.
-    ensures go_on { GoOn modules.old modules.new }
+    ensures go_on { MessagesGoOn modules.old modules.new }
 {
     match message {
         Msg::Send(m) => send(alloc, modules, m, steps),
@@ -51,5 +53,6 @@ pub fn apply_message<L: Ledger>(
         Msg::SetWithdrawAddress(m) => set_withdraw_address(modules, m, steps),
         Msg::FundCommunityPool(m) => fund_community_pool(alloc, modules, m, steps),
         Msg::CommunityPoolSpend(m) => community_pool_spend(alloc, modules, m, steps),
+        Msg::UpdateParams(m) => update_params(modules, m, steps),
     }
 }

@@ -2,13 +2,14 @@
 
 ghost use Rattle.std.specs.Prelude.{◌≡◌, [], true, false, map, IfOk, OnOk, Ok, Err, None};
 ghost use Rattle.base_roles.specs.declared.refusal.Refusal.TheVariants as refused;
+ghost use Rattle.base_roles.specs.Ground.{SameMoment};
 ghost use Rattle.rule_machine.specs.GenesisState.{without_facts};
 ghost use Rattle.rule_machine.specs.Machine.{tx_applied, txs_applied};
 ghost use Rattle.rule_machine.specs.Messages.{effect_of};
 ghost use Rattle.rule_modules.specs.Chain.{State};
 ghost use Rattle.rule_modules.specs.Effects.{fee_paid, effects_of, stands_or_fee, transaction_applied};
 ghost use Rattle.chain_modules.specs.Kept.{StandsWhole, kept_of, AreSteady};
-ghost use Rattle.chain_modules.specs.Marks.{behind_of, GoOn};
+ghost use Rattle.chain_modules.specs.Marks.{behind_of, GoOn, MessagesGoOn};
 ghost use Rattle.chain_transactions.specs.Answers.{MessagesEnd, EndsAs};
 
 use crate::message::apply_message;
@@ -74,7 +75,7 @@ fn apply_messages<L: Ledger>(
     ensures steady { IfOk result (λ stop. stop ≡ None → AreSteady modules.new) }
 
     // Whatever the answer.
-    ensures go_on { GoOn modules.old modules.new }
+    ensures go_on { MessagesGoOn modules.old modules.new }
 {
     for (place, message) in messages.iter().enumerate() {
         match apply_message(alloc, modules, message, steps) {
@@ -86,7 +87,8 @@ fn apply_messages<L: Ledger>(
     Ok(None)
 }
 
-/// Carries out all messages or, where one is refused, none. After an error some of it may stand.
+/// Carries out all messages or, where one is refused, none; then parameters that were replaced are put back too.
+/// After an error some of it may stand.
 fn all_or_none<L: Ledger>(
     alloc: Global,
     modules: &mut Modules,
@@ -98,12 +100,14 @@ fn all_or_none<L: Ledger>(
         (λ outcome. EndsAs (stands_or_fee p (effects_of 0 (map effect_of messages.now) p)) outcome
         (kept_of modules.new)) }
     ensures steady { OnOk result (AreSteady modules.new) }
-    ensures ctx { OnOk result (modules.new.ground.ctx ≡ modules.old.ground.ctx) }
+    ensures moment { OnOk result
+        (SameMoment modules.old.ground.ctx modules.new.ground.ctx) }
 
     // Whatever the answer.
     ensures behind { behind_of modules.new ≡ behind_of modules.old }
 {
     let told = modules.ground.facts.len();
+    let ctx = modules.ground.ctx;
     modules.mark(alloc, steps)?;
     match apply_messages(alloc, modules, messages, steps) {
         Ok(None) => {
@@ -112,6 +116,7 @@ fn all_or_none<L: Ledger>(
         }
         Ok(Some((place, why))) => {
             modules.back(steps);
+            modules.ground.ctx = ctx;
             modules.ground.facts.cut(told);
             Ok(Outcome::Refused(place, why))
         }
@@ -135,7 +140,8 @@ fn pay_and_apply<L: Ledger>(
         (transaction_applied tx.now.payer tx.now.fee (map effect_of tx.now.msgs) p)
         outcome (kept_of modules.new)) }
     ensures steady { OnOk result (AreSteady modules.new) }
-    ensures ctx { OnOk result (modules.new.ground.ctx ≡ modules.old.ground.ctx) }
+    ensures moment { OnOk result
+        (SameMoment modules.old.ground.ctx modules.new.ground.ctx) }
 
     // Whatever the answer.
     ensures behind { behind_of modules.new ≡ behind_of modules.old }
@@ -162,7 +168,8 @@ fn apply_transaction<L: Ledger>(
         → OnOk result (StandsWhole (kept_of modules.new)
         (without_facts (tx_applied tx.now p).state)) }
     ensures steady { OnOk result (AreSteady modules.new) }
-    ensures ctx { OnOk result (modules.new.ground.ctx ≡ modules.old.ground.ctx) }
+    ensures moment { OnOk result
+        (SameMoment modules.old.ground.ctx modules.new.ground.ctx) }
     ensures none { OnOk result (modules.new.ground.facts ≡ []) }
 
     // Whatever the answer.
@@ -188,7 +195,8 @@ pub fn apply_transactions<L: Ledger>(
     ensures state { (p : State) → StandsWhole (kept_of modules.old) p → OnOk result
         (StandsWhole (kept_of modules.new) (without_facts (txs_applied txs.now p).state)) }
     ensures steady { OnOk result (AreSteady modules.new) }
-    ensures ctx { OnOk result (modules.new.ground.ctx ≡ modules.old.ground.ctx) }
+    ensures moment { OnOk result
+        (SameMoment modules.old.ground.ctx modules.new.ground.ctx) }
     ensures none { OnOk result (modules.new.ground.facts ≡ []) }
 
     // Whatever the answer.

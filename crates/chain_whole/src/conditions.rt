@@ -8,7 +8,6 @@ ghost use Rattle.rule_modules.specs.Validators.{are_out_of_range};
 
 use crate::accounts::has_wrong_account;
 use crate::fault::ChainFault;
-use crate::ranges::are_in_range;
 use crate::supplies::{has_too_many, supplies_at_start};
 use base_lists::{are_among, has_repeat};
 use base_messages::{Genesis, GenesisDelegation, GenesisValidator};
@@ -42,7 +41,7 @@ fn is_out_of_range(genesis: &Genesis) -> bool
     ensures { result
         ≡ (not (are_in_range genesis.now.params) || nat_le end_of_blocks genesis.now.time) }
 {
-    !are_in_range(&genesis.params) || is_past_blocks(genesis.time)
+    !genesis.params.are_in_range() || is_past_blocks(genesis.time)
 }
 
 /// The first condition of the validators alone: an operator or a consensus address twice, wrong rates, no

@@ -12,7 +12,6 @@ mod conditions;
 mod fault;
 mod listing;
 mod pending;
-mod ranges;
 mod start;
 mod supplies;
 

@@ -18,7 +18,7 @@ use Rattle.base_roles.specs.Holdings.{Balances, Holdings, IsBacked, balance_of, 
 use Rattle.base_roles.specs.Orders.{place_cmp}
 use Rattle.base_roles.proofs.HoldingLemmas.{denom_total, place_total, place_exact, balance-within}
 use Rattle.rule_modules.proofs.EntryLemmas.{to_all, from_all}
-use Rattle.rule_machine.specs.Genesis.{is_within}
+use Rattle.base_roles.specs.Ranges.{is_within}
 use Rattle.store_soundness.specs.Ranges.{balances_of, is_supply_sound, are_supplies_sound, is_balance_sound, are_balances_sound, are_backed}
 use Rattle.store_soundness.proofs.TallyLemmas.{lookup_alike}
 use Rattle.law_records.proofs.TestLemmas.{at_most, below, within, all_decides}

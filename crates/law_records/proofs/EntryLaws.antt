@@ -13,7 +13,7 @@ use Rattle.base_roles.specs.Orders.{pair_cmp, triple_cmp}
 use Rattle.rule_modules.specs.Redelegations.{RedelegationLists}
 use Rattle.rule_modules.specs.Sound.{UnbondingIsSound, UnbondingsAreSound, RedelegationIsSound, RedelegationsAreSound}
 use Rattle.rule_modules.specs.Unbondings.{UnbondingLists}
-use Rattle.rule_machine.specs.Genesis.{is_within}
+use Rattle.base_roles.specs.Ranges.{is_within}
 use Rattle.store_soundness.specs.Entries.{is_unbonding_sound, is_unbonding_list, are_unbondings_sound, is_redelegation_sound, is_redelegation_list, are_redelegations_sound}
 use Rattle.law_records.proofs.TestLemmas.{at_most, within, all_decides}
 

@@ -21,7 +21,7 @@ use Rattle.rule_modules.specs.Sound.{EventIsSound, PeriodsAreSound, RewardsAreSo
 use Rattle.rule_modules.proofs.EntryLemmas.{from_all, to_all}
 use Rattle.rule_modules.proofs.OrderLemmas.{addr_total, pair_total, same_is}
 use Rattle.rule_modules.proofs.SoundLemmas.{exact_pair}
-use Rattle.rule_machine.specs.Genesis.{is_within}
+use Rattle.base_roles.specs.Ranges.{is_within}
 use Rattle.mod_periods.specs.Stands.{KeepsRewards, history_of}
 use Rattle.mod_periods.proofs.OrderLemmas.{period_total}
 use Rattle.mod_periods.proofs.RecordLemmas.{counted, counted-some}

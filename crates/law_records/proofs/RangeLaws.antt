@@ -1,6 +1,6 @@
 -- The tests of parameters, time, height and validators decide that they are in their ranges.
-use Rattle.std.proofs.Common.{◌≡◌, ◌∙◌, ℕ, ◌^◌, ◌≤◌, ◌<◌, Bool, true, false, List, refl, sym, ap, arith}
-use Rattle.std.specs.Prelude.{◌⊎◌, ◌==◌, ◌&&◌, ◌||◌, nat_lt, nat_le, All}
+use Rattle.std.proofs.Common.{◌≡◌, ℕ, ◌^◌, ◌≤◌, ◌<◌, true, false, List, refl, sym, ap, arith}
+use Rattle.std.specs.Prelude.{◌⊎◌, ◌==◌, ◌&&◌, ◌||◌, nat_lt, nat_le, is_none, All}
 use Rattle.std.proofs.Common.{inl, inr}
 use Rattle.std.specs.Bool.{Decides}
 use Rattle.std.proofs.lemmas.Bool.{cases_lt}
@@ -10,30 +10,14 @@ use Rattle.base_roles.specs.declared.params.Ctx.{Ctx}
 use Rattle.base_roles.specs.declared.params.Params.{Params}
 use Rattle.base_roles.specs.Ground.{AreInRange, end_of_blocks}
 use Rattle.rule_modules.specs.Sound.{ValidatorIsSound}
-use Rattle.rule_machine.specs.Genesis.{are_in_range, is_within}
+use Rattle.base_roles.proofs.RangeLemmas.{none_out}
+use Rattle.rule_machine.specs.Genesis.{are_in_range}
 use Rattle.rule_machine.proofs.Ranges.{in_range}
 use Rattle.store_soundness.specs.Ranges.{is_context_sound, is_validator_sound, are_validators_sound}
-use Rattle.law_records.proofs.TestLemmas.{at_most, below, within, all_decides}
-
-and2 : {a b : Bool} → a ≡ true → b ≡ true → (a && b) ≡ true
-and2 {a} {b} h k = ap (λ x. x && b) h ∙ k
+use Rattle.law_records.proofs.TestLemmas.{at_most, below, all_decides}
 
 range_tested : (p : Params) → AreInRange p → are_in_range p ≡ true
-range_tested p r =
-    and2 (and2 (and2 (and2 (and2 (and2 (and2 (and2 (and2 (and2 (and2 (and2
-    ((within 1 (10 ^ 18) p.power_reduction).1 (r.power_reduction, r.power_reduction_most))
-    ((within 1 (10 ^ 9) p.unbonding_time).1 (r.unbonding_time, r.unbonding_time_most)))
-    ((within 1 1000 p.max_validators).1 (r.max_validators, r.max_validators_most)))
-    ((within 1 100 p.max_entries).1 (r.max_entries, r.max_entries_most)))
-    ((at_most p.min_commission_rate (10 ^ 18)).1 r.min_commission_rate))
-    ((at_most p.community_tax (10 ^ 18)).1 r.community_tax))
-    ((within 1 100000 p.signed_blocks_window).1 (r.signed_blocks_window, r.signed_blocks_window_most)))
-    ((at_most p.min_signed_per_window (10 ^ 18)).1 r.min_signed_per_window))
-    ((at_most p.downtime_jail_duration (10 ^ 9)).1 r.downtime_jail_duration))
-    ((at_most p.slash_fraction_double_sign (10 ^ 18)).1 r.slash_fraction_double_sign))
-    ((at_most p.slash_fraction_downtime (10 ^ 18)).1 r.slash_fraction_downtime))
-    ((at_most p.max_age_duration (10 ^ 9)).1 r.max_age_duration))
-    ((below p.max_age_num_blocks (2 ^ 63)).1 r.max_age_num_blocks)
+range_tested p r = ap is_none (none_out p r)
 
 -- where a call may happen
 abbrev pub IsPlace : Ctx → Type 0

@@ -26,7 +26,7 @@ use Rattle.rule_modules.specs.Periods.{Periods, Rewards, initial_records, ratio_
 use Rattle.rule_modules.specs.Sound.{EventIsSound, GrowWithHeight, PeriodsAreSound, RewardsAreSound, StartIsSound}
 use Rattle.rule_modules.proofs.EntryLemmas.{from_all, to_all}
 use Rattle.rule_modules.proofs.OrderLemmas.{addr_total, pair_total, pair_found, same_back, same_itself}
-use Rattle.rule_machine.specs.Genesis.{is_within}
+use Rattle.base_roles.specs.Ranges.{is_within}
 use Rattle.mod_periods.specs.Stands.{KeepsRewards, history_of}
 use Rattle.mod_periods.proofs.OrderLemmas.{event_total, period_total}
 use Rattle.mod_periods.proofs.RecordLemmas.{counted, counted-some}

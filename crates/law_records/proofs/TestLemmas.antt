@@ -10,7 +10,7 @@ use Rattle.std.specs.Ordering.{is_eq}
 use Rattle.std.specs.declared.cmp.Ordering.{Ordering}
 use Rattle.std.proofs.lemmas.Bool.Decides.{nat_tests, Decides-and, Decides-by_and, Decides-eqb}
 use Rattle.base_roles.specs.Entries.{at}
-use Rattle.rule_machine.specs.Genesis.{is_within}
+use Rattle.base_roles.specs.Ranges.{is_within}
 use Rattle.store_soundness.specs.Standing.{has_keys_of, have_same_keys}
 use Rattle.store_soundness.proofs.TallyLemmas.{lookup_alike}
 

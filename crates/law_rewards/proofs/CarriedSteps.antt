@@ -32,6 +32,9 @@ use Rattle.rule_modules.specs.Allocation.{share_given, shares_allocated, sharing
 use Rattle.rule_modules.specs.Amounts.{bond_coins, in_units, is_empty}
 use Rattle.rule_modules.specs.BondedSet.{joining_of, leaving_of, joined_set, left_set, set_updated, matured, validators_matured}
 use Rattle.rule_modules.specs.Chain.{Hooks, State, chain_told, staked_in, allocation_step, set_step, maturing_step, unbondings_step, redelegations_step}
+use Rattle.base_roles.specs.declared.params.Params.{Params}
+use Rattle.rule_modules.specs.Parameters.{update_params}
+use Rattle.rule_modules.proofs.ParameterLemmas.{on_update}
 use Rattle.rule_modules.specs.Delegating.{is_wrong, wallet, pool, shares_given, delegated, delegated_by}
 use Rattle.rule_modules.specs.Distribution.{Shared, started, reward_withdrawn, reward_renewed}
 use Rattle.rule_modules.specs.Effects.{coins_sent, send, create_validator, edit_validator, delegate, undelegate, begin_redelegate, cancel_unbonding, unjail, withdraw_reward, withdraw_commission, fund_community_pool, community_pool_spend, fee_paid}
@@ -97,6 +100,9 @@ module _ (Q : Shared → Log → Type 0) (carries : IsCarried Q) where
       let d : Shared = record w.hooks.0 { purses = pool_lowered coins w.hooks.0.purses } in
       nothing_logged Q carries d w.log (carries.same w.hooks.0 d w.log refl refl r))))))
       (λ x k. k)
+
+  pub update_carried : (authority : List ℕ) (p : Params) (w : State) → AreCarried w → IfOk (update_params authority p w) AreCarried
+  update_carried authority p w r = on_update authority p w AreCarried (λ range fixed. r)
 
   -- ---- messages that do
 

@@ -37,6 +37,7 @@ use Rattle.rule_modules.specs.Periods.{periods_of}
 use Rattle.rule_modules.specs.Purses.{Purses, purse_of, with_purse, pool_joined, pooled_told, pool_lowered, is_above_pool, commission_due, commission_paid}
 use Rattle.rule_modules.specs.Sound.{IsSound, PurseIsSound}
 use Rattle.rule_modules.specs.Withdrawals.{is_module, commission_withdrawn, payee_set, pool_funded, pool_spent}
+use Rattle.rule_modules.proofs.ParameterLemmas.{on_update}
 use Rattle.law_rewards.specs.Account.{Account, IsReached, account_after}
 use Rattle.law_rewards.specs.Account as deed
 use Rattle.law_rewards.specs.States.{starts_in, account_in}
@@ -257,4 +258,5 @@ quiet_messages_keep_reached = record {
   funds = λ who coins w sound. if_ok (ReachedStays w) (fund_community_pool who coins w) (λ new e. fund_reached who coins w new e);
   spends = λ authority to coins w sound. if_ok (ReachedStays w) (community_pool_spend authority to coins w) (λ new e. spend_reached authority to coins w new e);
   commissions = λ operator w sound. if_ok (ReachedStays w) (withdraw_commission operator w) (λ new e. commission_reached operator w new sound e);
+  updates = λ authority p w sound. on_update authority p w (ReachedStays w) (λ range fixed reached d v found. reached d v found);
 }

@@ -27,6 +27,9 @@ use Rattle.base_roles.specs.Flow.{◌>>=◌, ◌>>◌, stopping}
 use Rattle.base_roles.specs.World.{View, World, noted, sent, over_view}
 use Rattle.rule_modules.specs.Amounts.{bond_coins, in_units, is_empty}
 use Rattle.rule_modules.specs.Chain.{Hooks, State, chain_told, staked_in, with_staked}
+use Rattle.base_roles.specs.declared.params.Params.{Params}
+use Rattle.rule_modules.specs.Parameters.{update_params}
+use Rattle.rule_modules.proofs.ParameterLemmas.{on_update}
 use Rattle.rule_modules.specs.Delegating.{is_wrong, wallet, pool, shares_given, delegated, delegated_by}
 use Rattle.rule_modules.specs.Distribution.{Shared, started, payee_of, paid_to, reward_withdrawn, reward_renewed}
 use Rattle.rule_modules.specs.Effects.{coins_sent, send, create_validator, edit_validator, delegate, undelegate, begin_redelegate, cancel_unbonding, unjail, withdraw_reward, withdraw_commission, set_withdraw_address, fund_community_pool, community_pool_spend, fee_paid}
@@ -134,6 +137,9 @@ spend_pays authority to coins w =
     (on_stop (not (same_addr authority w.view.ctx.params.authority)) NotAuthority _ _ (λ a. on_stop (is_empty coins) NonPositive _ _ (λ b. on_stop (is_module to) ModuleRecipient _ _ (λ c. on_stop (is_above_pool coins w.hooks.0.purses) PoolTooSmall _ _ (λ d.
     pays_sent w.log (account.Module holder.Distribution) to coins w.view.facts)))))
     (λ x k. unlogged w x.2.facts k)
+
+update_pays : (authority : List ℕ) (p : Params) (w : State) → IfOk (update_params authority p w) (PaysIn w)
+update_pays authority p w = on_update authority p w (PaysIn w) (λ range fixed. pays_noted w.log w.view.facts (fact.ParamsChanged authority) (λ who op to reward coins e. cc))
 
 -- ---- messages that do
 
@@ -248,4 +254,5 @@ messages_pay_fairly = record {
   payees = λ who to w sound. where_reached (set_withdraw_address who to) w (λ reached. payee_pays who to w);
   funds = λ who coins m w sound. where_reached (fund_community_pool who coins) w (λ reached. fund_pays who coins w);
   spends = λ authority to coins m w sound. where_reached (community_pool_spend authority to coins) w (λ reached. spend_pays authority to coins w);
+  updates = λ authority p w sound. where_reached (update_params authority p) w (λ reached. update_pays authority p w);
 }

@@ -28,4 +28,5 @@ messages_keep_reached =
       payees = quiet.payees;
       funds = λ who coins m. quiet.funds who coins;
       spends = λ authority to coins m. quiet.spends authority to coins;
+      updates = quiet.updates;
     }

@@ -18,6 +18,7 @@ use Rattle.base_roles.specs.World.{View}
 use Rattle.rule_modules.proofs.EntryLemmas.{at-put}
 use Rattle.rule_modules.proofs.OrderLemmas.{pair_total, pair_found}
 use Rattle.rule_modules.specs.Chain.{State, allocation_step, vote_step, evidence_step, set_step, maturing_step, unbondings_step, redelegations_step}
+use Rattle.rule_modules.specs.Parameters.{update_params}
 use Rattle.rule_modules.specs.Distribution.{Shared, started, records_made, payee_of}
 use Rattle.rule_modules.specs.Ideal.{Span, behind, history_of, span_with, span_of}
 use Rattle.rule_modules.specs.Periods.{Rewards, periods_of, start_of, with_start, without_start, last_ended}
@@ -45,7 +46,7 @@ use Rattle.law_rewards.proofs.Telling.{on_then}
 use Rattle.rule_modules.proofs.GoingLemmas.{on_stop}
 use Rattle.law_rewards.proofs.Carried.{IsPlain, IsCarried, nothing_logged}
 use Rattle.law_rewards.proofs.CarriedSlashes.{vote_carried, evidence_carried}
-use Rattle.law_rewards.proofs.CarriedSteps.{fee_carried, send_carried, create_carried, edit_carried, delegate_carried, undelegate_carried, redelegate_carried, cancel_carried, unjail_carried, reward_carried, commission_carried, fund_carried, spend_carried, allocation_carried, set_carried, maturing_carried, unbondings_carried, redelegations_carried}
+use Rattle.law_rewards.proofs.CarriedSteps.{fee_carried, send_carried, create_carried, edit_carried, delegate_carried, undelegate_carried, redelegate_carried, cancel_carried, unjail_carried, reward_carried, commission_carried, fund_carried, spend_carried, update_carried, allocation_carried, set_carried, maturing_carried, unbondings_carried, redelegations_carried}
 
 -- ---- entries
 
@@ -220,6 +221,7 @@ messages_keep_started = record {
   payees = λ who to w sound. kept_by w (set_withdraw_address who to w) (payee_started who to w);
   funds = λ who coins m w sound. kept_by w (fund_community_pool who coins w) (fund_carried RunFromStarts starts_carried who coins w);
   spends = λ authority to coins m w sound. kept_by w (community_pool_spend authority to coins w) (spend_carried RunFromStarts starts_carried authority to coins w);
+  updates = λ authority p w sound. kept_by w (update_params authority p w) (update_carried RunFromStarts starts_carried authority p w);
 }
 
 pub blocks_keep_started : BlocksKeepStarted

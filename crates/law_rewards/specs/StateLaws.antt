@@ -6,6 +6,7 @@ use Rattle.base_roles.specs.declared.entities.Validator.{Validator}
 use Rattle.base_roles.specs.declared.facts.Fact.{Fact}
 use Rattle.base_roles.specs.declared.messages.EditValidator.{EditValidator}
 use Rattle.base_roles.specs.declared.messages.Vote.{Vote}
+use Rattle.base_roles.specs.declared.params.Params.{Params}
 use Rattle.base_roles.specs.Log.{Log}
 use Rattle.base_roles.specs.Staked.{validator_at, delegation}
 use Rattle.base_roles.specs.World.{View}
@@ -15,6 +16,7 @@ use Rattle.rule_modules.specs.Distribution.{Shared, ended, reward_withdrawn}
 use Rattle.rule_modules.specs.Effects.{send, edit_validator, unjail, withdraw_reward, withdraw_commission, set_withdraw_address, fund_community_pool, community_pool_spend, fee_paid}
 use Rattle.rule_modules.specs.Ideal.{history_of, claimed, overclaim_of}
 use Rattle.rule_modules.specs.Laws.{IsBracketed, HasShortfallWithin, next_block}
+use Rattle.rule_modules.specs.Parameters.{update_params}
 use Rattle.rule_modules.specs.StepLaws.{KeptByStep}
 use Rattle.rule_modules.specs.Periods.{periods_of, ratio_at}
 use Rattle.rule_modules.specs.Purses.{Purses, purse_of}
@@ -72,7 +74,8 @@ ReachedStays old new = AreReached old → AreReached new
 abbrev pub RewardMessagesKeepReached : Type 0
 RewardMessagesKeepReached = (who operator : List ℕ) → KeptByStep ReachedStays (withdraw_reward who operator)
 
--- and in each message that moves coins, names a payee, funds or spends from the pool, or withdraws commission
+-- and in each message that moves coins, names a payee, funds or spends from the pool, withdraws commission, or replaces the
+-- parameters
 pub record QuietMessagesKeepReached : Type 0 where
   pub fees : (payer : List ℕ) (fee : Money) → KeptByStep ReachedStays (fee_paid payer fee)
   pub sends : (from : List ℕ) (to : account.Account) (coins : Money) → KeptByStep ReachedStays (send from to coins)
@@ -80,6 +83,7 @@ pub record QuietMessagesKeepReached : Type 0 where
   pub funds : (who : List ℕ) (coins : Money) → KeptByStep ReachedStays (fund_community_pool who coins)
   pub spends : (authority : List ℕ) (to : account.Account) (coins : Money) → KeptByStep ReachedStays (community_pool_spend authority to coins)
   pub commissions : (operator : List ℕ) → KeptByStep ReachedStays (withdraw_commission operator)
+  pub updates : (authority : List ℕ) (p : Params) → KeptByStep ReachedStays (update_params authority p)
 
 -- and in each message that edits a validator or frees it from jail
 pub record StandingMessagesKeepReached : Type 0 where

@@ -14,7 +14,7 @@ use Rattle.rule_modules.specs.Sound.{IsSound}
 use Rattle.law_soundness.proofs.Steps.{on_then}
 use Rattle.law_rewards.proofs.Carried.{IsCarried}
 use Rattle.law_rewards.proofs.CarriedSlashes.{vote_carried, evidence_carried}
-use Rattle.law_rewards.proofs.CarriedSteps.{send_carried, edit_carried, unjail_carried, commission_carried, fund_carried, spend_carried, reward_carried, delegate_carried, cancel_carried, undelegate_carried, redelegate_carried, create_carried, allocation_carried, set_carried, maturing_carried, unbondings_carried, redelegations_carried}
+use Rattle.law_rewards.proofs.CarriedSteps.{send_carried, edit_carried, unjail_carried, commission_carried, fund_carried, spend_carried, update_carried, reward_carried, delegate_carried, cancel_carried, undelegate_carried, redelegate_carried, create_carried, allocation_carried, set_carried, maturing_carried, unbondings_carried, redelegations_carried}
 
 -- a message that does not say to whom payments go
 abbrev pub NamesNoPayee : Msg → Type 0
@@ -39,6 +39,7 @@ module _ (Q : Shared → Log → Type 0) (carries : IsCarried Q) where
   message_carried (msg.SetWithdrawAddress m) w n s r = absurd n
   message_carried (msg.FundCommunityPool m) w n s r = fund_carried Q carries m.depositor m.coins w r
   message_carried (msg.CommunityPoolSpend m) w n s r = spend_carried Q carries m.authority m.recipient m.coins w r
+  message_carried (msg.UpdateParams m) w n s r = update_carried Q carries m.authority m.params w r
 
   votes_carried : (ts : List Vote) (w : State) → AreCarried w → IfOk (each vote_step ts w) AreCarried
   votes_carried [] w r = r

@@ -40,11 +40,11 @@ use Rattle.rule_modules.specs.Sound.{IsSound}
 use Rattle.rule_modules.specs.Withdrawals.{payee_set}
 use Rattle.law_soundness.proofs.Burns.{total_in}
 use Rattle.law_soundness.proofs.Moves.{fee_fits}
-use Rattle.law_soundness.proofs.Points.{StateFits, StateLeft, to_fits}
+use Rattle.law_soundness.proofs.Points.{MessageLeft, StateFits, StateLeft, at_moment, to_fits}
 use Rattle.law_soundness.proofs.Running.{HaveCoins, StepFits, block_fits}
 use Rattle.law_soundness.proofs.Starting.{IsWellStarted, room, started_well}
 use Rattle.law_soundness.proofs.Steps.{from_if, on_lifted_then, weaker_if}
-use Rattle.law_soundness.proofs.Transactions.{WholeFits, message_fits, tx_fits, whole_without}
+use Rattle.law_soundness.proofs.Transactions.{WholeFits, fits_on, message_fits, tx_fits, whole_without}
 use Rattle.law_soundness.specs.Kept.{InTurn, begun_by}
 use Rattle.law_rewards.proofs.Carried.{IsCarried, IsPlain}
 use Rattle.law_rewards.proofs.Paying.{Pays}
@@ -248,10 +248,10 @@ module _ (some : List (List ℕ)) (few : length some ≤ 1_000_000) where
   messages_payees T c (m ∷ ms) w a h r =
       let first : MessageHasCoins m = All-head MessageHasCoins m ms a in
       let sound : IsSound w = sound_at some few T w h.fits in
-      weaker_if (effect_of m w) (λ x. (StateLeft P T w x × AreReached x) × PaysPayees w x) (λ x. PaysPayees w x × PayInTurn ms x)
-      (both_if (effect_of m w) (λ x. StateLeft P T w x × AreReached x) (PaysPayees w)
-      (both_if (effect_of m w) (StateLeft P T w) AreReached (message_fits P T m w first h.fits h.whole) (kept_at (effect_of m w) w r (message_kept m w first sound))) (message_payees m w first sound r))
-      (λ x k. (k.1, messages_payees T c ms x (All-tail MessageHasCoins m ms a) (record { fits = k.0.0.fits; whole = k.0.0.whole h.whole; ctx = k.0.0.ctx ∙ h.ctx }) k.0.1))
+      weaker_if (effect_of m w) (λ x. (MessageLeft P T w x × AreReached x) × PaysPayees w x) (λ x. PaysPayees w x × PayInTurn ms x)
+      (both_if (effect_of m w) (λ x. MessageLeft P T w x × AreReached x) (PaysPayees w)
+      (both_if (effect_of m w) (MessageLeft P T w) AreReached (message_fits P T m w first h.fits h.whole) (kept_at (effect_of m w) w r (message_kept m w first sound))) (message_payees m w first sound r))
+      (λ x k. (k.1, messages_payees T c ms x (All-tail MessageHasCoins m ms a) (fits_on P T c w x h k.0.0) k.0.1))
 
   tx_payees : (T : List ℕ → ℕ) (c : Ctx) (tx : Tx) (w : State) → TxHasCoins tx → WholeFits P T c w → AreReached w → TxPaysPayees tx w
   tx_payees T c tx w a h r who operator to reward coins there =
@@ -301,7 +301,7 @@ module _ (some : List (List ℕ)) (few : length some ≤ 1_000_000) where
           let k = from_if (StateLeft P T0 w0) (fee_paid tx.payer tx.fee w0) e.0 e.1 (fee_fits P T0 tx.payer tx.fee a.fee w0 h0.fits) in
           let reached : AreReached e.0 = from_if AreReached (fee_paid tx.payer tx.fee w0) e.0 e.1
           (kept_at (fee_paid tx.payer tx.fee w0) w0 r0 (messages_keep_reached.fees tx.payer tx.fee a.fee w0 (sound_at some few T0 w0 h0.fits))) in
-          let turn : PayInTurn tx.msgs e.0 = messages_payees T0 c tx.msgs e.0 a.messages (record { fits = k.fits; whole = k.whole h0.whole; ctx = k.ctx ∙ h0.ctx }) reached in
+          let turn : PayInTurn tx.msgs e.0 = messages_payees T0 c tx.msgs e.0 a.messages (fits_on P T0 c w0 e.0 h0 (at_moment P T0 w0 e.0 k)) reached in
           behind e.0 e.1 (told_among tx.msgs e.0 end f turn e.2 (subst (λ fs. Contains fs f) e.3 h))
       by FeeUnpaid facts end e h = absurd (All-contains IsNoPayment [] f (All-nil IsNoPayment) (subst (λ fs. Contains fs f) e.2 h))
       by (Refused place why) facts end e h = absurd (no_fee e.0 e.1 (subst (λ fs. Contains fs f) e.4 h))

@@ -11,6 +11,7 @@ use Rattle.base_coins.proofs.Order.{Rises, money_from_rises}
 use Rattle.base_roles.specs.declared.messages.Evidence.{Evidence}
 use Rattle.base_roles.specs.declared.messages.Vote.{Vote}
 use Rattle.base_roles.specs.declared.params.Ctx.{Ctx}
+use Rattle.base_roles.proofs.MomentLemmas.{same_moment}
 use Rattle.base_roles.specs.Holdings.{balance_of, coins_of, is_short}
 use Rattle.base_roles.specs.Flow.{◌>>=◌, ◌>>◌, each}
 use Rattle.base_messages.specs.declared.block.Block.{Block}
@@ -42,12 +43,12 @@ use Rattle.law_soundness.proofs.Following.{next_fits}
 use Rattle.law_soundness.proofs.Maturing.{maturing_fits}
 use Rattle.law_soundness.proofs.Moves.{fee_fits}
 use Rattle.law_soundness.proofs.Names.{AreNamed, units_known}
-use Rattle.law_soundness.proofs.Points.{AreAllWhole, StateFits, StateLeft, WholeEntries, from_fits, to_fits}
+use Rattle.law_soundness.proofs.Points.{AreAllWhole, MessageLeft, StateFits, StateLeft, WholeEntries, at_moment, from_fits, to_fits}
 use Rattle.law_soundness.proofs.Purses.{enough_held}
 use Rattle.law_soundness.proofs.Running.{AreKnown, AreDistinct, CountBelow, HaveCoins, BegunLeft, AllocatedLeft, StepFits, next_ok, first_ok, votes_are, counts_on, allocated_left, begin_fits, older_whole, block_fits}
 use Rattle.law_soundness.proofs.Steps.{on_lifted_then, on_then}
 use Rattle.rule_modules.proofs.GoingLemmas.{on_next}
-use Rattle.law_soundness.proofs.Transactions.{TxsFit, WholeFits, message_fits, tx_fits, txs_fit, whole_without, without_facts_fits}
+use Rattle.law_soundness.proofs.Transactions.{TxsFit, WholeFits, fits_on, message_fits, tx_fits, txs_fit, whole_without, without_facts_fits}
 use Rattle.law_soundness.proofs.Voting.{EvidenceLeft, VoteLeft, evidence_fits, own_record, vote_fits}
 use Rattle.law_rewards.specs.States.{AreReached}
 use Rattle.law_rewards.specs.StateLaws.{ReachedStays, NoneStartedHere}
@@ -104,6 +105,7 @@ message_kept (msg.WithdrawCommission m) w c s = messages_keep_reached.commission
 message_kept (msg.SetWithdrawAddress m) w c s = messages_keep_reached.payees m.delegator m.withdraw w s
 message_kept (msg.FundCommunityPool m) w c s = messages_keep_reached.funds m.depositor m.coins c w s
 message_kept (msg.CommunityPoolSpend m) w c s = messages_keep_reached.spends m.authority m.recipient m.coins c w s
+message_kept (msg.UpdateParams m) w c s = messages_keep_reached.updates m.authority m.params w s
 
 module _ (some : List (List ℕ)) (few : length some ≤ 1_000_000) where
   abbrev P : List ℕ → Type 0
@@ -115,9 +117,9 @@ module _ (some : List (List ℕ)) (few : length some ≤ 1_000_000) where
   pub messages_reached : (T : List ℕ → ℕ) (c : Ctx) (place : ℕ) (ms : List Msg) (w : State) → All MessageHasCoins ms → WholeFits P T c w → AreReached w → IfOk (effects_of place (map effect_of ms) w) AreReached
   messages_reached T c place [] w a h r = r
   messages_reached T c place (m ∷ ms) w a h r =
-      on_lifted_then (λ why. (place, why)) (effect_of m w) _ (λ x. StateLeft P T w x × AreReached x) _
-      (both_if (effect_of m w) (StateLeft P T w) AreReached (message_fits P T m w (All-head MessageHasCoins m ms a) h.fits h.whole) (kept_at (effect_of m w) w r (message_kept m w (All-head MessageHasCoins m ms a) (sound_at T w h.fits))))
-      (λ x k. messages_reached T c (place + 1) ms x (All-tail MessageHasCoins m ms a) (record { fits = k.0.fits; whole = k.0.whole h.whole; ctx = k.0.ctx ∙ h.ctx }) k.1)
+      on_lifted_then (λ why. (place, why)) (effect_of m w) _ (λ x. MessageLeft P T w x × AreReached x) _
+      (both_if (effect_of m w) (MessageLeft P T w) AreReached (message_fits P T m w (All-head MessageHasCoins m ms a) h.fits h.whole) (kept_at (effect_of m w) w r (message_kept m w (All-head MessageHasCoins m ms a) (sound_at T w h.fits))))
+      (λ x k. messages_reached T c (place + 1) ms x (All-tail MessageHasCoins m ms a) (fits_on P T c w x h k.0) k.1)
 
   -- ---- transactions
 
@@ -143,7 +145,7 @@ module _ (some : List (List ℕ)) (few : length some ≤ 1_000_000) where
       r0 = λ d u there. r d u there
 
       by : (q : Result State Refusal) → IfOk q (StateLeft P T0 w0) → IfOk q AreReached → AreReached (reported_as (after_fee (map effect_of tx.msgs) w0 q)).state
-      by (Ok paid) k p = ends_reached paid (effects_of 0 (map effect_of tx.msgs) paid) p (messages_reached T0 c 0 tx.msgs paid a.messages (record { fits = k.fits; whole = k.whole h0.whole; ctx = k.ctx ∙ h0.ctx }) p)
+      by (Ok paid) k p = ends_reached paid (effects_of 0 (map effect_of tx.msgs) paid) p (messages_reached T0 c 0 tx.msgs paid a.messages (fits_on P T0 c w0 paid h0 (at_moment P T0 w0 paid k)) p)
       by (Err why) k p = r0
 
   pub txs_reached : (T : List ℕ → ℕ) (c : Ctx) (txs : List Tx) (w : State) → All TxHasCoins txs → WholeFits P T c w → AreReached w → AreReached (txs_applied txs w).state
@@ -214,7 +216,7 @@ module _ (some : List (List ℕ)) (few : length some ≤ 1_000_000) where
       let whole : AreAllWhole begun = subst (λ (c : Ctx). AllByRecursion (λ p. WholeEntries c.height p.1) begun.mine.unbondings) (sym k.0.ctx)
       (older_whole w.view.ctx.height b.height begun.mine.unbondings later (k.0.pairs w.view.ctx.height (to_pairs w.view.ctx.height w.mine.unbondings h.unbondings))) in
       let done : TxSteps = txs_applied b.txs begun in
-      let all : WholeFits P there w1.view.ctx begun = record { fits = k.0.fits; whole = whole; ctx = k.0.ctx } in
+      let all : WholeFits P there w1.view.ctx begun = record { fits = k.0.fits; whole = whole; moment = same_moment w1.view.ctx begun.view.ctx k.0.ctx } in
       let txs : TxsFit P w1.view.ctx begun done = txs_fit P there w1.view.ctx b.txs begun coins all in
       let reached : AreReached done.state = txs_reached there w1.view.ctx b.txs begun coins all k.1 in
       let w2 : State = without_facts done.state in

@@ -37,13 +37,13 @@ use Rattle.rule_modules.specs.Sound.{IsSound}
 use Rattle.law_soundness.proofs.Burns.{total_in}
 use Rattle.law_soundness.proofs.Following.{next_fits}
 use Rattle.law_soundness.proofs.Moves.{fee_fits}
-use Rattle.law_soundness.proofs.Points.{StateFits, StateLeft, to_fits}
+use Rattle.law_soundness.proofs.Points.{MessageLeft, StateFits, StateLeft, at_moment, to_fits}
 use Rattle.law_soundness.proofs.Running.{AreKnown, AreDistinct, CountBelow, HasBegun, HaveCoins, AllocatedLeft, StepFits, next_ok, first_ok, votes_are, counts_on, allocated_left, begun_fits, block_fits}
 use Rattle.law_soundness.proofs.Starting.{IsWellStarted, room, started_well}
 use Rattle.law_soundness.proofs.Steps.{from_if, on_lifted_then, on_then, weaker_if}
 use Rattle.law_soundness.specs.Kept.{begun_by}
 use Rattle.rule_modules.proofs.GoingLemmas.{on_next}
-use Rattle.law_soundness.proofs.Transactions.{WholeFits, message_fits, tx_fits, whole_without, without_facts_fits}
+use Rattle.law_soundness.proofs.Transactions.{WholeFits, fits_on, message_fits, tx_fits, whole_without, without_facts_fits}
 use Rattle.law_soundness.proofs.Voting.{EvidenceLeft, VoteLeft, evidence_fits, own_record, vote_fits}
 use Rattle.law_rewards.specs.States.{AreReached}
 use Rattle.law_rewards.specs.StateLaws.{NoneStartedHere}
@@ -129,6 +129,7 @@ message_paid (msg.WithdrawCommission m) w c s r = paid_at (effect_of (msg.Withdr
 message_paid (msg.SetWithdrawAddress m) w c s r = paid_at (effect_of (msg.SetWithdrawAddress m) w) w r (messages_pay_fairly.payees m.delegator m.withdraw w s)
 message_paid (msg.FundCommunityPool m) w c s r = paid_at (effect_of (msg.FundCommunityPool m) w) w r (messages_pay_fairly.funds m.depositor m.coins c w s)
 message_paid (msg.CommunityPoolSpend m) w c s r = paid_at (effect_of (msg.CommunityPoolSpend m) w) w r (messages_pay_fairly.spends m.authority m.recipient m.coins c w s)
+message_paid (msg.UpdateParams m) w c s r = paid_at (effect_of (msg.UpdateParams m) w) w r (messages_pay_fairly.updates m.authority m.params w s)
 
 -- the payments among the facts of transactions, one after the other, are those of a log
 abbrev ToldInTurn : List TxReport → Log → Type 0
@@ -174,11 +175,11 @@ module _ (some : List (List ℕ)) (few : length some ≤ 1_000_000) where
   messages_paid T c place (m ∷ ms) w a h r =
       let first : MessageHasCoins m = All-head MessageHasCoins m ms a in
       let sound : IsSound w = sound_at some few T w h.fits in
-      on_lifted_then (λ why. (place, why)) (effect_of m w) _ (λ x. (StateLeft P T w x × AreReached x) × PaysIn w x) _
-      (both_if (effect_of m w) (λ x. StateLeft P T w x × AreReached x) (PaysIn w)
-      (both_if (effect_of m w) (StateLeft P T w) AreReached (message_fits P T m w first h.fits h.whole) (kept_at (effect_of m w) w r (message_kept m w first sound))) (message_paid m w first sound r))
+      on_lifted_then (λ why. (place, why)) (effect_of m w) _ (λ x. (MessageLeft P T w x × AreReached x) × PaysIn w x) _
+      (both_if (effect_of m w) (λ x. MessageLeft P T w x × AreReached x) (PaysIn w)
+      (both_if (effect_of m w) (MessageLeft P T w) AreReached (message_fits P T m w first h.fits h.whole) (kept_at (effect_of m w) w r (message_kept m w first sound))) (message_paid m w first sound r))
       (λ x k. pays_on (effects_of (place + 1) (map effect_of ms) x) w x k.1
-      (messages_paid T c (place + 1) ms x (All-tail MessageHasCoins m ms a) (record { fits = k.0.0.fits; whole = k.0.0.whole h.whole; ctx = k.0.0.ctx ∙ h.ctx }) k.0.1))
+      (messages_paid T c (place + 1) ms x (All-tail MessageHasCoins m ms a) (fits_on P T c w x h k.0.0) k.0.1))
 
   ends_paid : (w paid : State) (r : Result State (ℕ × Refusal)) → PaysIn w paid → IfOk r (PaysIn w) → PaysIn w (reported_as (stands_or_fee paid r)).state
   ends_paid w paid (Ok x) p q = q
@@ -205,7 +206,7 @@ module _ (some : List (List ℕ)) (few : length some ≤ 1_000_000) where
       by : (q : Result State Refusal) → IfOk q (StateLeft P T0 w0) → IfOk q AreReached → IfOk q (PaysIn w0) → PaysIn w0 (reported_as (after_fee (map effect_of tx.msgs) w0 q)).state
       by (Ok paid) k p g =
           ends_paid w0 paid (effects_of 0 (map effect_of tx.msgs) paid) g
-          (pays_on (effects_of 0 (map effect_of tx.msgs) paid) w0 paid g (messages_paid T0 c 0 tx.msgs paid a.messages (record { fits = k.fits; whole = k.whole h0.whole; ctx = k.ctx ∙ h0.ctx }) p))
+          (pays_on (effects_of 0 (map effect_of tx.msgs) paid) w0 paid g (messages_paid T0 c 0 tx.msgs paid a.messages (fits_on P T0 c w0 paid h0 (at_moment P T0 w0 paid k)) p))
       by (Err why) k p g = pays_nothing w0.log w0.view.facts
 
   txs_paid : (T : List ℕ → ℕ) (c : Ctx) (txs : List Tx) (w : State) → All TxHasCoins txs → WholeFits P T c w → AreReached w → TxsSay w (txs_applied txs w)

@@ -1,5 +1,5 @@
 -- Blocks of a sound state let no rewards run without a start, and make validators at rest; so in runs, since a genesis starts with none.
-use Rattle.std.proofs.Common.{◌≡◌, ◌∙◌, ℕ, suc, ◌+◌, ◌^◌, ◌<◌, ◌≤◌, List, [], ◌∷◌, length, map, Result, Ok, Err, refl, ap, arith}
+use Rattle.std.proofs.Common.{◌≡◌, ℕ, suc, ◌+◌, ◌^◌, ◌<◌, ◌≤◌, List, [], ◌∷◌, length, map, Result, Ok, Err, refl, ap, arith}
 use Rattle.std.specs.Prelude.{All, IfOk, Contains, ⊤}
 use Rattle.std.specs.Map.{lookup}
 use Rattle.std.specs.BTreeMap.{is_at}
@@ -36,12 +36,12 @@ use Rattle.rule_modules.specs.Sound.{IsSound}
 use Rattle.rule_modules.specs.Validators.{new_validator}
 use Rattle.law_soundness.proofs.Burns.{total_in}
 use Rattle.law_soundness.proofs.Moves.{fee_fits}
-use Rattle.law_soundness.proofs.Points.{StateFits, StateLeft, to_fits}
+use Rattle.law_soundness.proofs.Points.{MessageLeft, StateFits, StateLeft, at_moment, to_fits}
 use Rattle.law_soundness.proofs.Running.{HasBegun, HaveCoins, StepFits, begun_fits, block_fits}
 use Rattle.law_soundness.proofs.Starting.{IsWellStarted, room, started_well}
 use Rattle.law_soundness.proofs.Steps.{from_if, on_lifted_then, on_then}
 use Rattle.rule_modules.proofs.GoingLemmas.{on_bind, on_found, on_next}
-use Rattle.law_soundness.proofs.Transactions.{WholeFits, message_fits, tx_fits, whole_without}
+use Rattle.law_soundness.proofs.Transactions.{WholeFits, fits_on, message_fits, tx_fits, whole_without}
 use Rattle.law_rewards.specs.Running.{RunFromStarts, AreStarted}
 use Rattle.law_rewards.proofs.Creating.{state_made}
 use Rattle.law_rewards.proofs.Carried.{delegated_kept}
@@ -71,9 +71,9 @@ module _ (some : List (List ℕ)) (few : length some ≤ 1_000_000) where
   messages_started : (T : List ℕ → ℕ) (c : Ctx) (place : ℕ) (ms : List Msg) (w : State) → All MessageHasCoins ms → WholeFits P T c w → AreStarted w → IfOk (effects_of place (map effect_of ms) w) AreStarted
   messages_started T c place [] w a h r = r
   messages_started T c place (m ∷ ms) w a h r =
-      on_lifted_then (λ why. (place, why)) (effect_of m w) _ (λ x. StateLeft P T w x × AreStarted x) _
-      (both_if (effect_of m w) (StateLeft P T w) AreStarted (message_fits P T m w (All-head MessageHasCoins m ms a) h.fits h.whole) (message_started m w (sound_at some few T w h.fits) r))
-      (λ x k. messages_started T c (place + 1) ms x (All-tail MessageHasCoins m ms a) (record { fits = k.0.fits; whole = k.0.whole h.whole; ctx = k.0.ctx ∙ h.ctx }) k.1)
+      on_lifted_then (λ why. (place, why)) (effect_of m w) _ (λ x. MessageLeft P T w x × AreStarted x) _
+      (both_if (effect_of m w) (MessageLeft P T w) AreStarted (message_fits P T m w (All-head MessageHasCoins m ms a) h.fits h.whole) (message_started m w (sound_at some few T w h.fits) r))
+      (λ x k. messages_started T c (place + 1) ms x (All-tail MessageHasCoins m ms a) (fits_on P T c w x h k.0) k.1)
 
   tx_started : (T : List ℕ → ℕ) (c : Ctx) (tx : Tx) (w : State) → TxHasCoins tx → WholeFits P T c w → AreStarted w → AreStarted (tx_applied tx w).state
   tx_started T c tx w a h r =
@@ -90,7 +90,7 @@ module _ (some : List (List ℕ)) (few : length some ≤ 1_000_000) where
 
       by : (q : Result State Refusal) → IfOk q (StateLeft P T0 w0) → IfOk q AreStarted → AreStarted (reported_as (after_fee (map effect_of tx.msgs) w0 q)).state
       by (Ok paid) k p =
-          ends_started paid (effects_of 0 (map effect_of tx.msgs) paid) p (messages_started T0 c 0 tx.msgs paid a.messages (record { fits = k.fits; whole = k.whole h0.whole; ctx = k.ctx ∙ h0.ctx }) p)
+          ends_started paid (effects_of 0 (map effect_of tx.msgs) paid) p (messages_started T0 c 0 tx.msgs paid a.messages (fits_on P T0 c w0 paid h0 (at_moment P T0 w0 paid k)) p)
       by (Err why) k p = bare w r
 
   txs_started : (T : List ℕ → ℕ) (c : Ctx) (txs : List Tx) (w : State) → All TxHasCoins txs → WholeFits P T c w → AreStarted w → AreStarted (txs_applied txs w).state

@@ -46,5 +46,6 @@ pub mod Together
 pub mod Transactions
 pub mod Unbonding
 pub mod Undelegated
+pub mod Updating
 pub mod Voting
 pub mod Within

@@ -6,6 +6,7 @@ use Rattle.law_soundness.proofs.Redelegated.{redelegations_refused}
 use Rattle.law_soundness.proofs.Refused.{cancellations_refused, delegations_refused, rewards_refused}
 use Rattle.law_soundness.proofs.Refusing.{funds_refused}
 use Rattle.law_soundness.proofs.Undelegated.{undelegations_refused}
+use Rattle.rule_modules.proofs.ParameterLemmas.{updates_refused}
 use Rattle.rule_modules.proofs.RefusalLemmas.{commissions_refused, edits_refused, payees_refused, sends_refused, spends_refused, unjails_refused}
 use Rattle.rule_modules.specs.RefusalOrder.{RefusalsNameConditions}
 
@@ -34,3 +35,4 @@ messages_name_conditions (msg.WithdrawCommission m) c w s = commissions_refused 
 messages_name_conditions (msg.SetWithdrawAddress m) c w s = payees_refused m.delegator m.withdraw w
 messages_name_conditions (msg.FundCommunityPool m) c w s = funds_refused m.depositor m.coins c w s
 messages_name_conditions (msg.CommunityPoolSpend m) c w s = spends_refused m.authority m.recipient m.coins w
+messages_name_conditions (msg.UpdateParams m) c w s = updates_refused m.authority m.params w

@@ -16,7 +16,8 @@ use Rattle.base_roles.specs.declared.entities.SlashEvent.{SlashEvent}
 use Rattle.base_roles.specs.declared.entities.StartingInfo.{StartingInfo}
 use Rattle.base_roles.specs.declared.entities.UnbondingEntry.{UnbondingEntry}
 use Rattle.base_roles.specs.Entries.{at}
-use Rattle.base_roles.specs.Ground.{IsInOrder}
+use Rattle.base_roles.specs.Ground.{IsInOrder, SameMoment}
+use Rattle.base_roles.proofs.MomentLemmas.{same_moment}
 use Rattle.base_roles.specs.Holdings.{balance_of, coins_of, IsBacked}
 use Rattle.base_roles.specs.Owing.{Lists, HoldsOwed}
 use Rattle.base_roles.specs.Orders.{pair_cmp, same_addr}
@@ -298,6 +299,16 @@ pub record StateLeft (P : List ℕ → Type 0) (T : List ℕ → ℕ) (w x : Sta
   pub fits : StateFits P T x
   pub whole : AreAllWhole w → AreAllWhole x
   pub ctx : x.view.ctx ≡ w.view.ctx
+
+-- The same of a message, of which one may replace the parameters: the moment stays, and what never changes of them.
+pub record MessageLeft (P : List ℕ → Type 0) (T : List ℕ → ℕ) (w x : State) : Type 0 where
+  pub fits : StateFits P T x
+  pub whole : AreAllWhole w → AreAllWhole x
+  pub moment : SameMoment w.view.ctx x.view.ctx
+
+-- where the parameters stay
+pub at_moment : (P : List ℕ → Type 0) (T : List ℕ → ℕ) (w x : State) → StateLeft P T w x → MessageLeft P T w x
+at_moment P T w x k = record { fits = k.fits; whole = k.whole; moment = same_moment w.view.ctx x.view.ctx k.ctx }
 
 -- ---- both ways
 

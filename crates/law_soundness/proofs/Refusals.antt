@@ -19,11 +19,11 @@ use Rattle.law_soundness.proofs.Burns.{total_in}
 use Rattle.law_soundness.proofs.Lists.{all_left, all_right}
 use Rattle.law_soundness.proofs.Moves.{fee_fits}
 use Rattle.law_soundness.proofs.Named.{messages_name_conditions}
-use Rattle.law_soundness.proofs.Points.{StateFits, StateLeft, from_fits, to_fits}
+use Rattle.law_soundness.proofs.Points.{MessageLeft, StateFits, StateLeft, at_moment, from_fits, to_fits}
 use Rattle.law_soundness.proofs.Running.{HasBegun, HaveCoins, StepFits, begun_fits, block_fits, first_ok}
 use Rattle.law_soundness.proofs.Starting.{room, started_well}
 use Rattle.law_soundness.proofs.Steps.{from_if}
-use Rattle.law_soundness.proofs.Transactions.{WholeFits, message_fits, tx_fits, whole_without}
+use Rattle.law_soundness.proofs.Transactions.{WholeFits, fits_on, message_fits, tx_fits, whole_without}
 use Rattle.law_soundness.specs.Kept.{InBlocks, InTurn, IsNamedAt, RefusalIsNamed, RefusalsAreNamed, begun_by}
 use Rattle.law_soundness.specs.StepLaws.{RunsNameConditions}
 use Rattle.rule_modules.specs.Chain.{State}
@@ -41,8 +41,8 @@ module _ (some : List (List ℕ)) (few : length some ≤ 1_000_000) where
   carried_fits T c [] w end a h e = subst (WholeFits P T c) (sym e) h
   carried_fits T c (m ∷ ms) w end a h e =
       let next : State = e.0 in
-      let k = from_if (StateLeft P T w) (effect_of m w) next e.1 (message_fits P T m w (All-head MessageHasCoins m ms a) h.fits h.whole) in
-      carried_fits T c ms next end (All-tail MessageHasCoins m ms a) (record { fits = k.fits; whole = k.whole h.whole; ctx = k.ctx ∙ h.ctx }) e.2
+      let k = from_if (MessageLeft P T w) (effect_of m w) next e.1 (message_fits P T m w (All-head MessageHasCoins m ms a) h.fits h.whole) in
+      carried_fits T c ms next end (All-tail MessageHasCoins m ms a) (fits_on P T c w next h k) e.2
 
   -- a refusal, after the fee and the messages before it
   stopped_named : (T : List ℕ → ℕ) (c : Ctx) (place : ℕ) (why : Refusal) (msgs : List Msg) (paid : State) → All MessageHasCoins msgs → WholeFits P T c paid → IsStoppedAt effect_of place why msgs paid → IsNamedAt place why msgs paid
@@ -70,7 +70,7 @@ module _ (some : List (List ℕ)) (few : length some ≤ 1_000_000) where
       by FeeUnpaid facts end e = tt
       by (Refused place why) facts end e =
           let k = from_if (StateLeft P (total_in (without_facts w).view) (without_facts w)) (fee_paid tx.payer tx.fee (without_facts w)) e.0 e.1 (fee_fits P (total_in (without_facts w).view) tx.payer tx.fee a.fee (without_facts w) anew.fits) in
-          (e.0, e.1, stopped_named (total_in (without_facts w).view) c place why tx.msgs e.0 a.messages (record { fits = k.fits; whole = k.whole anew.whole; ctx = k.ctx ∙ anew.ctx }) e.2)
+          (e.0, e.1, stopped_named (total_in (without_facts w).view) c place why tx.msgs e.0 a.messages (fits_on P (total_in (without_facts w).view) c (without_facts w) e.0 anew (at_moment P (total_in (without_facts w).view) (without_facts w) e.0 k)) e.2)
 
   txs_named : (T : List ℕ → ℕ) (c : Ctx) (txs : List Tx) (w : State) → All TxHasCoins txs → WholeFits P T c w → InTurn (λ tx u. RefusalIsNamed tx u (tx_applied tx u).report.outcome) txs w
   txs_named T c [] w a h = tt

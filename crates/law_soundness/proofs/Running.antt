@@ -11,6 +11,7 @@ use Rattle.base_roles.specs.declared.facts.Fact.{Fact}
 use Rattle.base_roles.specs.declared.messages.Evidence.{Evidence}
 use Rattle.base_roles.specs.declared.messages.Vote.{Vote}
 use Rattle.base_roles.specs.declared.params.Ctx.{Ctx}
+use Rattle.base_roles.proofs.MomentLemmas.{same_moment}
 use Rattle.base_roles.specs.Holdings.{supply_of}
 use Rattle.base_roles.specs.Flow.{◌>>=◌, ◌>>◌, stop_if, each}
 use Rattle.base_messages.specs.declared.block.Block.{Block}
@@ -257,7 +258,7 @@ module _ (P : List ℕ → Type 0) where
           fits = k.fits;
           whole = subst (λ (c : Ctx). AllByRecursion (λ p. WholeEntries c.height p.1) begun.mine.unbondings) (sym k.ctx)
               (older_whole w.view.ctx.height b.height begun.mine.unbondings (above b.height w.view.ctx.height due.height) (k.pairs w.view.ctx.height (to_pairs w.view.ctx.height w.mine.unbondings h.unbondings)));
-          ctx = k.ctx;
+          moment = same_moment (next_block b.height b.time w).view.ctx begun.view.ctx k.ctx;
         };
         height = due.height;
       })
@@ -290,7 +291,7 @@ module _ (P : List ℕ → Type 0) where
       let left : List ℕ → ℕ = total_in w2.view in
       on_lifted_then RatioLimit (end_block w2) _ (EndLeft P left w2) _ (end_fits_all P left w2 (without_facts_fits P (total_in done.state.view) done.state txs.fits.fits)) (λ ended j. record {
         fits = without_facts_fits P left ended j.fits;
-        height = ap (λ (c : Ctx). c.height) (j.ctx ∙ txs.fits.ctx) ∙ k.height;
+        height = ap (λ (c : Ctx). c.height) j.ctx ∙ txs.fits.moment.height ∙ k.height;
         burns = λ d. together (supply_of w.view.bank d) (supply_of begun.view.bank d) (supply_of done.state.view.bank d) (supply_of ended.view.bank d) (burned_in d begun.view.facts) (burned_by d done.reports) (burned_in d ended.view.facts) _
             (k.fits.fits.stake.ground.total d) (txs.burns d) (j.fits.stake.ground.total d) (said_by_block d b.height b.time begun.view.facts ended.view.facts done.reports);
       })))

@@ -19,6 +19,7 @@ use Rattle.law_soundness.proofs.Redelegating.{redelegate_fits}
 use Rattle.law_soundness.proofs.Rewards.{reward_fits}
 use Rattle.law_soundness.proofs.Standing.{edit_fits, unjail_fits}
 use Rattle.law_soundness.proofs.Steps.{weaker_if}
+use Rattle.law_soundness.proofs.Updating.{updates_burn_nothing}
 use Rattle.law_soundness.proofs.Voting.{EvidenceLeft, VoteLeft, evidence_fits, vote_fits}
 use Rattle.rule_modules.specs.Chain.{State, allocation_step, evidence_step, maturing_step, redelegations_step, set_step, unbondings_step, vote_step}
 use Rattle.rule_modules.specs.Effects.{begin_redelegate, cancel_unbonding, community_pool_spend, create_validator, delegate, edit_validator, fee_paid, fund_community_pool, send, set_withdraw_address, undelegate, unjail, withdraw_commission, withdraw_reward}
@@ -51,6 +52,7 @@ by_messages = record {
   payees = λ who to. keeps_supplies (set_withdraw_address who to) (λ P T w h. payee_fits P T who to w h);
   funds = λ who coins m. keeps_supplies (fund_community_pool who coins) (λ P T w h. fund_fits P T who coins m w h);
   spends = λ authority to coins m. keeps_supplies (community_pool_spend authority to coins) (λ P T w h. spend_fits P T authority to coins m w h);
+  updates = λ authority p w s. updates_burn_nothing authority p w;
 }
 
 by_blocks : KeptByBlocks SupplyFallsByBurns

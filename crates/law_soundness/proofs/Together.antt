@@ -4,6 +4,7 @@ use Rattle.law_soundness.specs.StepLaws.{IsSoundAfter}
 use Rattle.law_soundness.proofs.Moves.{fees_keep_soundness, sends_keep_soundness, payees_keep_soundness}
 use Rattle.law_soundness.proofs.Pool.{funding_keeps_soundness, spending_keeps_soundness, commissions_keep_soundness}
 use Rattle.law_soundness.proofs.Standing.{edits_keep_soundness, unjailing_keeps_soundness}
+use Rattle.law_soundness.proofs.Updating.{updating_keeps_soundness}
 use Rattle.law_soundness.proofs.Rewards.{rewards_keep_soundness}
 use Rattle.law_soundness.proofs.Delegating.{delegating_keeps_soundness}
 use Rattle.law_soundness.proofs.Creating.{creating_keeps_soundness}
@@ -32,6 +33,7 @@ by_messages = record {
   payees = payees_keep_soundness;
   funds = funding_keeps_soundness;
   spends = spending_keeps_soundness;
+  updates = updating_keeps_soundness;
 }
 
 by_blocks : KeptByBlocks IsSoundAfter

@@ -1,11 +1,13 @@
 -- Each message, and each transaction, keeps a state sound, whether it is refused or not.
-use Rattle.std.proofs.Common.{ℕ, ◌+◌, List, [], ◌∷◌, map, Result, Ok, Err, refl, ◌∙◌, ◌≡◌, arith}
+use Rattle.std.proofs.Common.{ℕ, ◌+◌, List, [], ◌∷◌, map, Result, Ok, Err, refl, ◌≡◌, arith}
 use Rattle.std.specs.Prelude.{All, Contains, IfOk, sum}
 use Rattle.std.proofs.lemmas.List.Elements.{All-head, All-tail}
 use Rattle.std.proofs.lemmas.List.Sums.{sum_by-cons}
 use Rattle.base_roles.specs.declared.params.Ctx.{Ctx}
 use Rattle.base_roles.specs.declared.refusal.Refusal.{Refusal}
+use Rattle.base_roles.specs.Ground.{SameMoment}
 use Rattle.base_roles.specs.Holdings.{supply_of}
+use Rattle.base_roles.proofs.MomentLemmas.{same_moment, same_moment_twice}
 use Rattle.base_messages.specs.declared.block.Tx.{Tx}
 use Rattle.base_messages.specs.declared.message.Msg.{Msg}
 use Rattle.base_messages.specs.declared.report.TxReport.{TxReport}
@@ -19,12 +21,13 @@ use Rattle.law_soundness.proofs.Creating.{create_fits}
 use Rattle.law_soundness.proofs.Delegating.{delegate_fits}
 use Rattle.law_soundness.proofs.Leaving.{cancel_fits, to_whole, undelegate_fits}
 use Rattle.law_soundness.proofs.Moves.{fee_fits, payee_fits, send_fits}
-use Rattle.law_soundness.proofs.Points.{AreAllWhole, StateFits, StateLeft, from_fits, to_fits}
+use Rattle.law_soundness.proofs.Points.{AreAllWhole, MessageLeft, StateFits, StateLeft, at_moment, from_fits, to_fits}
 use Rattle.law_soundness.proofs.Pool.{commission_fits, fund_fits, spend_fits}
 use Rattle.law_soundness.proofs.Redelegating.{redelegate_fits}
 use Rattle.law_soundness.proofs.Rewards.{reward_fits}
 use Rattle.law_soundness.proofs.Standing.{edit_fits, unjail_fits}
 use Rattle.law_soundness.proofs.Steps.{on_lifted_then, weaker_if}
+use Rattle.law_soundness.proofs.Updating.{update_fits}
 use Rattle.law_soundness.specs.StepLaws.{IsSoundAfter, MessagesKeepSoundness, TransactionsKeepSoundness}
 use Rattle.rule_modules.specs.Chain.{State}
 use Rattle.rule_modules.specs.Laws.{burned_in}
@@ -35,28 +38,36 @@ module _ (P : List ℕ → Type 0) (T : List ℕ → ℕ) where
   pub record WholeFits (c : Ctx) (w : State) : Type 0 where
     pub fits : StateFits P T w
     pub whole : AreAllWhole w
-    pub ctx : w.view.ctx ≡ c
+    pub moment : SameMoment c w.view.ctx
 
-  pub message_fits : (m : Msg) (w : State) → MessageHasCoins m → StateFits P T w → AreAllWhole w → IfOk (effect_of m w) (StateLeft P T w)
-  message_fits (msg.Send m) w c h k = send_fits P T m.from m.to m.coins c w h
-  message_fits (msg.CreateValidator m) w c h k = create_fits P T m w h
-  message_fits (msg.EditValidator m) w c h k = edit_fits P T m w h
-  message_fits (msg.Delegate m) w c h k = delegate_fits P T m.delegator m.validator m.amount w h
-  message_fits (msg.Undelegate m) w c h k = undelegate_fits P T m.delegator m.validator m.amount w h k
-  message_fits (msg.BeginRedelegate m) w c h k = redelegate_fits P T m.delegator m.source m.target m.amount w h
-  message_fits (msg.CancelUnbonding m) w c h k = cancel_fits P T m.delegator m.validator m.amount m.creation_height w h
-  message_fits (msg.Unjail m) w c h k = unjail_fits P T m.validator w h
-  message_fits (msg.WithdrawReward m) w c h k = reward_fits P T m.delegator m.validator w h
-  message_fits (msg.WithdrawCommission m) w c h k = commission_fits P T m.validator w h
-  message_fits (msg.SetWithdrawAddress m) w c h k = payee_fits P T m.delegator m.withdraw w h
-  message_fits (msg.FundCommunityPool m) w c h k = fund_fits P T m.depositor m.coins c w h
-  message_fits (msg.CommunityPoolSpend m) w c h k = spend_fits P T m.authority m.recipient m.coins c w h
+  pub fits_on : (c : Ctx) (w x : State) → WholeFits c w → MessageLeft P T w x → WholeFits c x
+  fits_on c w x h k = record { fits = k.fits; whole = k.whole h.whole; moment = same_moment_twice c w.view.ctx x.view.ctx h.moment k.moment }
+
+  left_by : {E : Type 0} (r : Result State E) (w : State) → IfOk r (StateLeft P T w) → IfOk r (MessageLeft P T w)
+  left_by (Ok x) w k = at_moment P T w x k
+  left_by (Err e) w k = tt
+
+  pub message_fits : (m : Msg) (w : State) → MessageHasCoins m → StateFits P T w → AreAllWhole w → IfOk (effect_of m w) (MessageLeft P T w)
+  message_fits (msg.Send m) w c h k = left_by (effect_of (msg.Send m) w) w (send_fits P T m.from m.to m.coins c w h)
+  message_fits (msg.CreateValidator m) w c h k = left_by (effect_of (msg.CreateValidator m) w) w (create_fits P T m w h)
+  message_fits (msg.EditValidator m) w c h k = left_by (effect_of (msg.EditValidator m) w) w (edit_fits P T m w h)
+  message_fits (msg.Delegate m) w c h k = left_by (effect_of (msg.Delegate m) w) w (delegate_fits P T m.delegator m.validator m.amount w h)
+  message_fits (msg.Undelegate m) w c h k = left_by (effect_of (msg.Undelegate m) w) w (undelegate_fits P T m.delegator m.validator m.amount w h k)
+  message_fits (msg.BeginRedelegate m) w c h k = left_by (effect_of (msg.BeginRedelegate m) w) w (redelegate_fits P T m.delegator m.source m.target m.amount w h)
+  message_fits (msg.CancelUnbonding m) w c h k = left_by (effect_of (msg.CancelUnbonding m) w) w (cancel_fits P T m.delegator m.validator m.amount m.creation_height w h)
+  message_fits (msg.Unjail m) w c h k = left_by (effect_of (msg.Unjail m) w) w (unjail_fits P T m.validator w h)
+  message_fits (msg.WithdrawReward m) w c h k = left_by (effect_of (msg.WithdrawReward m) w) w (reward_fits P T m.delegator m.validator w h)
+  message_fits (msg.WithdrawCommission m) w c h k = left_by (effect_of (msg.WithdrawCommission m) w) w (commission_fits P T m.validator w h)
+  message_fits (msg.SetWithdrawAddress m) w c h k = left_by (effect_of (msg.SetWithdrawAddress m) w) w (payee_fits P T m.delegator m.withdraw w h)
+  message_fits (msg.FundCommunityPool m) w c h k = left_by (effect_of (msg.FundCommunityPool m) w) w (fund_fits P T m.depositor m.coins c w h)
+  message_fits (msg.CommunityPoolSpend m) w c h k = left_by (effect_of (msg.CommunityPoolSpend m) w) w (spend_fits P T m.authority m.recipient m.coins c w h)
+  message_fits (msg.UpdateParams m) w c h k = update_fits P T m.authority m.params w h
 
   messages_fit : (c : Ctx) (place : ℕ) (ms : List Msg) (w : State) → All MessageHasCoins ms → WholeFits c w → IfOk (effects_of place (map effect_of ms) w) (WholeFits c)
   messages_fit c place [] w a h = h
   messages_fit c place (m ∷ ms) w a h =
-      on_lifted_then (λ why. (place, why)) (effect_of m w) _ (StateLeft P T w) _ (message_fits m w (All-head MessageHasCoins m ms a) h.fits h.whole)
-      (λ x k. messages_fit c (place + 1) ms x (All-tail MessageHasCoins m ms a) (record { fits = k.fits; whole = k.whole h.whole; ctx = k.ctx ∙ h.ctx }))
+      on_lifted_then (λ why. (place, why)) (effect_of m w) _ (MessageLeft P T w) _ (message_fits m w (All-head MessageHasCoins m ms a) h.fits h.whole)
+      (λ x k. messages_fit c (place + 1) ms x (All-tail MessageHasCoins m ms a) (fits_on c w x h k))
 
   -- what is there and what was burned is what it is
   pub renewed : (w : State) → StateFits P T w → StateFits P (total_in w.view) w
@@ -107,7 +118,7 @@ module _ (P : List ℕ → Type 0) (T : List ℕ → ℕ) where
     where
       by : (r : Result State Refusal) → IfOk r (StateLeft P T w) → WholeFits c w → WholeFits c (reported_as (after_fee (map effect_of tx.msgs) w r)).state
       by (Ok paid) k old =
-          let fits : WholeFits c paid = record { fits = k.fits; whole = k.whole old.whole; ctx = k.ctx ∙ old.ctx } in
+          let fits : WholeFits c paid = fits_on c w paid old (at_moment P T w paid k) in
           ends_fit c paid (effects_of 0 (map effect_of tx.msgs) paid) fits (messages_fit c 0 tx.msgs paid a.messages fits)
       by (Err why) k old = old
 
@@ -117,7 +128,7 @@ burned_by d reports = sum (map (λ t. burned_in d t.facts) reports)
 
 module _ (P : List ℕ → Type 0) where
   pub whole_without : (T : List ℕ → ℕ) (c : Ctx) (w : State) → WholeFits P T c w → WholeFits P (total_in (without_facts w).view) c (without_facts w)
-  whole_without T c w h = record { fits = without_facts_fits P T w h.fits; whole = h.whole; ctx = h.ctx }
+  whole_without T c w h = record { fits = without_facts_fits P T w h.fits; whole = h.whole; moment = h.moment }
 
   -- a transaction's facts are of it alone
   pub tx_fits : (T : List ℕ → ℕ) (c : Ctx) (tx : Tx) (w : State) → TxHasCoins tx → WholeFits P T c w → WholeFits P (total_in (without_facts w).view) c (tx_applied tx w).state
@@ -129,7 +140,7 @@ module _ (P : List ℕ → Type 0) where
     pub burns : (d : List ℕ) → supply_of x.state.view.bank d + burned_by d x.reports ≡ supply_of w.view.bank d
 
   own_total : (T : List ℕ → ℕ) (c : Ctx) (w : State) → WholeFits P T c w → WholeFits P (total_in w.view) c w
-  own_total T c w h = record { fits = renewed P T w h.fits; whole = h.whole; ctx = h.ctx }
+  own_total T c w h = record { fits = renewed P T w h.fits; whole = h.whole; moment = h.moment }
 
   pub txs_fit : (T : List ℕ → ℕ) (c : Ctx) (txs : List Tx) (w : State) → All TxHasCoins txs → WholeFits P T c w → TxsFit c w (txs_applied txs w)
   txs_fit T c [] w a h = record { fits = own_total T c w h; burns = λ d. none (supply_of w.view.bank d) }
@@ -156,11 +167,11 @@ pub messages_keep_soundness : MessagesKeepSoundness
 messages_keep_soundness m c w s whole =
     let P : List ℕ → Type 0 = Contains s.few.some in
     let T : List ℕ → ℕ = total_in w.view in
-    weaker_if (effect_of m w) (StateLeft P T w) (IsSoundAfter w) (message_fits P T m w c (to_fits w s) (to_whole w whole)) (λ x k. from_fits x s.few.some T s.few.few k.fits)
+    weaker_if (effect_of m w) (MessageLeft P T w) (IsSoundAfter w) (message_fits P T m w c (to_fits w s) (to_whole w whole)) (λ x k. from_fits x s.few.some T s.few.few k.fits)
 
 pub transactions_keep_soundness : TransactionsKeepSoundness
 transactions_keep_soundness tx c w s whole =
     let P : List ℕ → Type 0 = Contains s.few.some in
     let T : List ℕ → ℕ = total_in w.view in
-    let k = tx_fits P T w.view.ctx tx w c (record { fits = to_fits w s; whole = to_whole w whole; ctx = refl }) in
+    let k = tx_fits P T w.view.ctx tx w c (record { fits = to_fits w s; whole = to_whole w whole; moment = same_moment w.view.ctx w.view.ctx refl }) in
     from_fits (tx_applied tx w).state s.few.some (total_in (without_facts w).view) s.few.few k.fits

@@ -7,12 +7,14 @@ use Rattle.base_roles.specs.declared.messages.CreateValidator.{CreateValidator}
 use Rattle.base_roles.specs.declared.messages.EditValidator.{EditValidator}
 use Rattle.base_roles.specs.declared.messages.Evidence.{Evidence}
 use Rattle.base_roles.specs.declared.messages.Vote.{Vote}
+use Rattle.base_roles.specs.declared.params.Params.{Params}
 use Rattle.base_roles.specs.Ground.{end_of_blocks}
 use Rattle.base_roles.specs.Holdings.{supply_of}
 use Rattle.rule_modules.specs.Chain.{State, vote_step, evidence_step, allocation_step, set_step, maturing_step, unbondings_step, redelegations_step}
 use Rattle.rule_modules.specs.Effects.{send, begin_redelegate, undelegate, cancel_unbonding, create_validator, delegate, withdraw_reward, edit_validator, unjail, withdraw_commission, set_withdraw_address, fund_community_pool, community_pool_spend, fee_paid}
 use Rattle.rule_modules.specs.Laws.{next_block, burned_in}
 use Rattle.rule_modules.specs.StepLaws.{KeptByStep, AreWhole, AreVotes, IsPower, CountsBelow}
+use Rattle.rule_modules.specs.Parameters.{update_params}
 use Rattle.rule_modules.specs.RefusalOrder.{IsRefusedBy, against_cancel, against_create, against_delegate, against_fund, against_redelegate, against_reward, against_undelegate}
 use Rattle.rule_modules.specs.Sound.{IsSound}
 use Rattle.base_messages.specs.declared.block.Block.{Block}
@@ -45,6 +47,10 @@ FundingKeepsSoundness = (who : List ℕ) (coins : Money) → IsMoney coins → K
 
 abbrev pub SpendingKeepsSoundness : Type 0
 SpendingKeepsSoundness = (authority : List ℕ) (to : Account) (coins : Money) → IsMoney coins → KeptByStep IsSoundAfter (community_pool_spend authority to coins)
+
+-- replacing the parameters
+abbrev pub UpdatingKeepsSoundness : Type 0
+UpdatingKeepsSoundness = (authority : List ℕ) (p : Params) → KeptByStep IsSoundAfter (update_params authority p)
 
 -- commission
 abbrev pub CommissionsKeepSoundness : Type 0

@@ -3,7 +3,7 @@
 
 ghost use Rattle.rule_modules.specs.RefusalOrder.{RefusalsNameConditions};
 ghost use Rattle.rule_machine.specs.Promises.{MessagesNameConditions};
-ghost use Rattle.law_soundness.specs.StepLaws.{FeesKeepSoundness, SendsKeepSoundness, PayeesKeepSoundness, FundingKeepsSoundness, SpendingKeepsSoundness, CommissionsKeepSoundness, EditsKeepSoundness, UnjailingKeepsSoundness, RewardsKeepSoundness, DelegatingKeepsSoundness, CreatingKeepsSoundness, UndelegatingKeepsSoundness, CancellingKeepsSoundness, RedelegatingKeepsSoundness, MessagesKeepSoundness, TransactionsKeepSoundness, FundsNameConditions, RewardsNameConditions, DelegationsNameConditions, CancellationsNameConditions, UndelegationsNameConditions, CreationsNameConditions, RedelegationsNameConditions};
+ghost use Rattle.law_soundness.specs.StepLaws.{FeesKeepSoundness, SendsKeepSoundness, PayeesKeepSoundness, FundingKeepsSoundness, SpendingKeepsSoundness, UpdatingKeepsSoundness, CommissionsKeepSoundness, EditsKeepSoundness, UnjailingKeepsSoundness, RewardsKeepSoundness, DelegatingKeepsSoundness, CreatingKeepsSoundness, UndelegatingKeepsSoundness, CancellingKeepsSoundness, RedelegatingKeepsSoundness, MessagesKeepSoundness, TransactionsKeepSoundness, FundsNameConditions, RewardsNameConditions, DelegationsNameConditions, CancellationsNameConditions, UndelegationsNameConditions, CreationsNameConditions, RedelegationsNameConditions};
 
 /// A fee that is paid leaves a sound state sound.
 #[tactic(auto, using(crate::proofs::Moves::fees_keep_soundness))]
@@ -28,6 +28,12 @@ pub fn payees_keep_soundness()
 pub fn pool_keeps_soundness()
     ensures funded { FundingKeepsSoundness }
     ensures spent { SpendingKeepsSoundness }
+{}
+
+/// Replacing the parameters leaves a sound state sound, where it is not refused.
+#[tactic(auto, using(crate::proofs::Updating::updating_keeps_soundness))]
+pub fn updates_keep_soundness()
+    ensures { UpdatingKeepsSoundness }
 {}
 
 /// Withdrawing commission leaves a sound state sound, where it is not refused.

@@ -24,6 +24,7 @@ fact_kind (fact.Jailed validator) = codes "jailed"
 fact_kind (fact.Unjailed validator) = codes "unjailed"
 fact_kind (fact.Tombstoned validator) = codes "tombstoned"
 fact_kind (fact.Removed validator) = codes "removed"
+fact_kind (fact.ParamsChanged authority) = codes "params"
 
 -- members of a fact about a validator
 abbrev pub about : List ℕ → List (List ℕ × Data) → List (List ℕ × Data)
@@ -60,6 +61,7 @@ fact_members (fact.Jailed validator) = about validator []
 fact_members (fact.Unjailed validator) = about validator []
 fact_members (fact.Tombstoned validator) = about validator []
 fact_members (fact.Removed validator) = about validator []
+fact_members (fact.ParamsChanged authority) = (codes "authority", address_data authority) ∷ []
 
 -- what is told of a fact of a block of this height
 abbrev pub fact_data : ℕ → Fact → Data

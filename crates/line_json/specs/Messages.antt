@@ -18,12 +18,15 @@ use Rattle.base_messages.specs.declared.message.WithdrawCommission.{WithdrawComm
 use Rattle.base_messages.specs.declared.message.SetWithdrawAddress.{SetWithdrawAddress}
 use Rattle.base_messages.specs.declared.message.FundCommunityPool.{FundCommunityPool}
 use Rattle.base_messages.specs.declared.message.CommunityPoolSpend.{CommunityPoolSpend}
+use Rattle.base_messages.specs.declared.message.UpdateParams.{UpdateParams}
 use Rattle.base_messages.specs.declared.message.Msg.{Msg}
 use Rattle.base_messages.specs.declared.message.Msg.TheVariants as msg
 use Rattle.line_json.specs.declared.kind.Kind.{Kind}
 use Rattle.line_json.specs.declared.kind.Kind.TheVariants as kind
 use Rattle.line_json.specs.Members.{spelled_by, amount_of, member_at, optional_at, number_at, amount_at, decimal_at, user_at, account_at, cons_at, only_named}
 use Rattle.line_json.specs.Coin.{coin_at, coins_at}
+use Rattle.line_json.specs.Nested.{object_at}
+use Rattle.line_json.specs.Params.{params_of}
 
 -- ---- kinds
 
@@ -43,6 +46,7 @@ kinds =
     ∷ (codes "set_withdraw_address", kind.SetWithdrawAddress)
     ∷ (codes "fund_community_pool", kind.FundCommunityPool)
     ∷ (codes "community_pool_spend", kind.CommunityPoolSpend)
+    ∷ (codes "update_params", kind.UpdateParams)
     ∷ []
 
 -- the kind of this name among these
@@ -197,6 +201,14 @@ community_pool_spend_of d = do
   only ← only_named (codes "kind" ∷ codes "authority" ∷ codes "recipient" ∷ codes "coins" ∷ []) d
   Ok (record { authority = authority; recipient = recipient; coins = coins })
 
+-- the parameters are replaced
+unfoldable pub update_params_of : Data → Result UpdateParams LineFault
+update_params_of d = do
+  authority ← user_at 107 (codes "authority") d
+  params ← object_at params_of 109 (codes "params") d
+  only ← only_named (codes "kind" ∷ codes "authority" ∷ codes "params" ∷ []) d
+  Ok (record { authority = authority; params = params })
+
 -- ---- any message
 
 -- a message of this kind
@@ -214,6 +226,7 @@ message_of_kind kind.WithdrawCommission d = withdraw_commission_of d >>= λ mess
 message_of_kind kind.SetWithdrawAddress d = set_withdraw_address_of d >>= λ message. Ok (msg.SetWithdrawAddress message)
 message_of_kind kind.FundCommunityPool d = fund_community_pool_of d >>= λ message. Ok (msg.FundCommunityPool message)
 message_of_kind kind.CommunityPoolSpend d = community_pool_spend_of d >>= λ message. Ok (msg.CommunityPoolSpend message)
+message_of_kind kind.UpdateParams d = update_params_of d >>= λ message. Ok (msg.UpdateParams message)
 
 -- a message: its kind, and the members of that kind
 unfoldable pub message_of : Data → Result Msg LineFault

@@ -15,13 +15,15 @@ outcome_kind Accepted = codes "accepted"
 outcome_kind FeeUnpaid = codes "refused"
 outcome_kind (Refused message reason) = codes "refused"
 
--- what is told of a reason beside its number: the moment until which a validator stays jailed, and the operands of a
--- result past the limit
+-- what is told of a reason beside its number: the moment until which a validator stays jailed, the operands of a result
+-- past the limit, and the number of a parameter
 abbrev pub reason_members : Refusal → List (List ℕ × Data)
 reason_members (refusal.StillJailed until) = (codes "until", moment_data until) ∷ []
 reason_members (refusal.Overflow over) =
     (codes "over", string (over_name over.kind)) ∷ (codes "a", whole_data over.a) ∷ (codes "b", whole_data over.b)
     ∷ (codes "c", whole_data over.c) ∷ []
+reason_members (refusal.ParamRange number) = (codes "member", count_data number) ∷ []
+reason_members (refusal.ParamFixed number) = (codes "member", count_data number) ∷ []
 reason_members _ = []
 
 -- which message of a transaction was refused, counted from 0, and for the reason of which number

@@ -53,16 +53,15 @@ coin_text = codes "{\"denom\":\"uatom\",\"amount\":\"100\"}"
 
 -- ---- a genesis and a block
 
-abbrev pub genesis_line : List ℕ
-genesis_line =
-    codes "{\"kind\":\"genesis\",\"time\":\"2024-01-01T00:00:00Z\",\"params\":{\"bond_denom\":\"uatom\",\"power_reduction\":1000000,"
+-- the object of parameters, and those parameters
+abbrev pub params_text : List ℕ
+params_text =
+    codes "{\"bond_denom\":\"uatom\",\"power_reduction\":1000000,"
     ++ codes "\"unbonding_time\":1814400,\"max_validators\":180,\"max_entries\":7,\"min_commission_rate\":\"0\","
     ++ codes "\"community_tax\":\"0.02\",\"withdraw_addr_enabled\":true,\"signed_blocks_window\":10000,"
     ++ codes "\"min_signed_per_window\":\"0.05\",\"downtime_jail_duration\":600,\"slash_fraction_double_sign\":\"0.05\","
     ++ codes "\"slash_fraction_downtime\":\"0.0001\",\"max_age_duration\":172800,\"max_age_num_blocks\":100000,"
-    ++ codes "\"authority\":\"9999999999999999999999999999999999999999\"},"
-    ++ codes "\"accounts\":[{\"address\":\"1111111111111111111111111111111111111111\",\"coins\":[{\"denom\":\"uatom\",\"amount\":\"1000\"}]}],"
-    ++ codes "\"validators\":[],\"delegations\":[]}"
+    ++ codes "\"authority\":\"9999999999999999999999999999999999999999\"}"
 
 abbrev pub params : Params
 params = record {
@@ -83,6 +82,12 @@ params = record {
   max_age_num_blocks = 100000;
   authority = replicate 20 153;
 }
+
+abbrev pub genesis_line : List ℕ
+genesis_line =
+    codes "{\"kind\":\"genesis\",\"time\":\"2024-01-01T00:00:00Z\",\"params\":" ++ params_text
+    ++ codes ",\"accounts\":[{\"address\":\"1111111111111111111111111111111111111111\",\"coins\":[{\"denom\":\"uatom\",\"amount\":\"1000\"}]}],"
+    ++ codes "\"validators\":[],\"delegations\":[]}"
 
 abbrev pub genesis : Genesis
 genesis = record {
@@ -195,6 +200,12 @@ community_pool_spend_members = codes ",\"authority\":" ++ ones_text ++ codes ",\
 
 abbrev pub community_pool_spend : Msg
 community_pool_spend = msg.CommunityPoolSpend (record { authority = ones; recipient = account.User twos; coins = [] })
+
+abbrev pub update_params_members : List ℕ
+update_params_members = codes ",\"authority\":" ++ ones_text ++ codes ",\"params\":" ++ params_text
+
+abbrev pub update_params : Msg
+update_params = msg.UpdateParams (record { authority = ones; params = params })
 
 -- coins that name a denomination twice, the second time with an amount of 0
 abbrev pub twice_members : List ℕ

@@ -134,6 +134,10 @@ pub record ValidatorLines : Type 0 where
   pub removed : fact_line (fact.Removed threes)
       ≡ codes "{\"height\":7,\"kind\":\"removed\",\"validator\":\"3333333333333333333333333333333333333333\"}\n"
 
+pub record ParameterLines : Type 0 where
+  pub changed : fact_line (fact.ParamsChanged ones)
+      ≡ codes "{\"authority\":\"1111111111111111111111111111111111111111\",\"height\":7,\"kind\":\"params\"}\n"
+
 -- ---- outcomes
 
 -- the line of how the transaction at place 2 of a block of height 7 ended
@@ -153,3 +157,7 @@ pub record OutcomeLines : Type 0 where
       ≡ codes "{\"a\":\"8\",\"b\":\"9\",\"c\":\"10\",\"height\":7,\"kind\":\"refused\",\"msg\":1,\"number\":35,\"over\":\"quotient\",\"tx\":2}\n"
   pub period : outcome_line (Refused 1 (refusal.Overflow (record { kind = Period; a = 8; b = 0; c = 0 })))
       ≡ codes "{\"a\":\"8\",\"b\":\"0\",\"c\":\"0\",\"height\":7,\"kind\":\"refused\",\"msg\":1,\"number\":35,\"over\":\"period\",\"tx\":2}\n"
+  pub range : outcome_line (Refused 1 (refusal.ParamRange 13))
+      ≡ codes "{\"height\":7,\"kind\":\"refused\",\"member\":13,\"msg\":1,\"number\":38,\"tx\":2}\n"
+  pub fixed : outcome_line (Refused 1 (refusal.ParamFixed 10))
+      ≡ codes "{\"height\":7,\"kind\":\"refused\",\"member\":10,\"msg\":1,\"number\":39,\"tx\":2}\n"

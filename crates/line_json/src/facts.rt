@@ -250,6 +250,24 @@ fn of_validator<'a>(
     push_line(alloc, out, &members)
 }
 
+fn params_changed<'a>(
+    alloc: Global,
+    out: &mut Vec<u8>,
+    height: u64,
+    authority: &'a Addr,
+) -> Result<(), LineFault>
+    ensures ok { OnOk result (out.new.items ≡ out.old.items
+        ++ line_of (fact_data height (Fact.ParamsChanged authority.now))) }
+    ensures fault { IfErr result (λ fault. fault ≡ LineFault.NoMemory) }
+{
+    let members = [
+        ("authority", Told::Address(authority)),
+        ("height", Told::Count(height)),
+        ("kind", Told::Word("params")),
+    ];
+    push_line(alloc, out, &members)
+}
+
 /// Appends the line of a fact of a block of this height. The only error is `NoMemory`.
 pub fn push_fact(
     alloc: Global,
@@ -299,5 +317,6 @@ pub fn push_fact(
         Fact::Unjailed { validator } => of_validator(alloc, out, height, "unjailed", validator),
         Fact::Tombstoned { validator } => of_validator(alloc, out, height, "tombstoned", validator),
         Fact::Removed { validator } => of_validator(alloc, out, height, "removed", validator),
+        Fact::ParamsChanged { authority } => params_changed(alloc, out, height, authority),
     }
 }

@@ -21,6 +21,7 @@ pub enum Kind {
     SetWithdrawAddress,
     FundCommunityPool,
     CommunityPoolSpend,
+    UpdateParams,
 }
 
 /// The kind of this name.
@@ -42,6 +43,7 @@ fn kind_of(name: &str) -> Option<Kind>
         "set_withdraw_address" => Some(Kind::SetWithdrawAddress),
         "fund_community_pool" => Some(Kind::FundCommunityPool),
         "community_pool_spend" => Some(Kind::CommunityPoolSpend),
+        "update_params" => Some(Kind::UpdateParams),
         _ => None,
     }
 }

@@ -11,7 +11,8 @@ use crate::tree::Tree;
 use base_coins::Coin;
 use base_messages::{
     BeginRedelegate, CancelUnbonding, CommunityPoolSpend, Delegate, FundCommunityPool, LineFault,
-    Msg, Send, SetWithdrawAddress, Undelegate, Unjail, WithdrawCommission, WithdrawReward,
+    Msg, Send, SetWithdrawAddress, Undelegate, Unjail, UpdateParams, WithdrawCommission,
+    WithdrawReward,
 };
 use base_roles::{CreateValidator, EditValidator};
 use base_types::Addr;
@@ -293,6 +294,20 @@ impl FromTree for CommunityPoolSpend {
     }
 }
 
+impl FromTree for UpdateParams {
+    ghost use Rattle.line_json.specs.Messages.{update_params_of};
+
+    ghost form = { update_params_of };
+
+    #[tactic(auto, unfolding(crate::specs::Messages::update_params_of))]
+    fn from_tree<N: Tree>(alloc: Global, tree: &N) -> Result<UpdateParams, LineFault> {
+        let authority = member_at(107, "authority", tree)?;
+        let params = object_at(alloc, 109, "params", tree)?;
+        only_named(&["kind", "authority", "params"], tree)?;
+        Ok(UpdateParams { authority, params })
+    }
+}
+
 /// A message of this kind.
 fn message_of_kind<N: Tree>(alloc: Global, kind: Kind, tree: &N) -> Result<Msg, LineFault>
     ensures { Gives (λ message. message) result (message_of_kind kind (N.seen tree.now)) }
@@ -319,6 +334,7 @@ fn message_of_kind<N: Tree>(alloc: Global, kind: Kind, tree: &N) -> Result<Msg, 
         Kind::CommunityPoolSpend => Ok(Msg::CommunityPoolSpend(CommunityPoolSpend::from_tree(
             alloc, tree,
         )?)),
+        Kind::UpdateParams => Ok(Msg::UpdateParams(UpdateParams::from_tree(alloc, tree)?)),
     }
 }
 

@@ -1,8 +1,9 @@
 //! The lines of how transactions ended. Members stand in ascending order of their names.
-ghost use Rattle.std.specs.Prelude.{◌≡◌, ◌++◌, [], codes, IfErr, OnOk};
+ghost use Rattle.std.specs.Prelude.{◌≡◌, ◌++◌, [], ◌∷◌, codes, IfErr, OnOk};
 ghost use Rattle.base_roles.specs.Refusals.{refusal_number};
 ghost use Rattle.line_json.specs.Line.{line_of, told_at};
 ghost use Rattle.line_json.specs.Outcomes.{outcome_data, refused_members};
+ghost use Rattle.line_json.specs.Values.{count_data};
 
 use crate::told::Told;
 use crate::writing::push_line;
@@ -115,6 +116,33 @@ fn overflowed(
     push_line(alloc, out, &members)
 }
 
+/// A message that was refused for the parameter of this number.
+fn of_parameter(
+    alloc: Global,
+    out: &mut Vec<u8>,
+    height: u64,
+    place: usize,
+    message: usize,
+    reason: Refusal,
+    number: u16,
+) -> Result<(), LineFault>
+    ensures ok { OnOk result (out.new.items ≡ out.old.items ++ line_of
+        (told_at height (codes "refused")
+        (refused_members place message (refusal_number reason)
+        ((codes "member", count_data number) ∷ [])))) }
+    ensures fault { IfErr result (λ fault. fault ≡ LineFault.NoMemory) }
+{
+    let members = [
+        ("height", Told::Count(height)),
+        ("kind", Told::Word("refused")),
+        ("member", Told::Count(number as u64)),
+        ("msg", Told::Count(message as u64)),
+        ("number", Told::Number(reason)),
+        ("tx", Told::Count(place as u64)),
+    ];
+    push_line(alloc, out, &members)
+}
+
 /// Appends the line of a message that was refused for a reason.
 fn push_refused(
     alloc: Global,
@@ -131,6 +159,12 @@ fn push_refused(
     match reason {
         Refusal::StillJailed(until) => still_jailed(alloc, out, height, place, message, until),
         Refusal::Overflow(over) => overflowed(alloc, out, height, place, message, over),
+        Refusal::ParamRange(number) => {
+            of_parameter(alloc, out, height, place, message, reason, number)
+        }
+        Refusal::ParamFixed(number) => {
+            of_parameter(alloc, out, height, place, message, reason, number)
+        }
         _ => refused(alloc, out, height, place, message, reason),
     }
 }

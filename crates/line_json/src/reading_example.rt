@@ -39,6 +39,8 @@ pub fn lines_read_by_example()
         example.fund_community_pool_members ≡ Ok example.fund_community_pool }
     ensures community_pool_spend { example.message_in (codes "community_pool_spend")
         example.community_pool_spend_members ≡ Ok example.community_pool_spend }
+    ensures update_params { example.message_in (codes "update_params")
+        example.update_params_members ≡ Ok example.update_params }
 
     ensures not_json { block_of (codes "{") ≡ Err LineFault.NotJson }
     ensures empty { block_of [] ≡ Err LineFault.NotJson }
@@ -49,6 +51,11 @@ pub fn lines_read_by_example()
     ensures no_kind { example.message_in (codes "jail") [] ≡ Err (LineFault.BadShape 90) }
     ensures no_rate { example.message_in (codes "edit_validator")
         (example.unjail_members ++ codes ",\"rate\":null") ≡ Err (LineFault.BadShape 101) }
+    ensures no_params { example.message_in (codes "update_params")
+        (codes ",\"authority\":" ++ example.ones_text) ≡ Err (LineFault.BadShape 109) }
+    ensures no_object { example.message_in (codes "update_params")
+        (codes ",\"authority\":" ++ example.ones_text ++ codes ",\"params\":[]")
+        ≡ Err (LineFault.BadShape 10) }
     ensures memo { example.message_in (codes "unjail")
         (example.unjail_members ++ codes ",\"memo\":0") ≡ Err (LineFault.BadShape 0) }
 

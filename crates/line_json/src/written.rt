@@ -1,5 +1,5 @@
 //! Worked lines, computed from the definitions.
-ghost use Rattle.line_json.specs.WrittenExample.{OrderedLines, OutcomeLines, PaymentLines, RewardLines, RunLines, ValidatorLines};
+ghost use Rattle.line_json.specs.WrittenExample.{OrderedLines, OutcomeLines, ParameterLines, PaymentLines, RewardLines, RunLines, ValidatorLines};
 
 /// What is written of a small run; in which order a block is written; and a line of each kind of fact and of outcome.
 pub fn lines_written_by_example()
@@ -9,5 +9,6 @@ pub fn lines_written_by_example()
     ensures payments { PaymentLines }
     ensures rewards { RewardLines }
     ensures validators { ValidatorLines }
+    ensures parameters { ParameterLines }
     ensures outcomes { OutcomeLines }
 {}

@@ -1,5 +1,5 @@
 -- Signing records as items: how they are told apart, one more, and the changes since the last settling.
-use Rattle.std.proofs.Common.{◌≡◌, ◌∙◌, ℕ, Bool, true, false, List, [], ◌∷◌, Option, Some, None, refl, sym, ap, inl, inr}
+use Rattle.std.proofs.Common.{◌≡◌, ◌∙◌, ℕ, Bool, true, false, List, [], ◌∷◌, refl, sym, ap, inl, inr}
 use Rattle.std.specs.Prelude.{◌⊎◌, ◌&&◌, ◌==◌, ◌≢◌, is_some, length, Result, Ok, Err, OnOk, OnErr}
 use Rattle.std.specs.BTreeMap.{insert_entry}
 use Rattle.std.specs.List.Sorted.{IsStrictlySortedBy}
@@ -9,15 +9,14 @@ use Rattle.base_types.specs.Orders.{cons_cmp}
 use Rattle.base_roles.specs.declared.entities.SigningInfo.{SigningInfo}
 use Rattle.base_roles.specs.declared.items.Item.{Item}
 use Rattle.base_roles.specs.declared.items.Item.TheVariants as item
-use Rattle.base_roles.specs.Items.{IsOnce, IsAdded, HasRoom}
+use Rattle.base_roles.specs.Items.{IsOnce, IsAdded}
 use Rattle.base_records.specs.Kinds.{AreOf, IsByKey}
 use Rattle.base_records.specs.Items.{AnyValue, IsRowed}
 use Rattle.base_records.proofs.RowedLemmas.{IsOfKind, IsOfOther, rowed}
-use Rattle.base_records.proofs.RowLemmas.{row-added, row-member, rows-of-kind, rows-told-once}
-use Rattle.base_records.proofs.MemberLemmas.{contained}
+use Rattle.base_records.proofs.RowLemmas.{row-added, rows-of-kind, rows-told-once}
 use Rattle.base_records.proofs.SameLemmas.{both, number, number_itself}
 use Rattle.mod_staking.specs.Items.{same_flag}
-use Rattle.mod_signing.specs.Kept.{Signed, Kept, signed_of}
+use Rattle.mod_signing.specs.Kept.{Signed, Kept}
 use Rattle.mod_signing.specs.Rings.{Rows, place_set, ring_of}
 use Rattle.mod_signing.specs.Items.{items_of, is_signing, same_info, same_ring, same_signed, signing_entry, signing_gone, signing_item}
 use Rattle.mod_signing.proofs.TableLemmas.{cons_total}
@@ -150,13 +149,3 @@ signing_added kept cons s sorted = row-added cons_cmp cons_total AnyValue signin
 pub no_signing : (i : Item) → ((c : List ℕ) (f : SigningInfo) (r : List Bool) → i ≡ item.Signing c f r → ⊥) → is_signing i ≡ false
 no_signing (item.Signing c f r) h = absurd (h c f r refl)
 no_signing _ h = refl
-
--- where there is room for a record, its address has none
-pub room_none : (kept : Kept) (cons : List ℕ) (s : Signed) → HasRoom (items_of kept) (signing_item cons s) → signed_of kept cons ≡ None
-room_none kept cons s room = by (signed_of kept cons) refl
-  where
-    by : (r : Option Signed) → signed_of kept cons ≡ r → r ≡ None
-    by None e = refl
-    by (Some k) e =
-        let row = row-member cons_cmp cons_total AnyValue signing_item signing_gone same_signed signing_entry signings_are_rowed kept (signing_item cons k) (cons, k, refl, e) in
-        absurd (room (signing_item cons k) (contained (items_of kept) (signing_item cons k) row) refl)

@@ -5,6 +5,8 @@ pub mod ItemLemmas
 pub mod LoopLemmas
 pub mod MarkLemmas
 pub mod PutLemmas
+pub mod ResizeLemmas
+pub mod ResizedLemmas
 pub mod RingLemmas
 pub mod SettledLemmas
 pub mod SlashLemmas

@@ -24,7 +24,7 @@ next_around n w h =
     let some : 0 < w = omega (arith, h) in
     ap (λ x. x % w) (sym whole) ∙ mod-mul-add (n / w + 1) w 0 some
 
-next_low : (n w : ℕ) → n < w → n % w ≡ n
+pub next_low : (n w : ℕ) → n < w → n % w ≡ n
 next_low n w h = ap (λ x. x % w) (the_same n w) ∙ mod-mul-add 0 w n h
   where
     the_same : (k v : ℕ) → k ≡ 0 * v + k
@@ -36,7 +36,7 @@ next_low n w h = ap (λ x. x % w) (the_same n w) ∙ mod-mul-add 0 w n h
 abbrev pub turned : ℕ → List Bool → List Bool
 turned k ring = drop k ring ++ take k ring
 
-turned_length : (k : ℕ) (ring : List Bool) → length (turned k ring) ≡ length ring
+pub turned_length : (k : ℕ) (ring : List Bool) → length (turned k ring) ≡ length ring
 turned_length k ring = omega (arith, length-append (drop k ring) (take k ring), length-append (take k ring) (drop k ring), ap length (take-append-drop k ring))
 
 -- a ring has as many places as the window has votes

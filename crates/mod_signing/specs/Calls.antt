@@ -48,6 +48,14 @@ abbrev pub told_of_signed : Option Signed → Option (SigningInfo × ℕ)
 told_of_signed None = None
 told_of_signed (Some s) = Some (s.info, length s.ring)
 
+-- an entry under its consensus address: the address, the info, and how many places the ring has
+abbrev pub entry_told : List ℕ × Entry → List ℕ × SigningInfo × ℕ
+entry_told e = (e.0, e.1.info, e.1.places)
+
+-- the same of a record
+abbrev pub signed_told : List ℕ × Signed → List ℕ × SigningInfo × ℕ
+signed_told e = (e.0, e.1.info, length e.1.ring)
+
 -- the votes of a record's ring, and none where there is no record
 abbrev pub ring_if : Option Signed → List Bool
 ring_if None = []

@@ -1,5 +1,5 @@
--- How the signing records that are kept stand for plain ones, in which no vote is ever forgotten; and what the window's hooks
--- tell.
+-- How the signing records that are kept stand for plain ones, in which a vote is forgotten only where the window changes; and
+-- what the window's hooks tell.
 use Rattle.std.specs.Prelude.{◌≡◌, ℕ, ◌≤◌, false, true, List, [], ◌∷◌, map, Option, Some, None, ⊤}
 use Rattle.base_roles.specs.declared.entities.SigningInfo.{SigningInfo}
 use Rattle.base_roles.specs.Hooks.{Tells}
@@ -7,7 +7,7 @@ use Rattle.base_roles.specs.World.{Told, gives, exceeds}
 use Rattle.rule_modules.specs.Window.{Signing, Window, IsRing, info_of, window_told}
 use Rattle.mod_signing.specs.Kept.{Signed, Kept, signed_of, with_signed}
 
--- the plain records, in which no vote is ever forgotten
+-- the plain records, in which a vote is forgotten only where the window changes
 abbrev pub AllVotes : Type 0
 AllVotes = Window
 

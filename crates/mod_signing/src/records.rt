@@ -77,7 +77,9 @@ impl Records for Window {
         }
         self.tables.known();
         match item {
-            Item::Signing { cons, info, ring } => self.tables.add(cons, info, ring, steps)?,
+            Item::Signing { cons, info, ring } => {
+                self.tables.put_record(cons, info, ring, steps)?
+            }
             _ => return Ok(false),
         }
         Ok(true)

@@ -1,15 +1,15 @@
 //! The two tables of the window: they are marked together, and each change is of one record.
 
-ghost use Rattle.std.specs.Prelude.{◌≡◌, ℕ, List, Bool, false, ◌++◌, ◌+◌, ◌/◌, ◌≤◌, ◌<◌, [], take, length, true, None, ◌⊎◌, OnOk, OnErr, IsErr, IsSome};
+ghost use Rattle.std.specs.Prelude.{◌≡◌, ℕ, List, Bool, false, ◌++◌, ◌+◌, ◌/◌, ◌≤◌, ◌<◌, [], take, length, true, None, ◌⊎◌, OnOk, OnErr, IsErr, IsSome, option_map};
 ghost use Rattle.std.specs.Option.{option_copied};
 ghost use Rattle.std.specs.Ordering.{is_eq};
 ghost use Rattle.base_types.specs.Orders.{cons_cmp};
-ghost use Rattle.base_table.specs.Tabled.{spent_now, value_at, with_value};
+ghost use Rattle.base_table.specs.Tabled.{entry_above, spent_now, value_at, with_value};
 ghost use Rattle.base_roles.specs.declared.items.Item.{Item};
 ghost use Rattle.base_roles.specs.Items.{AreChanges, IsOnce};
 ghost use Rattle.mod_signing.specs.Kept.{Signed, signed_of, with_signed, new_window, keeping, behind, with_mark, AreInOrder, IsGoneBack, IsForgotten};
 ghost use Rattle.mod_signing.specs.Rings.{ring_of, ring_with, row_cmp};
-ghost use Rattle.mod_signing.specs.Calls.{IsRow, ring_at, told_of_entry, told_of_signed};
+ghost use Rattle.mod_signing.specs.Calls.{IsRow, entry_told, ring_at, signed_told, told_of_entry, told_of_signed};
 ghost use Rattle.mod_signing.specs.Items.{items_of};
 
 use crate::bits::{PLACES, with_place};
@@ -77,6 +77,21 @@ impl Tables {
         ensures cost { steps.new ≡ steps.old + 1 }
     {
         self.entries.get(cons, steps)
+    }
+
+    /// The least consensus address above another, or of all, with its info and how many places its ring has.
+    pub(crate) fn next<L: Ledger>(
+        &self,
+        after: Option<&ConsAddr>,
+        steps: &mut Steps<L>,
+    ) -> Option<(&ConsAddr, &Entry)>
+        ensures above { option_map (λ e. entry_told (e.0.now, e.1.now)) result
+            ≡ option_map signed_told
+            (entry_above cons_cmp self.now.kept (option_copied after.entry)) }
+        ensures ordered { AreInOrder self.now.kept }
+    {
+        self.known();
+        self.entries.next(after, steps)
     }
 
     /// A row of the ring of a consensus address, which has 128 places of it.
@@ -167,15 +182,14 @@ impl Tables {
         }
     }
 
-    /// Adds a record of a consensus address that has none.
-    pub(crate) fn add<L: Ledger>(
+    /// Puts a record of a consensus address: an info, and a whole ring in the place of the one that stood there.
+    pub(crate) fn put_record<L: Ledger>(
         &mut self,
         cons: &ConsAddr,
         info: &SigningInfo,
         ring: &Listed<bool>,
         steps: &mut Steps<L>,
     ) -> Result<(), TableFault>
-        requires new { signed_of self.old.kept cons.now ≡ None }
         ensures ok { OnOk result (self.new ≡ keeping (with_signed cons.now (record {
           info = info.now;
           ring = ring.now;

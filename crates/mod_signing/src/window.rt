@@ -14,8 +14,8 @@ use std::sync::ledger::Ledger;
 /// Signing records by consensus address. Contracts see the records that stand, those at each open mark, those
 /// at the last settling, and whether memory was wanting in a change.
 ///
-/// The records stand for plain ones, in which no vote is ever forgotten: `KeepsSignings` says how, for the
-/// window of the parameters. Each call carries them from plain records to those that the rule leaves.
+/// The records stand for plain ones, in which a vote is forgotten only where the window changes:
+/// `KeepsSignings` says how, for the window of the parameters. Each call carries them from plain records to those that the rule leaves.
 #[derive(Drop)]
 pub struct Window {
     pub(crate) tables: Tables,

@@ -2,6 +2,7 @@ pub mod HistoryRows
 pub mod LeavingRows
 pub mod LifeRows
 pub mod OutcomeRows
+pub mod ParameterRows
 pub mod RandomRows
 pub mod SoundRows
 pub mod WholeRows

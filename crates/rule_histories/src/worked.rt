@@ -7,6 +7,7 @@ ghost use Rattle.rule_histories.specs.LifeRows.{GenesisIsTold, BlocksAreTold, En
 ghost use Rattle.rule_histories.specs.LeavingRows.{LeavingIsTold, GoneAtOnce, HeldWhileUnbonded, GoneWithLastDelegation, BegunAnew, HeldWithoutShares, GoneAsItMatures};
 ghost use Rattle.rule_histories.specs.RandomRows.{RandomHistory, HoldsAfterHistory, BurnsAfterHistory};
 ghost use Rattle.rule_histories.specs.OutcomeRows.{CreationsAreRefused, RatesChangeDayByDay, TwoBlocksEnd};
+ghost use Rattle.rule_histories.specs.ParameterRows.{ChangesAreRefused, ChangeStays, AllIsTaxed};
 ghost use Rattle.rule_histories.specs.SoundRows.{SoundnessIsMet};
 
 /// Runs, transactions and geneses by example.
@@ -98,4 +99,12 @@ pub fn outcomes_by_example()
     ensures creations { CreationsAreRefused }
     ensures rates { RatesChangeDayByDay }
     ensures outcomes { TwoBlocksEnd }
+{}
+
+/// Parameters that change: refused or not, what follows sees them, and a refused transaction takes them
+/// back.
+pub fn changed_parameters_by_example()
+    ensures refusals { ChangesAreRefused }
+    ensures stays { ChangeStays }
+    ensures tax { AllIsTaxed }
 {}

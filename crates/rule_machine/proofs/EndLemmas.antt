@@ -1,4 +1,4 @@
--- Each transaction ends in one of three ways, whatever messages do, and six kinds of messages name a condition.
+-- Each transaction ends in one of three ways, whatever messages do, and seven kinds of messages name a condition.
 use Rattle.std.proofs.Common.{◌≡◌, ℕ, ◌+◌, Bool, true, false, List, [], ◌∷◌, Result, Ok, Err, refl, sym, ap, subst, arith}
 use Rattle.std.specs.Prelude.{map}
 use Rattle.base_roles.specs.declared.refusal.Refusal.{Refusal}
@@ -91,6 +91,7 @@ plain_messages_name_conditions all (msg.Unjail m) w h = all.unjails m.validator 
 plain_messages_name_conditions all (msg.WithdrawCommission m) w h = all.commissions m.validator w
 plain_messages_name_conditions all (msg.SetWithdrawAddress m) w h = all.payees m.delegator m.withdraw w
 plain_messages_name_conditions all (msg.CommunityPoolSpend m) w h = all.spends m.authority m.recipient m.coins w
+plain_messages_name_conditions all (msg.UpdateParams m) w h = all.updates m.authority m.params w
 plain_messages_name_conditions all (msg.CreateValidator m) w h = absurd cc
 plain_messages_name_conditions all (msg.Delegate m) w h = absurd cc
 plain_messages_name_conditions all (msg.Undelegate m) w h = absurd cc

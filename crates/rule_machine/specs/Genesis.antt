@@ -1,5 +1,5 @@
 -- What the accounts of a genesis hold, and conditions on its parameters, its accounts and the amounts.
-use Rattle.std.specs.Prelude.{ℕ, ◌+◌, ◌^◌, ◌==◌, nat_lt, nat_le, ◌&&◌, ◌||◌, Bool, if◌then◌else◌, List, [], ◌∷◌, map, length, Option, Some, None}
+use Rattle.std.specs.Prelude.{ℕ, ◌+◌, ◌^◌, ◌==◌, nat_lt, ◌||◌, Bool, if◌then◌else◌, List, [], ◌∷◌, map, length, Option, Some, None, is_none}
 use Rattle.std.specs.List.{list_any}
 use Rattle.base_types.specs.declared.account.Account.{Account}
 use Rattle.base_types.specs.Orders.{account_cmp}
@@ -8,6 +8,7 @@ use Rattle.base_roles.specs.declared.params.Params.{Params}
 use Rattle.base_roles.specs.Entries.{number_at, with_number}
 use Rattle.base_roles.specs.Holdings.{Balances, Holdings}
 use Rattle.base_roles.specs.Orders.{place_cmp}
+use Rattle.base_roles.specs.Ranges.{out_of_range}
 use Rattle.base_messages.specs.declared.genesis.GenesisAccount.{GenesisAccount}
 use Rattle.rule_modules.specs.Withdrawals.{is_module}
 
@@ -39,26 +40,9 @@ held_at_start accounts = record { balances = balances_with accounts []; supplies
 
 -- ---- why a genesis starts nothing
 
--- the number is from the one to the other
-abbrev pub is_within : ℕ → ℕ → ℕ → Bool
-is_within least most n = nat_le least n && nat_le n most
-
--- the parameters are in their ranges; the unit of rates and fractions is 10^-18
+-- the parameters are in their ranges
 abbrev pub are_in_range : Params → Bool
-are_in_range p =
-    is_within 1 (10 ^ 18) p.power_reduction
-    && is_within 1 (10 ^ 9) p.unbonding_time
-    && is_within 1 1000 p.max_validators
-    && is_within 1 100 p.max_entries
-    && nat_le p.min_commission_rate (10 ^ 18)
-    && nat_le p.community_tax (10 ^ 18)
-    && is_within 1 100000 p.signed_blocks_window
-    && nat_le p.min_signed_per_window (10 ^ 18)
-    && nat_le p.downtime_jail_duration (10 ^ 9)
-    && nat_le p.slash_fraction_double_sign (10 ^ 18)
-    && nat_le p.slash_fraction_downtime (10 ^ 18)
-    && nat_le p.max_age_duration (10 ^ 9)
-    && nat_lt p.max_age_num_blocks (2 ^ 63)
+are_in_range p = is_none (out_of_range p)
 
 -- an account is a module's, or stands twice
 abbrev pub has_wrong_account : List GenesisAccount → Bool

@@ -2,7 +2,8 @@
 use Rattle.base_messages.specs.declared.message.Msg.{Msg}
 use Rattle.base_messages.specs.declared.message.Msg.TheVariants as msg
 use Rattle.rule_modules.specs.Effects.{Effect, send, create_validator, edit_validator, delegate, undelegate, begin_redelegate, cancel_unbonding, unjail, withdraw_reward, withdraw_commission, set_withdraw_address, fund_community_pool, community_pool_spend}
-use Rattle.rule_modules.specs.RefusalOrder.{Order, against_send, against_create, against_edit, against_delegate, against_undelegate, against_redelegate, against_cancel, against_unjail, against_reward, against_commission, against_payee, against_fund, against_spend}
+use Rattle.rule_modules.specs.RefusalOrder.{Order, against_send, against_create, against_edit, against_delegate, against_undelegate, against_redelegate, against_cancel, against_unjail, against_reward, against_commission, against_payee, against_fund, against_spend, against_update}
+use Rattle.rule_modules.specs.Parameters.{update_params}
 
 -- the effect of a message (Cosmos SDK: `MsgServiceRouter.Handler`)
 abbrev pub effect_of : Msg → Effect
@@ -19,6 +20,7 @@ effect_of (msg.WithdrawCommission m) = withdraw_commission m.validator
 effect_of (msg.SetWithdrawAddress m) = set_withdraw_address m.delegator m.withdraw
 effect_of (msg.FundCommunityPool m) = fund_community_pool m.depositor m.coins
 effect_of (msg.CommunityPoolSpend m) = community_pool_spend m.authority m.recipient m.coins
+effect_of (msg.UpdateParams m) = update_params m.authority m.params
 
 -- the conditions against a message, in their order (own: the order)
 abbrev pub against : Msg → Order
@@ -35,3 +37,4 @@ against (msg.WithdrawCommission m) = against_commission m.validator
 against (msg.SetWithdrawAddress m) = against_payee m.withdraw
 against (msg.FundCommunityPool m) = against_fund m.depositor m.coins
 against (msg.CommunityPoolSpend m) = against_spend m.authority m.recipient m.coins
+against (msg.UpdateParams m) = against_update m.authority m.params

@@ -138,9 +138,10 @@ is_plain (msg.Unjail m) = true
 is_plain (msg.WithdrawCommission m) = true
 is_plain (msg.SetWithdrawAddress m) = true
 is_plain (msg.CommunityPoolSpend m) = true
+is_plain (msg.UpdateParams m) = true
 is_plain _ = false
 
--- Proved: six kinds of messages are refused by the first of their conditions that holds, and accepted where none does,
+-- Proved: seven kinds of messages are refused by the first of their conditions that holds, and accepted where none does,
 -- in every state.
 abbrev pub PlainMessagesNameConditions : Type 0
 PlainMessagesNameConditions = (m : Msg) (w : State) → is_plain m ≡ true → refusal_of (effect_of m) w ≡ first_of (against m w)

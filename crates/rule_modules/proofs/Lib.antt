@@ -3,6 +3,7 @@ pub mod EntryLemmas
 pub mod GoingLemmas
 pub mod OperatorLemmas
 pub mod OrderLemmas
+pub mod ParameterLemmas
 pub mod PartLemmas
 pub mod RefusalLemmas
 pub mod SlashParts

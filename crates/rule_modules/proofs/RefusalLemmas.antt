@@ -30,6 +30,7 @@ use Rattle.rule_modules.specs.Effects.{send, coins_sent, edit_validator, unjail,
 use Rattle.rule_modules.specs.Purses.{with_purse, commission_due, commission_paid, is_above_pool, pool_lowered}
 use Rattle.rule_modules.specs.RefusalOrder.{refused_in, refusal_of, AreRefusedAnywhere, against_send, against_payee, against_commission, against_spend, against_leaving, against_unjail, against_edit, against_rate, against_minimum}
 use Rattle.rule_modules.specs.Validators.{edited, rate_edited, minimum_edited}
+use Rattle.rule_modules.proofs.ParameterLemmas.{updates_refused}
 use Rattle.rule_modules.specs.Window.{Signing, signing_of, may_leave, unjailed}
 use Rattle.rule_modules.specs.Withdrawals.{payee_set, commission_withdrawn, pool_spent, is_module}
 
@@ -213,4 +214,5 @@ are_refused_anywhere = record {
   commissions = commissions_refused;
   payees = payees_refused;
   spends = spends_refused;
+  updates = updates_refused;
 }

@@ -13,6 +13,7 @@ pub mod Fixtures
 pub mod Ideal
 pub mod Laws
 pub mod Owed
+pub mod Parameters
 pub mod Periods
 pub mod Purses
 pub mod Redelegations

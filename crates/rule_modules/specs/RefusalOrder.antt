@@ -1,5 +1,5 @@
 -- The order of conditions of each kind of message, and that a message is refused by the first that holds.
-use Rattle.std.specs.Prelude.{◌≡◌, ℕ, ◌+◌, ◌-◌, ◌^◌, ◌==◌, not, false, nat_lt, nat_le, List, [], ◌∷◌, Option, Some, None, unwrap_or, is_some, is_none, Result, Ok, Err}
+use Rattle.std.specs.Prelude.{◌≡◌, ℕ, ◌+◌, ◌-◌, ◌^◌, ◌==◌, not, false, nat_lt, nat_le, List, [], ◌∷◌, Option, Some, None, option_map, unwrap_or, is_some, is_none, Result, Ok, Err}
 use Rattle.base_types.specs.declared.account.Account.{Account}
 use Rattle.base_types.specs.declared.account.Account.TheVariants as account
 use Rattle.base_decimals.specs.Decimals.{whole_of}
@@ -7,16 +7,19 @@ use Rattle.base_coins.specs.declared.coin.Coin.{Coin}
 use Rattle.base_coins.specs.Coins.{Money, IsMoney}
 use Rattle.base_roles.specs.declared.messages.CreateValidator.{CreateValidator}
 use Rattle.base_roles.specs.declared.messages.EditValidator.{EditValidator}
+use Rattle.base_roles.specs.declared.params.Params.{Params}
 use Rattle.base_roles.specs.declared.refusal.Refusal.{Refusal}
-use Rattle.base_roles.specs.declared.refusal.Refusal.TheVariants.{InsufficientFunds, ModuleRecipient, WrongDenom, NonPositive, NoValidator, ValidatorExists, ConsKeyExists, CommissionRange, CommissionBelowMinimum, CommissionTooSoon, CommissionAboveMax, CommissionStep, MinSelfNotPositive, SelfBelowMinimum, MinSelfNotRaised, NoDelegation, TooManyShares, NoTokens, RateInvalid, UnbondingsFull, SelfRedelegation, Transitive, RedelegationsFull, TinyRedelegation, Jailed, NoEntry, CancelTooMuch, NotJailed, NoSelfDelegation, StillJailed, Tombstoned, NoCommission, PoolTooSmall, NotAuthority, WithdrawFixed, TinyDelegation}
+use Rattle.base_roles.specs.declared.refusal.Refusal.TheVariants.{InsufficientFunds, ModuleRecipient, WrongDenom, NonPositive, NoValidator, ValidatorExists, ConsKeyExists, CommissionRange, CommissionBelowMinimum, CommissionTooSoon, CommissionAboveMax, CommissionStep, MinSelfNotPositive, SelfBelowMinimum, MinSelfNotRaised, NoDelegation, TooManyShares, NoTokens, RateInvalid, UnbondingsFull, SelfRedelegation, Transitive, RedelegationsFull, TinyRedelegation, Jailed, NoEntry, CancelTooMuch, NotJailed, NoSelfDelegation, StillJailed, Tombstoned, NoCommission, PoolTooSmall, NotAuthority, ParamRange, ParamFixed, WithdrawFixed, TinyDelegation}
 use Rattle.base_roles.specs.Holdings.{is_short}
 use Rattle.base_roles.specs.Orders.{same_addr}
+use Rattle.base_roles.specs.Ranges.{out_of_range}
 use Rattle.base_roles.specs.Staked.{validator_by_cons}
 use Rattle.rule_modules.specs.Amounts.{bond_coins, is_empty, seconds}
 use Rattle.rule_modules.specs.Chain.{State, shared_in}
 use Rattle.rule_modules.specs.Conditions.{when, first_of, over_in, said_of, lacks_validator, lacks_delegation, has_no_rate, has_no_tokens, is_jailed, asks_too_much, out_for, shares_over, is_tiny, reward_over, cannot_pay, has_most_unbondings, has_most_redelegations, cancelled_entry, cancels_too_much, has_too_little, record_of, has_no_commission}
 use Rattle.rule_modules.specs.Delegating.{is_wrong}
 use Rattle.rule_modules.specs.Effects.{Effect, send, create_validator, edit_validator, delegate, undelegate, begin_redelegate, cancel_unbonding, unjail, withdraw_reward, withdraw_commission, set_withdraw_address, fund_community_pool, community_pool_spend}
+use Rattle.rule_modules.specs.Parameters.{fixed_changed, update_params}
 use Rattle.rule_modules.specs.Purses.{is_above_pool}
 use Rattle.rule_modules.specs.Redelegations.{is_transitive}
 use Rattle.rule_modules.specs.Sound.{IsSound}
@@ -194,6 +197,14 @@ against_spend authority to coins w =
     ∷ when (is_above_pool coins (shared_in w).purses) PoolTooSmall
     ∷ []
 
+-- replacing the parameters
+abbrev pub against_update : List ℕ → Params → Order
+against_update authority p w =
+    when (not (same_addr authority w.view.ctx.params.authority)) NotAuthority
+    ∷ option_map ParamRange (out_of_range p)
+    ∷ option_map ParamFixed (fixed_changed w.view.ctx.params p)
+    ∷ []
+
 -- ---- what a message is refused by
 
 -- the refusal of a message in a state, if it is refused
@@ -205,7 +216,7 @@ refused_in (Err why) = Some why
 abbrev pub refusal_of : Effect → State → Option Refusal
 refusal_of f w = refused_in (f w)
 
--- Six kinds of messages are refused so in every state, sound or not.
+-- Seven kinds of messages are refused so in every state, sound or not.
 pub record AreRefusedAnywhere : Type 0 where
   pub sends : (from : List ℕ) (to : Account) (coins : Money) (w : State) → refusal_of (send from to coins) w ≡ first_of (against_send from to coins w)
   pub edits : (m : EditValidator) (w : State) → refusal_of (edit_validator m) w ≡ first_of (against_edit m w)
@@ -213,6 +224,7 @@ pub record AreRefusedAnywhere : Type 0 where
   pub commissions : (operator : List ℕ) (w : State) → refusal_of (withdraw_commission operator) w ≡ first_of (against_commission operator w)
   pub payees : (delegator : List ℕ) (to : Account) (w : State) → refusal_of (set_withdraw_address delegator to) w ≡ first_of (against_payee to w)
   pub spends : (authority : List ℕ) (to : Account) (coins : Money) (w : State) → refusal_of (community_pool_spend authority to coins) w ≡ first_of (against_spend authority to coins w)
+  pub updates : (authority : List ℕ) (p : Params) (w : State) → refusal_of (update_params authority p) w ≡ first_of (against_update authority p w)
 
 -- In every sound state a message is refused by the first of its conditions that holds, and accepted where none does.
 abbrev pub IsRefusedBy : Effect → Order → Type 0

@@ -8,12 +8,14 @@ use Rattle.base_roles.specs.declared.messages.EditValidator.{EditValidator}
 use Rattle.base_roles.specs.declared.messages.Evidence.{Evidence}
 use Rattle.base_roles.specs.declared.messages.Vote.{Vote}
 use Rattle.base_roles.specs.declared.entities.Validator.{Validator}
+use Rattle.base_roles.specs.declared.params.Params.{Params}
 use Rattle.base_roles.specs.Ground.{end_of_blocks}
 use Rattle.base_roles.specs.Holdings.{supply_of}
 use Rattle.base_roles.specs.Items.{IsOnce}
 use Rattle.base_roles.specs.Staked.{validator_by_cons}
 use Rattle.rule_modules.specs.Chain.{State, vote_step, evidence_step, allocation_step, set_step, window_in, maturing_step, unbondings_step, redelegations_step}
 use Rattle.rule_modules.specs.Effects.{send, create_validator, edit_validator, delegate, undelegate, begin_redelegate, cancel_unbonding, unjail, withdraw_reward, withdraw_commission, set_withdraw_address, fund_community_pool, community_pool_spend, fee_paid}
+use Rattle.rule_modules.specs.Parameters.{update_params}
 use Rattle.rule_modules.specs.Sound.{IsSound}
 use Rattle.rule_modules.specs.Window.{Signing, signing_of}
 use Rattle.rule_modules.specs.Laws.{next_block, burned_in}
@@ -48,6 +50,7 @@ pub record KeptByMessages (P : State → State → Type 0) : Type 0 where
   pub payees : (delegator : List ℕ) (to : Account) → KeptByStep P (set_withdraw_address delegator to)
   pub funds : (who : List ℕ) (coins : Money) → IsMoney coins → KeptByStep P (fund_community_pool who coins)
   pub spends : (authority : List ℕ) (to : Account) (coins : Money) → IsMoney coins → KeptByStep P (community_pool_spend authority to coins)
+  pub updates : (authority : List ℕ) (p : Params) → KeptByStep P (update_params authority p)
 
 -- a power that a block may name, in tokens
 abbrev pub IsPower : ℕ → State → Type 0

@@ -1,6 +1,6 @@
 -- Missed votes, downtime, and leaving jail (`x/slashing/keeper`: `HandleValidatorSignature`, `AfterValidatorBonded`,
 -- `Unjail`).
-use Rattle.std.specs.Prelude.{◌≡◌, ◌<◌, ℕ, ◌+◌, ◌-◌, ◌*◌, ◌%◌, ◌&&◌, not, Bool, false, nat_lt, if◌then◌else◌, List, [], ◌∷◌, ◌++◌, take, drop, reverse, length, Option, Some, None, Result, Ok, ⊤}
+use Rattle.std.specs.Prelude.{◌≡◌, ◌<◌, ℕ, ◌+◌, ◌-◌, ◌*◌, ◌%◌, ◌==◌, ◌&&◌, min, not, Bool, false, nat_lt, if◌then◌else◌, List, [], ◌∷◌, ◌++◌, map, take, drop, reverse, length, Option, Some, None, Result, Ok, ⊤}
 use Rattle.base_decimals.specs.declared.over.Over.{Over}
 use Rattle.base_decimals.specs.Decimals.{round_int_of, trunc_of}
 use Rattle.base_types.specs.Orders.{cons_cmp}
@@ -21,7 +21,8 @@ use Rattle.base_roles.specs.World as hook
 use Rattle.rule_modules.specs.Amounts.{count_where, seconds}
 use Rattle.rule_modules.specs.Slashing.{Slashes, jail_lent}
 
--- What is known of a consensus address: all votes since the last reset, the latest first, true where one was missed.
+-- What is known of a consensus address: all votes since the last reset, the latest first, true where one was missed; of
+-- those before a change of the window the last that both windows hold.
 pub record Signing : Type 0 where
   pub start : ℕ
   pub votes : List Bool
@@ -75,6 +76,19 @@ window_told i (hook.starting v delegator) w = gives i w []
 window_told i (hook.modifying v delegator shares) w = gives i w []
 window_told i (hook.modified v delegator shares) w = gives i w []
 window_told i (hook.slashing v fraction) w = gives i w []
+
+-- ---- a window that changes
+
+-- a record of whose votes the last so many stay
+abbrev pub votes_kept : ℕ → Signing → Signing
+votes_kept most s = record s { votes = take most s.votes }
+
+-- The signing records after the window changed: of each the last votes that both windows hold. Where it did not change,
+-- nothing does (own).
+abbrev pub window_resized : ℕ → ℕ → Window → Window
+window_resized old new i = if old == new then i else map (λ e. (e.0, votes_kept (min old new) e.1)) i
+
+-- ---- missed votes
 
 -- as many misses as are allowed: the window less its part that is to be signed (`MinSignedPerWindow`)
 abbrev pub allowed_of : Params → ℕ

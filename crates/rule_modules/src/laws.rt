@@ -35,8 +35,8 @@ pub fn references_follow_the_records()
     ensures slashed { ReferencesAfterEvent }
 {}
 
-/// Sending, editing a validator, leaving jail, withdrawing commission, naming a payee and spending from the pool are
-/// refused by the first of their conditions that holds, and accepted where none does.
+/// Sending, editing a validator, leaving jail, withdrawing commission, naming a payee, spending from the pool and replacing
+/// the parameters are refused by the first of their conditions that holds, and accepted where none does.
 #[tactic(auto, using(crate::proofs::RefusalLemmas::are_refused_anywhere))]
 pub fn refusals_name_conditions()
     ensures { AreRefusedAnywhere }

@@ -1,4 +1,5 @@
 pub mod Fees
+pub mod Parameters
 pub mod Shares
 pub mod Slashes
 pub mod Stakes

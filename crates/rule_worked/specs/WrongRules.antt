@@ -1,5 +1,5 @@
 -- Two histories of a validator with a slash, and what wrong rules would pay there.
-use Rattle.std.specs.Prelude.{◌≡◌, ℕ, ◌+◌, ◌-◌, ◌*◌, ◌/◌, ◌^◌, List, [], ◌∷◌}
+use Rattle.std.specs.Prelude.{◌≡◌, ℕ, ◌+◌, ◌-◌, ◌*◌, ◌/◌, ◌^◌, [], ◌∷◌}
 use Rattle.base_coins.specs.Coins.{Money, amount_of}
 use Rattle.base_roles.specs.Log.{Log}
 use Rattle.base_roles.specs.Log as log

@@ -2,6 +2,7 @@
 
 ghost use Rattle.rule_worked.specs.Fees.{WithTaxAndCommission, WithoutTaxAndCommission, SharedByThree, RewardIsPending, DelegatingWithReward, DelegatingTooMuch, NothingLeftToDelegate, AllocatedWithoutTokens, WithdrawingWithoutTokens, PoolAndCommission};
 ghost use Rattle.rule_worked.specs.Shares.{DelegatingTen, UndelegatingTen, UndelegatingAlmostAll, StartedAtOldTokens, IssuingTooMany, UndelegatingAll, NothingIsLeft, CreatedAgain, BurningOneOfThree};
+ghost use Rattle.rule_worked.specs.Parameters.{WindowShrinks, ShrunkIsPunished, WindowGrows, GrownCounts, OutOfRange, Fixed, NotByOthers, TaxOfAll, ChangeIsTakenBack, RefusedBehindIt};
 ghost use Rattle.rule_worked.specs.Slashes.{UnbondingsUnderEvidence, SlashedTwice, WithdrawnAfterBoth, WithdrawnInTheBlock, FollowedIntoAnEntry, WithdrawnBehindTheEntry, AllBurnedInAnEntry, PunishedOnce, NeverUnjailed, TooOld, FiveMissed, SixMissed, StillInJail, OutOfJail};
 ghost use Rattle.rule_worked.specs.Stakes.{TransitiveIsRefused, LowerIsBonded, SetChanges, UnbondingsMature, CommissionEdits, Cancelling};
 
@@ -110,4 +111,19 @@ pub fn commission_edits()
 /// An unbonding is cancelled.
 pub fn cancelled_unbonding()
     ensures { Cancelling }
+{}
+
+/// Parameters that change: the window shrinks and grows, refusals, a tax of all fees, and a change that
+/// is taken back.
+pub fn changed_parameters()
+    ensures shrinks { WindowShrinks }
+    ensures punished { ShrunkIsPunished }
+    ensures grows { WindowGrows }
+    ensures counts { GrownCounts }
+    ensures range { OutOfRange }
+    ensures fixed { Fixed }
+    ensures others { NotByOthers }
+    ensures tax { TaxOfAll }
+    ensures back { ChangeIsTakenBack }
+    ensures refused { RefusedBehindIt }
 {}

@@ -215,6 +215,7 @@ holds_message d = past _ _ (member_at (spelled_by messages.kind_of) 90 (codes "k
     by kind.SetWithdrawAddress = another (messages.set_withdraw_address_of d) msg.SetWithdrawAddress (λ x. tt)
     by kind.FundCommunityPool = with_coins FundHasCoins (messages.fund_community_pool_of d) msg.FundCommunityPool (holds_fund d) (λ x money. money)
     by kind.CommunityPoolSpend = with_coins SpendHasCoins (messages.community_pool_spend_of d) msg.CommunityPoolSpend (holds_spend d) (λ x money. money)
+    by kind.UpdateParams = another (messages.update_params_of d) msg.UpdateParams (λ x. tt)
 
 -- ---- transactions and blocks
 

@@ -3,7 +3,7 @@ use Rattle.std.proofs.Common.{◌≡◌, ◌∙◌, ap, sym, refl, ℕ, List, []
 use Rattle.json.specs.Token.{Token, begin_object, end_object, key}
 use Rattle.serde_json.specs.Data.{Data, string, member, no_members}
 use Rattle.line_json.specs.Told.{data_tokens}
-use Rattle.line_json.specs.Values.{count_data, moment_data}
+use Rattle.line_json.specs.Values.{address_data, count_data, moment_data}
 use Rattle.base_roles.specs.declared.messages.Evidence.{Evidence}
 use Rattle.base_roles.specs.declared.messages.Vote.{Vote}
 use Rattle.base_messages.specs.declared.block.Block.{Block}
@@ -12,7 +12,9 @@ use Rattle.base_messages.specs.declared.genesis.Genesis.{Genesis}
 use Rattle.base_messages.specs.declared.genesis.GenesisAccount.{GenesisAccount}
 use Rattle.base_messages.specs.declared.genesis.GenesisDelegation.{GenesisDelegation}
 use Rattle.base_messages.specs.declared.genesis.GenesisValidator.{GenesisValidator}
-use Rattle.run_generated.specs.Lines.{block_data, delegation_data, evidence_data, genesis_data, holder_data, list_data, member_tokens, params_data, tx_data, validator_data, vote_data}
+use Rattle.base_messages.specs.declared.message.Msg.TheVariants as msg
+use Rattle.base_messages.specs.declared.message.UpdateParams.{UpdateParams}
+use Rattle.run_generated.specs.Lines.{block_data, delegation_data, evidence_data, genesis_data, holder_data, list_data, member_tokens, message_data, params_data, tx_data, validator_data, vote_data}
 
 -- a part was written
 grown : (old new part rest whole : List Token) → new ≡ old ++ part → old ++ (part ++ rest) ≡ whole → new ++ rest ≡ whole
@@ -132,3 +134,29 @@ genesis_told g accounts delegations validators old t0 t1 t2 t3 t4 t5 t6 t7 t8 a 
     let s6 : t6 ++ validators_on g ≡ whole = one_grown (codes "time") (moment_data g.time) t5 t6 (validators_on g) whole e6 s5 in
     let s7 : t7 ++ end ≡ whole = list_grown (codes "validators") validator_data validators g.validators t6 t7 end whole e7 v s6 in
     all_told t8 whole (grown t7 t8 end [] whole e8 s7)
+
+-- ---- a message that replaces the parameters
+
+abbrev replaced_on : UpdateParams → List Token
+replaced_on m = data_tokens (params_data m.params) ++ end
+
+abbrev replacing_on : UpdateParams → List Token
+replacing_on m = (key (codes "params") ∷ []) ++ replaced_on m
+
+abbrev sender_told : UpdateParams → List Token
+sender_told m = member_tokens (member (codes "authority") (address_data m.authority) (member (codes "kind") (string (codes "update_params")) no_members))
+
+pub update_told : (m : UpdateParams) (old t0 t1 t2 t3 t4 : List Token)
+    → t0 ≡ old ++ begin_object ∷ []
+    → t1 ≡ t0 ++ sender_told m
+    → t2 ≡ t1 ++ key (codes "params") ∷ []
+    → t3 ≡ t2 ++ data_tokens (params_data m.params)
+    → t4 ≡ t3 ++ end
+    → t4 ≡ old ++ data_tokens (message_data (msg.UpdateParams m))
+update_told m old t0 t1 t2 t3 t4 e0 e1 e2 e3 e4 =
+    let whole = old ++ data_tokens (message_data (msg.UpdateParams m)) in
+    let s0 : t0 ++ (sender_told m ++ replacing_on m) ≡ whole = grown old t0 (begin_object ∷ []) (sender_told m ++ replacing_on m) whole e0 refl in
+    let s1 : t1 ++ replacing_on m ≡ whole = grown t0 t1 (sender_told m) (replacing_on m) whole e1 s0 in
+    let s2 : t2 ++ replaced_on m ≡ whole = grown t1 t2 (key (codes "params") ∷ []) (replaced_on m) whole e2 s1 in
+    let s3 : t3 ++ end ≡ whole = grown t2 t3 (data_tokens (params_data m.params)) end whole e3 s2 in
+    all_told t4 whole (grown t3 t4 end [] whole e4 s3)

@@ -45,6 +45,20 @@ abbrev pub where_given : List ℕ → Option Data → List (List ℕ × Data) �
 where_given name None others = others
 where_given name (Some d) others = (name, d) ∷ others
 
+-- the parameters
+abbrev pub params_data : Params → Data
+params_data p =
+    object_of ((codes "authority", address_data p.authority) ∷ (codes "bond_denom", string p.bond_denom)
+    ∷ (codes "community_tax", decimal_data p.community_tax) ∷ (codes "downtime_jail_duration", count_data p.downtime_jail_duration)
+    ∷ (codes "max_age_duration", count_data p.max_age_duration) ∷ (codes "max_age_num_blocks", count_data p.max_age_num_blocks)
+    ∷ (codes "max_entries", count_data p.max_entries) ∷ (codes "max_validators", count_data p.max_validators)
+    ∷ (codes "min_commission_rate", decimal_data p.min_commission_rate)
+    ∷ (codes "min_signed_per_window", decimal_data p.min_signed_per_window)
+    ∷ (codes "power_reduction", count_data p.power_reduction) ∷ (codes "signed_blocks_window", count_data p.signed_blocks_window)
+    ∷ (codes "slash_fraction_double_sign", decimal_data p.slash_fraction_double_sign)
+    ∷ (codes "slash_fraction_downtime", decimal_data p.slash_fraction_downtime)
+    ∷ (codes "unbonding_time", count_data p.unbonding_time) ∷ (codes "withdraw_addr_enabled", boolean p.withdraw_addr_enabled) ∷ [])
+
 -- ---- messages
 
 abbrev pub message_data : Msg → Data
@@ -88,6 +102,9 @@ message_data (msg.FundCommunityPool m) =
 message_data (msg.CommunityPoolSpend m) =
     object_of ((codes "authority", address_data m.authority) ∷ (codes "coins", coins_data m.coins)
     ∷ kind (codes "community_pool_spend") ∷ (codes "recipient", account_data m.recipient) ∷ [])
+message_data (msg.UpdateParams m) =
+    object_of ((codes "authority", address_data m.authority) ∷ kind (codes "update_params")
+    ∷ (codes "params", params_data m.params) ∷ [])
 
 -- ---- a block
 
@@ -113,20 +130,6 @@ block_data b =
     ∷ (codes "time", moment_data b.time) ∷ (codes "txs", list_data tx_data b.txs) ∷ (codes "votes", list_data vote_data b.votes) ∷ [])
 
 -- ---- a genesis
-
--- the parameters
-abbrev pub params_data : Params → Data
-params_data p =
-    object_of ((codes "authority", address_data p.authority) ∷ (codes "bond_denom", string p.bond_denom)
-    ∷ (codes "community_tax", decimal_data p.community_tax) ∷ (codes "downtime_jail_duration", count_data p.downtime_jail_duration)
-    ∷ (codes "max_age_duration", count_data p.max_age_duration) ∷ (codes "max_age_num_blocks", count_data p.max_age_num_blocks)
-    ∷ (codes "max_entries", count_data p.max_entries) ∷ (codes "max_validators", count_data p.max_validators)
-    ∷ (codes "min_commission_rate", decimal_data p.min_commission_rate)
-    ∷ (codes "min_signed_per_window", decimal_data p.min_signed_per_window)
-    ∷ (codes "power_reduction", count_data p.power_reduction) ∷ (codes "signed_blocks_window", count_data p.signed_blocks_window)
-    ∷ (codes "slash_fraction_double_sign", decimal_data p.slash_fraction_double_sign)
-    ∷ (codes "slash_fraction_downtime", decimal_data p.slash_fraction_downtime)
-    ∷ (codes "unbonding_time", count_data p.unbonding_time) ∷ (codes "withdraw_addr_enabled", boolean p.withdraw_addr_enabled) ∷ [])
 
 -- an account
 abbrev pub holder_data : GenesisAccount → Data

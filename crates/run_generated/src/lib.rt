@@ -18,6 +18,7 @@ mod input;
 mod lines;
 mod messages;
 mod names;
+mod params;
 mod spelling;
 mod worked;
 

@@ -1,16 +1,16 @@
 //! The lines of an input: of a genesis, and of a block.
 ghost use Rattle.std.specs.Prelude.{◌≡◌, ◌++◌, IfErr, OnOk};
 ghost use Rattle.line_json.specs.Line.{line_of};
-ghost use Rattle.line_json.specs.Told.{data_tokens};
-ghost use Rattle.run_generated.specs.Lines.{block_data, block_line, delegation_data, evidence_data, genesis_data, genesis_line, holder_data, params_data, tx_data, validator_data, vote_data};
+ghost use Rattle.run_generated.specs.Lines.{block_data, block_line, delegation_data, evidence_data, genesis_data, genesis_line, holder_data, tx_data, validator_data, vote_data};
 
+use crate::params::push_params;
 use crate::spelling::{
     Spelled, push_fee, push_kind, push_named_list, push_object, push_payer, push_time,
 };
 use base_messages::{
     Block, Genesis, GenesisAccount, GenesisDelegation, GenesisValidator, LineFault, Msg, Tx,
 };
-use base_roles::{Evidence, Params, Vote};
+use base_roles::{Evidence, Vote};
 use json::Writer;
 use line_json::Told;
 use std::alloc::Global;
@@ -98,55 +98,6 @@ impl Spelled for GenesisDelegation {
         ];
         push_object(alloc, writer, &members)
     }
-}
-
-/// The parameters.
-fn push_params(alloc: Global, writer: &mut Writer, params: &Params) -> Result<(), LineFault>
-    ensures ok { OnOk result (writer.new.tokens
-        ≡ writer.old.tokens ++ data_tokens (params_data params.now)) }
-    ensures before { OnOk result (writer.new.before ≡ writer.old.before) }
-    ensures fault { IfErr result (λ fault. fault ≡ LineFault.NoMemory) }
-{
-    let members = [
-        ("authority", Told::Address(&params.authority)),
-        ("bond_denom", Told::Denom(&params.bond_denom)),
-        ("community_tax", Told::Decimal(params.community_tax)),
-        (
-            "downtime_jail_duration",
-            Told::Count(params.downtime_jail_duration),
-        ),
-        ("max_age_duration", Told::Count(params.max_age_duration)),
-        ("max_age_num_blocks", Told::Count(params.max_age_num_blocks)),
-        ("max_entries", Told::Count(params.max_entries)),
-        ("max_validators", Told::Count(params.max_validators)),
-        (
-            "min_commission_rate",
-            Told::Decimal(params.min_commission_rate),
-        ),
-        (
-            "min_signed_per_window",
-            Told::Decimal(params.min_signed_per_window),
-        ),
-        ("power_reduction", Told::Count(params.power_reduction)),
-        (
-            "signed_blocks_window",
-            Told::Count(params.signed_blocks_window),
-        ),
-        (
-            "slash_fraction_double_sign",
-            Told::Decimal(params.slash_fraction_double_sign),
-        ),
-        (
-            "slash_fraction_downtime",
-            Told::Decimal(params.slash_fraction_downtime),
-        ),
-        ("unbonding_time", Told::Count(params.unbonding_time)),
-        (
-            "withdraw_addr_enabled",
-            Told::Flag(params.withdraw_addr_enabled),
-        ),
-    ];
-    push_object(alloc, writer, &members)
 }
 
 impl Spelled for Genesis {

@@ -3,10 +3,11 @@
 ghost use Rattle.base_messages.specs.declared.message.Msg.TheVariants as msg;
 ghost use Rattle.run_generated.specs.Lines.{message_data};
 
-use crate::spelling::{Spelled, push_object, push_with_amount};
+use crate::params::push_params;
+use crate::spelling::{Spelled, push_members, push_object, push_with_amount};
 use base_messages::{
     BeginRedelegate, CancelUnbonding, CommunityPoolSpend, CreateValidator, Delegate, EditValidator,
-    FundCommunityPool, LineFault, Msg, Send, SetWithdrawAddress, Undelegate, Unjail,
+    FundCommunityPool, LineFault, Msg, Send, SetWithdrawAddress, Undelegate, Unjail, UpdateParams,
     WithdrawCommission, WithdrawReward,
 };
 use json::Writer;
@@ -214,6 +215,23 @@ impl Spelled for CommunityPoolSpend {
     }
 }
 
+impl Spelled for UpdateParams {
+    ghost spelled = { λ message. message_data (msg.UpdateParams message) };
+
+    fn spell(&self, alloc: Global, writer: &mut Writer) -> Result<(), LineFault> {
+        let members = [
+            ("authority", Told::Address(&self.authority)),
+            ("kind", Told::Word("update_params")),
+        ];
+        writer.begin_object()?;
+        push_members(alloc, writer, &members)?;
+        writer.key("params")?;
+        push_params(alloc, writer, &self.params)?;
+        writer.end_object()?;
+        Ok(())
+    }
+}
+
 impl Spelled for Msg {
     ghost spelled = { message_data };
 
@@ -232,6 +250,7 @@ impl Spelled for Msg {
             Msg::SetWithdrawAddress(message) => message.spell(alloc, writer),
             Msg::FundCommunityPool(message) => message.spell(alloc, writer),
             Msg::CommunityPoolSpend(message) => message.spell(alloc, writer),
+            Msg::UpdateParams(message) => message.spell(alloc, writer),
         }
     }
 }

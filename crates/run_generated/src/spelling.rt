@@ -35,7 +35,7 @@ fn push_rest(
 }
 
 /// Members of an object, behind others.
-fn push_members(
+pub(crate) fn push_members(
     alloc: Global,
     writer: &mut Writer,
     members: &[(&str, Told<'_>)],

@@ -48,6 +48,7 @@ fact_burned d (fact.Jailed validator) h = refl
 fact_burned d (fact.Unjailed validator) h = refl
 fact_burned d (fact.Tombstoned validator) h = refl
 fact_burned d (fact.Removed validator) h = refl
+fact_burned d (fact.ParamsChanged authority) h = refl
 
 first_none : (m n s : ℕ) → s ≡ m + n → s ≡ 0 → m ≡ 0
 first_none m n s e z = omega (arith, e, z)

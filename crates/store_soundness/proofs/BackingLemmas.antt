@@ -21,7 +21,7 @@ use Rattle.base_roles.proofs.HoldingLemmas.{denom_total}
 use Rattle.rule_modules.specs.Owed.{balances_of as entries_together, entry_balances}
 use Rattle.rule_modules.specs.Unbondings.{UnbondingLists}
 use Rattle.rule_modules.proofs.OrderLemmas.{addr_total}
-use Rattle.rule_machine.specs.Genesis.{is_within}
+use Rattle.base_roles.specs.Ranges.{is_within}
 use Rattle.store_soundness.specs.Accounts.{bonded_of, others_of, with_unbondings, not_bonded_in, holds_just, is_elsewhere_or, units_in, coin_totals, outstanding_in, outstanding_totals, owed_in, is_held, are_held, is_elsewhere_or_held, holds_owed}
 use Rattle.store_soundness.specs.Ranges.{balances_of, balance_totals, is_supply_sound, are_supplies_sound}
 use Rattle.store_soundness.specs.Shares.{shares_of, share_totals, is_total, have_shares}

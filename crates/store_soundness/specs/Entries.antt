@@ -6,7 +6,7 @@ use Rattle.base_roles.specs.declared.entities.RedelegationEntry.{RedelegationEnt
 use Rattle.base_roles.specs.declared.entities.UnbondingEntry.{UnbondingEntry}
 use Rattle.rule_modules.specs.Redelegations.{RedelegationLists}
 use Rattle.rule_modules.specs.Unbondings.{UnbondingLists}
-use Rattle.rule_machine.specs.Genesis.{is_within}
+use Rattle.base_roles.specs.Ranges.{is_within}
 
 abbrev pub is_unbonding_sound : ℕ → UnbondingEntry → Bool
 is_unbonding_sound height e =

@@ -14,7 +14,8 @@ use Rattle.base_roles.specs.Entries.{at, sum_where}
 use Rattle.base_roles.specs.Ground.{end_of_blocks}
 use Rattle.base_roles.specs.Holdings.{Balances}
 use Rattle.rule_modules.specs.Sound.{names_in}
-use Rattle.rule_machine.specs.Genesis.{are_in_range, is_within}
+use Rattle.base_roles.specs.Ranges.{is_within}
+use Rattle.rule_machine.specs.Genesis.{are_in_range}
 use Rattle.store_records.specs.Plain.{PlainSeen}
 use Rattle.store_soundness.specs.Tally.{tallied}
 

@@ -2,7 +2,7 @@
 
 ghost use Rattle.std.specs.Prelude.{◌≡◌};
 ghost use Rattle.std.specs.List.{list_all};
-ghost use Rattle.rule_machine.specs.Genesis.{is_within};
+ghost use Rattle.base_roles.specs.Ranges.{is_within};
 ghost use Rattle.store_soundness.specs.Entries.{are_redelegations_sound, are_unbondings_sound, is_redelegation_list, is_redelegation_sound, is_unbonding_list, is_unbonding_sound};
 
 use crate::ranges::ONE;

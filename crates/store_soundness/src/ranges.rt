@@ -2,11 +2,11 @@
 
 ghost use Rattle.std.specs.Prelude.{◌≡◌, ◌^◌, nat_le, ◌&&◌};
 ghost use Rattle.base_roles.specs.Ground.{end_of_blocks};
-ghost use Rattle.rule_machine.specs.Genesis.{is_within, are_in_range};
+ghost use Rattle.base_roles.specs.Ranges.{is_within};
 ghost use Rattle.store_soundness.specs.Ranges.{are_currents_in_range, are_validators_sound, is_context_sound, is_validator_sound};
 
 use base_decimals::Dec;
-use base_roles::{Ctx, Params, Validator};
+use base_roles::{Ctx, Validator};
 use base_types::Addr;
 use std::collections::BTreeMap;
 
@@ -15,9 +15,6 @@ pub(crate) const ONE: u128 = 1_000_000_000_000_000_000;
 
 /// The last period.
 const LAST_PERIOD: u64 = 1_000_000_000_000_000_000;
-
-/// The most that is allowed of a duration in seconds.
-const MOST_SECONDS: u64 = 1_000_000_000;
 
 /// The first nanosecond of the year 9900.
 const END_OF_BLOCKS: u128 = 250_246_627_200_000_000_000;
@@ -36,30 +33,11 @@ pub(crate) fn is_part(part: Dec) -> bool
     part.raw() <= ONE
 }
 
-/// Whether the parameters are in their ranges.
-fn are_in_range(params: &Params) -> bool
-    ensures { result ≡ are_in_range params.now }
-{
-    is_within(1, 1_000_000_000_000_000_000, params.power_reduction)
-        && is_within(1, MOST_SECONDS, params.unbonding_time)
-        && is_within(1, 1000, params.max_validators)
-        && is_within(1, 100, params.max_entries)
-        && is_part(params.min_commission_rate)
-        && is_part(params.community_tax)
-        && is_within(1, 100_000, params.signed_blocks_window)
-        && is_part(params.min_signed_per_window)
-        && params.downtime_jail_duration <= MOST_SECONDS
-        && is_part(params.slash_fraction_double_sign)
-        && is_part(params.slash_fraction_downtime)
-        && params.max_age_duration <= MOST_SECONDS
-        && params.max_age_num_blocks < 1 << 63
-}
-
 /// Whether parameters, time and height are in their ranges.
 pub(crate) fn is_context_sound(ctx: &Ctx) -> bool
     ensures { result ≡ is_context_sound ctx.now }
 {
-    are_in_range(&ctx.params) && ctx.time.nanos() < END_OF_BLOCKS && ctx.height < 1 << 63
+    ctx.params.are_in_range() && ctx.time.nanos() < END_OF_BLOCKS && ctx.height < 1 << 63
 }
 
 /// Whether a validator's rates are within its highest, its tokens no more than there can be, and none without

@@ -7,7 +7,7 @@ use std::alloc::Global;
 use std::test::Fail;
 
 /// A message of each kind, as a second program wrote them.
-const MESSAGES: [&str; 16] = [
+const MESSAGES: [&str; 17] = [
     "{\"coins\":[{\"amount\":\"5\",\"denom\":\"uatom\"}],\"from\":\"4000000000000000000000000000000000000001\",\"kind\":\"send\",\"to\":\"4000000000000000000000000000000000000002\"}",
     "{\"amount\":{\"amount\":\"9\",\"denom\":\"uatom\"},\"cons\":\"5000000000000000000000000000000000000001\",\"kind\":\"create_validator\",\"max_change_rate\":\"0.010000000000000000\",\"max_rate\":\"0.500000000000000000\",\"min_self_delegation\":\"3\",\"rate\":\"0.100000000000000000\",\"validator\":\"4000000000000000000000000000000000000001\"}",
     "{\"kind\":\"edit_validator\",\"validator\":\"4000000000000000000000000000000000000001\"}",
@@ -24,6 +24,7 @@ const MESSAGES: [&str; 16] = [
     "{\"delegator\":\"4000000000000000000000000000000000000001\",\"kind\":\"set_withdraw_address\",\"withdraw\":\"4000000000000000000000000000000000000002\"}",
     "{\"coins\":[{\"amount\":\"8\",\"denom\":\"uatom\"}],\"depositor\":\"4000000000000000000000000000000000000001\",\"kind\":\"fund_community_pool\"}",
     "{\"authority\":\"4000000000000000000000000000000000000001\",\"coins\":[{\"amount\":\"8\",\"denom\":\"uatom\"}],\"kind\":\"community_pool_spend\",\"recipient\":\"4000000000000000000000000000000000000002\"}",
+    "{\"authority\":\"4000000000000000000000000000000000000001\",\"kind\":\"update_params\",\"params\":{\"authority\":\"4000000000000000000000000000000000000002\",\"bond_denom\":\"uatom\",\"community_tax\":\"0.020000000000000000\",\"downtime_jail_duration\":600,\"max_age_duration\":172800,\"max_age_num_blocks\":100000,\"max_entries\":7,\"max_validators\":180,\"min_commission_rate\":\"0.000000000000000000\",\"min_signed_per_window\":\"0.500000000000000000\",\"power_reduction\":1000000,\"signed_blocks_window\":4,\"slash_fraction_double_sign\":\"0.050000000000000000\",\"slash_fraction_downtime\":\"0.010000000000000000\",\"unbonding_time\":1814400,\"withdraw_addr_enabled\":true}}",
 ];
 
 /// The line of a block with one message is the line that it was read from.

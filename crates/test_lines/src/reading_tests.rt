@@ -295,6 +295,7 @@ fn kind_of(block: &Block) -> &'static str {
         [Msg::SetWithdrawAddress(_)] => "set_withdraw_address",
         [Msg::FundCommunityPool(_)] => "fund_community_pool",
         [Msg::CommunityPoolSpend(_)] => "community_pool_spend",
+        [Msg::UpdateParams(_)] => "update_params",
         _ => "no message",
     }
 }
@@ -361,6 +362,10 @@ fn each_kind_of_message_is_read(rt: HostRuntime) {
         (
             "community_pool_spend",
             ",\"authority\":@,\"recipient\":@,\"coins\":[]",
+        ),
+        (
+            "update_params",
+            ",\"authority\":@,\"params\":{\"bond_denom\":\"uatom\",\"power_reduction\":0,\"unbonding_time\":0,\"max_validators\":0,\"max_entries\":0,\"min_commission_rate\":\"2\",\"community_tax\":\"2\",\"withdraw_addr_enabled\":false,\"signed_blocks_window\":0,\"min_signed_per_window\":\"2\",\"downtime_jail_duration\":0,\"slash_fraction_double_sign\":\"2\",\"slash_fraction_downtime\":\"2\",\"max_age_duration\":0,\"max_age_num_blocks\":0,\"authority\":@}",
         ),
     ];
     for (kind, members) in messages {
@@ -445,6 +450,14 @@ fn members_of_messages_have_their_numbers(rt: HostRuntime) {
         ("fund_community_pool", ",\"depositor\":@", 93),
         ("community_pool_spend", ",\"recipient\":@", 107),
         ("community_pool_spend", ",\"authority\":@", 108),
+        ("update_params", ",\"params\":{}", 107),
+        ("update_params", ",\"authority\":@", 109),
+        ("update_params", ",\"authority\":@,\"params\":null", 10),
+        (
+            "update_params",
+            ",\"authority\":@,\"params\":{\"bond_denom\":\"uatom\"}",
+            11,
+        ),
         ("jail", "", 90),
     ];
     for (kind, members, number) in no_forms {

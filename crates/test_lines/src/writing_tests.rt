@@ -119,6 +119,10 @@ fn what_is_over_is_told_by_its_kind(rt: HostRuntime) {
             Outcome::Refused(2, Refusal::TinyDelegation),
             "{\"height\":7,\"kind\":\"refused\",\"msg\":2,\"number\":37,\"tx\":0}",
         ),
+        (
+            Outcome::Refused(2, Refusal::ParamFixed(11)),
+            "{\"height\":7,\"kind\":\"refused\",\"member\":11,\"msg\":2,\"number\":39,\"tx\":0}",
+        ),
     ] {
         assert!(rt; ends(&rt, outcome, line), "{line}");
     }

@@ -18,6 +18,8 @@ mod forgetting_tests;
 #[cfg(test)]
 mod message_tests;
 #[cfg(test)]
+mod range_tests;
+#[cfg(test)]
 mod record_tests;
 #[cfg(test)]
 mod role_tests;

@@ -6,7 +6,7 @@ use base_messages::{
     BeginRedelegate, Block, BlockFault, CancelUnbonding, CommunityPoolSpend, CreateValidator,
     Delegate, EditValidator, Evidence, FundCommunityPool, Genesis, GenesisAccount,
     GenesisDelegation, GenesisValidator, LineFault, Msg, Send, SetWithdrawAddress, Tx, Undelegate,
-    Unjail, Vote, WithdrawCommission, WithdrawReward,
+    Unjail, UpdateParams, Vote, WithdrawCommission, WithdrawReward,
 };
 use base_roles::Listed;
 use base_types::{Account, ConsAddr, Copied, Denom, Module, TableFault};
@@ -95,6 +95,10 @@ fn messages(rt: &(impl Abort + AllocGlobal)) -> Vec<Msg> {
             recipient: pool(),
             coins: coins(rt, 3)
         }),
+        Msg::UpdateParams(UpdateParams {
+            authority: delegator,
+            params: params(rt)
+        }),
     ];
     messages.expect(rt, "memory")
 }
@@ -125,6 +129,7 @@ fn are_equal(a: &Msg, b: &Msg, denom: &Denom) -> bool {
         (Msg::CommunityPoolSpend(a), Msg::CommunityPoolSpend(b)) => a.authority == b.authority
             && a.recipient == b.recipient
             && hold_as_much(&a.coins, &b.coins, denom),
+        (Msg::UpdateParams(a), Msg::UpdateParams(b)) => a == b,
         _ => false,
     }
 }
@@ -218,7 +223,7 @@ fn a_copy_of_a_block_has_equal_members(rt: HostRuntime) {
     let tx = block.txs.at(0).expect(&rt, "a transaction");
     let other = copy.txs.at(0).expect(&rt, "a transaction");
     assert!(rt; other.payer == tx.payer && hold_as_much(&other.fee, &tx.fee, &atom(&rt)));
-    assert!(rt; tx.msgs.len() == 13 && all_equal(&other.msgs, &tx.msgs, &atom(&rt)));
+    assert!(rt; tx.msgs.len() == 14 && all_equal(&other.msgs, &tx.msgs, &atom(&rt)));
 }
 
 #[test]

@@ -53,6 +53,8 @@ fn refusals_have_the_numbers_of_printed_lines(rt: HostRuntime) {
     assert_eq!(rt; Refusal::NoDelegation.number(), 16);
     assert_eq!(rt; Refusal::StillJailed(moment(&rt, 0)).number(), 30);
     assert_eq!(rt; Refusal::Overflow(over).number(), 35);
+    assert_eq!(rt; Refusal::ParamRange(13).number(), 38);
+    assert_eq!(rt; Refusal::ParamFixed(10).number(), 39);
     assert_eq!(rt; Refusal::FeeUnpaid.number(), 40);
 }
 

@@ -72,9 +72,6 @@ returns-clause-steady g c =
     let out : IsTaken c.end.new.modules c.told-ended.new.modules = record { none = u.none; bank = u.bank; ctx = u.ctx; stakes = u.stakes; hooks = u.hooks } in
     taken_steady c.end.new.modules c.told-ended.new.modules out c.in_default-end.ensures.steady
 
-pub returns-clause-ctx : goal.returns-clause-ctx
-returns-clause-ctx g c = c.told-ended.ensures.ctx ∙ c.end.ensures.go_on.ctx ∙ c.in-Ok.ensures.ctx ∙ c.told-begun.ensures.ctx ∙ c.begin.ensures.go_on.ctx
-
 pub returns-clause-behind : goal.returns-clause-behind
 returns-clause-behind g c =
     let t = c.told-begun.ensures in

@@ -1,8 +1,9 @@
-use Rattle.std.proofs.Common.{◌≡◌, map, Some, None, subst}
+use Rattle.std.proofs.Common.{◌≡◌, ◌∙◌, map, Some, None, refl, sym, ap, subst}
+use Rattle.base_roles.specs.Ground.{SameMoment}
 use Rattle.rule_machine.specs.Messages.{effect_of}
 use Rattle.rule_modules.specs.Effects.{effects_of}
 use Rattle.chain_transactions.specs.Answers.{MessagesEnd}
-use Rattle.chain_modules.specs.Kept.{kept_of, kept_over, parts_of}
+use Rattle.chain_modules.specs.Kept.{KeptState, kept_of, kept_over, parts_of}
 use Rattle.chain_modules.proofs.StandLemmas.{whole_same}
 use Rattle.chain_transactions.proofs.TransactionLemmas.{accepted_ends, undone, refused_ends}
 use Rattle.chain_transactions.proofs.transaction.all_or_none.Goals as goal
@@ -16,10 +17,10 @@ returns-in-Ok-Some-clause-ended g c = λ p s.
     let is : c.in-Ok-Some.field-0 ≡ Some (place, why) = cc in
     let r = effects_of 0 (map effect_of c.args.messages.now) p in
     let left = kept_of c.apply_messages.new.modules in
-    refused_ends p r left (kept_over (parts_of back) back.ground.ctx c.cut.new.self) (kept_of old) place why
+    refused_ends p r left (kept_over (parts_of back) old.ground.ctx c.cut.new.self) (kept_of old) place why
     (subst (λ o. MessagesEnd r o left) is (c.in-Ok-Some.ensures.ends p (whole_same (kept_of old) (kept_of c.mark.new.self) p c.mark.ensures.same s)))
     (undone old c.mark.new.self c.apply_messages.new.modules back c.len-told.result c.cut.new.self c.mark.ensures.same c.in_ok-mark.ensures.opened c.apply_messages.ensures.go_on c.back.ensures.back
-    c.back.ensures.ctx c.back.ensures.facts c.len-told.ensures c.cut.ensures)
+    c.back.ensures.facts c.len-told.ensures c.cut.ensures)
     s
 
 pub returns-in-Ok-None-clause-ended : goal.returns-in-Ok-None-clause-ended
@@ -30,3 +31,27 @@ returns-in-Ok-None-clause-ended g c = λ p s.
     let left = kept_of c.apply_messages.new.modules in
     accepted_ends p r left (kept_of c.forget.new.self)
     (subst (λ o. MessagesEnd r o left) is (c.in-Ok-None.ensures.ends p (whole_same (kept_of old) (kept_of c.mark.new.self) p c.mark.ensures.same s))) c.forget.ensures.same
+
+pub returns-in-Ok-Some-clause-steady : goal.returns-in-Ok-Some-clause-steady
+returns-in-Ok-Some-clause-steady g c =
+    let old = c.args.modules.now in
+    let back = c.back.new.self in
+    let steady = c.requires.steady in
+    let same =
+    undone old c.mark.new.self c.apply_messages.new.modules back c.len-told.result c.cut.new.self c.mark.ensures.same c.in_ok-mark.ensures.opened c.apply_messages.ensures.go_on c.back.ensures.back
+    c.back.ensures.facts c.len-told.ensures c.cut.ensures in
+    record {
+      power = c.back.ensures.power ∙ ap (λ b. b.staking.power_reduction) c.apply_messages.ensures.go_on.behind ∙ c.mark.ensures.power ∙ steady.power;
+      state = steady.state;
+      stands = whole_same (kept_of old) (kept_over (parts_of back) old.ground.ctx c.cut.new.self) steady.state same steady.stands;
+    }
+
+pub returns-in-Ok-Some-clause-moment : goal.returns-in-Ok-Some-clause-moment
+returns-in-Ok-Some-clause-moment g c = record { height = refl; time = refl; bond_denom = refl; power_reduction = refl }
+
+pub returns-in-Ok-None-clause-moment : goal.returns-in-Ok-None-clause-moment
+returns-in-Ok-None-clause-moment g c =
+    let old = c.args.modules.now in
+    let first = ap (λ (k : KeptState). k.view.ctx) c.mark.ensures.same in
+    let last = ap (λ (k : KeptState). k.view.ctx) c.forget.ensures.same in
+    subst (λ x. SameMoment x c.forget.new.self.ground.ctx) first (subst (SameMoment c.mark.new.self.ground.ctx) (sym last) c.apply_messages.ensures.go_on.moment)

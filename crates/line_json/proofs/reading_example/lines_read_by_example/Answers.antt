@@ -62,6 +62,10 @@ pub returns-clause-community_pool_spend : goal.returns-clause-community_pool_spe
 unfolding reading_on_literals
 returns-clause-community_pool_spend c = refl
 
+pub returns-clause-update_params : goal.returns-clause-update_params
+unfolding reading_on_literals
+returns-clause-update_params c = refl
+
 pub returns-clause-not_json : goal.returns-clause-not_json
 unfolding reading_on_literals
 returns-clause-not_json c = refl
@@ -89,6 +93,14 @@ returns-clause-no_kind c = refl
 pub returns-clause-no_rate : goal.returns-clause-no_rate
 unfolding reading_on_literals
 returns-clause-no_rate c = refl
+
+pub returns-clause-no_params : goal.returns-clause-no_params
+unfolding reading_on_literals
+returns-clause-no_params c = refl
+
+pub returns-clause-no_object : goal.returns-clause-no_object
+unfolding reading_on_literals
+returns-clause-no_object c = refl
 
 pub returns-clause-memo : goal.returns-clause-memo
 unfolding reading_on_literals

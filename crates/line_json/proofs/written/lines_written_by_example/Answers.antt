@@ -31,6 +31,10 @@ returns-clause-validators c = record {
   removed = refl;
 }
 
+pub returns-clause-parameters : goal.returns-clause-parameters
+unfolding written_on_literals
+returns-clause-parameters c = record { changed = refl }
+
 pub returns-clause-outcomes : goal.returns-clause-outcomes
 unfolding written_on_literals
 returns-clause-outcomes c = record {
@@ -41,4 +45,6 @@ returns-clause-outcomes c = record {
   sum = refl;
   quotient = refl;
   period = refl;
+  range = refl;
+  fixed = refl;
 }

@@ -1,15 +1,8 @@
-use Rattle.std.proofs.Common.{◌≡◌, ◌∙◌, true, false, refl, sym, ap, subst}
-use Rattle.base_roles.specs.Items.{HasRoom}
+use Rattle.std.proofs.Common.{◌≡◌, ◌∙◌, true, false, refl, sym, ap}
 use Rattle.base_records.proofs.KindLemmas.{added-at}
-use Rattle.mod_signing.specs.Items.{items_of, is_signing, signing_item}
-use Rattle.mod_signing.proofs.ItemLemmas.{no_signing, room_none, signing_added}
+use Rattle.mod_signing.specs.Items.{items_of, is_signing}
+use Rattle.mod_signing.proofs.ItemLemmas.{no_signing, signing_added}
 use Rattle.mod_signing.proofs.records.WindowRecords.load.Goals as goal
-
-pub add-requires : goal.add-requires
-add-requires g c = record {
-  new = room_none c.self.inside.tables.kept c.in-Signing.cons (record { info = c.in-Signing.info; ring = c.in-Signing.ring })
-      (subst (λ w. HasRoom (items_of w.kept) (signing_item c.in-Signing.cons (record { info = c.in-Signing.info; ring = c.in-Signing.ring }))) (sym c.self.view_is) (subst (HasRoom (items_of c.args.self.now.kept)) c.in-Signing.is c.requires.room));
-}
 
 pub returns-in_default : goal.returns-in_default
 returns-in_default g c =
@@ -27,6 +20,6 @@ returns-in_default g c =
 
 pub returns-clause-added : goal.returns-clause-added
 returns-clause-added g c = λ _.
-    added-at items_of c.self.inside.tables.kept _ c.args.self.now.kept c.add.new.self.kept _ c.args.item.now
+    added-at items_of c.self.inside.tables.kept _ c.args.self.now.kept c.put_record.new.self.kept _ c.args.item.now
     (signing_added c.self.inside.tables.kept c.in-Signing.cons (record { info = c.in-Signing.info; ring = c.in-Signing.ring }) c.known.ensures)
-    (ap (λ b. b.kept) c.self.view_is) (ap (λ b. b.kept) c.in_ok-add-in-Signing.ensures.ok) c.in-Signing.is
+    (ap (λ b. b.kept) c.self.view_is) (ap (λ b. b.kept) c.in_ok-put_record-in-Signing.ensures.ok) c.in-Signing.is

@@ -14,3 +14,6 @@ returns-in-BeginRedelegate-clause-ok c = rw c.in-BeginRedelegate.is c.spell-in-B
 
 pub returns-in-CancelUnbonding-clause-ok : goal.returns-in-CancelUnbonding-clause-ok
 returns-in-CancelUnbonding-clause-ok c = rw c.in-CancelUnbonding.is c.spell-in-CancelUnbonding.ensures.ok
+
+pub returns-in-UpdateParams-clause-ok : goal.returns-in-UpdateParams-clause-ok
+returns-in-UpdateParams-clause-ok c = rw c.in-UpdateParams.is c.spell-in-UpdateParams.ensures.ok

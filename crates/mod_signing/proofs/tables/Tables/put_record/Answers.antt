@@ -3,7 +3,7 @@ use Rattle.mod_signing.specs.Kept.{behind, keeping, windowed, with_signed}
 use Rattle.mod_signing.specs.Rings.{ring_of}
 use Rattle.mod_signing.proofs.PutLemmas.{ring-put}
 use Rattle.mod_signing.proofs.TouchedLemmas.{in_step-tried, behind-tried}
-use Rattle.mod_signing.proofs.tables.Tables.add.Goals as goal
+use Rattle.mod_signing.proofs.tables.Tables.put_record.Goals as goal
 
 pub invariant_of-self : goal.invariant_of-self
 invariant_of-self g c =
