@@ -28,6 +28,9 @@ STORE is a file that keeps the state, made where there is none, or - for none. C
   trial SEED COUNT        replays that input and writes a summary of one line
                             stakeplay.sh - trial 7 1000
 
+  bech32 COMMAND          the same, with addresses as explorers print them in place of 40 digits
+                            stakeplay.sh - bech32 gen 7 100 | stakeplay.sh - bech32 replay
+
 README.md has an example, docs/FORMATS.md every line in and out, docs/OPERATING.md how a run can end.
 TEXT
 }

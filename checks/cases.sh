@@ -1,25 +1,30 @@
 #!/usr/bin/env bash
 # Runs the program on each case and compares what it writes and how it ends: the cases of cases/, and the examples, which are
 # cases with a page of their own. `checks/cases.sh FOLDER` runs those of one folder. A case is NAME.jsonl (the input),
-# NAME.out (what is written) and NAME.end (the status, and the line on standard error, if there is one).
+# NAME.out (what is written) and NAME.end (the status, and the line on standard error, if there is one). Those of
+# cases/bech32/ are run with the words `bech32 replay`, all others with `replay`.
 # Where the gate built the program and no source has changed since, that program runs (or the one that the variable STAKEPLAY
 # names); else the kit's interpreter runs the sources once for all cases, proving nothing.
 set -u
 cd "$(dirname "$0")/.."
 folders=("$@")
-[ $# -gt 0 ] || folders=(cases examples)
+[ $# -gt 0 ] || folders=(cases cases/bech32 examples)
 . checks/program.bash
 way="${built:+built}"
 way="${way:-sources}"
 status=0
 for folder in "${folders[@]}"; do
     run="$(mktemp -d)"
+    case "$folder" in
+        *bech32*) words=(bech32 replay) ;;
+        *) words=(replay) ;;
+    esac
     if [ "$way" = sources ]; then
         mkdir "$run/cases"
         cp "$folder"/*.jsonl "$run/cases/"
-        (cd crates/stakeplay && rt try --cases "$run/cases" -- - replay) >"$run/out" 2>"$run/err"
+        (cd crates/stakeplay && rt try --cases "$run/cases" -- - "${words[@]}") >"$run/out" 2>"$run/err"
     fi
-    python3 - "$folder" "$run" "$way" "$built" <<'PYTHON' || status=1
+    python3 - "$folder" "$run" "$way" "$built" "${words[@]}" <<'PYTHON' || status=1
 import pathlib, re, subprocess, sys
 
 folder, run, way, program = pathlib.Path(sys.argv[1]), pathlib.Path(sys.argv[2]), sys.argv[3], sys.argv[4]
@@ -28,7 +33,7 @@ written, ended = {}, {}
 if way == "built":
     for name in names:
         with open(folder / f"{name}.jsonl", "rb") as lines:
-            done = subprocess.run([program, "-", "replay"], stdin=lines, capture_output=True)
+            done = subprocess.run([program, "-", *sys.argv[5:]], stdin=lines, capture_output=True)
         written[name] = done.stdout.decode("utf-8", "replace")
         ended[name] = f"{done.returncode} {done.stderr.decode('utf-8', 'replace').strip()}".strip()
 else:

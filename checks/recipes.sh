@@ -10,7 +10,7 @@ export PYTHONDONTWRITEBYTECODE=1
 . checks/program.bash
 bad=0
 python3 - "$built" <<'PYTHON' || bad=1
-import collections, contextlib, functools, io, json, pathlib, subprocess, sys, tempfile
+import collections, contextlib, functools, io, json, pathlib, re, subprocess, sys, tempfile
 
 ONE = 10 ** 18
 FACTS = ("transfer burn allocated pooled period started slashed paid commission "
@@ -117,6 +117,47 @@ def tries_over_a_store():
             + [(words, answer, 0, name) for name, answer in answers.items() if answer for words in commands("-")
                if words[0] != "reconcile.py"])
 
+
+# ---- addresses as explorers print them
+
+
+def spellings(folder, name):
+    """The addresses of an output of that folder, each with the same address in hexadecimal digits."""
+    def texts(value):
+        if isinstance(value, str):
+            yield value
+        elif isinstance(value, (list, dict)):
+            for part in value.values() if isinstance(value, dict) else value:
+                yield from texts(part)
+    pairs = zip((folder / name).read_text().splitlines(), (examples / name).read_text().splitlines(), strict=True)
+    return {a: b for one, other in pairs for a, b in zip(texts(json.loads(one)), texts(json.loads(other)), strict=True)
+            if a != b}
+
+
+def hexadecimal(text, known):
+    return re.sub(r"cosmos[a-z]*1[a-z0-9]{38}", lambda found: known.get(found[0], found[0]), text)
+
+
+spelled = pathlib.Path("cases/bech32")
+for name in ("life", "history"):
+    known = spellings(spelled, f"{name}.out")
+    of = collections.defaultdict(dict)
+    for spelling, number in known.items():
+        of[number][spelling.rpartition("1")[0]] = spelling
+    users = sorted(number for number, forms in of.items() if "cosmos" in forms)[:2]
+    operator = min(number for number, forms in of.items() if "cosmosvaloper" in forms)
+    for words in (["audit.py"], ["tax_sheet.py", users[0]], ["validator_sheet.py", operator],
+                  ["reconcile.py", "0", "1"], ["watch.sh"]):
+        prefix = "cosmosvaloper" if words[0] == "validator_sheet.py" else "cosmos"
+        more = users if words[0] == "reconcile.py" else []
+        files = [f"{name}.out"] + ([f"{name}.jsonl"] if words[0] in ("audit.py", "validator_sheet.py") else [])
+        outputs = [tried_here([of[word][prefix] if is_spelled and word in of else word for word in words]
+                              + [str(folder / file) for file in files]
+                              + [of[word][prefix] if is_spelled else word for word in more])
+                   for folder, is_spelled in ((examples, False), (spelled, True))]
+        (status, out, _), (other, told, err) = outputs
+        ask((status, sorted(out.decode().splitlines())) == (other, sorted(hexadecimal(told.decode(), known).splitlines())),
+            f"{words[0]} on {spelled}/{name}.out ended with {other}, and tells something else than on {name}.out: {err}")
 
 tries = []
 for end in sorted(examples.glob("*.end")):

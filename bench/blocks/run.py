@@ -10,13 +10,15 @@ than the time by the clock:
   lines    the same, and the lines of a report of its sends, without a chain
   replay   `stakeplay - replay`
 
+The last three go over the same input once more with addresses as explorers print them, behind the word `bech32`.
+
 Of a replay it also tells the most memory, and when the first line is written where the input is piped in slowly. Then
 it tells what a replay takes, of sends and of blocks with 100 votes each: `read` is its reading, `lines` without `read`
 its writing, and the rest is applying; and, where `perf` is there, the functions in which most time goes by.
 
 Wants `rt`, `cargo` and Debian's librust-serde-json-dev (and linux-perf), and works in a temporary folder. `rt run`
 proves the crates where that was not done before."""
-import hashlib, os, pathlib, shutil, subprocess, sys, tempfile, time
+import functools, hashlib, os, pathlib, re, shutil, subprocess, sys, tempfile, time
 
 RUNS = int(sys.argv[1]) if len(sys.argv) > 1 else 3
 TOP = pathlib.Path(__file__).resolve().parents[2]
@@ -60,6 +62,7 @@ use json::Scratch;
 use memchr::memchr_iter;
 use std::alloc::{AllocError, Global};
 use std::io::{Read, Write};
+use base_bech32::Form;
 use line_json::{push_lines_of_block, read_block};
 use base_roles::{Fact, Facts, Listed};
 use base_messages::{Block, BlockReport, LineFault, Msg, Outcome, Tx, TxReport};
@@ -94,7 +97,7 @@ fn answer(
     line: &[u8],
     _text: &mut Vec<u8>,
 ) -> Result<(), LineFault> {
-    let _block = read_block(alloc, scratch, line)?;
+    let _block = read_block(Form::FORM, alloc, scratch, line)?;
     Ok(())
 }
 """
@@ -142,11 +145,47 @@ fn answer(
     line: &[u8],
     text: &mut Vec<u8>,
 ) -> Result<(), LineFault> {
-    let block = read_block(alloc, scratch, line)?;
+    let block = read_block(Form::FORM, alloc, scratch, line)?;
     let report = report_of(alloc, &block)?;
-    push_lines_of_block(alloc, text, &report)
+    push_lines_of_block(Form::FORM, alloc, text, &report)
 }
 """
+
+
+LETTERS = "qpzry9x8gf2tvdw0s3jn54khce6mua7l"
+BROUGHT = 0x3B6A57B2, 0x26508E6D, 0x1EA119FA, 0x3D4233DD, 0x2A1462B3
+PREFIXES = {"cons": "cosmosvalcons"} | dict.fromkeys(("operator", "validator", "source", "target"), "cosmosvaloper")
+
+
+def residue(values):
+    """The residue of a list of values (BIP 173)."""
+    rest = 1
+    for value in values:
+        high, rest = rest >> 25, (rest & 0x1FFFFFF) << 5 ^ value
+        for place, number in enumerate(BROUGHT):
+            rest ^= number if high >> place & 1 else 0
+    return rest
+
+
+@functools.cache
+def spelling(prefix, digits):
+    """The spelling of an address of forty hexadecimal digits behind a prefix."""
+    values = [int(digits, 16) >> 5 * place & 31 for place in range(31, -1, -1)]
+    letters = [ord(letter) for letter in prefix]
+    front = [c >> 5 for c in letters] + [0] + [c & 31 for c in letters]
+    check = residue(front + values + [0] * 6) ^ 1
+    return prefix + "1" + "".join(LETTERS[v] for v in values + [check >> 5 * place & 31 for place in range(5, -1, -1)])
+
+
+def spelled(path):
+    """A copy of an input in which each address is a spelling."""
+    def spell(found):
+        return f'"{found[1]}":"{spelling(PREFIXES.get(found[1], "cosmos"), found[2])}"'
+    copy = path.with_suffix(".bech32")
+    with open(path) as lines, open(copy, "w") as out:
+        for line in lines:
+            out.write(re.sub('"(\\w+)":"([0-9a-f]{40})"', spell, line))
+    return copy
 
 
 def address(number):
@@ -226,14 +265,17 @@ def build_rattle():
     top = WORK / "rattle"
     shutil.copytree(TOP / "crates", top / "crates", symlinks=True, ignore=shutil.ignore_patterns("must-fail", "out"))
     lines = [(TOP / "crates.txt").read_text().rstrip()]
-    for name, body in (("read_bench", READ), ("line_bench", LINES)):
+    for name, body, form in (("read_bench", READ, "Hex"), ("line_bench", LINES, "Hex"),
+                             ("spelled_read_bench", READ, "Bech32"), ("spelled_line_bench", LINES, "Bech32")):
         (top / "crates" / name / "src").mkdir(parents=True)
-        (top / "crates" / name / "src/main.rt").write_text(AROUND.lstrip().replace("BODY\n", body))
+        (top / "crates" / name / "src/main.rt").write_text(
+            AROUND.lstrip().replace("BODY\n", body).replace("FORM", form)
+        )
         (top / "crates" / name / "stdin").write_text("")
-        lines.append(f"{name}: base_types base_coins base_roles base_messages line_json json memchr anyhow")
+        lines.append(f"{name}: base_types base_bech32 base_coins base_roles base_messages line_json json memchr anyhow")
     (top / "crates.txt").write_text("\n".join(lines) + "\n")
     programs = []
-    for name in ("read_bench", "line_bench", "stakeplay"):
+    for name in ("read_bench", "line_bench", "spelled_read_bench", "spelled_line_bench", "stakeplay"):
         ran = subprocess.run(
             ["rt", "run"], cwd=top / "crates" / name, stdin=subprocess.DEVNULL, capture_output=True, text=True
         )
@@ -241,7 +283,9 @@ def build_rattle():
         if not found:
             sys.exit(ran.stdout + ran.stderr)
         programs.append(str(found[0]))
-    return {"read": [programs[0]], "lines": [programs[1]], "replay": [programs[2], "-", "replay"]}
+    hexadecimal = {"read": [programs[0]], "lines": [programs[1]], "replay": [programs[4], "-", "replay"]}
+    in_bech32 = {"read": [programs[2]], "lines": [programs[3]], "replay": [programs[4], "-", "bech32", "replay"]}
+    return hexadecimal, in_bech32
 
 
 def timed(command, path):
@@ -330,7 +374,8 @@ def functions(command, path):
 
 
 def main():
-    programs = {"stock": build_stock(), **build_rattle()}
+    hexadecimal, in_bech32 = build_rattle()
+    programs = {"stock": build_stock(), **hexadecimal}
     print("blocks      program   seconds   of stock   most memory")
     for blocks in (1000, 10000, 100000):
         path = WORK / f"{blocks}.jsonl"
@@ -339,6 +384,8 @@ def main():
         for name, seconds in sends.items():
             most = memory(programs[name], path)
             print(f"{blocks:<11} {name:<9} {seconds:7.3f}   {seconds / sends['stock']:8.2f}   {most / 1024:8.1f} MB")
+        for name, seconds in least(in_bech32, spelled(path)).items():
+            print(f"{blocks:<11} {name:<9} {seconds:7.3f}   {seconds / sends[name]:8.2f} of the same without `bech32`")
     first = min(first_line(programs["replay"], WORK / "1000.jsonl") for _ in range(RUNS))
     print(f"first line of a piped replay after {first * 1000:.1f} ms")
     profile("sends", sends, 100000, True)

@@ -21,6 +21,7 @@ ONE = 10 ** 18
 FEES, BONDED, UNBONDED, OWING = "fee_collector", "bonded_tokens_pool", "not_bonded_tokens_pool", "distribution"
 ALL = "all"
 GROUPS = "supply account validator delegation pending unbonding redelegation signing pool".split()
+LETTERS = "qpzry9x8gf2tvdw0s3jn54khce6mua7l"  # of the spellings of BIP 173, by their values
 STEPS = {("unbonded", "bonded"), ("unbonding", "bonded"), ("bonded", "unbonding"), ("unbonding", "unbonded")}
 
 
@@ -44,6 +45,11 @@ def raw(text):  # a decimal in units of 10^-18
 
 def units(coins):
     return listed(coins, raw)
+
+
+def order(address):  # hexadecimal digits, or the values of a spelling's letters behind its prefix
+    prefix, _, letters = address.rpartition("1")
+    return [LETTERS.index(letter) for letter in letters] if prefix.startswith("cosmos") else address
 
 
 def stop(text):
@@ -438,7 +444,8 @@ class Audit:
             self.starts[v][d["delegator"]] = [{}, int(d["amount"]) * ONE, {}, 0, 0, 0]
             self.alive.add(v)
             tokens[v] += int(d["amount"])
-        by_power = sorted((-(t // line["params"]["power_reduction"]), v, t) for v, t in tokens.items())
+        unit = line["params"]["power_reduction"]
+        by_power = sorted((-(t // unit), order(v), t) for v, t in tokens.items())
         bond, places = line["params"]["bond_denom"], line["params"]["max_validators"]
         bonded = sum(t for p, v, t in by_power[:places] if p)
         self.begin[BONDED, bond], self.begin[UNBONDED, bond] = bonded, tokens.total() - bonded

@@ -141,6 +141,13 @@ def run(main):
         sys.exit(2)
 
 
+def bare(address):
+    """What an operator's address and that of its account have in common: all of it in hexadecimal digits; of a
+    spelling of BIP 173 what is between its prefix and the six last letters, which check the others."""
+    prefix, _, letters = address.rpartition("1")
+    return letters[:-6] if prefix.startswith("cosmos") else address
+
+
 def whole(coins):
     """Coins, as the amount of each denomination."""
     return {coin["denom"]: int(coin["amount"]) for coin in coins}

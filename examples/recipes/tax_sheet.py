@@ -19,7 +19,7 @@ import csv
 import sys
 
 from lines import COLLECTOR, DISTRIBUTION, MODULES, NOT_BONDED, ONE, Input, Stakes
-from lines import lines, run, stop, units, shown, whole
+from lines import bare, lines, run, stop, units, shown, whole
 
 
 def word(account, is_given):
@@ -82,7 +82,7 @@ class Sheet:
     def commission(self, line):
         if line["to"] == self.address:
             self.row("commission", "in", whole(line["coins"]), line["validator"])
-        elif line["validator"] == self.address:
+        elif bare(line["validator"]) == bare(self.address):
             self.row(f"commission to {line['to']}", "aside", whole(line["coins"]), line["validator"])
         self.waiting = {}
 

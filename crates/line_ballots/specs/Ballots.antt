@@ -1,6 +1,7 @@
 -- The ballot that a line spells, and what is written of a tally.
 use Rattle.std.specs.Prelude.{ℕ, List, [], ◌∷◌, bytes_eq, codes, if◌then◌else◌, Option, Some, None, Result, Ok}
 use Rattle.serde_json.specs.Data.{Data, string}
+use Rattle.base_bech32.specs.declared.form.Form.{Form}
 use Rattle.base_coins.specs.Steps.{◌>>=◌}
 use Rattle.base_messages.specs.declared.faults.LineFault.{LineFault}
 use Rattle.line_json.specs.Reading.{tree_of}
@@ -27,17 +28,17 @@ abbrev pub choice_at : Data → Result Choice LineFault
 choice_at = member_at (spelled_by choice_of) 142 (codes "option")
 
 -- the ballot of a tree
-unfoldable pub ballot_of_tree : Data → Result Ballot LineFault
-ballot_of_tree d = do
+unfoldable pub ballot_of_tree : Form → Data → Result Ballot LineFault
+ballot_of_tree f d = do
   kind ← word_at 140 (codes "kind") (codes "ballot") d
-  voter ← user_at 141 (codes "voter") d
+  voter ← user_at f 141 (codes "voter") d
   choice ← choice_at d
   only ← only_named (codes "kind" ∷ codes "voter" ∷ codes "option" ∷ []) d
   Ok (record { voter = voter; choice = choice })
 
 -- the ballot that the line spells, or the first fault of it
-unfoldable pub ballot_of : List ℕ → Result Ballot LineFault
-ballot_of line = tree_of line >>= ballot_of_tree
+unfoldable pub ballot_of : Form → List ℕ → Result Ballot LineFault
+ballot_of f line = tree_of line >>= ballot_of_tree f
 
 -- ---- a tally
 

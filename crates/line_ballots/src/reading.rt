@@ -4,9 +4,10 @@ ghost use Rattle.line_json.specs.Reading.{Gives};
 ghost use Rattle.line_ballots.specs.Ballots.{ballot_of, choice_at, choice_of};
 
 use crate::ballot::Ballot;
+use base_bech32::Form;
 use base_messages::LineFault;
 use json::Scratch;
-use line_json::{FromTree, Tree, member_at, only_named, read_line, word_at};
+use line_json::{FromTree, Tree, only_named, read_line, user_at, word_at};
 use mod_tally::Choice;
 use std::alloc::Global;
 
@@ -41,19 +42,19 @@ fn choice_at<N: Tree>(tree: &N) -> Result<Choice, LineFault>
 impl FromTree for Ballot {
     ghost use Rattle.line_ballots.specs.Ballots.{ballot_of_tree};
 
-    ghost form = { ballot_of_tree };
+    ghost reading = { ballot_of_tree };
 
     #[tactic(auto, unfolding(crate::specs::Ballots::ballot_of_tree))]
-    fn from_tree<N: Tree>(_alloc: Global, tree: &N) -> Result<Ballot, LineFault> {
+    fn from_tree<N: Tree>(form: Form, _alloc: Global, tree: &N) -> Result<Ballot, LineFault> {
         word_at(140, "kind", "ballot", tree)?;
-        let voter = member_at(141, "voter", tree)?;
+        let voter = user_at(form, 141, "voter", tree)?;
         let choice = choice_at(tree)?;
         only_named(&["kind", "voter", "option"], tree)?;
         Ok(Ballot { voter, choice })
     }
 }
 
-/// Reads a ballot: a JSON object with exactly the members `kind` (`"ballot"`), `voter` (the text of a user's address) and
+/// Reads a ballot: a JSON object with exactly the members `kind` (`"ballot"`), `voter` (the text of a user's address in this form) and
 /// `option` (`"yes"`, `"abstain"`, `"no"` or `"no_with_veto"`).
 ///
 /// `NotJson` comes exactly where `serde_json` reads no value for another cause than memory. `BadShape` comes exactly at
@@ -61,8 +62,13 @@ impl FromTree for Ballot {
 /// its form, or with 0 for a further member, once these are of their form. The only other error is `NoMemory`. The scratch
 /// keeps its memory from line to line, and nothing else.
 #[tactic(auto, unfolding(crate::specs::Ballots::ballot_of))]
-pub fn read_ballot(alloc: Global, scratch: &mut Scratch, line: &[u8]) -> Result<Ballot, LineFault>
-    ensures { Gives (λ ballot. ballot) result (ballot_of line.now) }
+pub fn read_ballot(
+    form: Form,
+    alloc: Global,
+    scratch: &mut Scratch,
+    line: &[u8],
+) -> Result<Ballot, LineFault>
+    ensures { Gives (λ ballot. ballot) result (ballot_of form line.now) }
 {
-    read_line(alloc, scratch, line)
+    read_line(form, alloc, scratch, line)
 }

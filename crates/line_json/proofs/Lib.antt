@@ -4,6 +4,7 @@ pub mod OnWritten
 pub mod PlaceLemmas
 pub mod ReadingLemmas
 pub mod ReadingOnLiterals
+pub mod SpelledOnLiterals
 pub mod TapeLemmas
 pub mod TextLemmas
 pub mod TreeLemmas

@@ -1,6 +1,7 @@
 -- The genesis that a line spells.
 use Rattle.std.specs.Prelude.{ℕ, List, [], ◌∷◌, codes, Result, Ok}
 use Rattle.serde_json.specs.Data.{Data}
+use Rattle.base_bech32.specs.declared.form.Form.{Form}
 use Rattle.base_coins.specs.Steps.{◌>>=◌}
 use Rattle.base_messages.specs.declared.faults.LineFault.{LineFault}
 use Rattle.base_messages.specs.declared.genesis.GenesisAccount.{GenesisAccount}
@@ -8,24 +9,24 @@ use Rattle.base_messages.specs.declared.genesis.GenesisValidator.{GenesisValidat
 use Rattle.base_messages.specs.declared.genesis.GenesisDelegation.{GenesisDelegation}
 use Rattle.base_messages.specs.declared.genesis.Genesis.{Genesis}
 use Rattle.line_json.specs.Reading.{tree_of}
-use Rattle.line_json.specs.Members.{word_at, moment_at, account_at, user_at, cons_at, decimal_at, amount_at, only_named}
+use Rattle.line_json.specs.Members.{word_at, moment_at, account_at, user_at, operator_at, cons_at, decimal_at, amount_at, only_named}
 use Rattle.line_json.specs.Nested.{object_at, list_at}
 use Rattle.line_json.specs.Coin.{coins_at}
 use Rattle.line_json.specs.Params.{params_of}
 
 -- an account and what it holds
-unfoldable pub account_of_tree : Data → Result GenesisAccount LineFault
-account_of_tree d = do
-  address ← account_at 30 (codes "address") d
+unfoldable pub account_of_tree : Form → Data → Result GenesisAccount LineFault
+account_of_tree f d = do
+  address ← account_at f 30 (codes "address") d
   coins ← coins_at 31 (codes "coins") d
   only ← only_named (codes "address" ∷ codes "coins" ∷ []) d
   Ok (record { address = address; coins = coins })
 
 -- a validator
-unfoldable pub validator_of : Data → Result GenesisValidator LineFault
-validator_of d = do
-  operator ← user_at 40 (codes "operator") d
-  cons ← cons_at 41 (codes "cons") d
+unfoldable pub validator_of : Form → Data → Result GenesisValidator LineFault
+validator_of f d = do
+  operator ← operator_at f 40 (codes "operator") d
+  cons ← cons_at f 41 (codes "cons") d
   rate ← decimal_at 42 (codes "rate") d
   max_rate ← decimal_at 43 (codes "max_rate") d
   max_change_rate ← decimal_at 44 (codes "max_change_rate") d
@@ -43,27 +44,27 @@ validator_of d = do
   })
 
 -- a delegation to a validator
-unfoldable pub delegation_of : Data → Result GenesisDelegation LineFault
-delegation_of d = do
-  delegator ← user_at 50 (codes "delegator") d
-  validator ← user_at 51 (codes "validator") d
+unfoldable pub delegation_of : Form → Data → Result GenesisDelegation LineFault
+delegation_of f d = do
+  delegator ← user_at f 50 (codes "delegator") d
+  validator ← operator_at f 51 (codes "validator") d
   amount ← amount_at 52 (codes "amount") d
   only ← only_named (codes "delegator" ∷ codes "validator" ∷ codes "amount" ∷ []) d
   Ok (record { delegator = delegator; validator = validator; amount = amount })
 
 -- the genesis of a tree
-unfoldable pub genesis_of_tree : Data → Result Genesis LineFault
-genesis_of_tree d = do
+unfoldable pub genesis_of_tree : Form → Data → Result Genesis LineFault
+genesis_of_tree f d = do
   kind ← word_at 1 (codes "kind") (codes "genesis") d
   time ← moment_at 2 (codes "time") d
-  params ← object_at params_of 3 (codes "params") d
-  accounts ← list_at account_of_tree 4 (codes "accounts") d
-  validators ← list_at validator_of 5 (codes "validators") d
-  delegations ← list_at delegation_of 6 (codes "delegations") d
+  params ← object_at (params_of f) 3 (codes "params") d
+  accounts ← list_at (account_of_tree f) 4 (codes "accounts") d
+  validators ← list_at (validator_of f) 5 (codes "validators") d
+  delegations ← list_at (delegation_of f) 6 (codes "delegations") d
   only ← only_named (
       codes "kind" ∷ codes "time" ∷ codes "params" ∷ codes "accounts" ∷ codes "validators" ∷ codes "delegations" ∷ []) d
   Ok (record { time = time; params = params; accounts = accounts; validators = validators; delegations = delegations })
 
 -- the genesis that the line spells, or the first fault of it
-unfoldable pub genesis_of : List ℕ → Result Genesis LineFault
-genesis_of line = tree_of line >>= genesis_of_tree
+unfoldable pub genesis_of : Form → List ℕ → Result Genesis LineFault
+genesis_of f line = tree_of line >>= genesis_of_tree f

@@ -1,3 +1,4 @@
+pub mod Addresses
 pub mod Block
 pub mod Coin
 pub mod Facts
@@ -10,6 +11,7 @@ pub mod Outcomes
 pub mod Params
 pub mod Reading
 pub mod ReadingExample
+pub mod SpelledExample
 pub mod Tape
 pub mod Told
 pub mod Values

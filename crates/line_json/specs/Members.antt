@@ -6,13 +6,13 @@ use Rattle.serde_json.specs.Data.{Data, Members, no_members, member}
 use Rattle.serde_json.specs.Find.{get, as_bool, as_number, as_u64, as_str, as_object}
 use Rattle.base_decimals.specs.Texts as texts
 use Rattle.base_types.specs.declared.account.Account.{Account}
-use Rattle.base_types.specs.Address.{address_of, user_of}
-use Rattle.base_types.specs.Accounts.{account_of}
 use Rattle.base_types.specs.Denom.{denom_of}
 use Rattle.base_types.specs.Moment.{moment_of}
+use Rattle.base_bech32.specs.declared.form.Form.{Form}
 use Rattle.base_coins.specs.Steps.{◌>>=◌}
 use Rattle.base_messages.specs.declared.faults.LineFault.{LineFault}
 use Rattle.base_messages.specs.declared.faults.LineFault.TheVariants.{BadShape}
+use Rattle.line_json.specs.Addresses.{account_in, cons_in, operator_in, user_in}
 use Rattle.line_json.specs.Reading.{or_fault}
 
 -- ---- forms
@@ -72,17 +72,21 @@ moment_at = member_at (spelled_by moment_of)
 abbrev pub denom_at : ℕ → List ℕ → Data → Result (List ℕ) LineFault
 denom_at = member_at (spelled_by denom_of)
 
--- a string that spells the address of a user
-abbrev pub user_at : ℕ → List ℕ → Data → Result (List ℕ) LineFault
-user_at = member_at (spelled_by user_of)
+-- a string that is the text of a user's address
+abbrev pub user_at : Form → ℕ → List ℕ → Data → Result (List ℕ) LineFault
+user_at f = member_at (spelled_by (user_in f))
 
--- a string that spells the address of a user or of a module
-abbrev pub account_at : ℕ → List ℕ → Data → Result Account LineFault
-account_at = member_at (spelled_by account_of)
+-- a string that is the text of an operator's address
+abbrev pub operator_at : Form → ℕ → List ℕ → Data → Result (List ℕ) LineFault
+operator_at f = member_at (spelled_by (operator_in f))
 
--- a string that spells a consensus address
-abbrev pub cons_at : ℕ → List ℕ → Data → Result (List ℕ) LineFault
-cons_at = member_at (spelled_by address_of)
+-- a string that is the text of the address of a user or of a module
+abbrev pub account_at : Form → ℕ → List ℕ → Data → Result Account LineFault
+account_at f = member_at (spelled_by (account_in f))
+
+-- a string that is the text of a consensus address
+abbrev pub cons_at : Form → ℕ → List ℕ → Data → Result (List ℕ) LineFault
+cons_at f = member_at (spelled_by (cons_in f))
 
 -- true or false
 abbrev pub flag_at : ℕ → List ℕ → Data → Result Bool LineFault

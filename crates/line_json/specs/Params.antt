@@ -1,6 +1,7 @@
 -- The parameters of a chain.
 use Rattle.std.specs.Prelude.{List, [], ◌∷◌, codes, ℕ, Result, Ok}
 use Rattle.serde_json.specs.Data.{Data}
+use Rattle.base_bech32.specs.declared.form.Form.{Form}
 use Rattle.base_coins.specs.Steps.{◌>>=◌}
 use Rattle.base_roles.specs.declared.params.Params.{Params}
 use Rattle.base_messages.specs.declared.faults.LineFault.{LineFault}
@@ -15,8 +16,8 @@ params_names =
     ∷ codes "slash_fraction_downtime" ∷ codes "max_age_duration" ∷ codes "max_age_num_blocks" ∷ codes "authority" ∷ []
 
 -- the parameters, of any size
-unfoldable pub params_of : Data → Result Params LineFault
-params_of d = do
+unfoldable pub params_of : Form → Data → Result Params LineFault
+params_of f d = do
   bond_denom ← denom_at 10 (codes "bond_denom") d
   power_reduction ← number_at 11 (codes "power_reduction") d
   unbonding_time ← number_at 12 (codes "unbonding_time") d
@@ -32,7 +33,7 @@ params_of d = do
   slash_fraction_downtime ← decimal_at 22 (codes "slash_fraction_downtime") d
   max_age_duration ← number_at 23 (codes "max_age_duration") d
   max_age_num_blocks ← number_at 24 (codes "max_age_num_blocks") d
-  authority ← user_at 25 (codes "authority") d
+  authority ← user_at f 25 (codes "authority") d
   only ← only_named params_names d
   Ok (record {
     bond_denom = bond_denom;

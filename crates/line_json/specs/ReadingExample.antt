@@ -1,7 +1,8 @@
--- Worked lines: a genesis of one account, a block of one send, and a message of each kind.
+-- Worked lines in hexadecimal digits: a genesis of one account, a block of one send, and a message of each kind.
 use Rattle.std.specs.Prelude.{ℕ, ◌*◌, ◌^◌, List, [], ◌∷◌, ◌++◌, replicate, codes, true, Some, None, Result}
 use Rattle.base_types.specs.declared.account.Account.TheVariants as account
 use Rattle.base_types.specs.declared.account.Module.TheVariants.{FeeCollector}
+use Rattle.base_bech32.specs.declared.form.Form.TheVariants.{Hex}
 use Rattle.base_coins.specs.Steps.{◌>>=◌}
 use Rattle.base_coins.specs.declared.coin.Coin.{Coin}
 use Rattle.base_roles.specs.declared.params.Params.{Params}
@@ -120,9 +121,9 @@ block = record {
 
 -- ---- messages
 
--- what an object of this kind and these members gives
+-- what an object of this kind and these members gives, where addresses are in hexadecimal digits
 abbrev pub message_in : List ℕ → List ℕ → Result Msg LineFault
-message_in kind members = tree_of (codes "{\"kind\":\"" ++ kind ++ codes "\"" ++ members ++ codes "}") >>= message_of
+message_in kind members = tree_of (codes "{\"kind\":\"" ++ kind ++ codes "\"" ++ members ++ codes "}") >>= message_of Hex
 
 -- the members of each kind, and the message
 abbrev pub send_members : List ℕ

@@ -5,12 +5,11 @@ use Rattle.json.specs.Token.{Token}
 use Rattle.json.specs.Tree.{json_tokens}
 use Rattle.serde_json.specs.Data.{Data, Members, boolean, no_members, member, string}
 use Rattle.serde_json.specs.Written.{outline}
-use Rattle.base_types.specs.declared.account.Account.TheVariants as account
 use Rattle.base_coins.specs.Coins.{Money}
 use Rattle.base_roles.specs.Refusals.{refusal_number}
 use Rattle.line_json.specs.declared.told.Told.{Told}
 use Rattle.line_json.specs.declared.told.Told.TheVariants as told
-use Rattle.line_json.specs.Values.{account_data, address_data, coins_data, cons_data, count_data, dec_coins_data, decimal_data, moment_data, over_name, status_name, whole_data}
+use Rattle.line_json.specs.Values.{account_data, coins_data, cons_data, count_data, dec_coins_data, decimal_data, module_data, moment_data, operator_data, over_name, status_name, user_data, whole_data}
 
 -- coins of lent denominations
 abbrev pub coins_seen : List (Bor (List ℕ) × ℕ) → Money
@@ -27,10 +26,11 @@ told_data (told.Decimal n) = decimal_data n
 told_data (told.Over kind) = string (over_name kind)
 told_data (told.Status status) = string (status_name status)
 told_data (told.Moment moment) = moment_data moment
-told_data (told.Address bytes) = address_data bytes.now
-told_data (told.Account account) = account_data account.now
-told_data (told.Module m) = account_data (account.Module m)
-told_data (told.Cons bytes) = cons_data bytes.now
+told_data (told.User f bytes) = user_data f bytes.now
+told_data (told.Operator f bytes) = operator_data f bytes.now
+told_data (told.Account f account) = account_data f account.now
+told_data (told.Module m) = module_data m
+told_data (told.Cons f bytes) = cons_data f bytes.now
 told_data (told.Denom name) = string name.now
 told_data (told.Coins coins) = coins_data coins.now
 told_data (told.Lent coins) = coins_data (coins_seen coins.now)

@@ -6,12 +6,14 @@ use Rattle.base_decimals.specs.Texts.{dec_text}
 use Rattle.base_decimals.specs.declared.over.OverKind.{OverKind}
 use Rattle.base_decimals.specs.declared.over.OverKind.TheVariants.{Sum, Quotient, Period}
 use Rattle.base_types.specs.declared.account.Account.{Account}
+use Rattle.base_types.specs.declared.account.Module.{Module}
 use Rattle.base_types.specs.declared.status.BondStatus.{BondStatus}
 use Rattle.base_types.specs.declared.status.BondStatus.TheVariants.{Bonded, Unbonding, Unbonded}
-use Rattle.base_types.specs.Accounts.{account_text}
-use Rattle.base_types.specs.Address.{address_text}
+use Rattle.base_types.specs.Modules.{module_name}
 use Rattle.base_types.specs.Moment.{moment_text}
 use Rattle.base_coins.specs.Coins.{Money}
+use Rattle.base_bech32.specs.declared.form.Form.{Form}
+use Rattle.line_json.specs.Addresses.{account_text_in, cons_text, operator_text, user_text}
 use Rattle.line_json.specs.Line.{object_of}
 
 -- a whole amount: its digits
@@ -39,16 +41,24 @@ abbrev pub dec_coins_data : Money → Data
 dec_coins_data coins = array (items_of (map (coin_data decimal_data) coins))
 
 -- a user's address
-abbrev pub address_data : List ℕ → Data
-address_data bytes = string (address_text bytes)
+abbrev pub user_data : Form → List ℕ → Data
+user_data f bytes = string (user_text f bytes)
+
+-- an operator's address
+abbrev pub operator_data : Form → List ℕ → Data
+operator_data f bytes = string (operator_text f bytes)
 
 -- a consensus address
-abbrev pub cons_data : List ℕ → Data
-cons_data bytes = string (address_text bytes)
+abbrev pub cons_data : Form → List ℕ → Data
+cons_data f bytes = string (cons_text f bytes)
 
 -- an account: a user by the address, a module by its name
-abbrev pub account_data : Account → Data
-account_data account = string (account_text account)
+abbrev pub account_data : Form → Account → Data
+account_data f account = string (account_text_in f account)
+
+-- a module, by its name
+abbrev pub module_data : Module → Data
+module_data m = string (module_name m)
 
 -- a moment
 abbrev pub moment_data : ℕ → Data

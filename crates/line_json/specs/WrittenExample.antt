@@ -1,9 +1,10 @@
--- Worked lines: those of a small run, and one of each kind of fact and of outcome.
+-- Worked lines in hexadecimal digits: those of a small run, and one of each kind of fact and of outcome.
 use Rattle.std.specs.Prelude.{◌≡◌, ℕ, List, [], ◌∷◌, ◌++◌, replicate, codes}
 use Rattle.base_decimals.specs.declared.over.OverKind.TheVariants.{Sum, Quotient, Period}
 use Rattle.base_types.specs.declared.account.Account.TheVariants as account
 use Rattle.base_types.specs.declared.account.Module.TheVariants.{FeeCollector, Bonded, Distribution}
 use Rattle.base_types.specs.declared.status.BondStatus.TheVariants as status
+use Rattle.base_bech32.specs.declared.form.Form.TheVariants.{Hex}
 use Rattle.base_coins.specs.Coins.{Money}
 use Rattle.base_roles.specs.declared.facts.Fact.{Fact}
 use Rattle.base_roles.specs.declared.facts.Fact.TheVariants as fact
@@ -59,7 +60,7 @@ block_lines =
 
 pub record RunLines : Type 0 where
   pub genesis : text_of_genesis (uatom 1000) ≡ genesis_line
-  pub block_is : text_of_block block ≡ block_lines
+  pub block_is : text_of_block Hex block ≡ block_lines
 
 -- ---- the order of a block
 
@@ -80,13 +81,13 @@ quiet_lines =
     ++ codes "{\"height\":7,\"kind\":\"removed\",\"validator\":\"3333333333333333333333333333333333333333\"}\n"
 
 pub record OrderedLines : Type 0 where
-  pub beginning_first : text_of_block quiet ≡ quiet_lines
+  pub beginning_first : text_of_block Hex quiet ≡ quiet_lines
 
 -- ---- facts
 
 -- the line of a fact at height 7
 abbrev pub fact_line : Fact → List ℕ
-fact_line f = line_of (fact_data 7 f)
+fact_line f = line_of (fact_data Hex 7 f)
 
 pub record PaymentLines : Type 0 where
   pub transfer : fact_line (fact.Transfer (account.User ones) (account.Module Distribution) ((codes "stake", 5) ∷ uatom 10))

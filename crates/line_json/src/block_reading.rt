@@ -3,10 +3,11 @@ ghost use Rattle.line_json.specs.Reading.{Gives};
 ghost use Rattle.line_json.specs.Block.{block_of};
 
 use crate::coin_reading::coins_at;
-use crate::members::{member_at, only_named, word_at};
+use crate::members::{cons_at, member_at, only_named, user_at, word_at};
 use crate::nested::{FromTree, list_at};
 use crate::reading::read_line;
 use crate::tree::Tree;
+use base_bech32::Form;
 use base_messages::{Block, LineFault, Tx};
 use base_roles::{Evidence, Vote};
 use json::Scratch;
@@ -15,11 +16,11 @@ use std::alloc::Global;
 impl FromTree for Vote {
     ghost use Rattle.line_json.specs.Block.{vote_of};
 
-    ghost form = { vote_of };
+    ghost reading = { vote_of };
 
     #[tactic(auto, unfolding(crate::specs::Block::vote_of))]
-    fn from_tree<N: Tree>(_alloc: Global, tree: &N) -> Result<Vote, LineFault> {
-        let cons = member_at(70, "cons", tree)?;
+    fn from_tree<N: Tree>(form: Form, _alloc: Global, tree: &N) -> Result<Vote, LineFault> {
+        let cons = cons_at(form, 70, "cons", tree)?;
         let power = member_at(71, "power", tree)?;
         let signed = member_at(72, "signed", tree)?;
         only_named(&["cons", "power", "signed"], tree)?;
@@ -34,11 +35,11 @@ impl FromTree for Vote {
 impl FromTree for Evidence {
     ghost use Rattle.line_json.specs.Block.{evidence_of};
 
-    ghost form = { evidence_of };
+    ghost reading = { evidence_of };
 
     #[tactic(auto, unfolding(crate::specs::Block::evidence_of))]
-    fn from_tree<N: Tree>(_alloc: Global, tree: &N) -> Result<Evidence, LineFault> {
-        let cons = member_at(73, "cons", tree)?;
+    fn from_tree<N: Tree>(form: Form, _alloc: Global, tree: &N) -> Result<Evidence, LineFault> {
+        let cons = cons_at(form, 73, "cons", tree)?;
         let height = member_at(74, "height", tree)?;
         let time = member_at(75, "time", tree)?;
         let power = member_at(76, "power", tree)?;
@@ -55,13 +56,13 @@ impl FromTree for Evidence {
 impl FromTree for Tx {
     ghost use Rattle.line_json.specs.Block.{tx_of};
 
-    ghost form = { tx_of };
+    ghost reading = { tx_of };
 
     #[tactic(auto, unfolding(crate::specs::Block::tx_of))]
-    fn from_tree<N: Tree>(alloc: Global, tree: &N) -> Result<Tx, LineFault> {
-        let payer = member_at(80, "payer", tree)?;
+    fn from_tree<N: Tree>(form: Form, alloc: Global, tree: &N) -> Result<Tx, LineFault> {
+        let payer = user_at(form, 80, "payer", tree)?;
         let fee = coins_at(alloc, 81, "fee", tree)?;
-        let msgs = list_at(alloc, 82, "msgs", tree)?;
+        let msgs = list_at(form, alloc, 82, "msgs", tree)?;
         only_named(&["payer", "fee", "msgs"], tree)?;
         Ok(Tx { payer, fee, msgs })
     }
@@ -70,16 +71,16 @@ impl FromTree for Tx {
 impl FromTree for Block {
     ghost use Rattle.line_json.specs.Block.{block_of_tree};
 
-    ghost form = { block_of_tree };
+    ghost reading = { block_of_tree };
 
     #[tactic(auto, unfolding(crate::specs::Block::block_of_tree))]
-    fn from_tree<N: Tree>(alloc: Global, tree: &N) -> Result<Block, LineFault> {
+    fn from_tree<N: Tree>(form: Form, alloc: Global, tree: &N) -> Result<Block, LineFault> {
         word_at(60, "kind", "block", tree)?;
         let height = member_at(61, "height", tree)?;
         let time = member_at(62, "time", tree)?;
-        let votes = list_at(alloc, 63, "votes", tree)?;
-        let evidence = list_at(alloc, 64, "evidence", tree)?;
-        let txs = list_at(alloc, 65, "txs", tree)?;
+        let votes = list_at(form, alloc, 63, "votes", tree)?;
+        let evidence = list_at(form, alloc, 64, "evidence", tree)?;
+        let txs = list_at(form, alloc, 65, "txs", tree)?;
         only_named(
             &["kind", "height", "time", "votes", "evidence", "txs"],
             tree,
@@ -105,8 +106,13 @@ impl FromTree for Block {
 /// due and its messages can be carried out is for the caller to judge. The scratch keeps its memory from line to line,
 /// and nothing else.
 #[tactic(auto, unfolding(crate::specs::Block::block_of))]
-pub fn read_block(alloc: Global, scratch: &mut Scratch, line: &[u8]) -> Result<Block, LineFault>
-    ensures { Gives (λ block. block) result (block_of line.now) }
+pub fn read_block(
+    form: Form,
+    alloc: Global,
+    scratch: &mut Scratch,
+    line: &[u8],
+) -> Result<Block, LineFault>
+    ensures { Gives (λ block. block) result (block_of form line.now) }
 {
-    read_line(alloc, scratch, line)
+    read_line(form, alloc, scratch, line)
 }

@@ -1,10 +1,12 @@
 //! The lines of facts. Members stand in ascending order of their names.
 ghost use Rattle.std.specs.Prelude.{◌≡◌, ◌++◌, [], IfErr, OnOk};
+ghost use Rattle.base_bech32.specs.declared.form.Form.{Form};
 ghost use Rattle.line_json.specs.Facts.{about, fact_data};
 ghost use Rattle.line_json.specs.Line.{line_of, told_at};
 
 use crate::told::Told;
 use crate::writing::push_line;
+use base_bech32::Form;
 use base_coins::{Coin, Coins, DecCoins};
 use base_decimals::Dec;
 use base_messages::LineFault;
@@ -13,6 +15,7 @@ use base_types::{Account, Addr, BondStatus, Module};
 use std::alloc::Global;
 
 fn transfer<'a>(
+    form: Form,
     alloc: Global,
     out: &mut Vec<u8>,
     height: u64,
@@ -21,15 +24,15 @@ fn transfer<'a>(
     coins: &'a Coins,
 ) -> Result<(), LineFault>
     ensures ok { OnOk result (out.new.items ≡ out.old.items
-        ++ line_of (fact_data height (Fact.Transfer from.now to.now coins.now))) }
+        ++ line_of (fact_data form height (Fact.Transfer from.now to.now coins.now))) }
     ensures fault { IfErr result (λ fault. fault ≡ LineFault.NoMemory) }
 {
     let members = [
         ("coins", Told::Coins(coins)),
-        ("from", Told::Account(from)),
+        ("from", Told::Account(form, from)),
         ("height", Told::Count(height)),
         ("kind", Told::Word("transfer")),
-        ("to", Told::Account(to)),
+        ("to", Told::Account(form, to)),
     ];
     push_line(alloc, out, &members)
 }
@@ -41,8 +44,8 @@ fn burn<'a>(
     from: Module,
     coin: &'a Coin,
 ) -> Result<(), LineFault>
-    ensures ok { OnOk result (out.new.items ≡ out.old.items
-        ++ line_of (fact_data height (Fact.Burn from coin.now))) }
+    ensures ok { (form : Form) → OnOk result (out.new.items ≡ out.old.items
+        ++ line_of (fact_data form height (Fact.Burn from coin.now))) }
     ensures fault { IfErr result (λ fault. fault ≡ LineFault.NoMemory) }
 {
     let members = [
@@ -56,6 +59,7 @@ fn burn<'a>(
 }
 
 fn allocated<'a>(
+    form: Form,
     alloc: Global,
     out: &mut Vec<u8>,
     height: u64,
@@ -63,14 +67,14 @@ fn allocated<'a>(
     share: &'a DecCoins,
 ) -> Result<(), LineFault>
     ensures ok { OnOk result (out.new.items ≡ out.old.items
-        ++ line_of (fact_data height (Fact.Allocated validator.now share.now))) }
+        ++ line_of (fact_data form height (Fact.Allocated validator.now share.now))) }
     ensures fault { IfErr result (λ fault. fault ≡ LineFault.NoMemory) }
 {
     let members = [
         ("coins", Told::DecCoins(share)),
         ("height", Told::Count(height)),
         ("kind", Told::Word("allocated")),
-        ("validator", Told::Address(validator)),
+        ("validator", Told::Operator(form, validator)),
     ];
     push_line(alloc, out, &members)
 }
@@ -81,8 +85,8 @@ fn pooled<'a>(
     height: u64,
     coins: &'a DecCoins,
 ) -> Result<(), LineFault>
-    ensures ok { OnOk result (out.new.items ≡ out.old.items
-        ++ line_of (fact_data height (Fact.Pooled coins.now))) }
+    ensures ok { (form : Form) → OnOk result (out.new.items ≡ out.old.items
+        ++ line_of (fact_data form height (Fact.Pooled coins.now))) }
     ensures fault { IfErr result (λ fault. fault ≡ LineFault.NoMemory) }
 {
     let members = [
@@ -94,6 +98,7 @@ fn pooled<'a>(
 }
 
 fn period_ended<'a>(
+    form: Form,
     alloc: Global,
     out: &mut Vec<u8>,
     height: u64,
@@ -102,7 +107,7 @@ fn period_ended<'a>(
     ratio: &'a DecCoins,
 ) -> Result<(), LineFault>
     ensures ok { OnOk result (out.new.items ≡ out.old.items
-        ++ line_of (fact_data height (Fact.Period validator.now period ratio.now))) }
+        ++ line_of (fact_data form height (Fact.Period validator.now period ratio.now))) }
     ensures fault { IfErr result (λ fault. fault ≡ LineFault.NoMemory) }
 {
     let members = [
@@ -110,12 +115,13 @@ fn period_ended<'a>(
         ("kind", Told::Word("period")),
         ("period", Told::Count(period)),
         ("ratio", Told::DecCoins(ratio)),
-        ("validator", Told::Address(validator)),
+        ("validator", Told::Operator(form, validator)),
     ];
     push_line(alloc, out, &members)
 }
 
 fn started<'a>(
+    form: Form,
     alloc: Global,
     out: &mut Vec<u8>,
     height: u64,
@@ -125,21 +131,22 @@ fn started<'a>(
     stake: Dec,
 ) -> Result<(), LineFault>
     ensures ok { OnOk result (out.new.items ≡ out.old.items
-        ++ line_of (fact_data height (Fact.Started delegator.now validator.now period stake))) }
+        ++ line_of (fact_data form height (Fact.Started delegator.now validator.now period stake))) }
     ensures fault { IfErr result (λ fault. fault ≡ LineFault.NoMemory) }
 {
     let members = [
-        ("delegator", Told::Address(delegator)),
+        ("delegator", Told::User(form, delegator)),
         ("height", Told::Count(height)),
         ("kind", Told::Word("started")),
         ("period", Told::Count(period)),
         ("stake", Told::Decimal(stake)),
-        ("validator", Told::Address(validator)),
+        ("validator", Told::Operator(form, validator)),
     ];
     push_line(alloc, out, &members)
 }
 
 fn slashed<'a>(
+    form: Form,
     alloc: Global,
     out: &mut Vec<u8>,
     height: u64,
@@ -148,7 +155,7 @@ fn slashed<'a>(
     burned: u128,
 ) -> Result<(), LineFault>
     ensures ok { OnOk result (out.new.items ≡ out.old.items
-        ++ line_of (fact_data height (Fact.Slashed validator.now fraction burned))) }
+        ++ line_of (fact_data form height (Fact.Slashed validator.now fraction burned))) }
     ensures fault { IfErr result (λ fault. fault ≡ LineFault.NoMemory) }
 {
     let members = [
@@ -156,12 +163,13 @@ fn slashed<'a>(
         ("fraction", Told::Decimal(fraction)),
         ("height", Told::Count(height)),
         ("kind", Told::Word("slashed")),
-        ("validator", Told::Address(validator)),
+        ("validator", Told::Operator(form, validator)),
     ];
     push_line(alloc, out, &members)
 }
 
 fn paid<'a>(
+    form: Form,
     alloc: Global,
     out: &mut Vec<u8>,
     height: u64,
@@ -172,23 +180,24 @@ fn paid<'a>(
     coins: &'a Coins,
 ) -> Result<(), LineFault>
     ensures ok { OnOk result (out.new.items ≡ out.old.items
-        ++ line_of (fact_data height
+        ++ line_of (fact_data form height
         (Fact.Paid delegator.now validator.now to.now reward.now coins.now))) }
     ensures fault { IfErr result (λ fault. fault ≡ LineFault.NoMemory) }
 {
     let members = [
         ("coins", Told::Coins(coins)),
-        ("delegator", Told::Address(delegator)),
+        ("delegator", Told::User(form, delegator)),
         ("height", Told::Count(height)),
         ("kind", Told::Word("paid")),
         ("reward", Told::DecCoins(reward)),
-        ("to", Told::Address(to)),
-        ("validator", Told::Address(validator)),
+        ("to", Told::User(form, to)),
+        ("validator", Told::Operator(form, validator)),
     ];
     push_line(alloc, out, &members)
 }
 
 fn commission_paid<'a>(
+    form: Form,
     alloc: Global,
     out: &mut Vec<u8>,
     height: u64,
@@ -197,20 +206,21 @@ fn commission_paid<'a>(
     coins: &'a Coins,
 ) -> Result<(), LineFault>
     ensures ok { OnOk result (out.new.items ≡ out.old.items
-        ++ line_of (fact_data height (Fact.Commission validator.now to.now coins.now))) }
+        ++ line_of (fact_data form height (Fact.Commission validator.now to.now coins.now))) }
     ensures fault { IfErr result (λ fault. fault ≡ LineFault.NoMemory) }
 {
     let members = [
         ("coins", Told::Coins(coins)),
         ("height", Told::Count(height)),
         ("kind", Told::Word("commission")),
-        ("to", Told::Address(to)),
-        ("validator", Told::Address(validator)),
+        ("to", Told::User(form, to)),
+        ("validator", Told::Operator(form, validator)),
     ];
     push_line(alloc, out, &members)
 }
 
 fn changed<'a>(
+    form: Form,
     alloc: Global,
     out: &mut Vec<u8>,
     height: u64,
@@ -218,20 +228,21 @@ fn changed<'a>(
     status: BondStatus,
 ) -> Result<(), LineFault>
     ensures ok { OnOk result (out.new.items ≡ out.old.items
-        ++ line_of (fact_data height (Fact.Changed validator.now status))) }
+        ++ line_of (fact_data form height (Fact.Changed validator.now status))) }
     ensures fault { IfErr result (λ fault. fault ≡ LineFault.NoMemory) }
 {
     let members = [
         ("height", Told::Count(height)),
         ("kind", Told::Word("status")),
         ("status", Told::Status(status)),
-        ("validator", Told::Address(validator)),
+        ("validator", Told::Operator(form, validator)),
     ];
     push_line(alloc, out, &members)
 }
 
 /// A fact of a validator, of which its kind tells the rest.
 fn of_validator<'a>(
+    form: Form,
     alloc: Global,
     out: &mut Vec<u8>,
     height: u64,
@@ -239,84 +250,103 @@ fn of_validator<'a>(
     validator: &'a Addr,
 ) -> Result<(), LineFault>
     ensures ok { OnOk result (out.new.items ≡ out.old.items
-        ++ line_of (told_at height kind.now (about validator.now []))) }
+        ++ line_of (told_at height kind.now (about form validator.now []))) }
     ensures fault { IfErr result (λ fault. fault ≡ LineFault.NoMemory) }
 {
     let members = [
         ("height", Told::Count(height)),
         ("kind", Told::Word(kind)),
-        ("validator", Told::Address(validator)),
+        ("validator", Told::Operator(form, validator)),
     ];
     push_line(alloc, out, &members)
 }
 
 fn params_changed<'a>(
+    form: Form,
     alloc: Global,
     out: &mut Vec<u8>,
     height: u64,
     authority: &'a Addr,
 ) -> Result<(), LineFault>
     ensures ok { OnOk result (out.new.items ≡ out.old.items
-        ++ line_of (fact_data height (Fact.ParamsChanged authority.now))) }
+        ++ line_of (fact_data form height (Fact.ParamsChanged authority.now))) }
     ensures fault { IfErr result (λ fault. fault ≡ LineFault.NoMemory) }
 {
     let members = [
-        ("authority", Told::Address(authority)),
+        ("authority", Told::User(form, authority)),
         ("height", Told::Count(height)),
         ("kind", Told::Word("params")),
     ];
     push_line(alloc, out, &members)
 }
 
-/// Appends the line of a fact of a block of this height. The only error is `NoMemory`.
+/// Appends the line of a fact of a block of this height, with its addresses in this form. The only error is `NoMemory`.
 pub fn push_fact(
+    form: Form,
     alloc: Global,
     out: &mut Vec<u8>,
     height: u64,
     fact: &Fact,
 ) -> Result<(), LineFault>
     ensures ok { OnOk result
-        (out.new.items ≡ out.old.items ++ line_of (fact_data height fact.now)) }
+        (out.new.items ≡ out.old.items ++ line_of (fact_data form height fact.now)) }
     ensures fault { IfErr result (λ fault. fault ≡ LineFault.NoMemory) }
 {
     match fact {
-        Fact::Transfer { from, to, coins } => transfer(alloc, out, height, from, to, coins),
+        Fact::Transfer { from, to, coins } => transfer(form, alloc, out, height, from, to, coins),
         Fact::Burn { from, coin } => burn(alloc, out, height, *from, coin),
-        Fact::Allocated { validator, share } => allocated(alloc, out, height, validator, share),
+        Fact::Allocated { validator, share } => allocated(
+            form, alloc, out, height, validator, share,
+        ),
         Fact::Pooled { coins } => pooled(alloc, out, height, coins),
         Fact::Period {
             validator,
             period,
             ratio,
-        } => period_ended(alloc, out, height, validator, *period, ratio),
+        } => period_ended(form, alloc, out, height, validator, *period, ratio),
         Fact::Started {
             delegator,
             validator,
             period,
             stake,
-        } => started(alloc, out, height, delegator, validator, *period, *stake),
+        } => started(
+            form, alloc, out, height, delegator, validator, *period, *stake,
+        ),
         Fact::Slashed {
             validator,
             fraction,
             burned,
-        } => slashed(alloc, out, height, validator, *fraction, *burned),
+        } => slashed(form, alloc, out, height, validator, *fraction, *burned),
         Fact::Paid {
             delegator,
             validator,
             to,
             reward,
             coins,
-        } => paid(alloc, out, height, delegator, validator, to, reward, coins),
+        } => paid(
+            form, alloc, out, height, delegator, validator, to, reward, coins,
+        ),
         Fact::Commission {
             validator,
             to,
             coins,
-        } => commission_paid(alloc, out, height, validator, to, coins),
-        Fact::Changed { validator, status } => changed(alloc, out, height, validator, *status),
-        Fact::Jailed { validator } => of_validator(alloc, out, height, "jailed", validator),
-        Fact::Unjailed { validator } => of_validator(alloc, out, height, "unjailed", validator),
-        Fact::Tombstoned { validator } => of_validator(alloc, out, height, "tombstoned", validator),
-        Fact::Removed { validator } => of_validator(alloc, out, height, "removed", validator),
-        Fact::ParamsChanged { authority } => params_changed(alloc, out, height, authority),
+        } => commission_paid(form, alloc, out, height, validator, to, coins),
+        Fact::Changed { validator, status } => changed(
+            form, alloc, out, height, validator, *status,
+        ),
+        Fact::Jailed { validator } => of_validator(form, alloc, out, height, "jailed", validator),
+        Fact::Unjailed { validator } => of_validator(
+            form, alloc, out, height, "unjailed", validator,
+        ),
+        Fact::Tombstoned { validator } => of_validator(
+            form,
+            alloc,
+            out,
+            height,
+            "tombstoned",
+            validator,
+        ),
+        Fact::Removed { validator } => of_validator(form, alloc, out, height, "removed", validator),
+        Fact::ParamsChanged { authority } => params_changed(form, alloc, out, height, authority),
     }
 }

@@ -3,10 +3,11 @@ ghost use Rattle.line_json.specs.Reading.{Gives};
 ghost use Rattle.line_json.specs.Genesis.{genesis_of};
 
 use crate::coin_reading::coins_at;
-use crate::members::{member_at, only_named, word_at};
+use crate::members::{account_at, cons_at, member_at, only_named, operator_at, user_at, word_at};
 use crate::nested::{FromTree, list_at, object_at};
 use crate::reading::read_line;
 use crate::tree::Tree;
+use base_bech32::Form;
 use base_messages::{Genesis, GenesisAccount, GenesisDelegation, GenesisValidator, LineFault};
 use json::Scratch;
 use std::alloc::Global;
@@ -14,11 +15,15 @@ use std::alloc::Global;
 impl FromTree for GenesisAccount {
     ghost use Rattle.line_json.specs.Genesis.{account_of_tree};
 
-    ghost form = { account_of_tree };
+    ghost reading = { account_of_tree };
 
     #[tactic(auto, unfolding(crate::specs::Genesis::account_of_tree))]
-    fn from_tree<N: Tree>(alloc: Global, tree: &N) -> Result<GenesisAccount, LineFault> {
-        let address = member_at(30, "address", tree)?;
+    fn from_tree<N: Tree>(
+        form: Form,
+        alloc: Global,
+        tree: &N,
+    ) -> Result<GenesisAccount, LineFault> {
+        let address = account_at(form, 30, "address", tree)?;
         let coins = coins_at(alloc, 31, "coins", tree)?;
         only_named(&["address", "coins"], tree)?;
         Ok(GenesisAccount { address, coins })
@@ -28,12 +33,16 @@ impl FromTree for GenesisAccount {
 impl FromTree for GenesisValidator {
     ghost use Rattle.line_json.specs.Genesis.{validator_of};
 
-    ghost form = { validator_of };
+    ghost reading = { validator_of };
 
     #[tactic(auto, unfolding(crate::specs::Genesis::validator_of))]
-    fn from_tree<N: Tree>(_alloc: Global, tree: &N) -> Result<GenesisValidator, LineFault> {
-        let operator = member_at(40, "operator", tree)?;
-        let cons = member_at(41, "cons", tree)?;
+    fn from_tree<N: Tree>(
+        form: Form,
+        _alloc: Global,
+        tree: &N,
+    ) -> Result<GenesisValidator, LineFault> {
+        let operator = operator_at(form, 40, "operator", tree)?;
+        let cons = cons_at(form, 41, "cons", tree)?;
         let rate = member_at(42, "rate", tree)?;
         let max_rate = member_at(43, "max_rate", tree)?;
         let max_change_rate = member_at(44, "max_change_rate", tree)?;
@@ -63,12 +72,16 @@ impl FromTree for GenesisValidator {
 impl FromTree for GenesisDelegation {
     ghost use Rattle.line_json.specs.Genesis.{delegation_of};
 
-    ghost form = { delegation_of };
+    ghost reading = { delegation_of };
 
     #[tactic(auto, unfolding(crate::specs::Genesis::delegation_of))]
-    fn from_tree<N: Tree>(_alloc: Global, tree: &N) -> Result<GenesisDelegation, LineFault> {
-        let delegator = member_at(50, "delegator", tree)?;
-        let validator = member_at(51, "validator", tree)?;
+    fn from_tree<N: Tree>(
+        form: Form,
+        _alloc: Global,
+        tree: &N,
+    ) -> Result<GenesisDelegation, LineFault> {
+        let delegator = user_at(form, 50, "delegator", tree)?;
+        let validator = operator_at(form, 51, "validator", tree)?;
         let amount = member_at(52, "amount", tree)?;
         only_named(&["delegator", "validator", "amount"], tree)?;
         Ok(GenesisDelegation {
@@ -82,16 +95,16 @@ impl FromTree for GenesisDelegation {
 impl FromTree for Genesis {
     ghost use Rattle.line_json.specs.Genesis.{genesis_of_tree};
 
-    ghost form = { genesis_of_tree };
+    ghost reading = { genesis_of_tree };
 
     #[tactic(auto, unfolding(crate::specs::Genesis::genesis_of_tree))]
-    fn from_tree<N: Tree>(alloc: Global, tree: &N) -> Result<Genesis, LineFault> {
+    fn from_tree<N: Tree>(form: Form, alloc: Global, tree: &N) -> Result<Genesis, LineFault> {
         word_at(1, "kind", "genesis", tree)?;
         let time = member_at(2, "time", tree)?;
-        let params = object_at(alloc, 3, "params", tree)?;
-        let accounts = list_at(alloc, 4, "accounts", tree)?;
-        let validators = list_at(alloc, 5, "validators", tree)?;
-        let delegations = list_at(alloc, 6, "delegations", tree)?;
+        let params = object_at(form, alloc, 3, "params", tree)?;
+        let accounts = list_at(form, alloc, 4, "accounts", tree)?;
+        let validators = list_at(form, alloc, 5, "validators", tree)?;
+        let delegations = list_at(form, alloc, 6, "delegations", tree)?;
         only_named(
             &[
                 "kind",
@@ -124,8 +137,13 @@ impl FromTree for Genesis {
 /// are in their ranges and belong together is for the caller to judge. The scratch keeps its memory from line to line,
 /// and nothing else.
 #[tactic(auto, unfolding(crate::specs::Genesis::genesis_of))]
-pub fn read_genesis(alloc: Global, scratch: &mut Scratch, line: &[u8]) -> Result<Genesis, LineFault>
-    ensures { Gives (λ genesis. genesis) result (genesis_of line.now) }
+pub fn read_genesis(
+    form: Form,
+    alloc: Global,
+    scratch: &mut Scratch,
+    line: &[u8],
+) -> Result<Genesis, LineFault>
+    ensures { Gives (λ genesis. genesis) result (genesis_of form line.now) }
 {
-    read_line(alloc, scratch, line)
+    read_line(form, alloc, scratch, line)
 }

@@ -5,6 +5,7 @@
 //! left for the tree itself. A line is written member by member, without a tree, in ascending order of their names.
 #![tactic(auto)]
 
+mod addresses;
 mod block_reading;
 mod coin_reading;
 mod count;
@@ -22,6 +23,7 @@ mod place;
 mod plain;
 mod reading;
 mod reading_example;
+mod spelled_example;
 mod told;
 mod tree;
 mod value_tree;
@@ -29,13 +31,17 @@ mod words;
 mod writing;
 mod written;
 
+pub use addresses::{account_of_text, cons_of_text, operator_asked};
 pub use block_reading::read_block;
 pub use genesis_reading::read_genesis;
 pub use lines::{push_line_of_genesis, push_lines_of_block};
-pub use members::{Scalar, member_at, only_named, word_at};
+pub use members::{
+    Scalar, account_at, cons_at, member_at, only_named, operator_at, user_at, word_at,
+};
 pub use nested::FromTree;
 pub use reading::read_line;
 pub use reading_example::lines_read_by_example;
+pub use spelled_example::lines_spelled_by_example;
 pub use told::Told;
 pub use tree::Tree;
 pub use writing::{push_line, push_told};

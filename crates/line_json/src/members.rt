@@ -4,15 +4,14 @@ ghost use Rattle.std.specs.List.{list_all};
 ghost use Rattle.std.specs.Char.{is_ascii_digit};
 ghost use Rattle.serde_json.specs.Data.{Data};
 ghost use Rattle.base_decimals.specs.Texts.{is_number};
-ghost use Rattle.line_json.specs.Members.{amount_of, member_at, optional_at, word_at, texts_of, only_named};
+ghost use Rattle.line_json.specs.Members.{account_at, amount_of, cons_at, member_at, operator_at, optional_at, word_at, texts_of, only_named, user_at};
 
+use crate::addresses::{account_of_text, cons_of_text, operator_of_text, user_of_text};
 use crate::tree::Tree;
+use base_bech32::Form;
 use base_decimals::Dec;
 use base_messages::LineFault;
-use base_types::{
-    Account, Addr, ConsAddr, Denom, Moment, read_account, read_addr, read_cons, read_denom,
-    read_moment,
-};
+use base_types::{Account, Addr, ConsAddr, Denom, Moment, read_denom, read_moment};
 
 /// A value that one string, one number or one truth value stands for. Reading it takes no memory.
 pub trait Scalar: Copy {
@@ -128,51 +127,6 @@ impl Scalar for Denom {
     }
 }
 
-/// A string that spells the address of a user.
-impl Scalar for Addr {
-    ghost use Rattle.base_types.specs.Address.{user_of};
-    ghost use Rattle.line_json.specs.Members.{spelled_by};
-
-    ghost form = { spelled_by user_of };
-
-    fn from_tree<N: Tree>(tree: &N) -> Option<Addr> {
-        match tree.as_str() {
-            Some(text) => read_addr(text).ok(),
-            None => None,
-        }
-    }
-}
-
-/// A string that spells the address of a user or of a module.
-impl Scalar for Account {
-    ghost use Rattle.base_types.specs.Accounts.{account_of};
-    ghost use Rattle.line_json.specs.Members.{spelled_by};
-
-    ghost form = { spelled_by account_of };
-
-    fn from_tree<N: Tree>(tree: &N) -> Option<Account> {
-        match tree.as_str() {
-            Some(text) => read_account(text).ok(),
-            None => None,
-        }
-    }
-}
-
-/// A string that spells a consensus address.
-impl Scalar for ConsAddr {
-    ghost use Rattle.base_types.specs.Address.{address_of};
-    ghost use Rattle.line_json.specs.Members.{spelled_by};
-
-    ghost form = { spelled_by address_of };
-
-    fn from_tree<N: Tree>(tree: &N) -> Option<ConsAddr> {
-        match tree.as_str() {
-            Some(text) => read_cons(text).ok(),
-            None => None,
-        }
-    }
-}
-
 /// The member of this name. The only error is `BadShape` with the given number, exactly where the member is missing or
 /// not of its form.
 pub fn member_at<T: Scalar, N: Tree>(number: u16, name: &str, tree: &N) -> Result<T, LineFault>
@@ -199,6 +153,77 @@ pub fn optional_at<T: Scalar, N: Tree>(
             None => Err(LineFault::BadShape(number)),
         },
         None => Ok(None),
+    }
+}
+
+/// The member of this name, the text of a user's address in this form. The only error is `BadShape` with the given
+/// number, exactly where the member is missing or no such text.
+pub fn user_at<N: Tree>(form: Form, number: u16, name: &str, tree: &N) -> Result<Addr, LineFault>
+    ensures { result ≡ user_at form number name.now (N.seen tree.now) }
+{
+    match tree.get(name) {
+        Some(found) => match found.as_str() {
+            Some(text) => user_of_text(form, text).ok_or(LineFault::BadShape(number)),
+            None => Err(LineFault::BadShape(number)),
+        },
+        None => Err(LineFault::BadShape(number)),
+    }
+}
+
+/// The member of this name, the text of an operator's address in this form. The only error is `BadShape` with the given
+/// number, exactly where the member is missing or no such text.
+pub fn operator_at<N: Tree>(
+    form: Form,
+    number: u16,
+    name: &str,
+    tree: &N,
+) -> Result<Addr, LineFault>
+    ensures { result ≡ operator_at form number name.now (N.seen tree.now) }
+{
+    match tree.get(name) {
+        Some(found) => match found.as_str() {
+            Some(text) => operator_of_text(form, text).ok_or(LineFault::BadShape(number)),
+            None => Err(LineFault::BadShape(number)),
+        },
+        None => Err(LineFault::BadShape(number)),
+    }
+}
+
+/// The member of this name, the text of the address of a user or of a module in this form. The only error is `BadShape` with the given
+/// number, exactly where the member is missing or no such text.
+pub fn account_at<N: Tree>(
+    form: Form,
+    number: u16,
+    name: &str,
+    tree: &N,
+) -> Result<Account, LineFault>
+    ensures { result ≡ account_at form number name.now (N.seen tree.now) }
+{
+    match tree.get(name) {
+        Some(found) => match found.as_str() {
+            Some(text) => account_of_text(form, text).ok_or(LineFault::BadShape(number)),
+            None => Err(LineFault::BadShape(number)),
+        },
+        None => Err(LineFault::BadShape(number)),
+    }
+}
+
+/// The member of this name, the text of a consensus address in this form. The only error is `BadShape` with the given
+/// number, exactly where the member is missing or no such text.
+pub fn cons_at<N: Tree>(
+    form: Form,
+    number: u16,
+    name: &str,
+    tree: &N,
+) -> Result<ConsAddr, LineFault>
+    ensures { result ≡ cons_at form number name.now (N.seen tree.now) }
+{
+    match tree.get(name) {
+        Some(found) => match found.as_str() {
+            Some(text) => cons_of_text(form, text).ok_or(LineFault::BadShape(number)),
+            None => Err(LineFault::BadShape(number)),
+        },
+        None => Err(LineFault::BadShape(number)),
     }
 }
 

@@ -1,7 +1,8 @@
 //! The parameters of a chain.
-use crate::members::{member_at, only_named};
+use crate::members::{member_at, only_named, user_at};
 use crate::nested::FromTree;
 use crate::tree::Tree;
+use base_bech32::Form;
 use base_messages::LineFault;
 use base_roles::Params;
 use std::alloc::Global;
@@ -9,10 +10,10 @@ use std::alloc::Global;
 impl FromTree for Params {
     ghost use Rattle.line_json.specs.Params.{params_of};
 
-    ghost form = { params_of };
+    ghost reading = { params_of };
 
     #[tactic(auto, unfolding(crate::specs::Params::params_of))]
-    fn from_tree<N: Tree>(_alloc: Global, tree: &N) -> Result<Params, LineFault> {
+    fn from_tree<N: Tree>(form: Form, _alloc: Global, tree: &N) -> Result<Params, LineFault> {
         let bond_denom = member_at(10, "bond_denom", tree)?;
         let power_reduction = member_at(11, "power_reduction", tree)?;
         let unbonding_time = member_at(12, "unbonding_time", tree)?;
@@ -28,7 +29,7 @@ impl FromTree for Params {
         let slash_fraction_downtime = member_at(22, "slash_fraction_downtime", tree)?;
         let max_age_duration = member_at(23, "max_age_duration", tree)?;
         let max_age_num_blocks = member_at(24, "max_age_num_blocks", tree)?;
-        let authority = member_at(25, "authority", tree)?;
+        let authority = user_at(form, 25, "authority", tree)?;
         only_named(
             &[
                 "bond_denom",

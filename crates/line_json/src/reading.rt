@@ -6,6 +6,7 @@ ghost use Rattle.line_json.specs.Reading.{Gives, tree_of, value_of};
 use crate::nested::FromTree;
 use crate::place::Place;
 use crate::plain::is_plain;
+use base_bech32::Form;
 use base_messages::LineFault;
 use json::{Scratch, Tape};
 use serde_json::Value;
@@ -28,20 +29,21 @@ fn tree_of(alloc: Global, line: &[u8]) -> Result<Value, LineFault>
 }
 
 /// What the tree of a line gives.
-fn read_by_tree<T: FromTree>(alloc: Global, line: &[u8]) -> Result<T, LineFault>
-    ensures { Gives (λ value. value) result (value_of T.form line.now) }
+fn read_by_tree<T: FromTree>(form: Form, alloc: Global, line: &[u8]) -> Result<T, LineFault>
+    ensures { Gives (λ value. value) result (value_of (T.reading form) line.now) }
 {
     let value = tree_of(alloc, line)?;
-    T::from_tree(alloc, &&value)
+    T::from_tree(form, alloc, &&value)
 }
 
 /// What the tape of a line gives, where that is plain.
 fn read_by_tape<T: FromTree>(
+    form: Form,
     alloc: Global,
     scratch: &mut Scratch,
     text: &str,
 ) -> Option<Result<T, LineFault>>
-    ensures { IfSome result (λ reading. Gives (λ value. value) reading (value_of T.form text.now)) }
+    ensures { IfSome result (λ reading. Gives (λ value. value) reading (value_of (T.reading form) text.now)) }
 {
     let tape = match Tape::parse(text, scratch, Vec::new(alloc)) {
         Ok(tape) => tape,
@@ -51,25 +53,27 @@ fn read_by_tape<T: FromTree>(
         return None;
     }
     let place = Place::of(tape.root());
-    Some(T::from_tree(alloc, &place))
+    Some(T::from_tree(form, alloc, &place))
 }
 
-/// What a line gives: by its tape, and by its tree where the tape is not plain. The scratch is used by the tape.
+/// What a line gives, with its addresses in this form: by its tape, and by its tree where the tape is not plain. The scratch
+/// is used by the tape.
 ///
 /// # Errors
 /// `NotJson`, exactly where `serde_json` reads no value from the line for another cause than memory; the error of the
 /// form, where the tree is not of it; and `NoMemory`.
 pub fn read_line<T: FromTree>(
+    form: Form,
     alloc: Global,
     scratch: &mut Scratch,
     line: &[u8],
 ) -> Result<T, LineFault>
-    ensures { Gives (λ value. value) result (value_of T.form line.now) }
+    ensures { Gives (λ value. value) result (value_of (T.reading form) line.now) }
 {
     if let Ok(text) = std::str::from_utf8(line) {
-        if let Some(reading) = read_by_tape(alloc, scratch, text) {
+        if let Some(reading) = read_by_tape(form, alloc, scratch, text) {
             return reading;
         }
     }
-    read_by_tree(alloc, line)
+    read_by_tree(form, alloc, line)
 }

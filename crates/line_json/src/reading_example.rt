@@ -5,14 +5,15 @@ ghost use Rattle.line_json.specs.Genesis.{genesis_of};
 ghost use Rattle.line_json.specs.Block.{block_of};
 ghost use Rattle.line_json.specs.ReadingExample as example;
 
+use base_bech32::Form;
 use base_messages::LineFault;
 
 /// The lines of a chain with one account and one block with one send are read as these values, and so is a
 /// message of each kind; what is no JSON, and what is not of the form, has its fault; and amounts have 1 to
 /// 38 digits, of which `9` is 57.
 pub fn lines_read_by_example()
-    ensures genesis { genesis_of example.genesis_line ≡ Ok example.genesis }
-    ensures block { block_of example.block_line ≡ Ok example.block }
+    ensures genesis { genesis_of Form.Hex example.genesis_line ≡ Ok example.genesis }
+    ensures block { block_of Form.Hex example.block_line ≡ Ok example.block }
 
     ensures send { example.message_in (codes "send") example.send_members ≡ Ok example.send }
     ensures create_validator { example.message_in (codes "create_validator")
@@ -42,10 +43,10 @@ pub fn lines_read_by_example()
     ensures update_params { example.message_in (codes "update_params")
         example.update_params_members ≡ Ok example.update_params }
 
-    ensures not_json { block_of (codes "{") ≡ Err LineFault.NotJson }
-    ensures empty { block_of [] ≡ Err LineFault.NotJson }
-    ensures of_genesis { block_of (codes "{\"kind\":\"genesis\"}") ≡ Err (LineFault.BadShape 60) }
-    ensures no_height { block_of (codes "{\"kind\":\"block\"}") ≡ Err (LineFault.BadShape 61) }
+    ensures not_json { block_of Form.Hex (codes "{") ≡ Err LineFault.NotJson }
+    ensures empty { block_of Form.Hex [] ≡ Err LineFault.NotJson }
+    ensures of_genesis { block_of Form.Hex (codes "{\"kind\":\"genesis\"}") ≡ Err (LineFault.BadShape 60) }
+    ensures no_height { block_of Form.Hex (codes "{\"kind\":\"block\"}") ≡ Err (LineFault.BadShape 61) }
     ensures twice { example.message_in (codes "send") example.twice_members
         ≡ Err (LineFault.BadShape 93) }
     ensures no_kind { example.message_in (codes "jail") [] ≡ Err (LineFault.BadShape 90) }

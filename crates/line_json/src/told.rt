@@ -1,5 +1,6 @@
 //! What the members of written lines tell.
 
+use base_bech32::Form;
 use base_coins::{Coins, DecCoins};
 use base_decimals::{Dec, OverKind};
 use base_roles::Refusal;
@@ -27,14 +28,16 @@ pub enum Told<'a> {
     Status(BondStatus),
     /// A moment, as in RFC 3339.
     Moment(Moment),
-    /// The address of a user, in hexadecimal digits.
-    Address(&'a Addr),
+    /// The address of a user.
+    User(Form, &'a Addr),
+    /// The address of an operator.
+    Operator(Form, &'a Addr),
     /// An account: a user by the address, a module by its name.
-    Account(&'a Account),
+    Account(Form, &'a Account),
     /// A module, by its name.
     Module(Module),
-    /// A consensus address, in hexadecimal digits.
-    Cons(&'a ConsAddr),
+    /// A consensus address.
+    Cons(Form, &'a ConsAddr),
     /// The name of a denomination.
     Denom(&'a Denom),
     /// Coins with whole amounts.

@@ -1,12 +1,17 @@
 //! The members of written lines, token by token.
-ghost use Rattle.std.specs.Prelude.{◌≡◌, ◌++◌, IfErr, OnOk};
+ghost use Rattle.std.specs.Prelude.{◌≡◌, ◌++◌, IfErr, IsTrue, OnOk};
 ghost use Rattle.serde_json.specs.Data.{object, string as string_data};
+ghost use Rattle.base_types.specs.Address.{address_text};
+ghost use Rattle.base_bech32.specs.Spelling.{is_prefix, spelling_of};
+ghost use Rattle.line_json.specs.Addresses.{bytes_text};
 ghost use Rattle.line_json.specs.Line.{line_of};
 ghost use Rattle.line_json.specs.Told.{coins_seen, data_tokens, listed, told_data};
-ghost use Rattle.line_json.specs.Values.{account_data, address_data, coin_data, coins_data, dec_coins_data, decimal_data, moment_data, whole_data};
+ghost use Rattle.line_json.specs.Values.{account_data, coin_data, coins_data, dec_coins_data, decimal_data, moment_data, whole_data};
 
+use crate::addresses::{ACCOUNT, CONS, OPERATOR};
 use crate::told::Told;
 use crate::words::{over_name, status_name};
+use base_bech32::{Form, spell_into};
 use base_coins::{Coins, DecCoins};
 use base_decimals::Dec;
 use base_messages::LineFault;
@@ -52,9 +57,9 @@ fn push_denom(writer: &mut Writer, denom: &Denom) -> Result<(), LineFault>
 }
 
 /// The address of these bytes, in hexadecimal digits.
-fn push_address(writer: &mut Writer, bytes: &[u8; 20]) -> Result<(), LineFault>
+fn push_digits(writer: &mut Writer, bytes: &[u8; 20]) -> Result<(), LineFault>
     ensures ok { OnOk result (writer.new.tokens
-        ≡ writer.old.tokens ++ data_tokens (address_data bytes.now)) }
+        ≡ writer.old.tokens ++ data_tokens (string_data (address_text bytes.now))) }
     ensures before { OnOk result (writer.new.before ≡ writer.old.before) }
     ensures fault { IfErr result (λ fault. fault ≡ LineFault.NoMemory) }
 {
@@ -64,14 +69,48 @@ fn push_address(writer: &mut Writer, bytes: &[u8; 20]) -> Result<(), LineFault>
     Ok(())
 }
 
-fn push_account(writer: &mut Writer, account: &Account) -> Result<(), LineFault>
+/// The spelling of these bytes behind a prefix.
+fn push_spelling(writer: &mut Writer, prefix: &str, bytes: &[u8; 20]) -> Result<(), LineFault>
+    requires { IsTrue (is_prefix prefix.now) }
     ensures ok { OnOk result (writer.new.tokens
-        ≡ writer.old.tokens ++ data_tokens (account_data account.now)) }
+        ≡ writer.old.tokens ++ data_tokens (string_data (spelling_of prefix.now bytes.now))) }
+    ensures before { OnOk result (writer.new.before ≡ writer.old.before) }
+    ensures fault { IfErr result (λ fault. fault ≡ LineFault.NoMemory) }
+{
+    let mut letters = [0u8; 64];
+    let len = spell_into(prefix, bytes, &mut letters);
+    let text = str::from_utf8(&letters[..len]).unwrap();
+    writer.string(text)?;
+    Ok(())
+}
+
+/// The text of these bytes, which has this prefix where it is a spelling.
+fn push_address(
+    form: Form,
+    writer: &mut Writer,
+    prefix: &str,
+    bytes: &[u8; 20],
+) -> Result<(), LineFault>
+    requires { IsTrue (is_prefix prefix.now) }
+    ensures ok { OnOk result (writer.new.tokens ≡ writer.old.tokens
+        ++ data_tokens (string_data (bytes_text form prefix.now bytes.now))) }
+    ensures before { OnOk result (writer.new.before ≡ writer.old.before) }
+    ensures fault { IfErr result (λ fault. fault ≡ LineFault.NoMemory) }
+{
+    match form {
+        Form::Hex => push_digits(writer, bytes),
+        Form::Bech32 => push_spelling(writer, prefix, bytes),
+    }
+}
+
+fn push_account(form: Form, writer: &mut Writer, account: &Account) -> Result<(), LineFault>
+    ensures ok { OnOk result (writer.new.tokens
+        ≡ writer.old.tokens ++ data_tokens (account_data form account.now)) }
     ensures before { OnOk result (writer.new.before ≡ writer.old.before) }
     ensures fault { IfErr result (λ fault. fault ≡ LineFault.NoMemory) }
 {
     match account {
-        Account::User(address) => push_address(writer, &address.bytes())?,
+        Account::User(address) => push_address(form, writer, ACCOUNT, &address.bytes())?,
         Account::Module(module) => writer.string(module.name())?,
     }
     Ok(())
@@ -186,10 +225,13 @@ pub fn push_told(alloc: Global, writer: &mut Writer, told: &Told<'_>) -> Result<
         Told::Over(kind) => writer.string(over_name(*kind))?,
         Told::Status(status) => writer.string(status_name(*status))?,
         Told::Moment(moment) => push_moment(alloc, writer, *moment)?,
-        Told::Address(address) => push_address(writer, &address.bytes())?,
-        Told::Account(account) => push_account(writer, account)?,
+        Told::User(form, user) => push_address(*form, writer, ACCOUNT, &user.bytes())?,
+        Told::Operator(form, operator) => {
+            push_address(*form, writer, OPERATOR, &operator.bytes())?
+        }
+        Told::Account(form, account) => push_account(*form, writer, account)?,
         Told::Module(module) => writer.string(module.name())?,
-        Told::Cons(cons) => push_address(writer, &cons.bytes())?,
+        Told::Cons(form, cons) => push_address(*form, writer, CONS, &cons.bytes())?,
         Told::Denom(denom) => push_denom(writer, denom)?,
         Told::Coins(coins) => push_coins(writer, coins)?,
         Told::Lent(lent) => push_lent(writer, lent)?,

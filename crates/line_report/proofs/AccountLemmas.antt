@@ -2,6 +2,7 @@
 use Rattle.std.proofs.Common.{◌≡◌, ◌∙◌, sym, ℕ, List, [], ◌∷◌, ◌++◌, map, Bool, true, false, cond, refl, ap, append_assoc, Option, Some, None}
 use Rattle.base_types.specs.declared.account.Account.{Account}
 use Rattle.base_types.specs.Orders.{account_cmp}
+use Rattle.base_bech32.specs.declared.form.Form.{Form}
 use Rattle.base_coins.specs.Coins.{Money}
 use Rattle.line_json.specs.Line.{line_of}
 use Rattle.rule_machine.specs.Report.{is_same_account, joined}
@@ -34,33 +35,33 @@ joined_apart a b coins more [] h = rw h refl
 joined_apart a b coins more (first ∷ rest) h = apart_by a b coins more first rest (is_same_account b first.0) h
 
 -- the text of accounts
-abbrev pub told : List (Account × Money) → List ℕ
-told accounts = text_of (map account_line accounts)
+abbrev pub told : Form → List (Account × Money) → List ℕ
+told f accounts = text_of (map (account_line f) accounts)
 
 -- the line of an account before the others
-pub told_apart : (a b : Account) (coins more : Money) (rest : List (Account × Money)) (old new : List ℕ) → is_same_account a b ≡ false → new ≡ old ++ line_of (account_line (a, coins)) →
-    new ++ told (joined b more rest) ≡ old ++ told (joined a coins (joined b more rest))
-told_apart a b coins more rest old new h pushed =
-    ap (λ x. x ++ told (joined b more rest)) pushed ∙ (append_assoc old (line_of (account_line (a, coins))) (told (joined b more rest))
-    ∙ ap (λ l. old ++ told l) (sym (joined_apart a b coins more rest h)))
+pub told_apart : (f : Form) (a b : Account) (coins more : Money) (rest : List (Account × Money)) (old new : List ℕ) → is_same_account a b ≡ false → new ≡ old ++ line_of (account_line f (a, coins)) →
+    new ++ told f (joined b more rest) ≡ old ++ told f (joined a coins (joined b more rest))
+told_apart f a b coins more rest old new h pushed =
+    ap (λ x. x ++ told f (joined b more rest)) pushed ∙ (append_assoc old (line_of (account_line f (a, coins))) (told f (joined b more rest))
+    ∙ ap (λ l. old ++ told f l) (sym (joined_apart a b coins more rest h)))
 
 -- one more coin of the account that is gathered
-pub same_gathered : (a b : Account) (old new : Money) (coin : List ℕ × ℕ) (last : Option (Account × Money)) (rest : List (Account × Money)) (out : List ℕ) →
-    is_same_account a b ≡ true → new ≡ old ++ coin ∷ [] → last ≡ Some (a, old) → out ++ told (joined a new rest) ≡ out ++ told (opened last (joined b (coin ∷ []) rest))
-same_gathered a b old new coin last rest out same more found =
-    ap (λ accounts. out ++ told accounts) (ap (λ m. joined a m rest) more ∙ (sym (joined_same a b old (coin ∷ []) rest same)
+pub same_gathered : (f : Form) (a b : Account) (old new : Money) (coin : List ℕ × ℕ) (last : Option (Account × Money)) (rest : List (Account × Money)) (out : List ℕ) →
+    is_same_account a b ≡ true → new ≡ old ++ coin ∷ [] → last ≡ Some (a, old) → out ++ told f (joined a new rest) ≡ out ++ told f (opened last (joined b (coin ∷ []) rest))
+same_gathered f a b old new coin last rest out same more found =
+    ap (λ accounts. out ++ told f accounts) (ap (λ m. joined a m rest) more ∙ (sym (joined_same a b old (coin ∷ []) rest same)
     ∙ ap (λ o. opened o (joined b (coin ∷ []) rest)) (sym found)))
 
 -- the first coin of an account behind another
-pub other_gathered : (a b : Account) (old new : Money) (coin : List ℕ × ℕ) (last : Option (Account × Money)) (rest : List (Account × Money)) (out pushed : List ℕ) →
-    account_equal a b ≡ false → new ≡ coin ∷ [] → last ≡ Some (a, old) → pushed ≡ out ++ line_of (account_line (a, old)) →
-    pushed ++ told (joined b new rest) ≡ out ++ told (opened last (joined b (coin ∷ []) rest))
-other_gathered a b old new coin last rest out pushed other one found line =
-    ap (λ m. pushed ++ told (joined b m rest)) one ∙ (told_apart a b old (coin ∷ []) rest out pushed (sym (account_equal_at a b) ∙ other) line
-    ∙ ap (λ o. out ++ told (opened o (joined b (coin ∷ []) rest))) (sym found))
+pub other_gathered : (f : Form) (a b : Account) (old new : Money) (coin : List ℕ × ℕ) (last : Option (Account × Money)) (rest : List (Account × Money)) (out pushed : List ℕ) →
+    account_equal a b ≡ false → new ≡ coin ∷ [] → last ≡ Some (a, old) → pushed ≡ out ++ line_of (account_line f (a, old)) →
+    pushed ++ told f (joined b new rest) ≡ out ++ told f (opened last (joined b (coin ∷ []) rest))
+other_gathered f a b old new coin last rest out pushed other one found line =
+    ap (λ m. pushed ++ told f (joined b m rest)) one ∙ (told_apart f a b old (coin ∷ []) rest out pushed (sym (account_equal_at a b) ∙ other) line
+    ∙ ap (λ o. out ++ told f (opened o (joined b (coin ∷ []) rest))) (sym found))
 
 -- the first coin of the first account
-pub first_gathered : (b : Account) (new : Money) (coin : List ℕ × ℕ) (last : Option (Account × Money)) (rest : List (Account × Money)) (out pushed : List ℕ) →
-    new ≡ coin ∷ [] → last ≡ None → pushed ≡ out → pushed ++ told (joined b new rest) ≡ out ++ told (opened last (joined b (coin ∷ []) rest))
-first_gathered b new coin last rest out pushed one none same =
-    (λ i. same i ++ told (joined b (one i) rest)) ∙ ap (λ o. out ++ told (opened o (joined b (coin ∷ []) rest))) (sym none)
+pub first_gathered : (f : Form) (b : Account) (new : Money) (coin : List ℕ × ℕ) (last : Option (Account × Money)) (rest : List (Account × Money)) (out pushed : List ℕ) →
+    new ≡ coin ∷ [] → last ≡ None → pushed ≡ out → pushed ++ told f (joined b new rest) ≡ out ++ told f (opened last (joined b (coin ∷ []) rest))
+first_gathered f b new coin last rest out pushed one none same =
+    (λ i. same i ++ told f (joined b (one i) rest)) ∙ ap (λ o. out ++ told f (opened o (joined b (coin ∷ []) rest))) (sym none)

@@ -5,6 +5,7 @@ use Rattle.std.proofs.lemmas.List.{map-append}
 use Rattle.std.proofs.lemmas.List.Elements.{filter-append}
 use Rattle.serde_json.specs.Data.{Data}
 use Rattle.base_types.specs.Accounts.{account_bytes}
+use Rattle.base_bech32.specs.declared.form.Form.{Form}
 use Rattle.base_roles.specs.declared.items.Item.{Item}
 use Rattle.base_messages.specs.declared.report.Pending.{Pending}
 use Rattle.rule_machine.specs.Report.{Report}
@@ -97,30 +98,30 @@ kept_then test xs ys us vs h k = filter-append test xs ys ∙ (λ i. h i ++ k i)
 lines_then : (xs ys : List Labelled) (us vs : List Data) → lines_in xs ≡ us → lines_in ys ≡ vs → lines_in (xs ++ ys) ≡ us ++ vs
 lines_then xs ys us vs h k = map-append (λ l. l.line) xs ys ∙ (λ i. h i ++ k i)
 
-module _ (r : Report) where
+module _ (f : Form) (r : Report) where
   abbrev supply_part : List Labelled
   supply_part = record { kind = codes "supply"; address = []; line = supply_line r.supply } ∷ []
 
   abbrev account_part : List Labelled
-  account_part = labelled_by (codes "account") (λ a. account_bytes a.0) account_line r.accounts
+  account_part = labelled_by (codes "account") (λ a. account_bytes a.0) (account_line f) r.accounts
 
   abbrev validator_part : List Labelled
-  validator_part = labelled_by (codes "validator") (λ v. v.0.operator) validator_line r.validators
+  validator_part = labelled_by (codes "validator") (λ v. v.0.operator) (validator_line f) r.validators
 
   abbrev delegation_part : List Labelled
-  delegation_part = labelled_by (codes "delegation") (λ d. d.0.0) delegation_line r.delegations
+  delegation_part = labelled_by (codes "delegation") (λ d. d.0.0) (delegation_line f) r.delegations
 
   abbrev pending_part : List Labelled
-  pending_part = labelled_by (codes "pending") (λ p. p.delegator) pending_line r.pending
+  pending_part = labelled_by (codes "pending") (λ p. p.delegator) (pending_line f) r.pending
 
   abbrev unbonding_part : List Labelled
-  unbonding_part = all_labelled_by (codes "unbonding") (λ u. u.0.0) unbonding_lines r.unbondings
+  unbonding_part = all_labelled_by (codes "unbonding") (λ u. u.0.0) (unbonding_lines f) r.unbondings
 
   abbrev redelegation_part : List Labelled
-  redelegation_part = all_labelled_by (codes "redelegation") (λ u. u.0.0) redelegation_lines r.redelegations
+  redelegation_part = all_labelled_by (codes "redelegation") (λ u. u.0.0) (redelegation_lines f) r.redelegations
 
   abbrev signing_part : List Labelled
-  signing_part = labelled_by (codes "signing") (λ s. s.0) signing_line r.signing
+  signing_part = labelled_by (codes "signing") (λ s. s.0) (signing_line f) r.signing
 
   abbrev pool_part : List Labelled
   pool_part = record { kind = codes "pool"; address = []; line = pool_line r.pool } ∷ []
@@ -136,7 +137,7 @@ module _ (r : Report) where
       → filter test redelegation_part ≡ e
       → filter test signing_part ≡ g
       → filter test pool_part ≡ c
-      → filter test (labelled_lines r) ≡ s ++ (a ++ (v ++ (d ++ (p ++ (u ++ (e ++ (g ++ c)))))))
+      → filter test (labelled_lines f r) ≡ s ++ (a ++ (v ++ (d ++ (p ++ (u ++ (e ++ (g ++ c)))))))
   kept_parts test s a v d p u e g c hs ha hv hd hp hu he hg hc =
       let from_signing = kept_then test signing_part pool_part g c hg hc in
       let from_redelegation = kept_then test redelegation_part (signing_part ++ pool_part) e (g ++ c) he from_signing in
@@ -147,111 +148,111 @@ module _ (r : Report) where
       let from_account = kept_then test account_part (validator_part ++ (delegation_part ++ (pending_part ++ (unbonding_part ++ (redelegation_part ++ (signing_part ++ pool_part)))))) a (v ++ (d ++ (p ++ (u ++ (e ++ (g ++ c)))))) ha from_validator in
       kept_then test supply_part (account_part ++ (validator_part ++ (delegation_part ++ (pending_part ++ (unbonding_part ++ (redelegation_part ++ (signing_part ++ pool_part))))))) s (a ++ (v ++ (d ++ (p ++ (u ++ (e ++ (g ++ c))))))) hs from_account
 
-  are_labelled : lines_in (labelled_lines r) ≡ lines_of r
+  are_labelled : lines_in (labelled_lines f r) ≡ lines_of f r
   are_labelled =
       ap (λ ls. supply_line r.supply ∷ ls)
-      (lines_then account_part (validator_part ++ (delegation_part ++ (pending_part ++ (unbonding_part ++ (redelegation_part ++ (signing_part ++ pool_part)))))) (map account_line r.accounts) (map validator_line r.validators ++ (map delegation_line r.delegations ++ (map pending_line r.pending ++ (flat_map unbonding_lines r.unbondings ++ (flat_map redelegation_lines r.redelegations ++ (map signing_line r.signing ++ (pool_line r.pool ∷ []))))))) (each_line (codes "account") (λ a. account_bytes a.0) account_line r.accounts)
-      (lines_then validator_part (delegation_part ++ (pending_part ++ (unbonding_part ++ (redelegation_part ++ (signing_part ++ pool_part))))) (map validator_line r.validators) (map delegation_line r.delegations ++ (map pending_line r.pending ++ (flat_map unbonding_lines r.unbondings ++ (flat_map redelegation_lines r.redelegations ++ (map signing_line r.signing ++ (pool_line r.pool ∷ [])))))) (each_line (codes "validator") (λ v. v.0.operator) validator_line r.validators)
-      (lines_then delegation_part (pending_part ++ (unbonding_part ++ (redelegation_part ++ (signing_part ++ pool_part)))) (map delegation_line r.delegations) (map pending_line r.pending ++ (flat_map unbonding_lines r.unbondings ++ (flat_map redelegation_lines r.redelegations ++ (map signing_line r.signing ++ (pool_line r.pool ∷ []))))) (each_line (codes "delegation") (λ d. d.0.0) delegation_line r.delegations)
-      (lines_then pending_part (unbonding_part ++ (redelegation_part ++ (signing_part ++ pool_part))) (map pending_line r.pending) (flat_map unbonding_lines r.unbondings ++ (flat_map redelegation_lines r.redelegations ++ (map signing_line r.signing ++ (pool_line r.pool ∷ [])))) (each_line (codes "pending") (λ p. p.delegator) pending_line r.pending)
-      (lines_then unbonding_part (redelegation_part ++ (signing_part ++ pool_part)) (flat_map unbonding_lines r.unbondings) (flat_map redelegation_lines r.redelegations ++ (map signing_line r.signing ++ (pool_line r.pool ∷ []))) (all_lines (codes "unbonding") (λ u. u.0.0) unbonding_lines r.unbondings)
-      (lines_then redelegation_part (signing_part ++ pool_part) (flat_map redelegation_lines r.redelegations) (map signing_line r.signing ++ (pool_line r.pool ∷ [])) (all_lines (codes "redelegation") (λ u. u.0.0) redelegation_lines r.redelegations)
-      (lines_then signing_part pool_part (map signing_line r.signing) (pool_line r.pool ∷ []) (each_line (codes "signing") (λ s. s.0) signing_line r.signing) refl)))))))
+      (lines_then account_part (validator_part ++ (delegation_part ++ (pending_part ++ (unbonding_part ++ (redelegation_part ++ (signing_part ++ pool_part)))))) (map (account_line f) r.accounts) (map (validator_line f) r.validators ++ (map (delegation_line f) r.delegations ++ (map (pending_line f) r.pending ++ (flat_map (unbonding_lines f) r.unbondings ++ (flat_map (redelegation_lines f) r.redelegations ++ (map (signing_line f) r.signing ++ (pool_line r.pool ∷ []))))))) (each_line (codes "account") (λ a. account_bytes a.0) (account_line f) r.accounts)
+      (lines_then validator_part (delegation_part ++ (pending_part ++ (unbonding_part ++ (redelegation_part ++ (signing_part ++ pool_part))))) (map (validator_line f) r.validators) (map (delegation_line f) r.delegations ++ (map (pending_line f) r.pending ++ (flat_map (unbonding_lines f) r.unbondings ++ (flat_map (redelegation_lines f) r.redelegations ++ (map (signing_line f) r.signing ++ (pool_line r.pool ∷ [])))))) (each_line (codes "validator") (λ v. v.0.operator) (validator_line f) r.validators)
+      (lines_then delegation_part (pending_part ++ (unbonding_part ++ (redelegation_part ++ (signing_part ++ pool_part)))) (map (delegation_line f) r.delegations) (map (pending_line f) r.pending ++ (flat_map (unbonding_lines f) r.unbondings ++ (flat_map (redelegation_lines f) r.redelegations ++ (map (signing_line f) r.signing ++ (pool_line r.pool ∷ []))))) (each_line (codes "delegation") (λ d. d.0.0) (delegation_line f) r.delegations)
+      (lines_then pending_part (unbonding_part ++ (redelegation_part ++ (signing_part ++ pool_part))) (map (pending_line f) r.pending) (flat_map (unbonding_lines f) r.unbondings ++ (flat_map (redelegation_lines f) r.redelegations ++ (map (signing_line f) r.signing ++ (pool_line r.pool ∷ [])))) (each_line (codes "pending") (λ p. p.delegator) (pending_line f) r.pending)
+      (lines_then unbonding_part (redelegation_part ++ (signing_part ++ pool_part)) (flat_map (unbonding_lines f) r.unbondings) (flat_map (redelegation_lines f) r.redelegations ++ (map (signing_line f) r.signing ++ (pool_line r.pool ∷ []))) (all_lines (codes "unbonding") (λ u. u.0.0) (unbonding_lines f) r.unbondings)
+      (lines_then redelegation_part (signing_part ++ pool_part) (flat_map (redelegation_lines f) r.redelegations) (map (signing_line f) r.signing ++ (pool_line r.pool ∷ [])) (all_lines (codes "redelegation") (λ u. u.0.0) (redelegation_lines f) r.redelegations)
+      (lines_then signing_part pool_part (map (signing_line f) r.signing) (pool_line r.pool ∷ []) (each_line (codes "signing") (λ s. s.0) (signing_line f) r.signing) refl)))))))
 
   -- ---- parts that no line is kept of
 
   module _ (test : Labelled → Bool) where
     no_account : ((address : List ℕ) (line : Data) → test (record { kind = codes "account"; address = address; line = line }) ≡ false) → filter test account_part ≡ []
-    no_account h = none_kept (codes "account") (λ a. account_bytes a.0) test account_line (λ x. h _ _) r.accounts
+    no_account h = none_kept (codes "account") (λ a. account_bytes a.0) test (account_line f) (λ x. h _ _) r.accounts
 
     no_validator : ((address : List ℕ) (line : Data) → test (record { kind = codes "validator"; address = address; line = line }) ≡ false) → filter test validator_part ≡ []
-    no_validator h = none_kept (codes "validator") (λ v. v.0.operator) test validator_line (λ x. h _ _) r.validators
+    no_validator h = none_kept (codes "validator") (λ v. v.0.operator) test (validator_line f) (λ x. h _ _) r.validators
 
     no_delegation : ((address : List ℕ) (line : Data) → test (record { kind = codes "delegation"; address = address; line = line }) ≡ false) → filter test delegation_part ≡ []
-    no_delegation h = none_kept (codes "delegation") (λ d. d.0.0) test delegation_line (λ x. h _ _) r.delegations
+    no_delegation h = none_kept (codes "delegation") (λ d. d.0.0) test (delegation_line f) (λ x. h _ _) r.delegations
 
     no_pending : ((address : List ℕ) (line : Data) → test (record { kind = codes "pending"; address = address; line = line }) ≡ false) → filter test pending_part ≡ []
-    no_pending h = none_kept (codes "pending") (λ p. p.delegator) test pending_line (λ x. h _ _) r.pending
+    no_pending h = none_kept (codes "pending") (λ p. p.delegator) test (pending_line f) (λ x. h _ _) r.pending
 
     no_unbonding : ((address : List ℕ) (line : Data) → test (record { kind = codes "unbonding"; address = address; line = line }) ≡ false) → filter test unbonding_part ≡ []
-    no_unbonding h = no_lines_kept (codes "unbonding") (λ u. u.0.0) test unbonding_lines (λ x line. h _ line) r.unbondings
+    no_unbonding h = no_lines_kept (codes "unbonding") (λ u. u.0.0) test (unbonding_lines f) (λ x line. h _ line) r.unbondings
 
     no_redelegation : ((address : List ℕ) (line : Data) → test (record { kind = codes "redelegation"; address = address; line = line }) ≡ false) → filter test redelegation_part ≡ []
-    no_redelegation h = no_lines_kept (codes "redelegation") (λ u. u.0.0) test redelegation_lines (λ x line. h _ line) r.redelegations
+    no_redelegation h = no_lines_kept (codes "redelegation") (λ u. u.0.0) test (redelegation_lines f) (λ x line. h _ line) r.redelegations
 
     no_signing : ((address : List ℕ) (line : Data) → test (record { kind = codes "signing"; address = address; line = line }) ≡ false) → filter test signing_part ≡ []
-    no_signing h = none_kept (codes "signing") (λ s. s.0) test signing_line (λ x. h _ _) r.signing
+    no_signing h = none_kept (codes "signing") (λ s. s.0) test (signing_line f) (λ x. h _ _) r.signing
 
 -- ---- question by question
 
-module _ (items : List Item) (pending : List Pending) where
+module _ (f : Form) (items : List Item) (pending : List Pending) where
   abbrev r : Report
   r = report_from items pending
 
-  answered : (what : Query) → lines_asked items pending what ≡ answering_lines (report_from items pending) what
+  answered : (what : Query) → lines_asked f items pending what ≡ answering_lines f (report_from items pending) what
   answered query.Supply =
-      sym (ap lines_in (kept_parts r (answers query.Supply) (supply_part r) [] [] [] [] [] [] [] []
-      refl (no_account r (answers query.Supply) (λ address line. refl)) (no_validator r (answers query.Supply) (λ address line. refl)) (no_delegation r (answers query.Supply) (λ address line. refl))
-      (no_pending r (answers query.Supply) (λ address line. refl)) (no_unbonding r (answers query.Supply) (λ address line. refl)) (no_redelegation r (answers query.Supply) (λ address line. refl)) (no_signing r (answers query.Supply) (λ address line. refl)) refl))
+      sym (ap lines_in (kept_parts f r (answers query.Supply) (supply_part f r) [] [] [] [] [] [] [] []
+      refl (no_account f r (answers query.Supply) (λ address line. refl)) (no_validator f r (answers query.Supply) (λ address line. refl)) (no_delegation f r (answers query.Supply) (λ address line. refl))
+      (no_pending f r (answers query.Supply) (λ address line. refl)) (no_unbonding f r (answers query.Supply) (λ address line. refl)) (no_redelegation f r (answers query.Supply) (λ address line. refl)) (no_signing f r (answers query.Supply) (λ address line. refl)) refl))
   answered query.Pool =
-      sym (ap lines_in (kept_parts r (answers query.Pool) [] [] [] [] [] [] [] [] (pool_part r)
-      refl (no_account r (answers query.Pool) (λ address line. refl)) (no_validator r (answers query.Pool) (λ address line. refl)) (no_delegation r (answers query.Pool) (λ address line. refl))
-      (no_pending r (answers query.Pool) (λ address line. refl)) (no_unbonding r (answers query.Pool) (λ address line. refl)) (no_redelegation r (answers query.Pool) (λ address line. refl)) (no_signing r (answers query.Pool) (λ address line. refl)) refl))
+      sym (ap lines_in (kept_parts f r (answers query.Pool) [] [] [] [] [] [] [] [] (pool_part f r)
+      refl (no_account f r (answers query.Pool) (λ address line. refl)) (no_validator f r (answers query.Pool) (λ address line. refl)) (no_delegation f r (answers query.Pool) (λ address line. refl))
+      (no_pending f r (answers query.Pool) (λ address line. refl)) (no_unbonding f r (answers query.Pool) (λ address line. refl)) (no_redelegation f r (answers query.Pool) (λ address line. refl)) (no_signing f r (answers query.Pool) (λ address line. refl)) refl))
   answered query.Validators =
-      sym (ap lines_in (kept_parts r (answers query.Validators) [] [] (validator_part r) [] [] [] [] [] []
-      refl (no_account r (answers query.Validators) (λ address line. refl)) (each_kept (codes "validator") (λ v. v.0.operator) (answers query.Validators) (λ x. true) validator_line (λ x. refl) r.validators ∙ ap (labelled_by (codes "validator") (λ v. v.0.operator) validator_line) (everybody r.validators)) (no_delegation r (answers query.Validators) (λ address line. refl))
-      (no_pending r (answers query.Validators) (λ address line. refl)) (no_unbonding r (answers query.Validators) (λ address line. refl)) (no_redelegation r (answers query.Validators) (λ address line. refl)) (no_signing r (answers query.Validators) (λ address line. refl)) refl
-      ∙ append-nil (validator_part r))
-      ∙ each_line (codes "validator") (λ v. v.0.operator) validator_line r.validators)
+      sym (ap lines_in (kept_parts f r (answers query.Validators) [] [] (validator_part f r) [] [] [] [] [] []
+      refl (no_account f r (answers query.Validators) (λ address line. refl)) (each_kept (codes "validator") (λ v. v.0.operator) (answers query.Validators) (λ x. true) (validator_line f) (λ x. refl) r.validators ∙ ap (labelled_by (codes "validator") (λ v. v.0.operator) (validator_line f)) (everybody r.validators)) (no_delegation f r (answers query.Validators) (λ address line. refl))
+      (no_pending f r (answers query.Validators) (λ address line. refl)) (no_unbonding f r (answers query.Validators) (λ address line. refl)) (no_redelegation f r (answers query.Validators) (λ address line. refl)) (no_signing f r (answers query.Validators) (λ address line. refl)) refl
+      ∙ append-nil (validator_part f r))
+      ∙ each_line (codes "validator") (λ v. v.0.operator) (validator_line f) r.validators)
   answered (query.Account who) =
-      ap (map account_line) (accounts_asked (Some (account_bytes who)) items)
-      ∙ sym (ap lines_in (kept_parts r (answers (query.Account who)) [] (labelled_by (codes "account") (λ a. account_bytes a.0) account_line (filter (λ a. is_asked (Some (account_bytes who)) (account_bytes a.0)) r.accounts)) [] [] [] [] [] [] []
-      refl (each_kept (codes "account") (λ a. account_bytes a.0) (answers (query.Account who)) (λ a. is_asked (Some (account_bytes who)) (account_bytes a.0)) account_line (λ x. refl) r.accounts) (no_validator r (answers (query.Account who)) (λ address line. refl)) (no_delegation r (answers (query.Account who)) (λ address line. refl))
-      (no_pending r (answers (query.Account who)) (λ address line. refl)) (no_unbonding r (answers (query.Account who)) (λ address line. refl)) (no_redelegation r (answers (query.Account who)) (λ address line. refl)) (no_signing r (answers (query.Account who)) (λ address line. refl)) refl
-      ∙ append-nil (labelled_by (codes "account") (λ a. account_bytes a.0) account_line (filter (λ a. is_asked (Some (account_bytes who)) (account_bytes a.0)) r.accounts)))
-      ∙ each_line (codes "account") (λ a. account_bytes a.0) account_line (filter (λ a. is_asked (Some (account_bytes who)) (account_bytes a.0)) r.accounts))
+      ap (map (account_line f)) (accounts_asked (Some (account_bytes who)) items)
+      ∙ sym (ap lines_in (kept_parts f r (answers (query.Account who)) [] (labelled_by (codes "account") (λ a. account_bytes a.0) (account_line f) (filter (λ a. is_asked (Some (account_bytes who)) (account_bytes a.0)) r.accounts)) [] [] [] [] [] [] []
+      refl (each_kept (codes "account") (λ a. account_bytes a.0) (answers (query.Account who)) (λ a. is_asked (Some (account_bytes who)) (account_bytes a.0)) (account_line f) (λ x. refl) r.accounts) (no_validator f r (answers (query.Account who)) (λ address line. refl)) (no_delegation f r (answers (query.Account who)) (λ address line. refl))
+      (no_pending f r (answers (query.Account who)) (λ address line. refl)) (no_unbonding f r (answers (query.Account who)) (λ address line. refl)) (no_redelegation f r (answers (query.Account who)) (λ address line. refl)) (no_signing f r (answers (query.Account who)) (λ address line. refl)) refl
+      ∙ append-nil (labelled_by (codes "account") (λ a. account_bytes a.0) (account_line f) (filter (λ a. is_asked (Some (account_bytes who)) (account_bytes a.0)) r.accounts)))
+      ∙ each_line (codes "account") (λ a. account_bytes a.0) (account_line f) (filter (λ a. is_asked (Some (account_bytes who)) (account_bytes a.0)) r.accounts))
   answered (query.Validator who) =
-      ap (map validator_line) (validators_asked (Some (account_bytes who)) items)
-      ∙ sym (ap lines_in (kept_parts r (answers (query.Validator who)) [] [] (labelled_by (codes "validator") (λ v. v.0.operator) validator_line (filter (λ v. is_asked (Some (account_bytes who)) v.0.operator) r.validators)) [] [] [] [] [] []
-      refl (no_account r (answers (query.Validator who)) (λ address line. refl)) (each_kept (codes "validator") (λ v. v.0.operator) (answers (query.Validator who)) (λ v. is_asked (Some (account_bytes who)) v.0.operator) validator_line (λ x. refl) r.validators) (no_delegation r (answers (query.Validator who)) (λ address line. refl))
-      (no_pending r (answers (query.Validator who)) (λ address line. refl)) (no_unbonding r (answers (query.Validator who)) (λ address line. refl)) (no_redelegation r (answers (query.Validator who)) (λ address line. refl)) (no_signing r (answers (query.Validator who)) (λ address line. refl)) refl
-      ∙ append-nil (labelled_by (codes "validator") (λ v. v.0.operator) validator_line (filter (λ v. is_asked (Some (account_bytes who)) v.0.operator) r.validators)))
-      ∙ each_line (codes "validator") (λ v. v.0.operator) validator_line (filter (λ v. is_asked (Some (account_bytes who)) v.0.operator) r.validators))
+      ap (map (validator_line f)) (validators_asked (Some (account_bytes who)) items)
+      ∙ sym (ap lines_in (kept_parts f r (answers (query.Validator who)) [] [] (labelled_by (codes "validator") (λ v. v.0.operator) (validator_line f) (filter (λ v. is_asked (Some (account_bytes who)) v.0.operator) r.validators)) [] [] [] [] [] []
+      refl (no_account f r (answers (query.Validator who)) (λ address line. refl)) (each_kept (codes "validator") (λ v. v.0.operator) (answers (query.Validator who)) (λ v. is_asked (Some (account_bytes who)) v.0.operator) (validator_line f) (λ x. refl) r.validators) (no_delegation f r (answers (query.Validator who)) (λ address line. refl))
+      (no_pending f r (answers (query.Validator who)) (λ address line. refl)) (no_unbonding f r (answers (query.Validator who)) (λ address line. refl)) (no_redelegation f r (answers (query.Validator who)) (λ address line. refl)) (no_signing f r (answers (query.Validator who)) (λ address line. refl)) refl
+      ∙ append-nil (labelled_by (codes "validator") (λ v. v.0.operator) (validator_line f) (filter (λ v. is_asked (Some (account_bytes who)) v.0.operator) r.validators)))
+      ∙ each_line (codes "validator") (λ v. v.0.operator) (validator_line f) (filter (λ v. is_asked (Some (account_bytes who)) v.0.operator) r.validators))
   answered (query.Delegations who) =
-      ap (map delegation_line) (delegations_asked (Some (account_bytes who)) items)
-      ∙ sym (ap lines_in (kept_parts r (answers (query.Delegations who)) [] [] [] (labelled_by (codes "delegation") (λ d. d.0.0) delegation_line (filter (λ d. is_asked (Some (account_bytes who)) d.0.0) r.delegations)) [] [] [] [] []
-      refl (no_account r (answers (query.Delegations who)) (λ address line. refl)) (no_validator r (answers (query.Delegations who)) (λ address line. refl)) (each_kept (codes "delegation") (λ d. d.0.0) (answers (query.Delegations who)) (λ d. is_asked (Some (account_bytes who)) d.0.0) delegation_line (λ x. refl) r.delegations)
-      (no_pending r (answers (query.Delegations who)) (λ address line. refl)) (no_unbonding r (answers (query.Delegations who)) (λ address line. refl)) (no_redelegation r (answers (query.Delegations who)) (λ address line. refl)) (no_signing r (answers (query.Delegations who)) (λ address line. refl)) refl
-      ∙ append-nil (labelled_by (codes "delegation") (λ d. d.0.0) delegation_line (filter (λ d. is_asked (Some (account_bytes who)) d.0.0) r.delegations)))
-      ∙ each_line (codes "delegation") (λ d. d.0.0) delegation_line (filter (λ d. is_asked (Some (account_bytes who)) d.0.0) r.delegations))
+      ap (map (delegation_line f)) (delegations_asked (Some (account_bytes who)) items)
+      ∙ sym (ap lines_in (kept_parts f r (answers (query.Delegations who)) [] [] [] (labelled_by (codes "delegation") (λ d. d.0.0) (delegation_line f) (filter (λ d. is_asked (Some (account_bytes who)) d.0.0) r.delegations)) [] [] [] [] []
+      refl (no_account f r (answers (query.Delegations who)) (λ address line. refl)) (no_validator f r (answers (query.Delegations who)) (λ address line. refl)) (each_kept (codes "delegation") (λ d. d.0.0) (answers (query.Delegations who)) (λ d. is_asked (Some (account_bytes who)) d.0.0) (delegation_line f) (λ x. refl) r.delegations)
+      (no_pending f r (answers (query.Delegations who)) (λ address line. refl)) (no_unbonding f r (answers (query.Delegations who)) (λ address line. refl)) (no_redelegation f r (answers (query.Delegations who)) (λ address line. refl)) (no_signing f r (answers (query.Delegations who)) (λ address line. refl)) refl
+      ∙ append-nil (labelled_by (codes "delegation") (λ d. d.0.0) (delegation_line f) (filter (λ d. is_asked (Some (account_bytes who)) d.0.0) r.delegations)))
+      ∙ each_line (codes "delegation") (λ d. d.0.0) (delegation_line f) (filter (λ d. is_asked (Some (account_bytes who)) d.0.0) r.delegations))
   answered (query.Rewards who) =
-      ap (map pending_line) (pending_asked_for (Some (account_bytes who)) pending)
-      ∙ sym (ap lines_in (kept_parts r (answers (query.Rewards who)) [] [] [] [] (labelled_by (codes "pending") (λ p. p.delegator) pending_line (filter (λ p. is_asked (Some (account_bytes who)) p.delegator) r.pending)) [] [] [] []
-      refl (no_account r (answers (query.Rewards who)) (λ address line. refl)) (no_validator r (answers (query.Rewards who)) (λ address line. refl)) (no_delegation r (answers (query.Rewards who)) (λ address line. refl))
-      (each_kept (codes "pending") (λ p. p.delegator) (answers (query.Rewards who)) (λ p. is_asked (Some (account_bytes who)) p.delegator) pending_line (λ x. refl) r.pending) (no_unbonding r (answers (query.Rewards who)) (λ address line. refl)) (no_redelegation r (answers (query.Rewards who)) (λ address line. refl)) (no_signing r (answers (query.Rewards who)) (λ address line. refl)) refl
-      ∙ append-nil (labelled_by (codes "pending") (λ p. p.delegator) pending_line (filter (λ p. is_asked (Some (account_bytes who)) p.delegator) r.pending)))
-      ∙ each_line (codes "pending") (λ p. p.delegator) pending_line (filter (λ p. is_asked (Some (account_bytes who)) p.delegator) r.pending))
+      ap (map (pending_line f)) (pending_asked_for (Some (account_bytes who)) pending)
+      ∙ sym (ap lines_in (kept_parts f r (answers (query.Rewards who)) [] [] [] [] (labelled_by (codes "pending") (λ p. p.delegator) (pending_line f) (filter (λ p. is_asked (Some (account_bytes who)) p.delegator) r.pending)) [] [] [] []
+      refl (no_account f r (answers (query.Rewards who)) (λ address line. refl)) (no_validator f r (answers (query.Rewards who)) (λ address line. refl)) (no_delegation f r (answers (query.Rewards who)) (λ address line. refl))
+      (each_kept (codes "pending") (λ p. p.delegator) (answers (query.Rewards who)) (λ p. is_asked (Some (account_bytes who)) p.delegator) (pending_line f) (λ x. refl) r.pending) (no_unbonding f r (answers (query.Rewards who)) (λ address line. refl)) (no_redelegation f r (answers (query.Rewards who)) (λ address line. refl)) (no_signing f r (answers (query.Rewards who)) (λ address line. refl)) refl
+      ∙ append-nil (labelled_by (codes "pending") (λ p. p.delegator) (pending_line f) (filter (λ p. is_asked (Some (account_bytes who)) p.delegator) r.pending)))
+      ∙ each_line (codes "pending") (λ p. p.delegator) (pending_line f) (filter (λ p. is_asked (Some (account_bytes who)) p.delegator) r.pending))
   answered (query.Unbondings who) =
-      ap (flat_map unbonding_lines) (unbondings_asked (Some (account_bytes who)) items)
-      ∙ sym (ap lines_in (kept_parts r (answers (query.Unbondings who)) [] [] [] [] [] (all_labelled_by (codes "unbonding") (λ u. u.0.0) unbonding_lines (filter (λ u. is_asked (Some (account_bytes who)) u.0.0) r.unbondings)) [] [] []
-      refl (no_account r (answers (query.Unbondings who)) (λ address line. refl)) (no_validator r (answers (query.Unbondings who)) (λ address line. refl)) (no_delegation r (answers (query.Unbondings who)) (λ address line. refl))
-      (no_pending r (answers (query.Unbondings who)) (λ address line. refl)) (all_kept (codes "unbonding") (λ u. u.0.0) (answers (query.Unbondings who)) (λ u. is_asked (Some (account_bytes who)) u.0.0) unbonding_lines (λ x line. refl) r.unbondings) (no_redelegation r (answers (query.Unbondings who)) (λ address line. refl)) (no_signing r (answers (query.Unbondings who)) (λ address line. refl)) refl
-      ∙ append-nil (all_labelled_by (codes "unbonding") (λ u. u.0.0) unbonding_lines (filter (λ u. is_asked (Some (account_bytes who)) u.0.0) r.unbondings)))
-      ∙ all_lines (codes "unbonding") (λ u. u.0.0) unbonding_lines (filter (λ u. is_asked (Some (account_bytes who)) u.0.0) r.unbondings))
+      ap (flat_map (unbonding_lines f)) (unbondings_asked (Some (account_bytes who)) items)
+      ∙ sym (ap lines_in (kept_parts f r (answers (query.Unbondings who)) [] [] [] [] [] (all_labelled_by (codes "unbonding") (λ u. u.0.0) (unbonding_lines f) (filter (λ u. is_asked (Some (account_bytes who)) u.0.0) r.unbondings)) [] [] []
+      refl (no_account f r (answers (query.Unbondings who)) (λ address line. refl)) (no_validator f r (answers (query.Unbondings who)) (λ address line. refl)) (no_delegation f r (answers (query.Unbondings who)) (λ address line. refl))
+      (no_pending f r (answers (query.Unbondings who)) (λ address line. refl)) (all_kept (codes "unbonding") (λ u. u.0.0) (answers (query.Unbondings who)) (λ u. is_asked (Some (account_bytes who)) u.0.0) (unbonding_lines f) (λ x line. refl) r.unbondings) (no_redelegation f r (answers (query.Unbondings who)) (λ address line. refl)) (no_signing f r (answers (query.Unbondings who)) (λ address line. refl)) refl
+      ∙ append-nil (all_labelled_by (codes "unbonding") (λ u. u.0.0) (unbonding_lines f) (filter (λ u. is_asked (Some (account_bytes who)) u.0.0) r.unbondings)))
+      ∙ all_lines (codes "unbonding") (λ u. u.0.0) (unbonding_lines f) (filter (λ u. is_asked (Some (account_bytes who)) u.0.0) r.unbondings))
   answered (query.Redelegations who) =
-      ap (flat_map redelegation_lines) (redelegations_asked (Some (account_bytes who)) items)
-      ∙ sym (ap lines_in (kept_parts r (answers (query.Redelegations who)) [] [] [] [] [] [] (all_labelled_by (codes "redelegation") (λ u. u.0.0) redelegation_lines (filter (λ u. is_asked (Some (account_bytes who)) u.0.0) r.redelegations)) [] []
-      refl (no_account r (answers (query.Redelegations who)) (λ address line. refl)) (no_validator r (answers (query.Redelegations who)) (λ address line. refl)) (no_delegation r (answers (query.Redelegations who)) (λ address line. refl))
-      (no_pending r (answers (query.Redelegations who)) (λ address line. refl)) (no_unbonding r (answers (query.Redelegations who)) (λ address line. refl)) (all_kept (codes "redelegation") (λ u. u.0.0) (answers (query.Redelegations who)) (λ u. is_asked (Some (account_bytes who)) u.0.0) redelegation_lines (λ x line. refl) r.redelegations) (no_signing r (answers (query.Redelegations who)) (λ address line. refl)) refl
-      ∙ append-nil (all_labelled_by (codes "redelegation") (λ u. u.0.0) redelegation_lines (filter (λ u. is_asked (Some (account_bytes who)) u.0.0) r.redelegations)))
-      ∙ all_lines (codes "redelegation") (λ u. u.0.0) redelegation_lines (filter (λ u. is_asked (Some (account_bytes who)) u.0.0) r.redelegations))
+      ap (flat_map (redelegation_lines f)) (redelegations_asked (Some (account_bytes who)) items)
+      ∙ sym (ap lines_in (kept_parts f r (answers (query.Redelegations who)) [] [] [] [] [] [] (all_labelled_by (codes "redelegation") (λ u. u.0.0) (redelegation_lines f) (filter (λ u. is_asked (Some (account_bytes who)) u.0.0) r.redelegations)) [] []
+      refl (no_account f r (answers (query.Redelegations who)) (λ address line. refl)) (no_validator f r (answers (query.Redelegations who)) (λ address line. refl)) (no_delegation f r (answers (query.Redelegations who)) (λ address line. refl))
+      (no_pending f r (answers (query.Redelegations who)) (λ address line. refl)) (no_unbonding f r (answers (query.Redelegations who)) (λ address line. refl)) (all_kept (codes "redelegation") (λ u. u.0.0) (answers (query.Redelegations who)) (λ u. is_asked (Some (account_bytes who)) u.0.0) (redelegation_lines f) (λ x line. refl) r.redelegations) (no_signing f r (answers (query.Redelegations who)) (λ address line. refl)) refl
+      ∙ append-nil (all_labelled_by (codes "redelegation") (λ u. u.0.0) (redelegation_lines f) (filter (λ u. is_asked (Some (account_bytes who)) u.0.0) r.redelegations)))
+      ∙ all_lines (codes "redelegation") (λ u. u.0.0) (redelegation_lines f) (filter (λ u. is_asked (Some (account_bytes who)) u.0.0) r.redelegations))
   answered (query.Signing who) =
-      ap (map signing_line) (signing_asked_for (Some who) items)
-      ∙ sym (ap lines_in (kept_parts r (answers (query.Signing who)) [] [] [] [] [] [] [] (labelled_by (codes "signing") (λ s. s.0) signing_line (filter (λ s. is_asked (Some who) s.0) r.signing)) []
-      refl (no_account r (answers (query.Signing who)) (λ address line. refl)) (no_validator r (answers (query.Signing who)) (λ address line. refl)) (no_delegation r (answers (query.Signing who)) (λ address line. refl))
-      (no_pending r (answers (query.Signing who)) (λ address line. refl)) (no_unbonding r (answers (query.Signing who)) (λ address line. refl)) (no_redelegation r (answers (query.Signing who)) (λ address line. refl)) (each_kept (codes "signing") (λ s. s.0) (answers (query.Signing who)) (λ s. is_asked (Some who) s.0) signing_line (λ x. refl) r.signing) refl
-      ∙ append-nil (labelled_by (codes "signing") (λ s. s.0) signing_line (filter (λ s. is_asked (Some who) s.0) r.signing)))
-      ∙ each_line (codes "signing") (λ s. s.0) signing_line (filter (λ s. is_asked (Some who) s.0) r.signing))
+      ap (map (signing_line f)) (signing_asked_for (Some who) items)
+      ∙ sym (ap lines_in (kept_parts f r (answers (query.Signing who)) [] [] [] [] [] [] [] (labelled_by (codes "signing") (λ s. s.0) (signing_line f) (filter (λ s. is_asked (Some who) s.0) r.signing)) []
+      refl (no_account f r (answers (query.Signing who)) (λ address line. refl)) (no_validator f r (answers (query.Signing who)) (λ address line. refl)) (no_delegation f r (answers (query.Signing who)) (λ address line. refl))
+      (no_pending f r (answers (query.Signing who)) (λ address line. refl)) (no_unbonding f r (answers (query.Signing who)) (λ address line. refl)) (no_redelegation f r (answers (query.Signing who)) (λ address line. refl)) (each_kept (codes "signing") (λ s. s.0) (answers (query.Signing who)) (λ s. is_asked (Some who) s.0) (signing_line f) (λ x. refl) r.signing) refl
+      ∙ append-nil (labelled_by (codes "signing") (λ s. s.0) (signing_line f) (filter (λ s. is_asked (Some who) s.0) r.signing)))
+      ∙ each_line (codes "signing") (λ s. s.0) (signing_line f) (filter (λ s. is_asked (Some who) s.0) r.signing))
 
 pub answers_are_lines : AnswersAreLines
 answers_are_lines = record { labelled = are_labelled; answered = answered }

@@ -7,6 +7,7 @@ use Rattle.std.proofs.lemmas.List.{append-nil}
 use Rattle.std.proofs.lemmas.List.Elements.{filter-append, recursion_from_All}
 use Rattle.serde_json.specs.Data.{Data}
 use Rattle.base_types.specs.Accounts.{account_bytes}
+use Rattle.base_bech32.specs.declared.form.Form.{Form}
 use Rattle.base_roles.specs.declared.items.Item.{Item}
 use Rattle.base_roles.specs.Orders.{pair_cmp}
 use Rattle.base_messages.specs.declared.report.Pending.{Pending}
@@ -38,17 +39,17 @@ own_told bytes (p ∷ ps) = by (is_asked (Some bytes) p.delegator) refl (own_tol
     by false e later = later
 
 -- the lines of an answer are told from these alone
-lines_own : (items : List Item) (ps : List Pending) (what : Query) → lines_asked items (filter (is_pending_asked what) ps) what ≡ lines_asked items ps what
-lines_own items ps query.Supply = refl
-lines_own items ps query.Pool = refl
-lines_own items ps query.Validators = refl
-lines_own items ps (query.Account who) = refl
-lines_own items ps (query.Validator who) = refl
-lines_own items ps (query.Delegations who) = refl
-lines_own items ps (query.Rewards who) = ap (λ l. map pending_line (values_of (in_order pair_cmp l))) (own_told (account_bytes who) ps)
-lines_own items ps (query.Unbondings who) = refl
-lines_own items ps (query.Redelegations who) = refl
-lines_own items ps (query.Signing cons) = refl
+lines_own : (f : Form) (items : List Item) (ps : List Pending) (what : Query) → lines_asked f items (filter (is_pending_asked what) ps) what ≡ lines_asked f items ps what
+lines_own f items ps query.Supply = refl
+lines_own f items ps query.Pool = refl
+lines_own f items ps query.Validators = refl
+lines_own f items ps (query.Account who) = refl
+lines_own f items ps (query.Validator who) = refl
+lines_own f items ps (query.Delegations who) = refl
+lines_own f items ps (query.Rewards who) = ap (λ l. map (pending_line f) (values_of (in_order pair_cmp l))) (own_told (account_bytes who) ps)
+lines_own f items ps (query.Unbondings who) = refl
+lines_own f items ps (query.Redelegations who) = refl
+lines_own f items ps (query.Signing cons) = refl
 
 -- none is kept where none is asked for
 none_own : (own : Pending → Bool) (ps : List Pending) → AllByRecursion (λ p. own p ≡ false) ps → filter own ps ≡ []
@@ -57,19 +58,19 @@ none_own own (p ∷ ps) a = ap (λ b. cond b (p ∷ filter own ps) (filter own p
 
 -- ---- with the missing ones behind them
 
-lines_more : (items : List Item) (ps missing : List Pending) (what : Query) → All (λ p. is_pending_asked what p ≡ false) missing → lines_asked items (ps ++ missing) what ≡ lines_asked items ps what
-lines_more items ps missing what unasked =
+lines_more : (f : Form) (items : List Item) (ps missing : List Pending) (what : Query) → All (λ p. is_pending_asked what p ≡ false) missing → lines_asked f items (ps ++ missing) what ≡ lines_asked f items ps what
+lines_more f items ps missing what unasked =
     let own = is_pending_asked what in
-    sym (lines_own items (ps ++ missing) what)
-    ∙ ap (λ l. lines_asked items l what)
+    sym (lines_own f items (ps ++ missing) what)
+    ∙ ap (λ l. lines_asked f items l what)
     (filter-append own ps missing ∙ ap (λ l. filter own ps ++ l) (none_own own missing (recursion_from_All (λ p. is_pending_asked what p ≡ false) missing unasked)) ∙ append-nil (filter own ps))
-    ∙ lines_own items ps what
+    ∙ lines_own f items ps what
 
 pub states_are_asked : StatesAreAsked
-states_are_asked w items ps what ordered are pending =
+states_are_asked f w items ps what ordered are pending =
     let all = ps ++ pending.missing in
-    let lines : lines_asked items ps what ≡ answering_lines (report_of w) what
-    = sym (lines_more items ps pending.missing what pending.unasked)
-    ∙ answers_are_lines.answered items all what
-    ∙ ap (λ (r : Report). answering_lines r what) (states_are_reported.whole w items all ordered are pending.rest) in
+    let lines : lines_asked f items ps what ≡ answering_lines f (report_of w) what
+    = sym (lines_more f items ps pending.missing what pending.unasked)
+    ∙ answers_are_lines.answered f items all what
+    ∙ ap (λ (r : Report). answering_lines f r what) (states_are_reported.whole w items all ordered are pending.rest) in
     ap (λ (l : List Data). if names_address what then text_if_any l else Some (text_of l)) lines

@@ -6,6 +6,7 @@ use Rattle.std.proofs.lemmas.List.{append-nil}
 use Rattle.serde_json.specs.Data.{Data}
 use Rattle.serde_json.specs.Written.{compact_text}
 use Rattle.line_json.specs.Line.{line_of}
+use Rattle.base_bech32.specs.declared.form.Form.{Form}
 use Rattle.rule_machine.specs.Report.{Report}
 use Rattle.line_report.specs.Lines.{account_line, delegation_line, lines_of, pending_line, pool_line, redelegation_lines, signing_line, supply_line, text_of, unbonding_lines, validator_line}
 use Rattle.line_report.specs.Queries.{text_if_any}
@@ -18,19 +19,19 @@ text_then xs ys rest h = flat_map-append line_of xs ys ∙ ap (λ l. text_of xs 
 pub text_of_one : (line : Data) → text_of (line ∷ []) ≡ line_of line
 text_of_one line = append-nil (line_of line)
 
-pub text_of_sections : (r : Report) → text_of (lines_of r) ≡
-    line_of (supply_line r.supply) ++ (text_of (map account_line r.accounts) ++ (text_of (map validator_line r.validators)
-    ++ (text_of (map delegation_line r.delegations) ++ (text_of (map pending_line r.pending) ++ (text_of (flat_map unbonding_lines r.unbondings)
-    ++ (text_of (flat_map redelegation_lines r.redelegations) ++ (text_of (map signing_line r.signing) ++ line_of (pool_line r.pool))))))))
-text_of_sections r =
+pub text_of_sections : (f : Form) (r : Report) → text_of (lines_of f r) ≡
+    line_of (supply_line r.supply) ++ (text_of (map (account_line f) r.accounts) ++ (text_of (map (validator_line f) r.validators)
+    ++ (text_of (map (delegation_line f) r.delegations) ++ (text_of (map (pending_line f) r.pending) ++ (text_of (flat_map (unbonding_lines f) r.unbondings)
+    ++ (text_of (flat_map (redelegation_lines f) r.redelegations) ++ (text_of (map (signing_line f) r.signing) ++ line_of (pool_line r.pool))))))))
+text_of_sections f r =
     let pool : List Data = pool_line r.pool ∷ [] in
-    let signing : List Data = map signing_line r.signing in
-    let redelegations : List Data = flat_map redelegation_lines r.redelegations in
-    let unbondings : List Data = flat_map unbonding_lines r.unbondings in
-    let pending : List Data = map pending_line r.pending in
-    let delegations : List Data = map delegation_line r.delegations in
-    let validators : List Data = map validator_line r.validators in
-    let accounts : List Data = map account_line r.accounts in
+    let signing : List Data = map (signing_line f) r.signing in
+    let redelegations : List Data = flat_map (redelegation_lines f) r.redelegations in
+    let unbondings : List Data = flat_map (unbonding_lines f) r.unbondings in
+    let pending : List Data = map (pending_line f) r.pending in
+    let delegations : List Data = map (delegation_line f) r.delegations in
+    let validators : List Data = map (validator_line f) r.validators in
+    let accounts : List Data = map (account_line f) r.accounts in
     ap (λ l. line_of (supply_line r.supply) ++ l)
     (text_then accounts (validators ++ (delegations ++ (pending ++ (unbondings ++ (redelegations ++ (signing ++ pool)))))) _
     (text_then validators (delegations ++ (pending ++ (unbondings ++ (redelegations ++ (signing ++ pool))))) _
@@ -44,26 +45,26 @@ grown : (old new part rest : List ℕ) → new ≡ old ++ part → new ++ rest �
 grown old new part rest h = ap (λ l. l ++ rest) h ∙ append_assoc old part rest
 
 -- what was written section by section
-pub in_turn : (r : Report) (o0 o1 o2 o3 o4 o5 o6 o7 o8 o9 : List ℕ) → o0 ≡ [] → o1 ≡ o0 ++ line_of (supply_line r.supply)
-    → o2 ≡ o1 ++ text_of (map account_line r.accounts) → o3 ≡ o2 ++ text_of (map validator_line r.validators)
-    → o4 ≡ o3 ++ text_of (map delegation_line r.delegations) → o5 ≡ o4 ++ text_of (map pending_line r.pending)
-    → o6 ≡ o5 ++ text_of (flat_map unbonding_lines r.unbondings) → o7 ≡ o6 ++ text_of (flat_map redelegation_lines r.redelegations)
-    → o8 ≡ o7 ++ text_of (map signing_line r.signing) → o9 ≡ o8 ++ line_of (pool_line r.pool) → o9 ≡ text_of (lines_of r)
-in_turn r o0 o1 o2 o3 o4 o5 o6 o7 o8 o9 e0 e1 e2 e3 e4 e5 e6 e7 e8 e9 =
+pub in_turn : (f : Form) (r : Report) (o0 o1 o2 o3 o4 o5 o6 o7 o8 o9 : List ℕ) → o0 ≡ [] → o1 ≡ o0 ++ line_of (supply_line r.supply)
+    → o2 ≡ o1 ++ text_of (map (account_line f) r.accounts) → o3 ≡ o2 ++ text_of (map (validator_line f) r.validators)
+    → o4 ≡ o3 ++ text_of (map (delegation_line f) r.delegations) → o5 ≡ o4 ++ text_of (map (pending_line f) r.pending)
+    → o6 ≡ o5 ++ text_of (flat_map (unbonding_lines f) r.unbondings) → o7 ≡ o6 ++ text_of (flat_map (redelegation_lines f) r.redelegations)
+    → o8 ≡ o7 ++ text_of (map (signing_line f) r.signing) → o9 ≡ o8 ++ line_of (pool_line r.pool) → o9 ≡ text_of (lines_of f r)
+in_turn f r o0 o1 o2 o3 o4 o5 o6 o7 o8 o9 e0 e1 e2 e3 e4 e5 e6 e7 e8 e9 =
     let p8 : List ℕ = line_of (pool_line r.pool) in
-    let p7 : List ℕ = text_of (map signing_line r.signing) ++ p8 in
-    let p6 : List ℕ = text_of (flat_map redelegation_lines r.redelegations) ++ p7 in
-    let p5 : List ℕ = text_of (flat_map unbonding_lines r.unbondings) ++ p6 in
-    let p4 : List ℕ = text_of (map pending_line r.pending) ++ p5 in
-    let p3 : List ℕ = text_of (map delegation_line r.delegations) ++ p4 in
-    let p2 : List ℕ = text_of (map validator_line r.validators) ++ p3 in
-    let p1 : List ℕ = text_of (map account_line r.accounts) ++ p2 in
+    let p7 : List ℕ = text_of (map (signing_line f) r.signing) ++ p8 in
+    let p6 : List ℕ = text_of (flat_map (redelegation_lines f) r.redelegations) ++ p7 in
+    let p5 : List ℕ = text_of (flat_map (unbonding_lines f) r.unbondings) ++ p6 in
+    let p4 : List ℕ = text_of (map (pending_line f) r.pending) ++ p5 in
+    let p3 : List ℕ = text_of (map (delegation_line f) r.delegations) ++ p4 in
+    let p2 : List ℕ = text_of (map (validator_line f) r.validators) ++ p3 in
+    let p1 : List ℕ = text_of (map (account_line f) r.accounts) ++ p2 in
     let p0 : List ℕ = line_of (supply_line r.supply) ++ p1 in
-    e9 ∙ (grown o7 o8 (text_of (map signing_line r.signing)) p8 e8 ∙ (grown o6 o7 (text_of (flat_map redelegation_lines r.redelegations)) p7 e7
-    ∙ (grown o5 o6 (text_of (flat_map unbonding_lines r.unbondings)) p6 e6 ∙ (grown o4 o5 (text_of (map pending_line r.pending)) p5 e5
-    ∙ (grown o3 o4 (text_of (map delegation_line r.delegations)) p4 e4 ∙ (grown o2 o3 (text_of (map validator_line r.validators)) p3 e3
-    ∙ (grown o1 o2 (text_of (map account_line r.accounts)) p2 e2 ∙ (grown o0 o1 (line_of (supply_line r.supply)) p1 e1
-    ∙ (ap (λ l. l ++ p0) e0 ∙ sym (text_of_sections r))))))))))
+    e9 ∙ (grown o7 o8 (text_of (map (signing_line f) r.signing)) p8 e8 ∙ (grown o6 o7 (text_of (flat_map (redelegation_lines f) r.redelegations)) p7 e7
+    ∙ (grown o5 o6 (text_of (flat_map (unbonding_lines f) r.unbondings)) p6 e6 ∙ (grown o4 o5 (text_of (map (pending_line f) r.pending)) p5 e5
+    ∙ (grown o3 o4 (text_of (map (delegation_line f) r.delegations)) p4 e4 ∙ (grown o2 o3 (text_of (map (validator_line f) r.validators)) p3 e3
+    ∙ (grown o1 o2 (text_of (map (account_line f) r.accounts)) p2 e2 ∙ (grown o0 o1 (line_of (supply_line r.supply)) p1 e1
+    ∙ (ap (λ l. l ++ p0) e0 ∙ sym (text_of_sections f r))))))))))
 
 -- a line for the next element
 pub line_pushed : {T : Type 0} (line : T → Data) (xs : List T) (place : ℕ) (x : T) (old new all : List ℕ) → place < length xs → x ≡ get_or xs place x →

@@ -3,6 +3,7 @@
 use Rattle.std.specs.Prelude.{◌≡◌, ℕ, List, ◌++◌, Bool, false, if◌then◌else◌, Option, Some, All}
 use Rattle.std.specs.List.Sorted.{IsPermutation}
 use Rattle.base_types.specs.Accounts.{account_bytes}
+use Rattle.base_bech32.specs.declared.form.Form.{Form}
 use Rattle.base_roles.specs.declared.items.Item.{Item}
 use Rattle.base_messages.specs.declared.report.Pending.{Pending}
 use Rattle.rule_modules.specs.Chain.{State}
@@ -18,10 +19,10 @@ use Rattle.line_report.specs.Telling.{is_asked}
 
 -- what a report answers: its lines that answer the question, None exactly where no line belongs to
 -- the address
-abbrev pub answered_by : Report → Query → Option (List ℕ)
-answered_by r what =
-    if names_address what then text_if_any (answering_lines r what)
-    else Some (text_of (answering_lines r what))
+abbrev pub answered_by : Form → Report → Query → Option (List ℕ)
+answered_by f r what =
+    if names_address what then text_if_any (answering_lines f r what)
+    else Some (text_of (answering_lines f r what))
 
 -- a pending reward is of the delegator that is asked for
 abbrev pub is_pending_asked : Query → Pending → Bool
@@ -38,6 +39,6 @@ pub record ArePendingOf (w : State) (what : Query) (pending : List Pending) : Ty
 -- does.
 abbrev pub StatesAreAsked : Type 0
 StatesAreAsked =
-    (w : State) (items : List Item) (pending : List Pending) (what : Query) → IsInKeyOrder w
+    (f : Form) (w : State) (items : List Item) (pending : List Pending) (what : Query) → IsInKeyOrder w
     → AreItemsOf w items → ArePendingOf w what pending
-    → answer_of items pending what ≡ answered_by (report_of w) what
+    → answer_of f items pending what ≡ answered_by f (report_of w) what

@@ -3,6 +3,7 @@ use Rattle.std.specs.Prelude.{ℕ, List, [], ◌∷◌, ◌++◌, map, codes, Bo
 use Rattle.std.specs.List.{flat_map}
 use Rattle.serde_json.specs.Data.{Data}
 use Rattle.base_types.specs.Accounts.{account_bytes}
+use Rattle.base_bech32.specs.declared.form.Form.{Form}
 use Rattle.rule_machine.specs.Report.{Report}
 use Rattle.line_report.specs.declared.question.Query.{Query}
 use Rattle.line_report.specs.declared.question.Query.TheVariants as query
@@ -24,16 +25,16 @@ abbrev pub all_labelled_by : {A : Type 0} → List ℕ → (A → List ℕ) → 
 all_labelled_by kind address lines xs = flat_map (λ x. map (λ line. record { kind = kind; address = address x; line = line }) (lines x)) xs
 
 -- the lines of a report, in its order
-abbrev pub labelled_lines : Report → List Labelled
-labelled_lines r =
+abbrev pub labelled_lines : Form → Report → List Labelled
+labelled_lines f r =
     record { kind = codes "supply"; address = []; line = supply_line r.supply }
-    ∷ (labelled_by (codes "account") (λ a. account_bytes a.0) account_line r.accounts
-    ++ (labelled_by (codes "validator") (λ v. v.0.operator) validator_line r.validators
-    ++ (labelled_by (codes "delegation") (λ d. d.0.0) delegation_line r.delegations
-    ++ (labelled_by (codes "pending") (λ p. p.delegator) pending_line r.pending
-    ++ (all_labelled_by (codes "unbonding") (λ u. u.0.0) unbonding_lines r.unbondings
-    ++ (all_labelled_by (codes "redelegation") (λ u. u.0.0) redelegation_lines r.redelegations
-    ++ (labelled_by (codes "signing") (λ s. s.0) signing_line r.signing
+    ∷ (labelled_by (codes "account") (λ a. account_bytes a.0) (account_line f) r.accounts
+    ++ (labelled_by (codes "validator") (λ v. v.0.operator) (validator_line f) r.validators
+    ++ (labelled_by (codes "delegation") (λ d. d.0.0) (delegation_line f) r.delegations
+    ++ (labelled_by (codes "pending") (λ p. p.delegator) (pending_line f) r.pending
+    ++ (all_labelled_by (codes "unbonding") (λ u. u.0.0) (unbonding_lines f) r.unbondings
+    ++ (all_labelled_by (codes "redelegation") (λ u. u.0.0) (redelegation_lines f) r.redelegations
+    ++ (labelled_by (codes "signing") (λ s. s.0) (signing_line f) r.signing
     ++ record { kind = codes "pool"; address = []; line = pool_line r.pool } ∷ [])))))))
 
 -- the line is of this kind
@@ -58,5 +59,5 @@ answers (query.Redelegations a) l = belongs_to (codes "redelegation") (account_b
 answers (query.Signing cons) l = belongs_to (codes "signing") cons l
 
 -- the lines of a report that answer a question, in the report's order
-abbrev pub answering_lines : Report → Query → List Data
-answering_lines r what = map (λ l. l.line) (filter (answers what) (labelled_lines r))
+abbrev pub answering_lines : Form → Report → Query → List Data
+answering_lines f r what = map (λ l. l.line) (filter (answers what) (labelled_lines f r))

@@ -1,6 +1,7 @@
 -- Laws of reports and answers, as statements.
 use Rattle.std.specs.Prelude.{◌≡◌, List, [], ◌++◌, map, All}
 use Rattle.std.specs.List.Sorted.{IsPermutation}
+use Rattle.base_bech32.specs.declared.form.Form.{Form}
 use Rattle.base_roles.specs.declared.items.Item.{Item}
 use Rattle.base_roles.specs.declared.items.Item.TheVariants as item
 use Rattle.base_messages.specs.declared.report.Pending.{Pending}
@@ -45,6 +46,6 @@ pub record StatesAreReported : Type 0 where
 
 pub record AnswersAreLines : Type 0 where
   -- The labelled lines of a report are its lines,
-  pub labelled : (r : Report) → map (λ l. l.line) (labelled_lines r) ≡ lines_of r
+  pub labelled : (f : Form) (r : Report) → map (λ l. l.line) (labelled_lines f r) ≡ lines_of f r
   -- and a question is answered by those of them that answer it, in the report's order.
-  pub answered : (items : List Item) (pending : List Pending) (what : Query) → lines_asked items pending what ≡ answering_lines (report_from items pending) what
+  pub answered : (f : Form) (items : List Item) (pending : List Pending) (what : Query) → lines_asked f items pending what ≡ answering_lines f (report_from items pending) what

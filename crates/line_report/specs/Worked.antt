@@ -3,6 +3,7 @@ use Rattle.std.specs.Prelude.{◌≡◌, ℕ, List, [], ◌∷◌, ◌++◌, cod
 use Rattle.base_types.specs.declared.account.Account.TheVariants as account
 use Rattle.base_types.specs.declared.account.Module.TheVariants.{FeeCollector}
 use Rattle.base_types.specs.declared.status.BondStatus.TheVariants.{Bonded}
+use Rattle.base_bech32.specs.declared.form.Form.TheVariants.{Hex, Bech32}
 use Rattle.base_roles.specs.declared.entities.Validator.{Validator}
 use Rattle.base_roles.specs.declared.items.Item.{Item}
 use Rattle.base_roles.specs.declared.items.Item.TheVariants as item
@@ -17,9 +18,9 @@ use Rattle.line_report.specs.Groups.{report_from}
 use Rattle.line_report.specs.Lines.{lines_of, text_of}
 use Rattle.line_report.specs.Queries.{answer_of}
 
--- what is written of a report
+-- what is written of a report, with addresses in hexadecimal digits
 abbrev pub written : List Item → List Pending → List ℕ
-written items pending = text_of (lines_of (report_from items pending))
+written items pending = text_of (lines_of Hex (report_from items pending))
 
 -- ---- a run: 1000 of one account, a fee of 10, and 100 that are sent
 
@@ -46,13 +47,13 @@ report_lines =
 
 pub record RunReport : Type 0 where
   pub report : written run_items [] ≡ report_lines
-  pub of_user : answer_of run_items [] (query.Account (account.User ones)) ≡ Some ones_line
-  pub of_module : answer_of run_items [] (query.Account (account.Module FeeCollector)) ≡ Some collector_line
-  pub of_supply : answer_of run_items [] query.Supply ≡ Some (codes "{\"coins\":[{\"amount\":\"1000\",\"denom\":\"uatom\"}],\"kind\":\"supply\"}\n")
-  pub of_pool : answer_of run_items [] query.Pool ≡ Some (codes "{\"coins\":[],\"kind\":\"pool\"}\n")
-  pub nobody : answer_of run_items [] query.Validators ≡ Some []
-  pub none_held : answer_of run_items [] (query.Account (account.User threes)) ≡ None
-  pub none_rewarded : answer_of run_items [] (query.Rewards (account.User ones)) ≡ None
+  pub of_user : answer_of Hex run_items [] (query.Account (account.User ones)) ≡ Some ones_line
+  pub of_module : answer_of Hex run_items [] (query.Account (account.Module FeeCollector)) ≡ Some collector_line
+  pub of_supply : answer_of Hex run_items [] query.Supply ≡ Some (codes "{\"coins\":[{\"amount\":\"1000\",\"denom\":\"uatom\"}],\"kind\":\"supply\"}\n")
+  pub of_pool : answer_of Hex run_items [] query.Pool ≡ Some (codes "{\"coins\":[],\"kind\":\"pool\"}\n")
+  pub nobody : answer_of Hex run_items [] query.Validators ≡ Some []
+  pub none_held : answer_of Hex run_items [] (query.Account (account.User threes)) ≡ None
+  pub none_rewarded : answer_of Hex run_items [] (query.Rewards (account.User ones)) ≡ None
 
 -- ---- a state with a record of each kind
 
@@ -138,15 +139,46 @@ pub record KindsReport : Type 0 where
   pub report : written items pending
       ≡ codes "{\"coins\":[],\"kind\":\"supply\"}\n" ++ validator_text ++ ones_delegation ++ twos_delegation ++ ones_pending
       ++ twos_pending ++ unbonding_text ++ redelegation_text ++ signing_text ++ pool_text
-  pub of_all : answer_of items pending query.Validators ≡ Some validator_text
-  pub validator_is : answer_of items pending (query.Validator (account.User threes)) ≡ Some validator_text
-  pub no_validator : answer_of items pending (query.Validator (account.User ones)) ≡ None
-  pub delegated : answer_of items pending (query.Delegations (account.User ones)) ≡ Some ones_delegation
-  pub rewarded : answer_of items pending (query.Rewards (account.User twos)) ≡ Some twos_pending
-  pub unbonding : answer_of items pending (query.Unbondings (account.User ones)) ≡ Some unbonding_text
-  pub redelegating : answer_of items pending (query.Redelegations (account.User ones)) ≡ Some redelegation_text
-  pub signs : answer_of items pending (query.Signing twos) ≡ Some signing_text
-  pub unsigned : answer_of items pending (query.Signing threes) ≡ None
+  pub of_all : answer_of Hex items pending query.Validators ≡ Some validator_text
+  pub validator_is : answer_of Hex items pending (query.Validator (account.User threes)) ≡ Some validator_text
+  pub no_validator : answer_of Hex items pending (query.Validator (account.User ones)) ≡ None
+  pub delegated : answer_of Hex items pending (query.Delegations (account.User ones)) ≡ Some ones_delegation
+  pub rewarded : answer_of Hex items pending (query.Rewards (account.User twos)) ≡ Some twos_pending
+  pub unbonding : answer_of Hex items pending (query.Unbondings (account.User ones)) ≡ Some unbonding_text
+  pub redelegating : answer_of Hex items pending (query.Redelegations (account.User ones)) ≡ Some redelegation_text
+  pub signs : answer_of Hex items pending (query.Signing twos) ≡ Some signing_text
+  pub unsigned : answer_of Hex items pending (query.Signing threes) ≡ None
+
+-- ---- the same state, whose addresses are spellings
+
+abbrev pub spelled_validator : List ℕ
+spelled_validator =
+    codes "{\"commission\":[{\"amount\":\"0.500000000000000000\",\"denom\":\"uatom\"}],"
+    ++ codes "\"cons\":\"cosmosvalcons1yg3zyg3zyg3zyg3zyg3zyg3zyg3zyg3zl84d62\",\"jailed\":false,\"kind\":\"validator\","
+    ++ codes "\"operator\":\"cosmosvaloper1xvenxvenxvenxvenxvenxvenxvenxvene23vre\","
+    ++ codes "\"outstanding\":[{\"amount\":\"1.500000000000000000\",\"denom\":\"uatom\"}],"
+    ++ codes "\"rate\":\"0.100000000000000000\",\"shares\":\"150.000000000000000000\","
+    ++ codes "\"status\":\"bonded\",\"tokens\":\"150\"}\n"
+
+abbrev pub spelled_redelegation : List ℕ
+spelled_redelegation =
+    codes "{\"completes\":\"2024-01-01T00:00:05Z\",\"created\":8,"
+    ++ codes "\"delegator\":\"cosmos1zyg3zyg3zyg3zyg3zyg3zyg3zyg3zyg3pahzj0\",\"initial\":\"5\","
+    ++ codes "\"kind\":\"redelegation\",\"shares\":\"5.000000000000000000\","
+    ++ codes "\"source\":\"cosmosvaloper1yg3zyg3zyg3zyg3zyg3zyg3zyg3zyg3zt5x3kt\","
+    ++ codes "\"target\":\"cosmosvaloper1xvenxvenxvenxvenxvenxvenxvenxvene23vre\"}\n"
+
+pub record SpelledReport : Type 0 where
+  pub validator_is : answer_of Bech32 items pending (query.Validator (account.User threes)) ≡ Some spelled_validator
+  pub redelegating : answer_of Bech32 items pending (query.Redelegations (account.User ones)) ≡ Some spelled_redelegation
+  pub delegated : answer_of Bech32 items pending (query.Delegations (account.User ones))
+      ≡ Some (codes "{\"delegator\":\"cosmos1zyg3zyg3zyg3zyg3zyg3zyg3zyg3zyg3pahzj0\",\"kind\":\"delegation\","
+      ++ codes "\"shares\":\"100.000000000000000000\",\"validator\":\"cosmosvaloper1xvenxvenxvenxvenxvenxvenxvenxvene23vre\"}\n")
+  pub signs : answer_of Bech32 items pending (query.Signing twos)
+      ≡ Some (codes "{\"cons\":\"cosmosvalcons1yg3zyg3zyg3zyg3zyg3zyg3zyg3zyg3zl84d62\",\"counted\":9,\"jailed_until\":"
+      ++ codes "\"1970-01-01T00:00:00Z\",\"kind\":\"signing\",\"missed\":2,\"start\":1,\"tombstoned\":true}\n")
+  -- a module is told by its name
+  pub of_module : answer_of Bech32 run_items [] (query.Account (account.Module FeeCollector)) ≡ Some collector_line
 
 -- ---- a state, its items, and its report
 

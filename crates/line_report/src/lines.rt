@@ -4,6 +4,7 @@ ghost use Rattle.line_json.specs.Line.{line_of};
 ghost use Rattle.line_json.specs.Told.{coins_seen};
 ghost use Rattle.line_report.specs.Lines.{account_line, delegation_line, pending_line, pool_line, redelegation_line, signing_line, supply_line, unbonding_line, validator_line};
 
+use base_bech32::Form;
 use base_coins::DecCoins;
 use base_decimals::Dec;
 use base_messages::{LineFault, Pending};
@@ -45,17 +46,18 @@ pub(crate) fn push_supply(
 
 /// Appends the line of an account.
 pub(crate) fn push_account<'a>(
+    form: Form,
     alloc: Global,
     out: &mut Vec<u8>,
     account: &'a Account,
     coins: &'a [(&'a Denom, u128)],
 ) -> Result<(), LineFault>
     ensures ok { OnOk result (out.new.items
-        ≡ out.old.items ++ line_of (account_line (account.now, coins_seen coins.now))) }
+        ≡ out.old.items ++ line_of (account_line form (account.now, coins_seen coins.now))) }
     ensures fault { IfErr result (λ fault. fault ≡ LineFault.NoMemory) }
 {
     let members = [
-        ("address", Told::Account(account)),
+        ("address", Told::Account(form, account)),
         ("coins", Told::Lent(coins)),
         ("kind", Told::Word("account")),
     ];
@@ -64,13 +66,14 @@ pub(crate) fn push_account<'a>(
 
 /// Appends the line of a validator.
 pub(crate) fn push_validator<'a>(
+    form: Form,
     alloc: Global,
     out: &mut Vec<u8>,
     validator: &'a Validator,
     commission: &'a DecCoins,
     outstanding: &'a DecCoins,
 ) -> Result<(), LineFault>
-    ensures ok { OnOk result (out.new.items ≡ out.old.items ++ line_of (validator_line (
+    ensures ok { OnOk result (out.new.items ≡ out.old.items ++ line_of (validator_line form (
       validator.now,
       record { outstanding = outstanding.now; commission = commission.now; current = [] },
     ))) }
@@ -78,10 +81,10 @@ pub(crate) fn push_validator<'a>(
 {
     let members = [
         ("commission", Told::DecCoins(commission)),
-        ("cons", Told::Cons(&validator.cons)),
+        ("cons", Told::Cons(form, &validator.cons)),
         ("jailed", Told::Flag(validator.jailed)),
         ("kind", Told::Word("validator")),
-        ("operator", Told::Address(&validator.operator)),
+        ("operator", Told::Operator(form, &validator.operator)),
         ("outstanding", Told::DecCoins(outstanding)),
         ("rate", Told::Decimal(validator.commission.rate)),
         ("shares", Told::Decimal(validator.shares)),
@@ -93,6 +96,7 @@ pub(crate) fn push_validator<'a>(
 
 /// Appends the line of a delegation.
 pub(crate) fn push_delegation<'a>(
+    form: Form,
     alloc: Global,
     out: &mut Vec<u8>,
     delegator: &'a Addr,
@@ -100,30 +104,31 @@ pub(crate) fn push_delegation<'a>(
     shares: Dec,
 ) -> Result<(), LineFault>
     ensures ok { OnOk result (out.new.items
-        ≡ out.old.items ++ line_of (delegation_line ((delegator.now, operator.now), shares))) }
+        ≡ out.old.items ++ line_of (delegation_line form ((delegator.now, operator.now), shares))) }
     ensures fault { IfErr result (λ fault. fault ≡ LineFault.NoMemory) }
 {
     let members = [
-        ("delegator", Told::Address(delegator)),
+        ("delegator", Told::User(form, delegator)),
         ("kind", Told::Word("delegation")),
         ("shares", Told::Decimal(shares)),
-        ("validator", Told::Address(operator)),
+        ("validator", Told::Operator(form, operator)),
     ];
     push_line(alloc, out, &members)
 }
 
 /// Appends the line of a pending reward.
 pub(crate) fn push_pending(
+    form: Form,
     alloc: Global,
     out: &mut Vec<u8>,
     pending: &Pending,
 ) -> Result<(), LineFault>
-    ensures ok { OnOk result (out.new.items ≡ out.old.items ++ line_of (pending_line pending.now)) }
+    ensures ok { OnOk result (out.new.items ≡ out.old.items ++ line_of (pending_line form pending.now)) }
     ensures fault { IfErr result (λ fault. fault ≡ LineFault.NoMemory) }
 {
-    let delegator = ("delegator", Told::Address(&pending.delegator));
+    let delegator = ("delegator", Told::User(form, &pending.delegator));
     let kind = ("kind", Told::Word("pending"));
-    let validator = ("validator", Told::Address(&pending.operator));
+    let validator = ("validator", Told::Operator(form, &pending.operator));
     match &pending.coins {
         Some(coins) => {
             let coins = ("coins", Told::DecCoins(coins));
@@ -138,6 +143,7 @@ pub(crate) fn push_pending(
 
 /// Appends the line of an unbonding entry.
 pub(crate) fn push_unbonding<'a>(
+    form: Form,
     alloc: Global,
     out: &mut Vec<u8>,
     delegator: &'a Addr,
@@ -145,23 +151,24 @@ pub(crate) fn push_unbonding<'a>(
     entry: &'a UnbondingEntry,
 ) -> Result<(), LineFault>
     ensures ok { OnOk result (out.new.items
-        ≡ out.old.items ++ line_of (unbonding_line (delegator.now, operator.now) entry.now)) }
+        ≡ out.old.items ++ line_of (unbonding_line form (delegator.now, operator.now) entry.now)) }
     ensures fault { IfErr result (λ fault. fault ≡ LineFault.NoMemory) }
 {
     let members = [
         ("balance", Told::Amount(entry.balance)),
         ("completes", Told::Moment(entry.completes)),
         ("created", Told::Count(entry.created)),
-        ("delegator", Told::Address(delegator)),
+        ("delegator", Told::User(form, delegator)),
         ("initial", Told::Amount(entry.initial)),
         ("kind", Told::Word("unbonding")),
-        ("validator", Told::Address(operator)),
+        ("validator", Told::Operator(form, operator)),
     ];
     push_line(alloc, out, &members)
 }
 
 /// Appends the line of a redelegation entry.
 pub(crate) fn push_redelegation<'a>(
+    form: Form,
     alloc: Global,
     out: &mut Vec<u8>,
     delegator: &'a Addr,
@@ -170,35 +177,36 @@ pub(crate) fn push_redelegation<'a>(
     entry: &'a RedelegationEntry,
 ) -> Result<(), LineFault>
     ensures ok { OnOk result (out.new.items ≡ out.old.items
-        ++ line_of (redelegation_line (delegator.now, source.now, target.now) entry.now)) }
+        ++ line_of (redelegation_line form (delegator.now, source.now, target.now) entry.now)) }
     ensures fault { IfErr result (λ fault. fault ≡ LineFault.NoMemory) }
 {
     let members = [
         ("completes", Told::Moment(entry.completes)),
         ("created", Told::Count(entry.created)),
-        ("delegator", Told::Address(delegator)),
+        ("delegator", Told::User(form, delegator)),
         ("initial", Told::Amount(entry.initial)),
         ("kind", Told::Word("redelegation")),
         ("shares", Told::Decimal(entry.shares_dst)),
-        ("source", Told::Address(source)),
-        ("target", Told::Address(target)),
+        ("source", Told::Operator(form, source)),
+        ("target", Told::Operator(form, target)),
     ];
     push_line(alloc, out, &members)
 }
 
 /// Appends the line of a signing record.
 pub(crate) fn push_signing<'a>(
+    form: Form,
     alloc: Global,
     out: &mut Vec<u8>,
     cons: &'a ConsAddr,
     info: &'a SigningInfo,
 ) -> Result<(), LineFault>
     ensures ok { OnOk result (out.new.items
-        ≡ out.old.items ++ line_of (signing_line (cons.now, info.now))) }
+        ≡ out.old.items ++ line_of (signing_line form (cons.now, info.now))) }
     ensures fault { IfErr result (λ fault. fault ≡ LineFault.NoMemory) }
 {
     let members = [
-        ("cons", Told::Cons(cons)),
+        ("cons", Told::Cons(form, cons)),
         ("counted", Told::Count(info.counted)),
         ("jailed_until", Told::Moment(info.jailed_until)),
         ("kind", Told::Word("signing")),

@@ -7,6 +7,7 @@ use crate::sections::{
     accounts, community_pool, redelegation_entries, rewards, shares, supply, unbonding_entries,
     validators_with_purses, votes,
 };
+use base_bech32::Form;
 use base_messages::{LineFault, Pending};
 use base_roles::Item;
 use std::alloc::Global;
@@ -29,20 +30,25 @@ use std::alloc::Global;
 ///
 /// Of items of one key, which a state does not have, the last stands, and of pools the first. The only error is
 /// `NoMemory`.
-pub fn report(alloc: Global, items: &[Item], pending: &[Pending]) -> Result<Vec<u8>, LineFault>
+pub fn report(
+    form: Form,
+    alloc: Global,
+    items: &[Item],
+    pending: &[Pending],
+) -> Result<Vec<u8>, LineFault>
     ensures text { IfOk result (λ text. text.items
-        ≡ text_of (lines_of (report_from items.now pending.now))) }
+        ≡ text_of (lines_of form (report_from items.now pending.now))) }
     ensures fault { IfErr result (λ fault. fault ≡ LineFault.NoMemory) }
 {
     let mut out = Vec::new(alloc);
     supply(alloc, &mut out, items)?;
-    accounts(alloc, &mut out, None, items)?;
-    validators_with_purses(alloc, &mut out, None, items)?;
-    shares(alloc, &mut out, None, items)?;
-    rewards(alloc, &mut out, None, pending)?;
-    unbonding_entries(alloc, &mut out, None, items)?;
-    redelegation_entries(alloc, &mut out, None, items)?;
-    votes(alloc, &mut out, None, items)?;
+    accounts(form, alloc, &mut out, None, items)?;
+    validators_with_purses(form, alloc, &mut out, None, items)?;
+    shares(form, alloc, &mut out, None, items)?;
+    rewards(form, alloc, &mut out, None, pending)?;
+    unbonding_entries(form, alloc, &mut out, None, items)?;
+    redelegation_entries(form, alloc, &mut out, None, items)?;
+    votes(form, alloc, &mut out, None, items)?;
     community_pool(alloc, &mut out, items)?;
     Ok(out)
 }

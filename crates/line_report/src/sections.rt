@@ -16,6 +16,7 @@ use crate::pushing::{
     push_delegations, push_redelegations, push_rewards, push_signing_records, push_unbondings,
     push_validators,
 };
+use base_bech32::Form;
 use base_coins::DecCoins;
 use base_messages::{LineFault, Pending};
 use base_roles::Item;
@@ -32,102 +33,109 @@ pub(crate) fn supply(alloc: Global, out: &mut Vec<u8>, items: &[Item]) -> Result
 
 /// What accounts hold.
 pub(crate) fn accounts(
+    form: Form,
     alloc: Global,
     out: &mut Vec<u8>,
     asked: Asked,
     items: &[Item],
 ) -> Result<(), LineFault>
     ensures ok { OnOk result (out.new.items
-        ≡ out.old.items ++ text_of (map account_line (accounts_of asked items.now))) }
+        ≡ out.old.items ++ text_of (map (account_line form) (accounts_of asked items.now))) }
     ensures fault { IfErr result (λ fault. fault ≡ LineFault.NoMemory) }
 {
-    push_accounts(alloc, out, &balances(alloc, asked, items)?)
+    push_accounts(form, alloc, out, &balances(alloc, asked, items)?)
 }
 
 /// Validators with their purses.
 pub(crate) fn validators_with_purses(
+    form: Form,
     alloc: Global,
     out: &mut Vec<u8>,
     asked: Asked,
     items: &[Item],
 ) -> Result<(), LineFault>
     ensures ok { OnOk result (out.new.items
-        ≡ out.old.items ++ text_of (map validator_line (validators_of asked items.now))) }
+        ≡ out.old.items ++ text_of (map (validator_line form) (validators_of asked items.now))) }
     ensures fault { IfErr result (λ fault. fault ≡ LineFault.NoMemory) }
 {
     let purses = purses(alloc, asked, items)?;
-    push_validators(alloc, out, &validators(alloc, asked, items)?, &purses)
+    push_validators(form, alloc, out, &validators(alloc, asked, items)?, &purses)
 }
 
 /// Delegations.
 pub(crate) fn shares(
+    form: Form,
     alloc: Global,
     out: &mut Vec<u8>,
     asked: Asked,
     items: &[Item],
 ) -> Result<(), LineFault>
     ensures ok { OnOk result (out.new.items
-        ≡ out.old.items ++ text_of (map delegation_line (delegations_of asked items.now))) }
+        ≡ out.old.items ++ text_of (map (delegation_line form) (delegations_of asked items.now))) }
     ensures fault { IfErr result (λ fault. fault ≡ LineFault.NoMemory) }
 {
-    push_delegations(alloc, out, &delegations(alloc, asked, items)?)
+    push_delegations(form, alloc, out, &delegations(alloc, asked, items)?)
 }
 
 /// Pending rewards.
 pub(crate) fn rewards(
+    form: Form,
     alloc: Global,
     out: &mut Vec<u8>,
     asked: Asked,
     pending: &[Pending],
 ) -> Result<(), LineFault>
     ensures ok { OnOk result (out.new.items
-        ≡ out.old.items ++ text_of (map pending_line (pending_of asked pending.now))) }
+        ≡ out.old.items ++ text_of (map (pending_line form) (pending_of asked pending.now))) }
     ensures fault { IfErr result (λ fault. fault ≡ LineFault.NoMemory) }
 {
-    push_rewards(alloc, out, &pending_rewards(alloc, asked, pending)?)
+    push_rewards(form, alloc, out, &pending_rewards(alloc, asked, pending)?)
 }
 
 /// Unbonding entries.
 pub(crate) fn unbonding_entries(
+    form: Form,
     alloc: Global,
     out: &mut Vec<u8>,
     asked: Asked,
     items: &[Item],
 ) -> Result<(), LineFault>
     ensures ok { OnOk result (out.new.items
-        ≡ out.old.items ++ text_of (flat_map unbonding_lines (unbondings_of asked items.now))) }
+        ≡ out.old.items ++ text_of (flat_map (unbonding_lines form) (unbondings_of asked items.now))) }
     ensures fault { IfErr result (λ fault. fault ≡ LineFault.NoMemory) }
 {
-    push_unbondings(alloc, out, &unbondings(alloc, asked, items)?)
+    push_unbondings(form, alloc, out, &unbondings(alloc, asked, items)?)
 }
 
 /// Redelegation entries.
 pub(crate) fn redelegation_entries(
+    form: Form,
     alloc: Global,
     out: &mut Vec<u8>,
     asked: Asked,
     items: &[Item],
 ) -> Result<(), LineFault>
     ensures ok { OnOk result (out.new.items
-        ≡ out.old.items ++ text_of (flat_map redelegation_lines
+        ≡ out.old.items ++ text_of (flat_map (redelegation_lines form)
         (redelegations_of asked items.now))) }
     ensures fault { IfErr result (λ fault. fault ≡ LineFault.NoMemory) }
 {
-    push_redelegations(alloc, out, &redelegations(alloc, asked, items)?)
+    push_redelegations(form, alloc, out, &redelegations(alloc, asked, items)?)
 }
 
 /// Signing records.
 pub(crate) fn votes(
+    form: Form,
     alloc: Global,
     out: &mut Vec<u8>,
     asked: Asked,
     items: &[Item],
 ) -> Result<(), LineFault>
     ensures ok { OnOk result (out.new.items
-        ≡ out.old.items ++ text_of (map signing_line (signing_of asked items.now))) }
+        ≡ out.old.items ++ text_of (map (signing_line form) (signing_of asked items.now))) }
     ensures fault { IfErr result (λ fault. fault ≡ LineFault.NoMemory) }
 {
-    push_signing_records(alloc, out, &signing_records(alloc, asked, items)?)
+    push_signing_records(form, alloc, out, &signing_records(alloc, asked, items)?)
 }
 
 /// The community pool.

@@ -1,6 +1,7 @@
 -- Answers of a chain to lines, from the states for which it stands.
 use Rattle.std.proofs.Common.{◌≡◌, ◌∙◌, inl, inr, ℕ, ◌≤◌, false, nat_lt, List, [], ◌++◌, length, Option, Some, None, Result, Ok, Err, OnOk, IfErr, IfSome, refl, sym, ap, subst, arith}
 use Rattle.std.proofs.lemmas.List.{append-nil}
+use Rattle.base_bech32.specs.declared.form.Form.{Form}
 use Rattle.base_io.specs.Outside.{IsPart}
 use Rattle.base_io.specs.Calls.{AddsPart, Stays}
 use Rattle.base_roles.specs.declared.facts.Fact.{Fact}
@@ -47,9 +48,9 @@ started_with g r = Ok (told (begun g r))
 -- ---- the genesis
 
 -- a genesis that starts a chain is answered by its supply, and the chain stands for its state
-pub begins : (n : ℕ) (line : List ℕ) (g : Genesis) (facts : List Fact) (x : Chained) (coins : Money) (text : List ℕ) → genesis_of line ≡ Ok g → start_condition g ≡ None → Starts g facts x.kept
-    → ((p : State) → StandsFor x.kept p → coins ≡ p.view.bank.supplies) → text ≡ text_of_genesis coins → AnswersTo (genesis_answer n (genesis_of line)) text (StandsAt (Some x))
-begins n line g facts x coins text read none starts supply is = (
+pub begins : (form : Form) (n : ℕ) (line : List ℕ) (g : Genesis) (facts : List Fact) (x : Chained) (coins : Money) (text : List ℕ) → genesis_of form line ≡ Ok g → start_condition g ≡ None → Starts g facts x.kept
+    → ((p : State) → StandsFor x.kept p → coins ≡ p.view.bank.supplies) → text ≡ text_of_genesis coins → AnswersTo (genesis_answer n (genesis_of form line)) text (StandsAt (Some x))
+begins form n line g facts x coins text read none starts supply is = (
   Some starts.0,
   ap (genesis_answer n) read
       ∙ ap (started_answer n g) none
@@ -61,19 +62,19 @@ begins n line g facts x coins text read none starts supply is = (
 -- ---- lines that are not too long
 
 -- such a line is answered as it is read
-fits : (n : ℕ) (s : Standing) (line : List ℕ) → length line ≤ longest → line_answer n s line ≡ answer_within n s line
+fits : (form : Form) (n : ℕ) (s : Standing) (line : List ℕ) → length line ≤ longest → line_answer form n s line ≡ answer_within form n s line
 unfolding line_answer
-fits n s line short =
+fits form n s line short =
     let e : nat_lt longest (length line) ≡ false = grind (arith, short) in
     rw e refl
 
 -- the first line is answered as its genesis
-pub first_fits : (n : ℕ) (s : Standing) (line : List ℕ) → StandsAt None s → length line ≤ longest → line_answer n s line ≡ genesis_answer n (genesis_of line)
-first_fits n s line none short = fits n s line short ∙ ap (λ (x : Standing). answer_within n x line) none
+pub first_fits : (form : Form) (n : ℕ) (s : Standing) (line : List ℕ) → StandsAt None s → length line ≤ longest → line_answer form n s line ≡ genesis_answer n (genesis_of form line)
+first_fits form n s line none short = fits form n s line short ∙ ap (λ (x : Standing). answer_within form n x line) none
 
 -- a line behind it as its block
-pub block_fits : (n : ℕ) (p : State) (line : List ℕ) → length line ≤ longest → line_answer n (Some p) line ≡ block_answer n p (block_of line)
-block_fits n p line short = fits n (Some p) line short
+pub block_fits : (form : Form) (n : ℕ) (p : State) (line : List ℕ) → length line ≤ longest → line_answer form n (Some p) line ≡ block_answer form n p (block_of form line)
+block_fits form n p line short = fits form n (Some p) line short
 
 -- a fault of the line is why it is not answered
 pub faulted : (L : Standing → Standing → Type 0) (why : LineStop) (s : Standing) (due : Result Answer LineStop) → IsFault why due → L s s → NotAnswered L why s due
@@ -99,36 +100,36 @@ same_answers r due due' text P e h = subst (λ (d : Result Answer LineStop). OnO
 -- ---- blocks
 
 -- a line that is no block has the fault of its reading
-pub block_not_read : (n : ℕ) (line : List ℕ) (p : State) (why : LineFault) → Fails why (block_of line) → IsFault (not_read n why) (block_answer n p (block_of line))
-block_not_read n line p fault.NotJson h = ap (block_answer n p) h
-block_not_read n line p (fault.BadShape member) h = ap (block_answer n p) h
-block_not_read n line p fault.NoMemory h = tt
+pub block_not_read : (form : Form) (n : ℕ) (line : List ℕ) (p : State) (why : LineFault) → Fails why (block_of form line) → IsFault (not_read n why) (block_answer form n p (block_of form line))
+block_not_read form n line p fault.NotJson h = ap (block_answer form n p) h
+block_not_read form n line p (fault.BadShape member) h = ap (block_answer form n p) h
+block_not_read form n line p fault.NoMemory h = tt
 
 -- what the answer to a block that was read comes to
-answered_by : (n : ℕ) (line : List ℕ) (b : Block) (p : State) (r : Result Step BlockFault) → block_of line ≡ Ok b → step b p ≡ r → block_answer n p (block_of line) ≡ applied_answer n r
-answered_by n line b p r read steps = ap (block_answer n p) read ∙ ap (applied_answer n) steps
+answered_by : (form : Form) (n : ℕ) (line : List ℕ) (b : Block) (p : State) (r : Result Step BlockFault) → block_of form line ≡ Ok b → step b p ≡ r → block_answer form n p (block_of form line) ≡ applied_answer form n r
+answered_by form n line b p r read steps = ap (block_answer form n p) read ∙ ap (applied_answer form n) steps
 
 -- a block that is applied is answered by its report, and what is kept stands for the state after it
-pub steps_on : (n : ℕ) (line : List ℕ) (b : Block) (p : State) (report : BlockReport) (new : Chained) (text : List ℕ) → block_of line ≡ Ok b → Applies b p new.kept (Ok report)
-    → text ≡ text_of_block report → AnswersTo (block_answer n p (block_of line)) text (StandsAt (Some new))
-steps_on n line b p report new text read steps is = (
+pub steps_on : (form : Form) (n : ℕ) (line : List ℕ) (b : Block) (p : State) (report : BlockReport) (new : Chained) (text : List ℕ) → block_of form line ≡ Ok b → Applies b p new.kept (Ok report)
+    → text ≡ text_of_block form report → AnswersTo (block_answer form n p (block_of form line)) text (StandsAt (Some new))
+steps_on form n line b p report new text read steps is = (
   Some steps.0,
-  answered_by n line b p (Ok (record { report = report; state = steps.0 })) read steps.1
+  answered_by form n line b p (Ok (record { report = report; state = steps.0 })) read steps.1
       ∙ ap (λ (t : List ℕ). answer_of t steps.0) (sym is),
   steps.2,
 )
 
 -- one that is not applied has its fault
-pub faults_on : (n : ℕ) (line : List ℕ) (b : Block) (p : State) (k : KeptState) (why : BlockFault) → block_of line ≡ Ok b → Applies b p k (Err why)
-    → IsFault (not_applied n why) (block_answer n p (block_of line))
-faults_on n line b p k (block.BadHeight due) read h = answered_by n line b p (Err (block.BadHeight due)) read h
-faults_on n line b p k (block.BadTime last) read h = answered_by n line b p (Err (block.BadTime last)) read h
-faults_on n line b p k (block.UnknownVote place) read h = answered_by n line b p (Err (block.UnknownVote place)) read h
-faults_on n line b p k (block.RepeatedVote place) read h = answered_by n line b p (Err (block.RepeatedVote place)) read h
-faults_on n line b p k (block.BadPower place) read h = answered_by n line b p (Err (block.BadPower place)) read h
-faults_on n line b p k (block.BadEvidence place) read h = answered_by n line b p (Err (block.BadEvidence place)) read h
-faults_on n line b p k (block.RatioLimit over) read h = answered_by n line b p (Err (block.RatioLimit over)) read h
-faults_on n line b p k block.NoMemory read h = tt
+pub faults_on : (form : Form) (n : ℕ) (line : List ℕ) (b : Block) (p : State) (k : KeptState) (why : BlockFault) → block_of form line ≡ Ok b → Applies b p k (Err why)
+    → IsFault (not_applied n why) (block_answer form n p (block_of form line))
+faults_on form n line b p k (block.BadHeight due) read h = answered_by form n line b p (Err (block.BadHeight due)) read h
+faults_on form n line b p k (block.BadTime last) read h = answered_by form n line b p (Err (block.BadTime last)) read h
+faults_on form n line b p k (block.UnknownVote place) read h = answered_by form n line b p (Err (block.UnknownVote place)) read h
+faults_on form n line b p k (block.RepeatedVote place) read h = answered_by form n line b p (Err (block.RepeatedVote place)) read h
+faults_on form n line b p k (block.BadPower place) read h = answered_by form n line b p (Err (block.BadPower place)) read h
+faults_on form n line b p k (block.BadEvidence place) read h = answered_by form n line b p (Err (block.BadEvidence place)) read h
+faults_on form n line b p k (block.RatioLimit over) read h = answered_by form n line b p (Err (block.RatioLimit over)) read h
+faults_on form n line b p k block.NoMemory read h = tt
 
 -- ---- what is written
 
@@ -139,9 +140,9 @@ grown w w' text text' same wrote = λ old held.
     h ∙ ap (λ (t : List ℕ). Some (old ++ t)) same
 
 -- a line was answered, and its text written
-pub took_on : (n : ℕ) (s : Standing) (line text text' : List ℕ) (P : Standing → Type 0) (w w' : Option (List ℕ)) → AnswersTo (line_answer n s line) text P → text' ≡ text → IfSome w (λ (bytes : List ℕ). w' ≡ Some (bytes ++ text'))
-    → (next : Standing) × Took n s line next w w' × P next
-took_on n s line text text' P w w' answers same wrote = (answers.0, (text, answers.1, grown w w' text text' same wrote), answers.2)
+pub took_on : (form : Form) (n : ℕ) (s : Standing) (line text text' : List ℕ) (P : Standing → Type 0) (w w' : Option (List ℕ)) → AnswersTo (line_answer form n s line) text P → text' ≡ text → IfSome w (λ (bytes : List ℕ). w' ≡ Some (bytes ++ text'))
+    → (next : Standing) × Took form n s line next w w' × P next
+took_on form n s line text text' P w w' answers same wrote = (answers.0, (text, answers.1, grown w w' text text' same wrote), answers.2)
 
 -- ---- the report
 
@@ -151,36 +152,36 @@ none_yet None s h stood = stood
 none_yet (Some x) s h stood = absurd (h x refl)
 
 -- before the genesis there is none
-pub lacking : (s : Standing) (w : Option (List ℕ)) → StandsAt None s → FinishStops untold 1 s [] w w (ends.Lacking 1 input.Missing)
+pub lacking : (form : Form) (s : Standing) (w : Option (List ℕ)) → StandsAt None s → FinishStops form untold 1 s [] w w (ends.Lacking 1 input.Missing)
 unfolding report_of
-lacking s w none = λ old held. ([], held ∙ ap Some (sym (append-nil old)), record { end = s; answered = (refl, refl); fault_is = ap report_of none; left = tt })
+lacking form s w none = λ old held. ([], held ∙ ap Some (sym (append-nil old)), record { end = s; answered = (refl, refl); fault_is = ap (report_of form) none; left = tt })
 
 -- the report of a chain is that of the state for which it stands
-reported_at : (x : Chained) (s : Standing) (text : List ℕ) → StandsAt (Some x) s → ((p : State) → StandsFor x.kept p → report_of (Some p) ≡ Ok text) → report_of s ≡ Ok text
-reported_at x None text stood reports = absurd stood
-reported_at x (Some p) text stood reports = reports p stood
+reported_at : (form : Form) (x : Chained) (s : Standing) (text : List ℕ) → StandsAt (Some x) s → ((p : State) → StandsFor x.kept p → report_of form (Some p) ≡ Ok text) → report_of form s ≡ Ok text
+reported_at form x None text stood reports = absurd stood
+reported_at form x (Some p) text stood reports = reports p stood
 
-module _ (x : Chained) (s : Standing) (text text' : List ℕ) (stood : StandsAt (Some x) s) (reports : (p : State) → StandsFor x.kept p → report_of (Some p) ≡ Ok text) (same : text' ≡ text) where
-  part : (front : List ℕ) → IsPart front text' → Reported untold 1 s [] front
+module _ (form : Form) (x : Chained) (s : Standing) (text text' : List ℕ) (stood : StandsAt (Some x) s) (reports : (p : State) → StandsFor x.kept p → report_of form (Some p) ≡ Ok text) (same : text' ≡ text) where
+  part : (front : List ℕ) → IsPart front text' → Reported form untold 1 s [] front
   part front p = record {
     end = s;
     done = [];
     report = text;
     front = front;
     answered = (refl, refl);
-    report_is = reported_at x s text stood reports;
+    report_is = reported_at form x s text stood reports;
     part = subst (IsPart front) same p;
     text_is = refl;
     left = tt;
   }
 
   -- a part of it was written
-  pub report_failed : (w w' : Option (List ℕ)) → AddsPart w w' text' → FinishStops untold 1 s [] w w' ends.Report
+  pub report_failed : (w w' : Option (List ℕ)) → AddsPart w w' text' → FinishStops form untold 1 s [] w w' ends.Report
   report_failed w w' adds = λ old at. let a = adds old at in (a.0, a.2, part a.0 a.1)
 
-  pub report_full : (w w' : Option (List ℕ)) → AddsPart w w' text' → FinishStops untold 1 s [] w w' ends.NoMemory
+  pub report_full : (w w' : Option (List ℕ)) → AddsPart w w' text' → FinishStops form untold 1 s [] w w' ends.NoMemory
   report_full w w' adds = λ old at. let a = adds old at in (a.0, a.2, inl (part a.0 a.1))
 
   -- all of it was written
-  pub report_written : (w w1 w' : Option (List ℕ)) → IfSome w (λ (bytes : List ℕ). w1 ≡ Some (bytes ++ text')) → Stays w1 w' → Finishes untold 1 s [] w w'
-  report_written w w1 w' wrote stays = (text, record { end = s; done = []; answered = (refl, refl); ran = ap ran_report (reported_at x s text stood reports); left = tt }, λ old at. stays (old ++ text) (grown w w1 text text' same wrote old at))
+  pub report_written : (w w1 w' : Option (List ℕ)) → IfSome w (λ (bytes : List ℕ). w1 ≡ Some (bytes ++ text')) → Stays w1 w' → Finishes form untold 1 s [] w w'
+  report_written w w1 w' wrote stays = (text, record { end = s; done = []; answered = (refl, refl); ran = ap ran_report (reported_at form x s text stood reports); left = tt }, λ old at. stays (old ++ text) (grown w w1 text text' same wrote old at))

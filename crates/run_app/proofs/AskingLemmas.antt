@@ -6,6 +6,7 @@ use Rattle.std.proofs.lemmas.List.{append-nil}
 use Rattle.std.proofs.lemmas.List.Elements.{All-nil, All-weaker}
 use Rattle.std.proofs.lemmas.List.Sorted.{IsPermutation-refl}
 use Rattle.std.proofs.lemmas.Map.Text.{is_eq-slice_cmp}
+use Rattle.base_bech32.specs.declared.form.Form.{Form}
 use Rattle.base_types.specs.declared.account.Account.{Account}
 use Rattle.base_types.specs.declared.account.Account.TheVariants as account
 use Rattle.base_roles.specs.declared.items.Item.{Item}
@@ -90,6 +91,6 @@ none_told p what list other empty = subst (ArePendingOf p what) (sym empty) (non
 
 -- ---- the answer
 
-pub text_asked : StatesAreAsked → (p : State) (items : List Item) (pending : List Pending) (what : Query) (answer : Option (List ℕ)) → IsInKeyOrder p → items ≡ items_of p → ArePendingOf p what pending
-    → answer ≡ answer_of items pending what → answer ≡ answered_by (report_of p) what
-text_asked law p items pending what answer order is are written = written ∙ law p items pending what order (subst (AreItemsOf p) (sym is) (all_of p)) are
+pub text_asked : (form : Form) → StatesAreAsked → (p : State) (items : List Item) (pending : List Pending) (what : Query) (answer : Option (List ℕ)) → IsInKeyOrder p → items ≡ items_of p → ArePendingOf p what pending
+    → answer ≡ answer_of form items pending what → answer ≡ answered_by form (report_of p) what
+text_asked form law p items pending what answer order is are written = written ∙ law form p items pending what order (subst (AreItemsOf p) (sym is) (all_of p)) are

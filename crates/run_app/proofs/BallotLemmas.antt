@@ -2,6 +2,7 @@
 use Rattle.std.proofs.Common.{◌≡◌, ◌≢◌, ◌∙◌, ◌⊎◌, inl, inr, ℕ, suc, ◌+◌, ◌<◌, ◌≤◌, Bool, true, false, cond, ◌==◌, le-ltb, lt-ltb, List, [], ◌∷◌, ◌++◌, append-nil, append_assoc, length, length-append, take, drop, Option, Some, None, Result, Ok, Err, OnOk, IfErr, IfSome, refl, sym, ap, subst, arith, add-zero, ne_eqb}
 use Rattle.std.specs.Option.{option_or}
 use Rattle.std.proofs.lemmas.List.{take-append-drop}
+use Rattle.base_bech32.specs.declared.form.Form.{Form}
 use Rattle.base_coins.specs.Steps.{◌>>=◌}
 use Rattle.base_io.specs.Calls.{Takes, Stays}
 use Rattle.base_messages.specs.declared.faults.LineFault.{LineFault}
@@ -33,14 +34,14 @@ use Rattle.run_app.proofs.CutLemmas.{lines-append, rest-append, rest_none, rest_
 -- ---- one line
 
 -- the line is within its limit
-within : (n : ℕ) (line : List ℕ) → length line ≤ longest → ballot_at n line ≡ ballot_or_stop n (ballot_of line)
+within : (form : Form) (n : ℕ) (line : List ℕ) → length line ≤ longest → ballot_at form n line ≡ ballot_or_stop n (ballot_of form line)
 unfolding ballot_at
-within n line short = rw (le-ltb longest (length line) short) refl
+within form n line short = rw (le-ltb longest (length line) short) refl
 
 -- the line is over it
-over : (n : ℕ) (line : List ℕ) → longest < length line → ballot_at n line ≡ Err (stop.Long n)
+over : (form : Form) (n : ℕ) (line : List ℕ) → longest < length line → ballot_at form n line ≡ Err (stop.Long n)
 unfolding ballot_at
-over n line h = rw (lt-ltb longest (length line) h) refl
+over form n line h = rw (lt-ltb longest (length line) h) refl
 
 -- ---- lines one after another
 
@@ -59,29 +60,29 @@ next_behind (Ok b) (Err e) r = refl
 next_behind (Ok b) (Ok c) (Err e) = refl
 next_behind (Ok b) (Ok c) (Ok d) = refl
 
-cast-append : (n : ℕ) (xs ys : List (List ℕ)) → cast_from n (xs ++ ys) ≡ (cast_from n xs >>= λ c. behind c (cast_from (n + length xs) ys))
-cast-append n [] ys = ap (λ m. cast_from m ys) (sym (add-zero n)) ∙ sym (behind_none (cast_from (n + 0) ys))
-cast-append n (x ∷ xs) ys =
+cast-append : (form : Form) (n : ℕ) (xs ys : List (List ℕ)) → cast_from form n (xs ++ ys) ≡ (cast_from form n xs >>= λ c. behind c (cast_from form (n + length xs) ys))
+cast-append form n [] ys = ap (λ m. cast_from form m ys) (sym (add-zero n)) ∙ sym (behind_none (cast_from form (n + 0) ys))
+cast-append form n (x ∷ xs) ys =
     let more : n + 1 + length xs ≡ n + suc (length xs) = omega arith in
-    ap (λ (r : Result Cast LineStop). ballot_at n x >>= λ b. r >>= λ l. Ok ((b.voter, b.choice) ∷ l)) (cast-append (n + 1) xs ys)
-    ∙ next_behind (ballot_at n x) (cast_from (n + 1) xs) (cast_from (n + 1 + length xs) ys)
-    ∙ ap (λ m. cast_from n (x ∷ xs) >>= λ c. behind c (cast_from m ys)) more
+    ap (λ (r : Result Cast LineStop). ballot_at form n x >>= λ b. r >>= λ l. Ok ((b.voter, b.choice) ∷ l)) (cast-append form (n + 1) xs ys)
+    ∙ next_behind (ballot_at form n x) (cast_from form (n + 1) xs) (cast_from form (n + 1 + length xs) ys)
+    ∙ ap (λ m. cast_from form n (x ∷ xs) >>= λ c. behind c (cast_from form m ys)) more
 
 -- lines that stop a run stop it whatever comes behind them
-pub stopped_front : (n : ℕ) (xs ys : List (List ℕ)) (why : LineStop) → cast_from n xs ≡ Err why → cast_from n (xs ++ ys) ≡ Err why
-stopped_front n xs ys why h = rw (cast-append n xs ys, h) refl
+pub stopped_front : (form : Form) (n : ℕ) (xs ys : List (List ℕ)) (why : LineStop) → cast_from form n xs ≡ Err why → cast_from form n (xs ++ ys) ≡ Err why
+stopped_front form n xs ys why h = rw (cast-append form n xs ys, h) refl
 
 -- and behind ballots lines stop it as they do alone
-stopped_behind : (n : ℕ) (xs ys : List (List ℕ)) (c : Cast) (why : LineStop) → cast_from n xs ≡ Ok c → cast_from (n + length xs) ys ≡ Err why → cast_from n (xs ++ ys) ≡ Err why
-stopped_behind n xs ys c why h k = rw (cast-append n xs ys, h, k) refl
+stopped_behind : (form : Form) (n : ℕ) (xs ys : List (List ℕ)) (c : Cast) (why : LineStop) → cast_from form n xs ≡ Ok c → cast_from form (n + length xs) ys ≡ Err why → cast_from form n (xs ++ ys) ≡ Err why
+stopped_behind form n xs ys c why h k = rw (cast-append form n xs ys, h, k) refl
 
 -- a ballot behind ballots
-one_behind : (n : ℕ) (xs : List (List ℕ)) (line : List ℕ) (c : Cast) (b : Ballot) → cast_from n xs ≡ Ok c → ballot_at (n + length xs) line ≡ Ok b → cast_from n (xs ++ line ∷ []) ≡ Ok (c ++ (b.voter, b.choice) ∷ [])
-one_behind n xs line c b h k = rw (cast-append n xs (line ∷ []), h, k) refl
+one_behind : (form : Form) (n : ℕ) (xs : List (List ℕ)) (line : List ℕ) (c : Cast) (b : Ballot) → cast_from form n xs ≡ Ok c → ballot_at form (n + length xs) line ≡ Ok b → cast_from form n (xs ++ line ∷ []) ≡ Ok (c ++ (b.voter, b.choice) ∷ [])
+one_behind form n xs line c b h k = rw (cast-append form n xs (line ∷ []), h, k) refl
 
 -- a line that is none, behind ballots
-none_behind : (n : ℕ) (xs : List (List ℕ)) (line : List ℕ) (c : Cast) (why : LineStop) → cast_from n xs ≡ Ok c → ballot_at (n + length xs) line ≡ Err why → cast_from n (xs ++ line ∷ []) ≡ Err why
-none_behind n xs line c why h k = rw (cast-append n xs (line ∷ []), h, k) refl
+none_behind : (form : Form) (n : ℕ) (xs : List (List ℕ)) (line : List ℕ) (c : Cast) (why : LineStop) → cast_from form n xs ≡ Ok c → ballot_at form (n + length xs) line ≡ Err why → cast_from form n (xs ++ line ∷ []) ≡ Err why
+none_behind form n xs line c why h k = rw (cast-append form n xs (line ∷ []), h, k) refl
 
 -- ---- of each voter the last
 
@@ -105,54 +106,54 @@ last_kept kept c b h voter =
     ∙ ap (option_or (chosen_in ((b.voter, b.choice) ∷ []) voter)) (h voter)
     ∙ sym (chosen-append c (b.voter, b.choice) voter)
 
-kept_none : AreKept [] []
-kept_none = record { cast = []; read = refl; last = λ voter. refl }
+kept_none : (form : Form) → AreKept form [] []
+kept_none form = record { cast = []; read = refl; last = λ voter. refl }
 
-kept_more : (lines : List (List ℕ)) (line : List ℕ) (n : ℕ) (kept kept' : Kept) → AreKept lines kept → n ≡ 1 + length lines → IsCast (ballot_at n line) kept kept' → AreKept (lines ++ line ∷ []) kept'
-kept_more lines line n kept kept' h number c =
-    let due : ballot_at (1 + length lines) line ≡ Ok c.0 = ap (λ m. ballot_at m line) (sym number) ∙ c.1 in
+kept_more : (form : Form) (lines : List (List ℕ)) (line : List ℕ) (n : ℕ) (kept kept' : Kept) → AreKept form lines kept → n ≡ 1 + length lines → IsCast (ballot_at form n line) kept kept' → AreKept form (lines ++ line ∷ []) kept'
+kept_more form lines line n kept kept' h number c =
+    let due : ballot_at form (1 + length lines) line ≡ Ok c.0 = ap (λ m. ballot_at form m line) (sym number) ∙ c.1 in
     record {
       cast = h.cast ++ (c.0.voter, c.0.choice) ∷ [];
-      read = one_behind 1 lines line h.cast c.0 h.read due;
+      read = one_behind form 1 lines line h.cast c.0 h.read due;
       last = λ voter. ap (λ (k : Kept). at addr_cmp k voter) c.2 ∙ last_kept kept h.cast c.0 h.last voter;
     }
 
 -- ---- a call that read a line
 
 -- the ballot that was read
-pub cast_so : (n : ℕ) (line : List ℕ) (b : Ballot) (kept kept' : Kept) → length line ≤ longest → ballot_of line ≡ Ok b → kept' ≡ with addr_cmp kept b.voter b.choice → IsCast (ballot_at n line) kept kept'
-cast_so n line b kept kept' short read is = (b, within n line short ∙ ap (ballot_or_stop n) read, is)
+pub cast_so : (form : Form) (n : ℕ) (line : List ℕ) (b : Ballot) (kept kept' : Kept) → length line ≤ longest → ballot_of form line ≡ Ok b → kept' ≡ with addr_cmp kept b.voter b.choice → IsCast (ballot_at form n line) kept kept'
+cast_so form n line b kept kept' short read is = (b, within form n line short ∙ ap (ballot_or_stop n) read, is)
 
 -- none was
-pub none_so : (n : ℕ) (line : List ℕ) (fault : LineFault) → length line ≤ longest → Gives {X = Ballot} {Y = Ballot} (λ ballot. ballot) (Err fault) (ballot_of line) → IsNone (not_read n fault) (ballot_at n line)
-none_so n line why.NotJson short read = within n line short ∙ ap (ballot_or_stop n) read
-none_so n line (why.BadShape member) short read = within n line short ∙ ap (ballot_or_stop n) read
-none_so n line why.NoMemory short read = tt
+pub none_so : (form : Form) (n : ℕ) (line : List ℕ) (fault : LineFault) → length line ≤ longest → Gives {X = Ballot} {Y = Ballot} (λ ballot. ballot) (Err fault) (ballot_of form line) → IsNone (not_read n fault) (ballot_at form n line)
+none_so form n line why.NotJson short read = within form n line short ∙ ap (ballot_or_stop n) read
+none_so form n line (why.BadShape member) short read = within form n line short ∙ ap (ballot_or_stop n) read
+none_so form n line why.NoMemory short read = tt
 
 -- ---- bytes
 
-pub taken_first : (n : ℕ) (line : List ℕ) (kept : Kept) → n ≡ 1 → line ≡ [] → kept ≡ [] → AreTaken [] n line kept
-taken_first n line kept one empty none = record {
-  kept_are = subst (AreKept []) (sym none) kept_none;
+pub taken_first : (form : Form) (n : ℕ) (line : List ℕ) (kept : Kept) → n ≡ 1 → line ≡ [] → kept ≡ [] → AreTaken form [] n line kept
+taken_first form n line kept one empty none = record {
+  kept_are = subst (AreKept form []) (sym none) (kept_none form);
   number_is = one;
   line_is = empty;
   short = rw empty (omega arith);
 }
 
 -- no more lines end than there are bytes
-pub taken_number : (t : List ℕ) (n : ℕ) (line : List ℕ) (kept : Kept) → AreTaken t n line kept → n ≤ 1 + length t
-taken_number t n line kept h =
+pub taken_number : (form : Form) (t : List ℕ) (n : ℕ) (line : List ℕ) (kept : Kept) → AreTaken form t n line kept → n ≤ 1 + length t
+taken_number form t n line kept h =
     let few : length (whole_from [] t) ≤ length t = whole_no_longer t [] in
     let is : n ≡ 1 + length (whole_from [] t) = h.number_is in
     omega arith
 
 -- bytes without an end
-pub taken_more : (t : List ℕ) (n : ℕ) (line : List ℕ) (kept : Kept) (bytes line' : List ℕ) → AreTaken t n line kept → HasNoEnd bytes → line' ≡ line ++ bytes → length line' ≤ longest → AreTaken (t ++ bytes) n line' kept
-taken_more t n line kept bytes line' h none is short =
+pub taken_more : (form : Form) (t : List ℕ) (n : ℕ) (line : List ℕ) (kept : Kept) (bytes line' : List ℕ) → AreTaken form t n line kept → HasNoEnd bytes → line' ≡ line ++ bytes → length line' ≤ longest → AreTaken form (t ++ bytes) n line' kept
+taken_more form t n line kept bytes line' h none is short =
     let same : whole_from [] (t ++ bytes) ≡ whole_from [] t =
     whole-append t [] bytes ∙ ap (λ (ls : List (List ℕ)). whole_from [] t ++ ls) (whole_none bytes (rest_from [] t) none) ∙ append-nil (whole_from [] t) in
     record {
-      kept_are = subst (λ (ls : List (List ℕ)). AreKept ls kept) (sym same) h.kept_are;
+      kept_are = subst (λ (ls : List (List ℕ)). AreKept form ls kept) (sym same) h.kept_are;
       number_is = h.number_is ∙ ap (λ (ls : List (List ℕ)). 1 + length ls) (sym same);
       line_is = is ∙ ap (λ (l : List ℕ). l ++ bytes) h.line_is ∙ sym (rest-append t [] bytes ∙ rest_none bytes (rest_from [] t) none);
       short = short;
@@ -164,13 +165,13 @@ one_more t line bytes is none =
     whole-append t [] (bytes ++ 10 ∷ [])
     ∙ ap (λ (ls : List (List ℕ)). whole_from [] t ++ ls) (whole_one bytes (rest_from [] t) none ∙ ap (λ (l : List ℕ). (l ++ bytes) ∷ []) (sym is))
 
-pub taken_line : (t : List ℕ) (n : ℕ) (line : List ℕ) (kept kept' : Kept) (bytes line' : List ℕ) → AreTaken t n line kept → HasNoEnd bytes → line' ≡ line ++ bytes → IsCast (ballot_at n line') kept kept' → AreTaken (t ++ (bytes ++ 10 ∷ [])) (n + 1) [] kept'
-taken_line t n line kept kept' bytes line' h none is c =
+pub taken_line : (form : Form) (t : List ℕ) (n : ℕ) (line : List ℕ) (kept kept' : Kept) (bytes line' : List ℕ) → AreTaken form t n line kept → HasNoEnd bytes → line' ≡ line ++ bytes → IsCast (ballot_at form n line') kept kept' → AreTaken form (t ++ (bytes ++ 10 ∷ [])) (n + 1) [] kept'
+taken_line form t n line kept kept' bytes line' h none is c =
     let more : whole_from [] (t ++ (bytes ++ 10 ∷ [])) ≡ whole_from [] t ++ (line ++ bytes) ∷ [] = one_more t line bytes h.line_is none in
-    let cast : IsCast (ballot_at n (line ++ bytes)) kept kept' = subst (λ (l : List ℕ). IsCast (ballot_at n l) kept kept') is c in
+    let cast : IsCast (ballot_at form n (line ++ bytes)) kept kept' = subst (λ (l : List ℕ). IsCast (ballot_at form n l) kept kept') is c in
     let size : length (whole_from [] t ++ (line ++ bytes) ∷ []) ≡ length (whole_from [] t) + 1 = length-append (whole_from [] t) ((line ++ bytes) ∷ []) in
     record {
-      kept_are = subst (λ (ls : List (List ℕ)). AreKept ls kept') (sym more) (kept_more (whole_from [] t) (line ++ bytes) n kept kept' h.kept_are h.number_is cast);
+      kept_are = subst (λ (ls : List (List ℕ)). AreKept form ls kept') (sym more) (kept_more form (whole_from [] t) (line ++ bytes) n kept kept' h.kept_are h.number_is cast);
       number_is = rw (more, size) (let k : n ≡ 1 + length (whole_from [] t) = h.number_is in omega arith);
       line_is = sym (rest-append t [] (bytes ++ 10 ∷ []) ∙ rest_one bytes (rest_from [] t) none);
       short = omega arith;
@@ -179,83 +180,83 @@ taken_line t n line kept kept' bytes line' h none is c =
 -- ---- stops
 
 -- bytes that stop a run stop it whatever comes behind them
-pub stops_behind : (why : LineStop) (t more : List ℕ) → StopsIn why t → StopsIn why (t ++ more)
-stops_behind (stop.BadInput n fault) t more h = ap (cast_from 1) (whole-append t [] more) ∙ stopped_front 1 (whole_from [] t) (whole_from (rest_from [] t) more) (stop.BadInput n fault) h
-stops_behind (stop.Long n) t more h = λ m. ap cast_in (append_assoc t more m) ∙ h (more ++ m)
-stops_behind (stop.Ratio n over) t more h = h
-stops_behind stop.Write t more h = h
-stops_behind stop.Keep t more h = h
-stops_behind stop.NoMemory t more h = h
+pub stops_behind : (form : Form) (why : LineStop) (t more : List ℕ) → StopsIn form why t → StopsIn form why (t ++ more)
+stops_behind form (stop.BadInput n fault) t more h = ap (cast_from form 1) (whole-append t [] more) ∙ stopped_front form 1 (whole_from [] t) (whole_from (rest_from [] t) more) (stop.BadInput n fault) h
+stops_behind form (stop.Long n) t more h = λ m. ap (cast_in form) (append_assoc t more m) ∙ h (more ++ m)
+stops_behind form (stop.Ratio n over) t more h = h
+stops_behind form stop.Write t more h = h
+stops_behind form stop.Keep t more h = h
+stops_behind form stop.NoMemory t more h = h
 
-pub line_stops : (t : List ℕ) (n : ℕ) (line : List ℕ) (kept : Kept) (bytes line' : List ℕ) (why : LineStop) → AreTaken t n line kept → HasNoEnd bytes → line' ≡ line ++ bytes → IsNone why (ballot_at n line') → StopsIn why (t ++ (bytes ++ 10 ∷ []))
-line_stops t n line kept bytes line' (stop.BadInput m fault) h none is due =
-    let at_line : ballot_at (1 + length (whole_from [] t)) (line ++ bytes) ≡ Err (stop.BadInput m fault) = (λ i. ballot_at (sym h.number_is i) (sym is i)) ∙ due in
-    ap (cast_from 1) (one_more t line bytes h.line_is none) ∙ none_behind 1 (whole_from [] t) (line ++ bytes) h.kept_are.cast (stop.BadInput m fault) h.kept_are.read at_line
-line_stops t n line kept bytes line' (stop.Long m) h none is due = absurd due
-line_stops t n line kept bytes line' (stop.Ratio m over) h none is due = absurd due
-line_stops t n line kept bytes line' stop.Write h none is due = absurd due
-line_stops t n line kept bytes line' stop.Keep h none is due = absurd due
-line_stops t n line kept bytes line' stop.NoMemory h none is due = tt
+pub line_stops : (form : Form) (t : List ℕ) (n : ℕ) (line : List ℕ) (kept : Kept) (bytes line' : List ℕ) (why : LineStop) → AreTaken form t n line kept → HasNoEnd bytes → line' ≡ line ++ bytes → IsNone why (ballot_at form n line') → StopsIn form why (t ++ (bytes ++ 10 ∷ []))
+line_stops form t n line kept bytes line' (stop.BadInput m fault) h none is due =
+    let at_line : ballot_at form (1 + length (whole_from [] t)) (line ++ bytes) ≡ Err (stop.BadInput m fault) = (λ i. ballot_at form (sym h.number_is i) (sym is i)) ∙ due in
+    ap (cast_from form 1) (one_more t line bytes h.line_is none) ∙ none_behind form 1 (whole_from [] t) (line ++ bytes) h.kept_are.cast (stop.BadInput m fault) h.kept_are.read at_line
+line_stops form t n line kept bytes line' (stop.Long m) h none is due = absurd due
+line_stops form t n line kept bytes line' (stop.Ratio m over) h none is due = absurd due
+line_stops form t n line kept bytes line' stop.Write h none is due = absurd due
+line_stops form t n line kept bytes line' stop.Keep h none is due = absurd due
+line_stops form t n line kept bytes line' stop.NoMemory h none is due = tt
 
 -- a line that is too long, whatever comes behind what came of it
-first_over : (n : ℕ) (line : List ℕ) (after : List (List ℕ)) → longest < length line → cast_from n (line ∷ after) ≡ Err (stop.Long n)
-first_over n line after h = rw (over n line h) refl
+first_over : (form : Form) (n : ℕ) (line : List ℕ) (after : List (List ℕ)) → longest < length line → cast_from form n (line ∷ after) ≡ Err (stop.Long n)
+first_over form n line after h = rw (over form n line h) refl
 
-over_step : (test : Bool) (n b : ℕ) (line more : List ℕ) → longest < length line → cast_from n (lines_from (line ++ b ∷ []) more) ≡ Err (stop.Long n)
-    → cast_from n (cond test (line ∷ whole_from [] more) (whole_from (line ++ b ∷ []) more) ++ last_line (cond test (rest_from [] more) (rest_from (line ++ b ∷ []) more))) ≡ Err (stop.Long n)
-over_step true n b line more h k = first_over n line (whole_from [] more ++ last_line (rest_from [] more)) h
-over_step false n b line more h k = k
+over_step : (form : Form) (test : Bool) (n b : ℕ) (line more : List ℕ) → longest < length line → cast_from form n (lines_from (line ++ b ∷ []) more) ≡ Err (stop.Long n)
+    → cast_from form n (cond test (line ∷ whole_from [] more) (whole_from (line ++ b ∷ []) more) ++ last_line (cond test (rest_from [] more) (rest_from (line ++ b ∷ []) more))) ≡ Err (stop.Long n)
+over_step form true n b line more h k = first_over form n line (whole_from [] more ++ last_line (rest_from [] more)) h
+over_step form false n b line more h k = k
 
-over_from : (more line : List ℕ) (n : ℕ) → longest < length line → cast_from n (lines_from line more) ≡ Err (stop.Long n)
-over_from [] [] n h = absurd (omega arith)
-over_from [] (x ∷ line) n h = first_over n (x ∷ line) [] h
-over_from (b ∷ more) line n h = over_step (b == 10) n b line more h (over_from more (line ++ b ∷ []) n (rw (length-append line (b ∷ [])) (omega arith)))
+over_from : (form : Form) (more line : List ℕ) (n : ℕ) → longest < length line → cast_from form n (lines_from line more) ≡ Err (stop.Long n)
+over_from form [] [] n h = absurd (omega arith)
+over_from form [] (x ∷ line) n h = first_over form n (x ∷ line) [] h
+over_from form (b ∷ more) line n h = over_step form (b == 10) n b line more h (over_from form more (line ++ b ∷ []) n (rw (length-append line (b ∷ [])) (omega arith)))
 
-long_in : (t : List ℕ) (n : ℕ) (line : List ℕ) (kept : Kept) (bytes more : List ℕ) → AreTaken t n line kept → HasNoEnd bytes → longest < length (line ++ bytes) → cast_in (t ++ (bytes ++ more)) ≡ Err (stop.Long n)
-long_in t n line kept bytes more h none long =
+long_in : (form : Form) (t : List ℕ) (n : ℕ) (line : List ℕ) (kept : Kept) (bytes more : List ℕ) → AreTaken form t n line kept → HasNoEnd bytes → longest < length (line ++ bytes) → cast_in form (t ++ (bytes ++ more)) ≡ Err (stop.Long n)
+long_in form t n line kept bytes more h none long =
     let lines : lines_of (t ++ (bytes ++ more)) ≡ whole_from [] t ++ lines_from (line ++ bytes) more =
     lines-append t [] (bytes ++ more)
     ∙ ap (λ (ls : List (List ℕ)). whole_from [] t ++ ls)
     (lines-append bytes (rest_from [] t) more
     ∙ (λ i. whole_none bytes (rest_from [] t) none i ++ lines_from (rest_none bytes (rest_from [] t) none i) more)
     ∙ ap (λ (l : List ℕ). lines_from (l ++ bytes) more) (sym h.line_is)) in
-    ap (cast_from 1) lines
-    ∙ stopped_behind 1 (whole_from [] t) (lines_from (line ++ bytes) more) h.kept_are.cast (stop.Long n) h.kept_are.read
-    (ap (λ m. cast_from m (lines_from (line ++ bytes) more)) (sym h.number_is) ∙ over_from more (line ++ bytes) n long)
+    ap (cast_from form 1) lines
+    ∙ stopped_behind form 1 (whole_from [] t) (lines_from (line ++ bytes) more) h.kept_are.cast (stop.Long n) h.kept_are.read
+    (ap (λ m. cast_from form m (lines_from (line ++ bytes) more)) (sym h.number_is) ∙ over_from form more (line ++ bytes) n long)
 
-pub extend_stops : (t : List ℕ) (n : ℕ) (line : List ℕ) (kept : Kept) (bytes behind : List ℕ) (why : LineStop) → AreTaken t n line kept → HasNoEnd bytes → NotExtended why n line bytes → StopsIn why (t ++ (bytes ++ behind))
-extend_stops t n line kept bytes behind (stop.BadInput m fault) h none long = absurd long
-extend_stops t n line kept bytes behind (stop.Long m) h none long = λ more.
-    ap cast_in (append_assoc t (bytes ++ behind) more ∙ ap (λ (l : List ℕ). t ++ l) (append_assoc bytes behind more))
-    ∙ long_in t n line kept bytes (behind ++ more) h none long.1
+pub extend_stops : (form : Form) (t : List ℕ) (n : ℕ) (line : List ℕ) (kept : Kept) (bytes behind : List ℕ) (why : LineStop) → AreTaken form t n line kept → HasNoEnd bytes → NotExtended why n line bytes → StopsIn form why (t ++ (bytes ++ behind))
+extend_stops form t n line kept bytes behind (stop.BadInput m fault) h none long = absurd long
+extend_stops form t n line kept bytes behind (stop.Long m) h none long = λ more.
+    ap (cast_in form) (append_assoc t (bytes ++ behind) more ∙ ap (λ (l : List ℕ). t ++ l) (append_assoc bytes behind more))
+    ∙ long_in form t n line kept bytes (behind ++ more) h none long.1
     ∙ ap (λ k. Err (stop.Long k)) (sym long.0)
-extend_stops t n line kept bytes behind (stop.Ratio m over) h none long = absurd long
-extend_stops t n line kept bytes behind stop.Write h none long = absurd long
-extend_stops t n line kept bytes behind stop.Keep h none long = absurd long
-extend_stops t n line kept bytes behind stop.NoMemory h none long = tt
+extend_stops form t n line kept bytes behind (stop.Ratio m over) h none long = absurd long
+extend_stops form t n line kept bytes behind stop.Write h none long = absurd long
+extend_stops form t n line kept bytes behind stop.Keep h none long = absurd long
+extend_stops form t n line kept bytes behind stop.NoMemory h none long = tt
 
 -- ---- a piece, line by line
 
 -- all of the piece but the rest was taken
-pub record AreFed (t piece rest : List ℕ) (n : ℕ) (line : List ℕ) (kept : Kept) : Type 0 where
+pub record AreFed (form : Form) (t piece rest : List ℕ) (n : ℕ) (line : List ℕ) (kept : Kept) : Type 0 where
   pub done : List ℕ
   pub piece_is : piece ≡ done ++ rest
-  pub taken : AreTaken (t ++ done) n line kept
+  pub taken : AreTaken form (t ++ done) n line kept
 
-pub fed_first : (t piece : List ℕ) (n : ℕ) (line : List ℕ) (kept : Kept) → AreTaken t n line kept → AreFed t piece piece n line kept
-fed_first t piece n line kept h = record { done = []; piece_is = refl; taken = subst (λ (l : List ℕ). AreTaken l n line kept) (sym (append-nil t)) h }
+pub fed_first : (form : Form) (t piece : List ℕ) (n : ℕ) (line : List ℕ) (kept : Kept) → AreTaken form t n line kept → AreFed form t piece piece n line kept
+fed_first form t piece n line kept h = record { done = []; piece_is = refl; taken = subst (λ (l : List ℕ). AreTaken form l n line kept) (sym (append-nil t)) h }
 
-pub fed_line : (t piece rest : List ℕ) (i n : ℕ) (line : List ℕ) (kept : Kept) (n' : ℕ) (line' : List ℕ) (kept' : Kept) → (f : AreFed t piece rest n line kept) → drop i rest ≡ 10 ∷ drop (i + 1) rest
-    → AreTaken ((t ++ f.done) ++ (take i rest ++ 10 ∷ [])) n' line' kept' → AreFed t piece (drop (i + 1) rest) n' line' kept'
-fed_line t piece rest i n line kept n' line' kept' f e h = record {
+pub fed_line : (form : Form) (t piece rest : List ℕ) (i n : ℕ) (line : List ℕ) (kept : Kept) (n' : ℕ) (line' : List ℕ) (kept' : Kept) → (f : AreFed form t piece rest n line kept) → drop i rest ≡ 10 ∷ drop (i + 1) rest
+    → AreTaken form ((t ++ f.done) ++ (take i rest ++ 10 ∷ [])) n' line' kept' → AreFed form t piece (drop (i + 1) rest) n' line' kept'
+fed_line form t piece rest i n line kept n' line' kept' f e h = record {
   done = f.done ++ (take i rest ++ 10 ∷ []);
   piece_is = f.piece_is ∙ ap (λ (l : List ℕ). f.done ++ l) (parted rest i e) ∙ sym (append_assoc f.done (take i rest ++ 10 ∷ []) (drop (i + 1) rest));
-  taken = subst (λ (l : List ℕ). AreTaken l n' line' kept') (append_assoc t f.done (take i rest ++ 10 ∷ [])) h;
+  taken = subst (λ (l : List ℕ). AreTaken form l n' line' kept') (append_assoc t f.done (take i rest ++ 10 ∷ [])) h;
 }
 
 -- no more lines end than there are bytes, so the number fits
-pub fed_number : (t piece rest : List ℕ) (n0 n : ℕ) (line0 line : List ℕ) (kept0 kept : Kept) → AreTaken t n0 line0 kept0 → AreFed t piece rest n line kept → n + length rest ≤ n0 + length piece
-fed_number t piece rest n0 n line0 line kept0 kept h f =
+pub fed_number : (form : Form) (t piece rest : List ℕ) (n0 n : ℕ) (line0 line : List ℕ) (kept0 kept : Kept) → AreTaken form t n0 line0 kept0 → AreFed form t piece rest n line kept → n + length rest ≤ n0 + length piece
+fed_number form t piece rest n0 n line0 line kept0 kept h f =
     let more : whole_from [] (t ++ f.done) ≡ whole_from [] t ++ whole_from (rest_from [] t) f.done = whole-append t [] f.done in
     let a : length (whole_from (rest_from [] t) f.done) ≤ length f.done = whole_no_longer f.done (rest_from [] t) in
     let b : length (whole_from [] (t ++ f.done)) ≡ length (whole_from [] t) + length (whole_from (rest_from [] t) f.done) = ap length more ∙ length-append (whole_from [] t) (whole_from (rest_from [] t) f.done) in
@@ -264,52 +265,52 @@ fed_number t piece rest n0 n line0 line kept0 kept h f =
     let e : length piece ≡ length f.done + length rest = ap length f.piece_is ∙ length-append f.done rest in
     omega arith
 
-pub fed_stops : (t piece rest : List ℕ) (i n : ℕ) (line : List ℕ) (kept : Kept) (why : LineStop) → (f : AreFed t piece rest n line kept) → drop i rest ≡ 10 ∷ drop (i + 1) rest
-    → StopsIn why ((t ++ f.done) ++ (take i rest ++ 10 ∷ [])) → StopsIn why (t ++ piece)
-fed_stops t piece rest i n line kept why f e h =
+pub fed_stops : (form : Form) (t piece rest : List ℕ) (i n : ℕ) (line : List ℕ) (kept : Kept) (why : LineStop) → (f : AreFed form t piece rest n line kept) → drop i rest ≡ 10 ∷ drop (i + 1) rest
+    → StopsIn form why ((t ++ f.done) ++ (take i rest ++ 10 ∷ [])) → StopsIn form why (t ++ piece)
+fed_stops form t piece rest i n line kept why f e h =
     let whole : ((t ++ f.done) ++ (take i rest ++ 10 ∷ [])) ++ drop (i + 1) rest ≡ t ++ piece =
     append_assoc (t ++ f.done) (take i rest ++ 10 ∷ []) (drop (i + 1) rest)
     ∙ ap (λ (l : List ℕ). (t ++ f.done) ++ l) (sym (parted rest i e))
     ∙ append_assoc t f.done rest
     ∙ ap (λ (l : List ℕ). t ++ l) (sym f.piece_is) in
-    subst (StopsIn why) whole (stops_behind why ((t ++ f.done) ++ (take i rest ++ 10 ∷ [])) (drop (i + 1) rest) h)
+    subst (StopsIn form why) whole (stops_behind form why ((t ++ f.done) ++ (take i rest ++ 10 ∷ [])) (drop (i + 1) rest) h)
 
-pub fed_end : (r : Result (Unit {0}) LineStop) (t piece rest : List ℕ) (n : ℕ) (line line' : List ℕ) (kept : Kept) → AreFed t piece rest n line kept → HasNoEnd rest → OnOk r (line' ≡ line ++ rest) → OnOk r (length line' ≤ longest)
-    → OnOk r (AreTaken (t ++ piece) n line' kept)
-fed_end (Err why) t piece rest n line line' kept f none is short = tt
-fed_end (Ok x) t piece rest n line line' kept f none is short =
-    subst (λ (l : List ℕ). AreTaken l n line' kept) (append_assoc t f.done rest ∙ ap (λ (l : List ℕ). t ++ l) (sym f.piece_is))
-    (taken_more (t ++ f.done) n line kept rest line' f.taken none is short)
+pub fed_end : (form : Form) (r : Result (Unit {0}) LineStop) (t piece rest : List ℕ) (n : ℕ) (line line' : List ℕ) (kept : Kept) → AreFed form t piece rest n line kept → HasNoEnd rest → OnOk r (line' ≡ line ++ rest) → OnOk r (length line' ≤ longest)
+    → OnOk r (AreTaken form (t ++ piece) n line' kept)
+fed_end form (Err why) t piece rest n line line' kept f none is short = tt
+fed_end form (Ok x) t piece rest n line line' kept f none is short =
+    subst (λ (l : List ℕ). AreTaken form l n line' kept) (append_assoc t f.done rest ∙ ap (λ (l : List ℕ). t ++ l) (sym f.piece_is))
+    (taken_more form (t ++ f.done) n line kept rest line' f.taken none is short)
 
-pub fed_end_stops : (r : Result (Unit {0}) LineStop) (t piece rest : List ℕ) (n : ℕ) (line : List ℕ) (kept : Kept) → AreFed t piece rest n line kept → HasNoEnd rest → IfErr r (λ why. NotExtended why n line rest) → IfErr r (λ why. StopsIn why (t ++ piece))
-fed_end_stops (Ok x) t piece rest n line kept f none h = tt
-fed_end_stops (Err why) t piece rest n line kept f none h =
+pub fed_end_stops : (form : Form) (r : Result (Unit {0}) LineStop) (t piece rest : List ℕ) (n : ℕ) (line : List ℕ) (kept : Kept) → AreFed form t piece rest n line kept → HasNoEnd rest → IfErr r (λ why. NotExtended why n line rest) → IfErr r (λ why. StopsIn form why (t ++ piece))
+fed_end_stops form (Ok x) t piece rest n line kept f none h = tt
+fed_end_stops form (Err why) t piece rest n line kept f none h =
     let whole : (t ++ f.done) ++ (rest ++ []) ≡ t ++ piece =
     ap (λ (l : List ℕ). (t ++ f.done) ++ l) (append-nil rest) ∙ append_assoc t f.done rest ∙ ap (λ (l : List ℕ). t ++ l) (sym f.piece_is) in
-    subst (StopsIn why) whole (extend_stops (t ++ f.done) n line kept rest [] why f.taken none h)
+    subst (StopsIn form why) whole (extend_stops form (t ++ f.done) n line kept rest [] why f.taken none h)
 
 -- ---- the end of the input
 
 all_with : (t line : List ℕ) → line ≡ rest_from [] t → 0 < length line → lines_of t ≡ whole_from [] t ++ line ∷ []
 all_with t line is some = ap (λ (l : List ℕ). whole_from [] t ++ last_line l) (sym is) ∙ ap (λ (ls : List (List ℕ)). whole_from [] t ++ ls) (last-some line some)
 
-pub ended_some : (t : List ℕ) (n : ℕ) (line : List ℕ) (kept kept' : Kept) → AreTaken t n line kept → 0 < length line → IsCast (ballot_at n line) kept kept' → AreKept (lines_of t) kept'
-ended_some t n line kept kept' h some c =
-    subst (λ (ls : List (List ℕ)). AreKept ls kept') (sym (all_with t line h.line_is some)) (kept_more (whole_from [] t) line n kept kept' h.kept_are h.number_is c)
+pub ended_some : (form : Form) (t : List ℕ) (n : ℕ) (line : List ℕ) (kept kept' : Kept) → AreTaken form t n line kept → 0 < length line → IsCast (ballot_at form n line) kept kept' → AreKept form (lines_of t) kept'
+ended_some form t n line kept kept' h some c =
+    subst (λ (ls : List (List ℕ)). AreKept form ls kept') (sym (all_with t line h.line_is some)) (kept_more form (whole_from [] t) line n kept kept' h.kept_are h.number_is c)
 
-pub ended_stops : (t : List ℕ) (n : ℕ) (line : List ℕ) (kept : Kept) (why : LineStop) → length t ≤ most_bytes → AreTaken t n line kept → 0 < length line → IsNone why (ballot_at n line) → IsUncounted (status_of why) t []
-ended_stops t n line kept (stop.BadInput m fault) most h some due =
-    let at_line : ballot_at (1 + length (whole_from [] t)) line ≡ Err (stop.BadInput m fault) = ap (λ k. ballot_at k line) (sym h.number_is) ∙ due in (
+pub ended_stops : (form : Form) (t : List ℕ) (n : ℕ) (line : List ℕ) (kept : Kept) (why : LineStop) → length t ≤ most_bytes → AreTaken form t n line kept → 0 < length line → IsNone why (ballot_at form n line) → IsUncounted form (status_of why) t []
+ended_stops form t n line kept (stop.BadInput m fault) most h some due =
+    let at_line : ballot_at form (1 + length (whole_from [] t)) line ≡ Err (stop.BadInput m fault) = ap (λ k. ballot_at form k line) (sym h.number_is) ∙ due in (
       most,
       lines_of t,
       inr (refl, refl),
-      ap (cast_from 1) (all_with t line h.line_is some) ∙ none_behind 1 (whole_from [] t) line h.kept_are.cast (stop.BadInput m fault) h.kept_are.read at_line,
+      ap (cast_from form 1) (all_with t line h.line_is some) ∙ none_behind form 1 (whole_from [] t) line h.kept_are.cast (stop.BadInput m fault) h.kept_are.read at_line,
     )
-ended_stops t n line kept (stop.Long m) most h some due = absurd due
-ended_stops t n line kept (stop.Ratio m over) most h some due = absurd due
-ended_stops t n line kept stop.Write most h some due = absurd due
-ended_stops t n line kept stop.Keep most h some due = absurd due
-ended_stops t n line kept stop.NoMemory most h some due = most
+ended_stops form t n line kept (stop.Long m) most h some due = absurd due
+ended_stops form t n line kept (stop.Ratio m over) most h some due = absurd due
+ended_stops form t n line kept stop.Write most h some due = absurd due
+ended_stops form t n line kept stop.Keep most h some due = absurd due
+ended_stops form t n line kept stop.NoMemory most h some due = most
 
 -- ---- a source
 
@@ -328,24 +329,24 @@ told_more first t left left' m piece at took = λ input told.
     (drop m a.0, a.1 ∙ ap (λ (r : List ℕ). t ++ r) (sym whole) ∙ sym (append_assoc t (take m piece) (drop m a.0)), moves.rest)
 
 -- the source failed
-pub unread : (first : Option (List ℕ)) (t : List ℕ) (n : ℕ) (line : List ℕ) (kept : Kept) (left left' : Option (List ℕ)) → Told first t left → AreTaken t n line kept → length t ≤ most_bytes → Stays left left' → AreUncounted first left' ReadFault
-unread first t n line kept left left' at h most same = λ input told.
+pub unread : (form : Form) (first : Option (List ℕ)) (t : List ℕ) (n : ℕ) (line : List ℕ) (kept : Kept) (left left' : Option (List ℕ)) → Told first t left → AreTaken form t n line kept → length t ≤ most_bytes → Stays left left' → AreUncounted form first left' ReadFault
+unread form first t n line kept left left' at h most same = λ input told.
     let a = at input told in
     (t, a.0, a.1, same a.0 a.2, (most, h.kept_are.cast, h.kept_are.read))
 
 -- bytes stopped the run
-stops_uncounted : (why : LineStop) (t rest : List ℕ) → length t ≤ most_bytes → StopsIn why t → IsUncounted (status_of why) t rest
-stops_uncounted (stop.BadInput m fault) t rest most h = (most, whole_from [] t, inl refl, h)
-stops_uncounted (stop.Long m) t rest most h = (omega arith, h)
-stops_uncounted (stop.Ratio m over) t rest most h = absurd h
-stops_uncounted stop.Write t rest most h = absurd h
-stops_uncounted stop.Keep t rest most h = absurd h
-stops_uncounted stop.NoMemory t rest most h = most
+stops_uncounted : (form : Form) (why : LineStop) (t rest : List ℕ) → length t ≤ most_bytes → StopsIn form why t → IsUncounted form (status_of why) t rest
+stops_uncounted form (stop.BadInput m fault) t rest most h = (most, whole_from [] t, inl refl, h)
+stops_uncounted form (stop.Long m) t rest most h = (omega arith, h)
+stops_uncounted form (stop.Ratio m over) t rest most h = absurd h
+stops_uncounted form stop.Write t rest most h = absurd h
+stops_uncounted form stop.Keep t rest most h = absurd h
+stops_uncounted form stop.NoMemory t rest most h = most
 
-pub stopped : (first : Option (List ℕ)) (t : List ℕ) (left : Option (List ℕ)) (why : LineStop) → Told first t left → length t ≤ most_bytes → StopsIn why t → AreUncounted first left (status_of why)
-stopped first t left why at most h = λ input told.
+pub stopped : (form : Form) (first : Option (List ℕ)) (t : List ℕ) (left : Option (List ℕ)) (why : LineStop) → Told first t left → length t ≤ most_bytes → StopsIn form why t → AreUncounted form first left (status_of why)
+stopped form first t left why at most h = λ input told.
     let a = at input told in
-    (t, a.0, a.1, a.2, stops_uncounted why t a.0 most h)
+    (t, a.0, a.1, a.2, stops_uncounted form why t a.0 most h)
 
 -- the source came to its end
 nothing_left : (first : Option (List ℕ)) (t : List ℕ) (left left' : Option (List ℕ)) (piece : List ℕ) → Told first t left → IfSome left (λ bytes. bytes ≡ []) → TookBytes 0 piece left left' → (input : List ℕ) → first ≡ Some input → (input ≡ t) × (left' ≡ Some [])
@@ -355,16 +356,16 @@ nothing_left first t left left' piece at end took input told =
     let moves : Takes 0 a.0 piece left' = rw a.2 at took in
     (a.1 ∙ ap (λ (r : List ℕ). t ++ r) none ∙ append-nil t, moves.rest ∙ ap Some none)
 
-pub all_kept : (r : Result (Unit {0}) Status) (first : Option (List ℕ)) (t : List ℕ) (left left' : Option (List ℕ)) (piece : List ℕ) (kept : Kept) → Told first t left → IfSome left (λ bytes. bytes ≡ []) → TookBytes 0 piece left left' → length t ≤ most_bytes → OnOk r (AreKept (lines_of t) kept) → OnOk r (AllAreKept first left' kept)
-all_kept (Err s) first t left left' piece kept at end took most h = tt
-all_kept (Ok x) first t left left' piece kept at end took most h = λ input told.
+pub all_kept : (form : Form) (r : Result (Unit {0}) Status) (first : Option (List ℕ)) (t : List ℕ) (left left' : Option (List ℕ)) (piece : List ℕ) (kept : Kept) → Told first t left → IfSome left (λ bytes. bytes ≡ []) → TookBytes 0 piece left left' → length t ≤ most_bytes → OnOk r (AreKept form (lines_of t) kept) → OnOk r (AllAreKept form first left' kept)
+all_kept form (Err s) first t left left' piece kept at end took most h = tt
+all_kept form (Ok x) first t left left' piece kept at end took most h = λ input told.
     let n = nothing_left first t left left' piece at end took input told in
-    (n.1, rw n.0 most, subst (λ (l : List ℕ). AreKept (lines_of l) kept) (sym n.0) h)
+    (n.1, rw n.0 most, subst (λ (l : List ℕ). AreKept form (lines_of l) kept) (sym n.0) h)
 
 -- one byte more than an input may have
-pub over_long : (first : Option (List ℕ)) (t : List ℕ) (n : ℕ) (line : List ℕ) (kept : Kept) (left left' : Option (List ℕ)) (piece : List ℕ) (b : ℕ) → Told first t left → AreTaken t n line kept → TookBytes 1 piece left left' → take 1 piece ≡ b ∷ [] → length t ≤ most_bytes → b ≢ 10 → length line ≡ longest
-    → AreUncounted first left' (Limit n Line)
-over_long first t n line kept left left' piece b at h took one most ne full = λ input told.
+pub over_long : (form : Form) (first : Option (List ℕ)) (t : List ℕ) (n : ℕ) (line : List ℕ) (kept : Kept) (left left' : Option (List ℕ)) (piece : List ℕ) (b : ℕ) → Told first t left → AreTaken form t n line kept → TookBytes 1 piece left left' → take 1 piece ≡ b ∷ [] → length t ≤ most_bytes → b ≢ 10 → length line ≡ longest
+    → AreUncounted form first left' (Limit n Line)
+over_long form first t n line kept left left' piece b at h took one most ne full = λ input told.
     let a = told_more first t left left' 1 piece at took input told in
     let none : HasNoEnd (b ∷ []) = (ne_eqb b 10 ne, tt) in
     let long : longest < length (line ++ b ∷ []) = rw (length-append line (b ∷ [])) (omega arith) in (
@@ -372,12 +373,12 @@ over_long first t n line kept left left' piece b at h took one most ne full = λ
       a.0,
       a.1 ∙ ap (λ (l : List ℕ). (t ++ l) ++ a.0) one,
       a.2,
-      (rw (length-append t (b ∷ [])) (omega arith), λ more. ap cast_in (append_assoc t (b ∷ []) more) ∙ long_in t n line kept (b ∷ []) more h none long),
+      (rw (length-append t (b ∷ [])) (omega arith), λ more. ap (cast_in form) (append_assoc t (b ∷ []) more) ∙ long_in form t n line kept (b ∷ []) more h none long),
     )
 
-pub over_input : (first : Option (List ℕ)) (t : List ℕ) (n : ℕ) (line : List ℕ) (kept : Kept) (left left' : Option (List ℕ)) (piece : List ℕ) (b : ℕ) → Told first t left → AreTaken t n line kept → TookBytes 1 piece left left' → take 1 piece ≡ b ∷ [] → length t ≡ most_bytes → (b ≡ 10) ⊎ (length line < longest)
-    → AreUncounted first left' (Limit n Input)
-over_input first t n line kept left left' piece b at h took one full short = λ input told.
+pub over_input : (form : Form) (first : Option (List ℕ)) (t : List ℕ) (n : ℕ) (line : List ℕ) (kept : Kept) (left left' : Option (List ℕ)) (piece : List ℕ) (b : ℕ) → Told first t left → AreTaken form t n line kept → TookBytes 1 piece left left' → take 1 piece ≡ b ∷ [] → length t ≡ most_bytes → (b ≡ 10) ⊎ (length line < longest)
+    → AreUncounted form first left' (Limit n Input)
+over_input form first t n line kept left left' piece b at h took one full short = λ input told.
     let a = told_more first t left left' 1 piece at took input told in (
       t ++ b ∷ [],
       a.0,
@@ -406,10 +407,10 @@ line_unread stop.Keep due h e = absurd h
 line_unread stop.NoMemory due h e = absurd cc
 
 -- and one that bytes stop
-pub bytes_of_ballots : (why : LineStop) (t : List ℕ) → StopsIn why t → IsOfBallots (status_of why)
-bytes_of_ballots (stop.BadInput m fault) t h = tt
-bytes_of_ballots (stop.Long m) t h = tt
-bytes_of_ballots (stop.Ratio m over) t h = absurd h
-bytes_of_ballots stop.Write t h = absurd h
-bytes_of_ballots stop.Keep t h = absurd h
-bytes_of_ballots stop.NoMemory t h = tt
+pub bytes_of_ballots : (form : Form) (why : LineStop) (t : List ℕ) → StopsIn form why t → IsOfBallots (status_of why)
+bytes_of_ballots form (stop.BadInput m fault) t h = tt
+bytes_of_ballots form (stop.Long m) t h = tt
+bytes_of_ballots form (stop.Ratio m over) t h = absurd h
+bytes_of_ballots form stop.Write t h = absurd h
+bytes_of_ballots form stop.Keep t h = absurd h
+bytes_of_ballots form stop.NoMemory t h = tt

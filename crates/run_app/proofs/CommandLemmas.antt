@@ -1,15 +1,17 @@
 -- How a run of each command ends.
 use Rattle.std.proofs.Common.{◌≡◌, ◌⊎◌, inl, inr, sym, subst, refl, ℕ, Bool, true, false, List, [], Option, Some, None, Ok}
+use Rattle.base_bech32.specs.declared.form.Form.{Form}
 use Rattle.base_io.specs.Outside.{Rose}
 use Rattle.base_io.specs.Rows.{Pair}
 use Rattle.run_generated.specs.Writing.{generated_text}
 use Rattle.run_trial.specs.Trial.{trial_of}
+use Rattle.run_words.specs.declared.mode.Command.{Command}
 use Rattle.run_words.specs.declared.mode.Mode.{Mode}
 use Rattle.run_words.specs.declared.mode.Mode.TheVariants.{Replay, Resume, Query, Tally, Gen, Trial}
 use Rattle.run_app.specs.declared.status.Status.{Status}
 use Rattle.run_app.specs.declared.status.Status.TheVariants.{Done, Usage, ReadFault, WriteFault, KeepFault, NoMemory, WrongStore}
 use Rattle.run_app.specs.Kept.{AreSome}
-use Rattle.run_app.specs.Modes.{IsTried, IsUntroubledAt, ModeEnds}
+use Rattle.run_app.specs.Modes.{CommandEnds, IsTried, IsUntroubledAt, ModeEnds}
 use Rattle.run_app.specs.Writes.{IsWritten}
 use Rattle.run_app.proofs.DriveLemmas.{untroubled_run}
 use Rattle.run_app.proofs.ModeLemmas.{finds_none, nothing, nothing_done, rows_left, same_rows, tried_without_memory, unbegun_replay, untouched, written_to_end}
@@ -17,40 +19,43 @@ use Rattle.run_app.proofs.ResumeLemmas.{untroubled_query, untroubled_resume}
 use Rattle.run_app.proofs.TallyLemmas.{untroubled_tally}
 
 -- before anything is taken, a run may end where memory is wanting, and leaves all as it was
-pub ends_unbegun : (o : Option Mode) (left w : Option (List ℕ)) (rows : Option (List Pair)) (honest : Type 0) (leaves : List Pair → Type 0) → ModeEnds o left left w w rows rows honest leaves leaves NoMemory
-ends_unbegun None left w rows honest leaves = (nothing_done left w, untouched rows leaves)
-ends_unbegun (Some Replay) left w rows honest leaves = inr (tt, nothing_done left w, rows_left rows rows honest leaves leaves (same_rows rows) (λ h l x. x))
-ends_unbegun (Some Resume) left w rows honest leaves = inr (tt, nothing_done left w, rows_left rows rows honest leaves leaves (same_rows rows) (λ h l x. x))
-ends_unbegun (Some (Query what)) left w rows honest leaves = (refl, (rows_left rows rows honest leaves leaves (same_rows rows) (λ h l x. x), inr (tt, nothing w _ refl)))
-ends_unbegun (Some Tally) left w rows honest leaves = (rows_left rows rows honest leaves leaves (same_rows rows) (λ h l x. x), inr (tt, nothing_done left w))
-ends_unbegun (Some (Gen seed count)) left w rows honest leaves = ((refl, nothing w _ (record { rest = generated_text seed count; text_is = refl })), untouched rows leaves)
-ends_unbegun (Some (Trial seed count)) left w rows honest leaves = ((refl, tried_without_memory (trial_of seed count) w), untouched rows leaves)
+mode_unbegun : (form : Form) (m : Mode) (left w : Option (List ℕ)) (rows : Option (List Pair)) (honest : Type 0) (leaves : List Pair → Type 0) → ModeEnds form m left left w w rows rows honest leaves leaves NoMemory
+mode_unbegun form Replay left w rows honest leaves = inr (tt, nothing_done left w, rows_left rows rows honest leaves leaves (same_rows rows) (λ h l x. x))
+mode_unbegun form Resume left w rows honest leaves = inr (tt, nothing_done left w, rows_left rows rows honest leaves leaves (same_rows rows) (λ h l x. x))
+mode_unbegun form (Query what) left w rows honest leaves = (refl, (rows_left rows rows honest leaves leaves (same_rows rows) (λ h l x. x), inr (tt, nothing w _ refl)))
+mode_unbegun form Tally left w rows honest leaves = (rows_left rows rows honest leaves leaves (same_rows rows) (λ h l x. x), inr (tt, nothing_done left w))
+mode_unbegun form (Gen seed count) left w rows honest leaves = ((refl, nothing w _ (record { rest = generated_text form seed count; text_is = refl })), untouched rows leaves)
+mode_unbegun form (Trial seed count) left w rows honest leaves = ((refl, tried_without_memory (trial_of seed count) w), untouched rows leaves)
 
-pub ends_unasked : (o : Option Mode) (left w : Option (List ℕ)) (rows : Option (List Pair)) (honest : Type 0) (leaves : List Pair → Type 0) → o ≡ None → ModeEnds o left left w w rows rows honest leaves leaves Usage
-ends_unasked o left w rows honest leaves e = subst (λ p. ModeEnds p left left w w rows rows honest leaves leaves Usage) (sym e) (nothing_done left w, untouched rows leaves)
+pub ends_unbegun : (o : Option Command) (left w : Option (List ℕ)) (rows : Option (List Pair)) (honest : Type 0) (leaves : List Pair → Type 0) → CommandEnds o left left w w rows rows honest leaves leaves NoMemory
+ends_unbegun None left w rows honest leaves = (nothing_done left w, untouched rows leaves)
+ends_unbegun (Some c) left w rows honest leaves = mode_unbegun c.form c.mode left w rows honest leaves
+
+pub ends_unasked : (o : Option Command) (left w : Option (List ℕ)) (rows : Option (List Pair)) (honest : Type 0) (leaves : List Pair → Type 0) → o ≡ None → CommandEnds o left left w w rows rows honest leaves leaves Usage
+ends_unasked o left w rows honest leaves e = subst (λ p. CommandEnds p left left w w rows rows honest leaves leaves Usage) (sym e) (nothing_done left w, untouched rows leaves)
 
 -- ---- runs that come to their end
 
-pub untroubled_command : (m : Mode) (left left' w w' : Option (List ℕ)) (keeps : Bool) (rows rows' : Option (List Pair)) (honest' : Type 0) (leaves leaves' : List Pair → Type 0) (faults faults' : ℕ) (s : Status) → ModeEnds (Some m) left left' w w' rows rows' honest' leaves leaves' s
-    → IsUntroubledAt (Some m) left w keeps rows honest' faults faults' → (s ≡ Usage → ⊥) → (s ≡ ReadFault → ⊥) → (s ≡ WriteFault → ⊥) → (s ≡ KeepFault → Rose faults faults') → (m ≡ Replay → s ≡ WrongStore false → keeps ≡ true) → (s ≡ Done) ⊎ (s ≡ NoMemory)
-untroubled_command Replay left left' w w' keeps rows rows' honest' leaves leaves' faults faults' s (inl ends) calm busy read write keep kept =
-    untroubled_run _ None left left' w w' s ends calm.0 busy read write (λ e. calm.1.quiet (keep e))
-untroubled_command Replay left left' w w' keeps rows rows' honest' leaves leaves' faults faults' s (inr ends) calm busy read write keep kept =
+pub untroubled_command : (form : Form) (m : Mode) (left left' w w' : Option (List ℕ)) (keeps : Bool) (rows rows' : Option (List Pair)) (honest' : Type 0) (leaves leaves' : List Pair → Type 0) (faults faults' : ℕ) (s : Status) → ModeEnds form m left left' w w' rows rows' honest' leaves leaves' s
+    → IsUntroubledAt form m left w keeps rows honest' faults faults' → (s ≡ Usage → ⊥) → (s ≡ ReadFault → ⊥) → (s ≡ WriteFault → ⊥) → (s ≡ KeepFault → Rose faults faults') → (m ≡ Replay → s ≡ WrongStore false → keeps ≡ true) → (s ≡ Done) ⊎ (s ≡ NoMemory)
+untroubled_command form Replay left left' w w' keeps rows rows' honest' leaves leaves' faults faults' s (inl ends) calm busy read write keep kept =
+    untroubled_run form _ None left left' w w' s ends calm.0 busy read write (λ e. calm.1.quiet (keep e))
+untroubled_command form Replay left left' w w' keeps rows rows' honest' leaves leaves' faults faults' s (inr ends) calm busy read write keep kept =
     unbegun_replay s (AreSome rows rows' honest') ends.0 (λ e. finds_none keeps rows rows' honest' calm.1.none calm.1.honest ends.2.rows_are (kept refl e)) (λ e. calm.1.quiet (keep e))
-untroubled_command Resume left left' w w' keeps rows rows' honest' leaves leaves' faults faults' s ends calm busy read write keep kept =
-    untroubled_resume left left' w w' rows rows' honest' leaves leaves' faults faults' s ends calm busy read write keep
-untroubled_command (Query what) left left' w w' keeps rows rows' honest' leaves leaves' faults faults' s ends calm busy read write keep kept =
-    untroubled_query what w w' rows rows' honest' leaves leaves' faults faults' s ends.1 calm write keep
-untroubled_command Tally left left' w w' keeps rows rows' honest' leaves leaves' faults faults' s ends calm busy read write keep kept =
-    untroubled_tally left left' w w' rows rows' honest' leaves leaves' faults faults' s ends calm read write keep
-untroubled_command (Gen seed count) left left' w w' keeps rows rows' honest' leaves leaves' faults faults' s ends calm busy read write keep kept =
+untroubled_command form Resume left left' w w' keeps rows rows' honest' leaves leaves' faults faults' s ends calm busy read write keep kept =
+    untroubled_resume form left left' w w' rows rows' honest' leaves leaves' faults faults' s ends calm busy read write keep
+untroubled_command form (Query what) left left' w w' keeps rows rows' honest' leaves leaves' faults faults' s ends calm busy read write keep kept =
+    untroubled_query form what w w' rows rows' honest' leaves leaves' faults faults' s ends.1 calm write keep
+untroubled_command form Tally left left' w w' keeps rows rows' honest' leaves leaves' faults faults' s ends calm busy read write keep kept =
+    untroubled_tally form left left' w w' rows rows' honest' leaves leaves' faults faults' s ends calm read write keep
+untroubled_command form (Gen seed count) left left' w w' keeps rows rows' honest' leaves leaves' faults faults' s ends calm busy read write keep kept =
     let e = ends.0.1 calm.0 calm.1 in
-    written_to_end (generated_text seed count) e.0 s e.2 write
-untroubled_command (Trial seed count) left left' w w' keeps rows rows' honest' leaves leaves' faults faults' s ends calm busy read write keep kept =
+    written_to_end (generated_text form seed count) e.0 s e.2 write
+untroubled_command form (Trial seed count) left left' w w' keeps rows rows' honest' leaves leaves' faults faults' s ends calm busy read write keep kept =
     let e = ends.0.1 calm.0.0 calm.0.1 in
     let told : IsWritten calm.1.0 s e.0 = subst (λ d. IsTried d s e.0) calm.1.1 e.2 in
     written_to_end calm.1.0 e.0 s told write
 
 -- words are no command, or are one
-pub never_asked : (o : Option Mode) (m : Mode) → o ≡ None → o ≡ Some m → ⊥
-never_asked o m none some = absurd cc
+pub never_asked : (o : Option Command) (c : Command) → o ≡ None → o ≡ Some c → ⊥
+never_asked o c none some = absurd cc

@@ -1,5 +1,6 @@
 -- How the answer to a line may stop a run.
 use Rattle.std.proofs.Common.{◌≡◌, ℕ, List, Option, Some, None, Result, Ok, Err, IfErr, subst}
+use Rattle.base_bech32.specs.declared.form.Form.{Form}
 use Rattle.base_io.specs.declared.keeper.KeepFault.{KeepFault}
 use Rattle.base_io.specs.declared.keeper.KeepFault.TheVariants as keep
 use Rattle.base_messages.specs.declared.faults.BlockFault.{BlockFault}
@@ -50,9 +51,9 @@ not_kept_stops keep.Failed line = tt
 not_kept_stops keep.NoMemory line = tt
 
 -- a line within its limit does not stop so
-pub unanswered_stops : (L : Standing → Standing → Type 0) (why : LineStop) (s : Standing) (n : ℕ) (line : List ℕ) → NotAnswered L why s (genesis_answer n (genesis_of line)) → IsOfLine why line
-unanswered_stops L (stop.BadInput m fault) s n line h = tt
-unanswered_stops L (stop.Long m) s n line h = absurd (never_long (genesis_of line) h.0)
+pub unanswered_stops : (form : Form) (L : Standing → Standing → Type 0) (why : LineStop) (s : Standing) (n : ℕ) (line : List ℕ) → NotAnswered L why s (genesis_answer n (genesis_of form line)) → IsOfLine why line
+unanswered_stops form L (stop.BadInput m fault) s n line h = tt
+unanswered_stops form L (stop.Long m) s n line h = absurd (never_long (genesis_of form line) h.0)
   where
     never_long : (r : Result Genesis LineFault) → genesis_answer n r ≡ Err (stop.Long m) → ⊥
     never_long (Err fault.NotJson) e = cc
@@ -63,7 +64,7 @@ unanswered_stops L (stop.Long m) s n line h = absurd (never_long (genesis_of lin
         by : (o : Option ℕ) → started_answer n g o ≡ Err (stop.Long m) → ⊥
         by None f = cc
         by (Some condition) f = cc
-unanswered_stops L (stop.Ratio m over) s n line h = tt
-unanswered_stops L stop.Write s n line h = absurd h
-unanswered_stops L stop.Keep s n line h = tt
-unanswered_stops L stop.NoMemory s n line h = tt
+unanswered_stops form L (stop.Ratio m over) s n line h = tt
+unanswered_stops form L stop.Write s n line h = absurd h
+unanswered_stops form L stop.Keep s n line h = tt
+unanswered_stops form L stop.NoMemory s n line h = tt

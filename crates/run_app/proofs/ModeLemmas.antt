@@ -14,11 +14,14 @@ use Rattle.run_trial.specs.Trial.{trial_of}
 use Rattle.run_trial.specs.declared.fault.TrialFault.{TrialFault}
 use Rattle.run_trial.specs.declared.fault.TrialFault.TheVariants as trial
 use Rattle.run_trial.specs.Trying.{IsTrialFault}
+use Rattle.base_bech32.specs.declared.form.Form.{Form}
+use Rattle.base_bech32.specs.declared.form.Form.TheVariants.{Hex, Bech32}
+use Rattle.run_words.specs.declared.mode.Command.{Command}
 use Rattle.run_words.specs.declared.mode.Mode.{Mode}
 use Rattle.run_words.specs.declared.mode.Mode.TheVariants.{Replay, Resume, Query, Tally, Gen, Trial}
 use Rattle.line_report.specs.declared.question.Query.{Query as Question}
 use Rattle.run_words.specs.Questions.{address_asked, kind_asked}
-use Rattle.run_words.specs.Words.{alone, begins_with_zero, count_of, generating, mode_of, seed_of, with_input, with_word, with_words}
+use Rattle.run_words.specs.Words.{alone, begins_with_zero, command_of, count_of, generating, in_form, is_bech32, mode_of, seed_of, with_input, with_word, with_words}
 use Rattle.run_app.specs.declared.status.Status.{Status}
 use Rattle.run_app.specs.declared.status.Status.TheVariants.{Done, Usage, BadInput, Limit, ReadFault, WriteFault, KeepFault, NoMemory, BadStore, WrongStore, NotFound}
 use Rattle.run_app.specs.Machine.{not_applied}
@@ -198,19 +201,35 @@ few_generated name seed count m e = by (bytes_eq name (codes "gen")) (bytes_eq n
     by false true f = input_is_few Trial (λ s n h. h) (seed_of seed) (count_of count) m (count_is_few count) f
     by false false f = absurd cc
 
-few_with_words : (name first second : List ℕ) (m : Mode) → with_words name first second ≡ Some m → HasFewBlocks m
-few_with_words name first second m e = by (bytes_eq name (codes "query")) e
+few_with_words : (form : Form) (name first second : List ℕ) (m : Mode) → with_words form name first second ≡ Some m → HasFewBlocks m
+few_with_words form name first second m e = by (bytes_eq name (codes "query")) e
   where
-    by : (b : Bool) → (if b then option_map Query (address_asked first second) else generating name first second) ≡ Some m → HasFewBlocks m
-    by true f = few_asked (address_asked first second) m f
+    by : (b : Bool) → (if b then option_map Query (address_asked form first second) else generating name first second) ≡ Some m → HasFewBlocks m
+    by true f = few_asked (address_asked form first second) m f
     by false f = few_generated name first second m f
 
-pub few_blocks : (words : List (List ℕ)) (m : Mode) → mode_of words ≡ Some m → HasFewBlocks m
-few_blocks [] m e = absurd cc
-few_blocks (name ∷ []) m e = few_alone name m e
-few_blocks (name ∷ what ∷ []) m e = few_with_word name what m e
-few_blocks (name ∷ first ∷ second ∷ []) m e = few_with_words name first second m e
-few_blocks (name ∷ first ∷ second ∷ other ∷ others) m e = absurd cc
+few_of_mode : (form : Form) (words : List (List ℕ)) (m : Mode) → mode_of form words ≡ Some m → HasFewBlocks m
+few_of_mode form [] m e = absurd cc
+few_of_mode form (name ∷ []) m e = few_alone name m e
+few_of_mode form (name ∷ what ∷ []) m e = few_with_word name what m e
+few_of_mode form (name ∷ first ∷ second ∷ []) m e = few_with_words form name first second m e
+few_of_mode form (name ∷ first ∷ second ∷ other ∷ others) m e = absurd cc
+
+abbrev FewOf : Option Command → Type 0
+FewOf None = Unit {0}
+FewOf (Some c) = HasFewBlocks c.mode
+
+few_in_form : (form : Form) (o : Option Mode) (c : Command) → ((m : Mode) → o ≡ Some m → HasFewBlocks m) → in_form form o ≡ Some c → HasFewBlocks c.mode
+few_in_form form (Some m) c few e = subst FewOf e (few m refl)
+few_in_form form None c few e = absurd cc
+
+pub few_blocks : (words : List (List ℕ)) (c : Command) → command_of words ≡ Some c → HasFewBlocks c.mode
+few_blocks [] c e = absurd cc
+few_blocks (word ∷ words) c e = by (is_bech32 word) e
+  where
+    by : (b : Bool) → (if b then in_form Bech32 (mode_of Bech32 words) else in_form Hex (mode_of Hex (word ∷ words))) ≡ Some c → HasFewBlocks c.mode
+    by true f = few_in_form Bech32 (mode_of Bech32 words) c (few_of_mode Bech32 words) f
+    by false f = few_in_form Hex (mode_of Hex (word ∷ words)) c (few_of_mode Hex (word ∷ words)) f
 
 -- ---- runs that do not begin
 

@@ -1,6 +1,7 @@
 -- Wherever lines lead, a run may go on.
 use Rattle.std.proofs.Common.{◌≡◌, ℕ, ◌+◌, ◌<◌, ◌^◌, All, List, [], ◌∷◌, Option, Some, None, Result, Ok, Err, IfOk, refl, sym, subst, arith}
 use Rattle.std.specs.Prelude.{Contains}
+use Rattle.base_bech32.specs.declared.form.Form.{Form}
 use Rattle.line_json.specs.Block.{block_of}
 use Rattle.line_json.specs.Genesis.{genesis_of}
 use Rattle.base_roles.specs.declared.refusal.Refusal.TheVariants.{Overflow}
@@ -48,19 +49,19 @@ step_sound b w done s coins room e =
     let after : StepFits P w done = from_if (StepFits P w) (step b w) done e (block_fits P b (total_in w.view) w (its_coins b coins) (to_fits w s) room) in
     from_fits done.state s.few.some (total_in done.state.view) s.few.few after.fits
 
-pub runs_may_go_on : RunsMayGoOn
-runs_may_go_on n first [] text end good answered = subst MayGoOn (sym answered.1) good
-runs_may_go_on n None (line ∷ lines) text end good answered =
-    let w = within n None line answered.0 answered.2 in
-    let b : Begun line answered.0 = genesis_led n line w.short (genesis_of line) refl answered.0 w.is in
+pub runs_may_go_on : (form : Form) → RunsMayGoOn form
+runs_may_go_on form n first [] text end good answered = subst MayGoOn (sym answered.1) good
+runs_may_go_on form n None (line ∷ lines) text end good answered =
+    let w = within form n None line answered.0 answered.2 in
+    let b : Begun form line answered.0 = genesis_led form n line w.short (genesis_of form line) refl answered.0 w.is in
     let sound : IsSound b.start.state = from_if (λ (s : Start). IsSound s.state) (chain_started b.genesis) b.start b.started (geneses_start_sound b.genesis b.good) in
     let clear : b.start.state.view.facts ≡ [] = from_if (λ (s : Start). s.state.view.facts ≡ []) (chain_started b.genesis) b.start b.started (start_clears b.genesis) in
-    runs_may_go_on (n + 1) answered.0.standing lines answered.1 end (subst MayGoOn (sym b.standing_is) (sound, clear)) answered.4
-runs_may_go_on n (Some p) (line ∷ lines) text end good answered =
-    let b : Led line p answered.0 = block_led n line p (block_of line) refl answered.0 (within n (Some p) line answered.0 answered.2).is in
+    runs_may_go_on form (n + 1) answered.0.standing lines answered.1 end (subst MayGoOn (sym b.standing_is) (sound, clear)) answered.4
+runs_may_go_on form n (Some p) (line ∷ lines) text end good answered =
+    let b : Led form line p answered.0 = block_led form n line p (block_of form line) refl answered.0 (within form n (Some p) line answered.0 answered.2).is in
     let height = next_height b.block p b.done b.done_is in
-    let high = height_is_low line b.block b.line_is in
+    let high = height_is_low form line b.block b.line_is in
     let room : p.view.ctx.height + 1 < 2 ^ 63 = omega (arith, height, high) in
-    let sound : IsSound b.done.state = step_sound b.block p b.done good.0 (block_has_coins line b.block b.line_is) room b.done_is in
+    let sound : IsSound b.done.state = step_sound b.block p b.done good.0 (block_has_coins form line b.block b.line_is) room b.done_is in
     let clear : b.done.state.view.facts ≡ [] = from_if (λ (s : Step). s.state.view.facts ≡ []) (step b.block p) b.done b.done_is (step_clears b.block p) in
-    runs_may_go_on (n + 1) answered.0.standing lines answered.1 end (subst MayGoOn (sym b.standing_is) (sound, clear)) answered.4
+    runs_may_go_on form (n + 1) answered.0.standing lines answered.1 end (subst MayGoOn (sym b.standing_is) (sound, clear)) answered.4

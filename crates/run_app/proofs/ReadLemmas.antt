@@ -8,6 +8,7 @@ use Rattle.std.proofs.lemmas.List.Elements.{All-from_recursion}
 use Rattle.std.proofs.Math.Nat.{pow-le-pow_right}
 use Rattle.serde_json.specs.Data.{Data, Items, no_items, item}
 use Rattle.serde_json.specs.Find.{as_array}
+use Rattle.base_bech32.specs.declared.form.Form.{Form}
 use Rattle.base_decimals.specs.Texts as texts
 use Rattle.base_decimals.proofs.Digits.{all_digits, number_short}
 use Rattle.base_types.specs.declared.account.Account.{Account}
@@ -166,11 +167,11 @@ send_given : (sender : List ℕ) (to : Account) (coins : Money) → IsMoney coin
 unfolding SendHasCoins
 send_given sender to coins money = given (λ (s : Send). IsMoney s.coins) (record { from = sender; to = to; coins = coins }) money
 
-holds_send : (d : Data) → Holds SendHasCoins (messages.send_of d)
+holds_send : (form : Form) (d : Data) → Holds SendHasCoins (messages.send_of form d)
 unfolding messages.send_of
-holds_send d =
-    past _ _ (user_at 91 (codes "from") d) (λ sender.
-    past _ _ (account_at 92 (codes "to") d) (λ to.
+holds_send form d =
+    past _ _ (user_at form 91 (codes "from") d) (λ sender.
+    past _ _ (account_at form 92 (codes "to") d) (λ to.
     from _ _ _ (coins_at 93 (codes "coins") d) (holds_coins 93 (codes "coins") d) (λ coins money.
     past _ _ (only_named (codes "kind" ∷ codes "from" ∷ codes "to" ∷ codes "coins" ∷ []) d) (λ only. send_given sender to coins money))))
 
@@ -178,10 +179,10 @@ fund_given : (depositor : List ℕ) (coins : Money) → IsMoney coins → Holds 
 unfolding FundHasCoins
 fund_given depositor coins money = given (λ (m : FundCommunityPool). IsMoney m.coins) (record { depositor = depositor; coins = coins }) money
 
-holds_fund : (d : Data) → Holds FundHasCoins (messages.fund_community_pool_of d)
+holds_fund : (form : Form) (d : Data) → Holds FundHasCoins (messages.fund_community_pool_of form d)
 unfolding messages.fund_community_pool_of
-holds_fund d =
-    past _ _ (user_at 106 (codes "depositor") d) (λ depositor.
+holds_fund form d =
+    past _ _ (user_at form 106 (codes "depositor") d) (λ depositor.
     from _ _ _ (coins_at 93 (codes "coins") d) (holds_coins 93 (codes "coins") d) (λ coins money.
     past _ _ (only_named (codes "kind" ∷ codes "depositor" ∷ codes "coins" ∷ []) d) (λ only. fund_given depositor coins money)))
 
@@ -189,33 +190,33 @@ spend_given : (authority : List ℕ) (recipient : Account) (coins : Money) → I
 unfolding SpendHasCoins
 spend_given authority recipient coins money = given (λ (m : CommunityPoolSpend). IsMoney m.coins) (record { authority = authority; recipient = recipient; coins = coins }) money
 
-holds_spend : (d : Data) → Holds SpendHasCoins (messages.community_pool_spend_of d)
+holds_spend : (form : Form) (d : Data) → Holds SpendHasCoins (messages.community_pool_spend_of form d)
 unfolding messages.community_pool_spend_of
-holds_spend d =
-    past _ _ (user_at 107 (codes "authority") d) (λ authority.
-    past _ _ (account_at 108 (codes "recipient") d) (λ recipient.
+holds_spend form d =
+    past _ _ (user_at form 107 (codes "authority") d) (λ authority.
+    past _ _ (account_at form 108 (codes "recipient") d) (λ recipient.
     from _ _ _ (coins_at 93 (codes "coins") d) (holds_coins 93 (codes "coins") d) (λ coins money.
     past _ _ (only_named (codes "kind" ∷ codes "authority" ∷ codes "recipient" ∷ codes "coins" ∷ []) d) (λ only. spend_given authority recipient coins money))))
 
-holds_message : (d : Data) → Holds MessageHasCoins (messages.message_of d)
+holds_message : (form : Form) (d : Data) → Holds MessageHasCoins (messages.message_of form d)
 unfolding messages.message_of SendHasCoins FundHasCoins SpendHasCoins
-holds_message d = past _ _ (member_at (spelled_by messages.kind_of) 90 (codes "kind") d) by
+holds_message form d = past _ _ (member_at (spelled_by messages.kind_of) 90 (codes "kind") d) by
   where
-    by : (k : Kind) → Holds MessageHasCoins (messages.message_of_kind k d)
-    by kind.Send = with_coins SendHasCoins (messages.send_of d) msg.Send (holds_send d) (λ x money. money)
-    by kind.CreateValidator = another (messages.create_validator_of d) msg.CreateValidator (λ x. tt)
-    by kind.EditValidator = another (messages.edit_validator_of d) msg.EditValidator (λ x. tt)
-    by kind.Delegate = another (messages.delegate_of d) msg.Delegate (λ x. tt)
-    by kind.Undelegate = another (messages.undelegate_of d) msg.Undelegate (λ x. tt)
-    by kind.BeginRedelegate = another (messages.begin_redelegate_of d) msg.BeginRedelegate (λ x. tt)
-    by kind.CancelUnbonding = another (messages.cancel_unbonding_of d) msg.CancelUnbonding (λ x. tt)
-    by kind.Unjail = another (messages.unjail_of d) msg.Unjail (λ x. tt)
-    by kind.WithdrawReward = another (messages.withdraw_reward_of d) msg.WithdrawReward (λ x. tt)
-    by kind.WithdrawCommission = another (messages.withdraw_commission_of d) msg.WithdrawCommission (λ x. tt)
-    by kind.SetWithdrawAddress = another (messages.set_withdraw_address_of d) msg.SetWithdrawAddress (λ x. tt)
-    by kind.FundCommunityPool = with_coins FundHasCoins (messages.fund_community_pool_of d) msg.FundCommunityPool (holds_fund d) (λ x money. money)
-    by kind.CommunityPoolSpend = with_coins SpendHasCoins (messages.community_pool_spend_of d) msg.CommunityPoolSpend (holds_spend d) (λ x money. money)
-    by kind.UpdateParams = another (messages.update_params_of d) msg.UpdateParams (λ x. tt)
+    by : (k : Kind) → Holds MessageHasCoins (messages.message_of_kind form k d)
+    by kind.Send = with_coins SendHasCoins (messages.send_of form d) msg.Send (holds_send form d) (λ x money. money)
+    by kind.CreateValidator = another (messages.create_validator_of form d) msg.CreateValidator (λ x. tt)
+    by kind.EditValidator = another (messages.edit_validator_of form d) msg.EditValidator (λ x. tt)
+    by kind.Delegate = another (messages.delegate_of form d) msg.Delegate (λ x. tt)
+    by kind.Undelegate = another (messages.undelegate_of form d) msg.Undelegate (λ x. tt)
+    by kind.BeginRedelegate = another (messages.begin_redelegate_of form d) msg.BeginRedelegate (λ x. tt)
+    by kind.CancelUnbonding = another (messages.cancel_unbonding_of form d) msg.CancelUnbonding (λ x. tt)
+    by kind.Unjail = another (messages.unjail_of form d) msg.Unjail (λ x. tt)
+    by kind.WithdrawReward = another (messages.withdraw_reward_of form d) msg.WithdrawReward (λ x. tt)
+    by kind.WithdrawCommission = another (messages.withdraw_commission_of form d) msg.WithdrawCommission (λ x. tt)
+    by kind.SetWithdrawAddress = another (messages.set_withdraw_address_of form d) msg.SetWithdrawAddress (λ x. tt)
+    by kind.FundCommunityPool = with_coins FundHasCoins (messages.fund_community_pool_of form d) msg.FundCommunityPool (holds_fund form d) (λ x money. money)
+    by kind.CommunityPoolSpend = with_coins SpendHasCoins (messages.community_pool_spend_of form d) msg.CommunityPoolSpend (holds_spend form d) (λ x money. money)
+    by kind.UpdateParams = another (messages.update_params_of form d) msg.UpdateParams (λ x. tt)
 
 -- ---- transactions and blocks
 
@@ -226,12 +227,12 @@ tx_given : (payer : List ℕ) (fee : Money) (msgs : List Msg) → IsMoney fee �
 unfolding TxIsRead
 tx_given payer fee msgs money each_element = given (λ (tx : Tx). IsMoney tx.fee × HoldsEach MessageHasCoins tx.msgs) (record { payer = payer; fee = fee; msgs = msgs }) (money, each_element)
 
-holds_tx : (d : Data) → Holds TxIsRead (tx_of d)
+holds_tx : (form : Form) (d : Data) → Holds TxIsRead (tx_of form d)
 unfolding tx_of
-holds_tx d =
-    past _ _ (user_at 80 (codes "payer") d) (λ payer.
+holds_tx form d =
+    past _ _ (user_at form 80 (codes "payer") d) (λ payer.
     from _ _ _ (coins_at 81 (codes "fee") d) (holds_coins 81 (codes "fee") d) (λ fee money.
-    from _ _ _ (list_at messages.message_of 82 (codes "msgs") d) (holds_list MessageHasCoins messages.message_of holds_message 82 (codes "msgs") d) (λ msgs each_element.
+    from _ _ _ (list_at (messages.message_of form) 82 (codes "msgs") d) (holds_list MessageHasCoins (messages.message_of form) (holds_message form) 82 (codes "msgs") d) (λ msgs each_element.
     past _ _ (only_named (codes "payer" ∷ codes "fee" ∷ codes "msgs" ∷ []) d) (λ only. tx_given payer fee msgs money each_element))))
 
 -- the height is in its range, and all transactions have lists of coins
@@ -249,21 +250,21 @@ unfolding BlockIsRead
 block_given height time votes evidence txs low each_element =
     given (λ (b : Block). (b.height < 2 ^ 63) × HoldsEach TxIsRead b.txs) (record { height = height; time = time; votes = votes; evidence = evidence; txs = txs }) (low, each_element)
 
-holds_block : (d : Data) → Holds BlockIsRead (block_of_tree d)
+holds_block : (form : Form) (d : Data) → Holds BlockIsRead (block_of_tree form d)
 unfolding block_of_tree
-holds_block d =
+holds_block form d =
     past _ _ (word_at 60 (codes "kind") (codes "block") d) (λ kind.
     from _ _ _ (number_at 61 (codes "height") d) (holds_number 61 (codes "height") d) (λ height low.
     past _ _ (moment_at 62 (codes "time") d) (λ time.
-    past _ _ (list_at vote_of 63 (codes "votes") d) (λ votes.
-    past _ _ (list_at evidence_of 64 (codes "evidence") d) (λ evidence.
-    from _ _ _ (list_at tx_of 65 (codes "txs") d) (holds_list TxIsRead tx_of holds_tx 65 (codes "txs") d) (λ txs each_element.
+    past _ _ (list_at (vote_of form) 63 (codes "votes") d) (λ votes.
+    past _ _ (list_at (evidence_of form) 64 (codes "evidence") d) (λ evidence.
+    from _ _ _ (list_at (tx_of form) 65 (codes "txs") d) (holds_list TxIsRead (tx_of form) (holds_tx form) 65 (codes "txs") d) (λ txs each_element.
     past _ _ (only_named (codes "kind" ∷ codes "height" ∷ codes "time" ∷ codes "votes" ∷ codes "evidence" ∷ codes "txs" ∷ []) d) (λ only.
     block_given height time votes evidence txs low each_element)))))))
 
-holds_line : (line : List ℕ) → Holds BlockIsRead (block_of line)
+holds_line : (form : Form) (line : List ℕ) → Holds BlockIsRead (block_of form line)
 unfolding block_of
-holds_line line = past _ _ (tree_of line) holds_block
+holds_line form line = past _ _ (tree_of line) (holds_block form)
 
 -- ---- as the machine's laws have it
 
@@ -275,17 +276,17 @@ tx_has_coins tx h = record { fee = h.0; messages = All-from_recursion MessageHas
 pub AllHaveCoins : Block → Type 0
 AllHaveCoins block = All TxHasCoins block.txs
 
-pub block_has_coins : (line : List ℕ) (block : Block) → block_of line ≡ Ok block → AllHaveCoins block
+pub block_has_coins : (form : Form) (line : List ℕ) (block : Block) → block_of form line ≡ Ok block → AllHaveCoins block
 unfolding AllHaveCoins HoldsEach BlockIsRead
-block_has_coins line block e = All-from_recursion TxHasCoins block.txs (by block.txs (holds_ok BlockIsRead (block_of line) block e (holds_line line)).1)
+block_has_coins form line block e = All-from_recursion TxHasCoins block.txs (by block.txs (holds_ok BlockIsRead (block_of form line) block e (holds_line form line)).1)
   where
     by : (txs : List Tx) → AllByRecursion TxIsRead txs → AllByRecursion TxHasCoins txs
     by [] h = tt
     by (tx ∷ txs) h = (tx_has_coins tx h.0, by txs h.1)
 
-pub height_is_low : (line : List ℕ) (block : Block) → block_of line ≡ Ok block → block.height < 2 ^ 63
+pub height_is_low : (form : Form) (line : List ℕ) (block : Block) → block_of form line ≡ Ok block → block.height < 2 ^ 63
 unfolding BlockIsRead
-height_is_low line block e = (holds_ok BlockIsRead (block_of line) block e (holds_line line)).0
+height_is_low form line block e = (holds_ok BlockIsRead (block_of form line) block e (holds_line form line)).0
 
 pub all_have_coins : (blocks : List Block) → AllByRecursion AllHaveCoins blocks → All (λ (b : Block). All TxHasCoins b.txs) blocks
 unfolding AllHaveCoins

@@ -3,6 +3,7 @@ use Rattle.std.proofs.Common.{◌≡◌, ◌∙◌, ℕ, List, [], ◌∷◌, �
 use Rattle.std.specs.List.Sorted.{IsPermutation}
 use Rattle.std.proofs.lemmas.List.Elements.{All-from_recursion}
 use Rattle.std.proofs.lemmas.List.Sorted.{IsPermutation-refl}
+use Rattle.base_bech32.specs.declared.form.Form.{Form}
 use Rattle.base_roles.specs.declared.items.Item.{Item}
 use Rattle.base_messages.specs.declared.report.Pending.{Pending}
 use Rattle.rule_modules.specs.Chain.{State}
@@ -26,8 +27,8 @@ all_of w = record {
 }
 
 -- from them, and from its pending rewards in whatever order, its report is written
-pub report_is : StatesAreReported → (w : State) (items : List Item) (pending : List Pending) (text : List ℕ) → IsInKeyOrder w → items ≡ items_of w → IsPermutation (pending_of w) pending
-    → text ≡ text_of (lines_of (report_from items pending)) → report_of (Some w) ≡ Ok text
+pub report_is : (form : Form) → StatesAreReported → (w : State) (items : List Item) (pending : List Pending) (text : List ℕ) → IsInKeyOrder w → items ≡ items_of w → IsPermutation (pending_of w) pending
+    → text ≡ text_of (lines_of form (report_from items pending)) → report_of form (Some w) ≡ Ok text
 unfolding report_of
-report_is law w items pending text order is are written =
-    ap (λ (t : List ℕ). Ok t) (sym (written ∙ ap (λ r. text_of (lines_of r)) (law.whole w items pending order (subst (AreItemsOf w) (sym is) (all_of w)) are)))
+report_is form law w items pending text order is are written =
+    ap (λ (t : List ℕ). Ok t) (sym (written ∙ ap (λ r. text_of (lines_of form r)) (law.whole w items pending order (subst (AreItemsOf w) (sym is) (all_of w)) are)))

@@ -1,5 +1,6 @@
 -- What a run writes that goes on from where lines led is the rest of what one run writes.
 use Rattle.std.proofs.Common.{◌≡◌, ◌∙◌, ℕ, ◌+◌, Bool, true, false, List, [], ◌∷◌, ◌++◌, length, nat_lt, if◌then◌else◌, Option, Some, None, Result, Ok, Err, refl, sym, ap, subst}
+use Rattle.base_bech32.specs.declared.form.Form.{Form}
 use Rattle.base_roles.specs.declared.refusal.Refusal.{Refusal}
 use Rattle.line_json.specs.Block.{block_of}
 use Rattle.line_json.specs.Genesis.{genesis_of}
@@ -32,24 +33,24 @@ genesis_alike n m (Ok g) = by (start_condition g)
     by None = refl
     by (Some condition) = tt
 
-block_alike : (n m : ℕ) (s : State) (r : Result Block LineFault) → AreAlike (block_answer n s r) (block_answer m s r)
-block_alike n m s (Err fault) = tt
-block_alike n m s (Ok b) = by (step b s)
+block_alike : (form : Form) (n m : ℕ) (s : State) (r : Result Block LineFault) → AreAlike (block_answer form n s r) (block_answer form m s r)
+block_alike form n m s (Err fault) = tt
+block_alike form n m s (Ok b) = by (step b s)
   where
-    by : (r : Result Step BlockFault) → AreAlike (applied_answer n r) (applied_answer m r)
+    by : (r : Result Step BlockFault) → AreAlike (applied_answer form n r) (applied_answer form m r)
     by (Ok step) = refl
     by (Err fault) = tt
 
-within_alike : (n m : ℕ) (s : Standing) (line : List ℕ) → AreAlike (answer_within n s line) (answer_within m s line)
-within_alike n m None line = genesis_alike n m (genesis_of line)
-within_alike n m (Some s) line = block_alike n m s (block_of line)
+within_alike : (form : Form) (n m : ℕ) (s : Standing) (line : List ℕ) → AreAlike (answer_within form n s line) (answer_within form m s line)
+within_alike form n m None line = genesis_alike n m (genesis_of form line)
+within_alike form n m (Some s) line = block_alike form n m s (block_of form line)
 
 -- a line's number changes no more than the number in its fault
-line_alike : (n m : ℕ) (s : Standing) (line : List ℕ) → AreAlike (line_answer n s line) (line_answer m s line)
+line_alike : (form : Form) (n m : ℕ) (s : Standing) (line : List ℕ) → AreAlike (line_answer form n s line) (line_answer form m s line)
 unfolding line_answer
-line_alike n m s line = by (nat_lt longest (length line)) (within_alike n m s line)
+line_alike form n m s line = by (nat_lt longest (length line)) (within_alike form n m s line)
   where
-    by : (b : Bool) → AreAlike (answer_within n s line) (answer_within m s line) → AreAlike (if b then Err (stop.Long n) else answer_within n s line) (if b then Err (stop.Long m) else answer_within m s line)
+    by : (b : Bool) → AreAlike (answer_within form n s line) (answer_within form m s line) → AreAlike (if b then Err (stop.Long n) else answer_within form n s line) (if b then Err (stop.Long m) else answer_within form m s line)
     by true h = tt
     by false h = h
 
@@ -68,16 +69,16 @@ same_after (Ok a) (Err e) f g same next = absurd same
 same_after (Err e) (Ok b) f g same next = absurd same
 same_after (Err d) (Err e) f g same next = record { text = refl; to = λ none. absurd cc; from = λ none. absurd cc }
 
-renumbered : (lines : List (List ℕ)) (n m : ℕ) (s : Standing) → AreSame (ran_from n s lines) (ran_from m s lines)
-renumbered [] n m s = record { text = refl; to = λ none. none; from = λ none. none }
-renumbered (line ∷ lines) n m s = same_after (line_answer n s line) (line_answer m s line) (λ next. ran_from (n + 1) next lines) (λ next. ran_from (m + 1) next lines) (line_alike n m s line) (λ next. renumbered lines (n + 1) (m + 1) next)
+renumbered : (form : Form) (lines : List (List ℕ)) (n m : ℕ) (s : Standing) → AreSame (ran_from form n s lines) (ran_from form m s lines)
+renumbered form [] n m s = record { text = refl; to = λ none. none; from = λ none. none }
+renumbered form (line ∷ lines) n m s = same_after (line_answer form n s line) (line_answer form m s line) (λ next. ran_from form (n + 1) next lines) (λ next. ran_from form (m + 1) next lines) (line_alike form n m s line) (λ next. renumbered form lines (n + 1) (m + 1) next)
 
 rest_of : (text : List ℕ) (whole further rest : Ran) → whole ≡ before text further → AreSame further rest → IsRest text whole rest
 rest_of text whole further rest is s = subst (λ (r : Ran). IsRest text r rest) (sym is) (record { text_is = ap (λ (t : List ℕ). text ++ t) s.text; good = (s.to, s.from) })
 
-pub the_rest : ResumesAreTheRest
-the_rest first middle lines more text good =
-    rest_of text (ran_from 1 first (lines ++ more)) (ran_from (1 + length lines) middle more) (ran_from 1 middle more) (ran-append 1 first lines more text middle good) (renumbered more (1 + length lines) 1 middle)
+pub the_rest : (form : Form) → ResumesAreTheRest form
+the_rest form first middle lines more text good =
+    rest_of text (ran_from form 1 first (lines ++ more)) (ran_from form (1 + length lines) middle more) (ran_from form 1 middle more) (ran-append form 1 first lines more text middle good) (renumbered form more (1 + length lines) 1 middle)
 
 -- ---- answers of a run that went on
 
@@ -87,11 +88,11 @@ alike_ok (Ok b) (Err f) a same is = absurd same
 alike_ok (Err e) (Ok c) a same is = absurd same
 alike_ok (Err e) (Err f) a same is = absurd cc
 
-renumbered_answers : (lines : List (List ℕ)) (n m : ℕ) (s : Standing) (text : List ℕ) (end : Standing) → AreAnswered n s lines text end → AreAnswered m s lines text end
-renumbered_answers [] n m s text end h = h
-renumbered_answers (line ∷ lines) n m s text end h =
-    (h.0, h.1, alike_ok (line_answer n s line) (line_answer m s line) h.0 (line_alike n m s line) h.2, h.3, renumbered_answers lines (n + 1) (m + 1) h.0.standing h.1 end h.4)
+renumbered_answers : (form : Form) (lines : List (List ℕ)) (n m : ℕ) (s : Standing) (text : List ℕ) (end : Standing) → AreAnswered form n s lines text end → AreAnswered form m s lines text end
+renumbered_answers form [] n m s text end h = h
+renumbered_answers form (line ∷ lines) n m s text end h =
+    (h.0, h.1, alike_ok (line_answer form n s line) (line_answer form m s line) h.0 (line_alike form n m s line) h.2, h.3, renumbered_answers form lines (n + 1) (m + 1) h.0.standing h.1 end h.4)
 
-pub answers_join : AnswersJoin
-answers_join first middle end lines more text text' done further =
-    answered-append 1 first lines more text middle text' end done (renumbered_answers more 1 (1 + length lines) middle text' end further)
+pub answers_join : (form : Form) → AnswersJoin form
+answers_join form first middle end lines more text text' done further =
+    answered-append form 1 first lines more text middle text' end done (renumbered_answers form more 1 (1 + length lines) middle text' end further)

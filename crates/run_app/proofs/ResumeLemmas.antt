@@ -2,6 +2,7 @@
 use Rattle.std.proofs.Common.{◌≡◌, ◌≢◌, ◌∙◌, ◌⊎◌, inl, inr, ℕ, Bool, true, false, true≢false, List, [], ◌∷◌, ◌++◌, Option, Some, None, Result, Ok, Err, IfSome, refl, sym, ap, subst, Ordering, Less, Equal, Greater}
 use Rattle.std.specs.Prelude.{IsErrOf, IsSome}
 use Rattle.std.specs.Ordering.{match_ordering}
+use Rattle.base_bech32.specs.declared.form.Form.{Form}
 use Rattle.chain_whole.specs.Chained.{Chained}
 use Rattle.run_generated.specs.Writing.{IsFront}
 use Rattle.base_io.specs.Outside.{Rose}
@@ -48,7 +49,7 @@ at_rows rows now P is h = subst (λ (o : Option (List Pair)). IfSome o P) is h
 
 -- ---- a run that goes on
 
-module _ (rows told : Option (List Pair)) (honest : Type 0) (leaves : List Pair → Type 0) (chain : Chained) (c : IsChainOf (AreLoaded rows told honest) chain) (same : Makes (λ before. before) rows told) (settled : LeavesRows leaves told) where
+module _ (form : Form) (rows told : Option (List Pair)) (honest : Type 0) (leaves : List Pair → Type 0) (chain : Chained) (c : IsChainOf (AreLoaded rows told honest) chain) (same : Makes (λ before. before) rows told) (settled : LeavesRows leaves told) where
   pub resumed : (p : State) → IsStorable p → HaveSameRows p c.first → Keeping (on_rows_of p rows) (Some chain) told honest leaves (Some p)
   resumed p q alike = record {
     stands = c.stands p q alike;
@@ -72,8 +73,8 @@ module _ (rows told : Option (List Pair)) (honest : Type 0) (leaves : List Pair 
 
   module _ (left left' w w' : Option (List ℕ)) (rows' : Option (List Pair)) (honest' : Type 0) (leaves' : List Pair → Type 0) (s : Status) where
     pub went_on : (honest' → honest)
-        → ((b : Began) (first : Standing) → Keeping b (Some chain) told honest leaves first → RunEnds first (LeftIn b rows' honest' leaves') left left' w w' s)
-        → GoesOn left left' w w' rows rows' honest' leaves' s
+        → ((b : Began) (first : Standing) → Keeping b (Some chain) told honest leaves first → RunEnds form first (LeftIn b rows' honest' leaves') left left' w w' s)
+        → GoesOn form left left' w w' rows rows' honest' leaves' s
     went_on back ends = record {
       first = c.first;
       storable = c.storable;
@@ -89,13 +90,13 @@ unresumed fault.NoMemory rows rows' honest' h = tt
 unresumed fault.Empty rows rows' honest' h = (refl, h)
 unresumed fault.Unsound rows rows' honest' h = h
 
-pub not_resumed : (f : RestoreFault) (left w : Option (List ℕ)) (rows rows' : Option (List Pair)) (honest' : Type 0) (leaves leaves' : List Pair → Type 0) → IsUnrestored rows rows' honest' f → Makes (λ before. before) rows rows' → (honest' → (l : List Pair) → leaves' l → leaves l)
-    → ResumeEnds left left w w rows rows' honest' leaves leaves' (status_of_restore f)
-not_resumed f left w rows rows' honest' leaves leaves' h same stop = inr (unresumed f rows rows' honest' h, nothing_done left w, rows_left rows rows' honest' leaves leaves' same stop)
+pub not_resumed : (form : Form) (f : RestoreFault) (left w : Option (List ℕ)) (rows rows' : Option (List Pair)) (honest' : Type 0) (leaves leaves' : List Pair → Type 0) → IsUnrestored rows rows' honest' f → Makes (λ before. before) rows rows' → (honest' → (l : List Pair) → leaves' l → leaves l)
+    → ResumeEnds form left left w w rows rows' honest' leaves leaves' (status_of_restore f)
+not_resumed form f left w rows rows' honest' leaves leaves' h same stop = inr (unresumed f rows rows' honest' h, nothing_done left w, rows_left rows rows' honest' leaves leaves' same stop)
 
-pub not_asked : (f : RestoreFault) (what : Query) (w : Option (List ℕ)) (rows rows' : Option (List Pair)) (honest' : Type 0) (leaves leaves' : List Pair → Type 0) → IsUnrestored rows rows' honest' f → Makes (λ before. before) rows rows' → (honest' → (l : List Pair) → leaves' l → leaves l)
-    → QueryEnds what w w rows rows' honest' leaves leaves' (status_of_restore f)
-not_asked f what w rows rows' honest' leaves leaves' h same stop = (rows_left rows rows' honest' leaves leaves' same stop, inr (unresumed f rows rows' honest' h, nothing w _ refl))
+pub not_asked : (form : Form) (f : RestoreFault) (what : Query) (w : Option (List ℕ)) (rows rows' : Option (List Pair)) (honest' : Type 0) (leaves leaves' : List Pair → Type 0) → IsUnrestored rows rows' honest' f → Makes (λ before. before) rows rows' → (honest' → (l : List Pair) → leaves' l → leaves l)
+    → QueryEnds form what w w rows rows' honest' leaves leaves' (status_of_restore f)
+not_asked form f what w rows rows' honest' leaves leaves' h same stop = (rows_left rows rows' honest' leaves leaves' same stop, inr (unresumed f rows rows' honest' h, nothing w _ refl))
 
 -- statuses that it does not end by
 pub unresumed_busy : (f : RestoreFault) → status_of_restore f ≡ Usage → ⊥
@@ -149,9 +150,9 @@ pub answered_without_memory : (due : Option (List ℕ)) (w : Option (List ℕ)) 
 answered_without_memory (Some whole) w = nothing w _ (record { rest = whole; text_is = refl })
 answered_without_memory None w = nothing w _ (inr refl, refl)
 
-pub asked : (what : Query) (w w' : Option (List ℕ)) (rows rows' : Option (List Pair)) (honest' : Type 0) (leaves leaves' : List Pair → Type 0) (s : Status) (chain : Chained) → IsChainOf (AreLoaded rows rows' honest') chain → Makes (λ before. before) rows rows' → (honest' → (l : List Pair) → leaves' l → leaves l)
-    → ((p : State) → StandsFor chain.kept p → Answers (answered_by (report_of p) what) w w' s) → QueryEnds what w w' rows rows' honest' leaves leaves' s
-asked what w w' rows rows' honest' leaves leaves' s chain c same stop answers = (
+pub asked : (form : Form) (what : Query) (w w' : Option (List ℕ)) (rows rows' : Option (List Pair)) (honest' : Type 0) (leaves leaves' : List Pair → Type 0) (s : Status) (chain : Chained) → IsChainOf (AreLoaded rows rows' honest') chain → Makes (λ before. before) rows rows' → (honest' → (l : List Pair) → leaves' l → leaves l)
+    → ((p : State) → StandsFor chain.kept p → Answers (answered_by form (report_of p) what) w w' s) → QueryEnds form what w w' rows rows' honest' leaves leaves' s
+asked form what w w' rows rows' honest' leaves leaves' s chain c same stop answers = (
   rows_left rows rows' honest' leaves leaves' same stop,
   inl (record { first = c.first; storable = c.storable; loaded = c.rows_are; answered = λ p q alike. answers p (c.stands p q alike) }),
 )
@@ -194,26 +195,26 @@ module _ (p : State) (rows rows' : Option (List Pair)) (honest' : Type 0) (fault
       absurd (has_rows p (at_rows rows (rows_of p) P fits.rows_are (were_loaded rows rows' honest' P h.1 same fits.honest)))
   never_unresumed NotFound h keep = absurd h
 
-pub untroubled_resume : (left left' w w' : Option (List ℕ)) (rows rows' : Option (List Pair)) (honest' : Type 0) (leaves leaves' : List Pair → Type 0) (faults faults' : ℕ) (s : Status) → ResumeEnds left left' w w' rows rows' honest' leaves leaves' s → ResumesCalmly left w rows honest' faults faults'
+pub untroubled_resume : (form : Form) (left left' w w' : Option (List ℕ)) (rows rows' : Option (List Pair)) (honest' : Type 0) (leaves leaves' : List Pair → Type 0) (faults faults' : ℕ) (s : Status) → ResumeEnds form left left' w w' rows rows' honest' leaves leaves' s → ResumesCalmly form left w rows honest' faults faults'
     → (s ≡ Usage → ⊥) → (s ≡ ReadFault → ⊥) → (s ≡ WriteFault → ⊥) → (s ≡ KeepFault → Rose faults faults') → (s ≡ Done) ⊎ (s ≡ NoMemory)
-untroubled_resume left left' w w' rows rows' honest' leaves leaves' faults faults' s (inl goes) calm busy read write keep =
+untroubled_resume form left left' w w' rows rows' honest' leaves leaves' faults faults' s (inl goes) calm busy read write keep =
     let fits = calm.2 in
     let alike : rows_of calm.0 ≡ rows_of goes.first = at_rows rows (rows_of calm.0) (λ now. now ≡ rows_of goes.first) fits.rows_are (goes.loaded fits.honest) in
-    untroubled_run _ (Some calm.0) left left' w w' s (goes.ends calm.0 fits.storable alike) calm.1 busy read write (λ e. fits.quiet (keep e))
-untroubled_resume left left' w w' rows rows' honest' leaves leaves' faults faults' s (inr ends) calm busy read write keep =
+    untroubled_run form _ (Some calm.0) left left' w w' s (goes.ends calm.0 fits.storable alike) calm.1 busy read write (λ e. fits.quiet (keep e))
+untroubled_resume form left left' w w' rows rows' honest' leaves leaves' faults faults' s (inr ends) calm busy read write keep =
     never_unresumed calm.0 rows rows' honest' faults faults' calm.2 ends.2.rows_are s ends.0 keep
 
 answered_to_end : (text written : List ℕ) (s : Status) (due : Option (List ℕ)) → due ≡ Some text → IsAnswered due s written → (s ≡ WriteFault → ⊥) → (s ≡ Done) ⊎ (s ≡ NoMemory)
 answered_to_end text written s due is h write = written_to_end text written s (subst (λ (o : Option (List ℕ)). IsAnswered o s written) is h) write
 
-pub untroubled_query : (what : Query) (w w' : Option (List ℕ)) (rows rows' : Option (List Pair)) (honest' : Type 0) (leaves leaves' : List Pair → Type 0) (faults faults' : ℕ) (s : Status) → QueryEnds what w w' rows rows' honest' leaves leaves' s → AsksCalmly what w rows honest' faults faults'
+pub untroubled_query : (form : Form) (what : Query) (w w' : Option (List ℕ)) (rows rows' : Option (List Pair)) (honest' : Type 0) (leaves leaves' : List Pair → Type 0) (faults faults' : ℕ) (s : Status) → QueryEnds form what w w' rows rows' honest' leaves leaves' s → AsksCalmly form what w rows honest' faults faults'
     → (s ≡ WriteFault → ⊥) → (s ≡ KeepFault → Rose faults faults') → (s ≡ Done) ⊎ (s ≡ NoMemory)
-untroubled_query what w w' rows rows' honest' leaves leaves' faults faults' s (left, inl answers) calm write keep =
+untroubled_query form what w w' rows rows' honest' leaves leaves' faults faults' s (left, inl answers) calm write keep =
     let p = calm.1.0 in
     let fits = calm.1.1 in
     let P : List Pair → Type 0 = λ now. now ≡ rows_of answers.first in
     let alike : rows_of p ≡ rows_of answers.first = at_rows rows (rows_of p) P fits.rows_are (were_loaded rows rows' honest' P answers.loaded left.rows_are fits.honest) in
     let e = answers.answered p fits.storable alike calm.0.0 calm.0.1 in
-    answered_to_end calm.1.2.0 e.0 s (answered_by (report_of p) what) calm.1.2.1 e.2 write
-untroubled_query what w w' rows rows' honest' leaves leaves' faults faults' s (left, inr none) calm write keep =
+    answered_to_end calm.1.2.0 e.0 s (answered_by form (report_of p) what) calm.1.2.1 e.2 write
+untroubled_query form what w w' rows rows' honest' leaves leaves' faults faults' s (left, inr none) calm write keep =
     never_unresumed calm.1.0 rows rows' honest' faults faults' calm.1.1 left.rows_are s none.0 keep

@@ -14,6 +14,7 @@ use Rattle.json.proofs.Grammar.{left, skip_value-shorter, read_key-shorter}
 use Rattle.serde_json.specs.Data.{Data, null, boolean, number, string, array, object, Items, no_items, item, Members, no_members, member, put}
 use Rattle.serde_json.specs.Find.{get, get_member, as_array}
 use Rattle.serde_json.specs.Read.{of_json, of_items, of_members, read, max_depth}
+use Rattle.base_bech32.specs.declared.form.Form.{Form}
 use Rattle.base_coins.specs.Steps.{◌>>=◌}
 use Rattle.base_messages.specs.declared.faults.LineFault.{LineFault}
 use Rattle.base_messages.specs.declared.faults.LineFault.TheVariants.{BadShape, NotJson}
@@ -313,10 +314,10 @@ faulty : {A : Type 0} (P : A → Type 0) (fault : LineFault) (o : Option A) → 
 faulty P fault None h = tt
 faulty P fault (Some x) h = h
 
-elements : {A : Type 0} (form : Data → Result A LineFault) (ds : Items) → Gives (λ xs. length xs ≡ length_of ds) (each_element form ds)
-elements form no_items = refl
-elements {A} form (item d ds) = past (λ xs. length xs ≡ 1 + length_of ds) (form d) (λ x. with_front (x ∷ []) (each_element form ds))
-    (λ x. gives_then (λ (xs : List A). length xs ≡ length_of ds) (λ xs. length xs ≡ 1 + length_of ds) (each_element form ds) (λ rest. Ok ((x ∷ []) ++ rest)) (λ xs e. omega (arith, e)) (elements form ds))
+elements : {A : Type 0} (reading : Data → Result A LineFault) (ds : Items) → Gives (λ xs. length xs ≡ length_of ds) (each_element reading ds)
+elements reading no_items = refl
+elements {A} reading (item d ds) = past (λ xs. length xs ≡ 1 + length_of ds) (reading d) (λ x. with_front (x ∷ []) (each_element reading ds))
+    (λ x. gives_then (λ (xs : List A). length xs ≡ length_of ds) (λ xs. length xs ≡ 1 + length_of ds) (each_element reading ds) (λ rest. Ok ((x ∷ []) ++ rest)) (λ xs e. omega (arith, e)) (elements reading ds))
 
 found_few : (n : ℕ) (name : List ℕ) (ms : Members) → AreFew n ms → Holds (IsFew n) (get_member name ms)
 found_few n name no_members h = tt
@@ -343,26 +344,26 @@ array_few n (string s) h = tt
 array_few n (array ds) h = h
 array_few n (object ms) h = tt
 
-list_few : {A : Type 0} (form : Data → Result A LineFault) (n place : ℕ) (name : List ℕ) (d : Data) → HasFew n d → Gives (λ xs. length xs ≤ n) (list_at form place name d)
-list_few {A} form n place name d h =
-    gives_then (λ ds. length_of ds ≤ n) (λ (xs : List A). length xs ≤ n) (member_at as_array place name d) (each_element form)
-    (λ ds l. weaker ds l (each_element form ds) (elements form ds))
+list_few : {A : Type 0} (reading : Data → Result A LineFault) (n place : ℕ) (name : List ℕ) (d : Data) → HasFew n d → Gives (λ xs. length xs ≤ n) (list_at reading place name d)
+list_few {A} reading n place name d h =
+    gives_then (λ ds. length_of ds ≤ n) (λ (xs : List A). length xs ≤ n) (member_at as_array place name d) (each_element reading)
+    (λ ds l. weaker ds l (each_element reading ds) (elements reading ds))
     (faulty (λ ds. length_of ds ≤ n) (BadShape place) (option_and_then as_array (get name d)) (holds_then (IsFew n) (λ ds. length_of ds ≤ n) as_array (get name d) (λ x e f. array_few n x f) (get_few n name d h)))
   where
     weaker : (ds : Items) → length_of ds ≤ n → (r : Result (List A) LineFault) → Gives (λ xs. length xs ≡ length_of ds) r → Gives (λ (xs : List A). length xs ≤ n) r
     weaker ds l (Ok xs) e = omega (arith, l, e)
     weaker ds l (Err f) e = tt
 
-genesis_few : (n : ℕ) (d : Data) → HasFew n d → Gives (λ (g : Genesis). length g.delegations ≤ n) (genesis_of_tree d)
+genesis_few : (form : Form) (n : ℕ) (d : Data) → HasFew n d → Gives (λ (g : Genesis). length g.delegations ≤ n) (genesis_of_tree form d)
 unfolding genesis_of_tree
-genesis_few n d h =
+genesis_few form n d h =
     past _ (word_at 1 (codes "kind") (codes "genesis") d) _ (λ kind.
     past _ (moment_at 2 (codes "time") d) _ (λ time.
-    past _ (object_at params_of 3 (codes "params") d) _ (λ params.
-    past _ (list_at account_of_tree 4 (codes "accounts") d) _ (λ accounts.
-    past _ (list_at validator_of 5 (codes "validators") d) _ (λ validators.
-    gives_then (λ xs. length xs ≤ n) (λ (g : Genesis). length g.delegations ≤ n) (list_at delegation_of 6 (codes "delegations") d) _ (λ delegations few.
-    past _ (only_named (codes "kind" ∷ codes "time" ∷ codes "params" ∷ codes "accounts" ∷ codes "validators" ∷ codes "delegations" ∷ []) d) _ (λ only. few)) (list_few delegation_of n 6 (codes "delegations") d h))))))
+    past _ (object_at (params_of form) 3 (codes "params") d) _ (λ params.
+    past _ (list_at (account_of_tree form) 4 (codes "accounts") d) _ (λ accounts.
+    past _ (list_at (validator_of form) 5 (codes "validators") d) _ (λ validators.
+    gives_then (λ xs. length xs ≤ n) (λ (g : Genesis). length g.delegations ≤ n) (list_at (delegation_of form) 6 (codes "delegations") d) _ (λ delegations few.
+    past _ (only_named (codes "kind" ∷ codes "time" ∷ codes "params" ∷ codes "accounts" ∷ codes "validators" ∷ codes "delegations" ∷ []) d) _ (λ only. few)) (list_few (delegation_of form) n 6 (codes "delegations") d h))))))
 
 tree_few : (line : List ℕ) → Gives (HasFew (length line + 1)) (tree_of line)
 unfolding tree_of
@@ -372,7 +373,7 @@ tree_few line = by _
     by true = faulty (HasFew (length line + 1)) NotJson (read line) (read_few line)
     by false = tt
 
-pub delegations_few : DelegationsAreFew
+pub delegations_few : (form : Form) → DelegationsAreFew form
 unfolding genesis_of
-delegations_few line g e = gives_of (λ (x : Genesis). length x.delegations ≤ length line + 1) (genesis_of line) g e
-    (gives_then (HasFew (length line + 1)) (λ (x : Genesis). length x.delegations ≤ length line + 1) (tree_of line) genesis_of_tree (λ d h. genesis_few (length line + 1) d h) (tree_few line))
+delegations_few form line g e = gives_of (λ (x : Genesis). length x.delegations ≤ length line + 1) (genesis_of form line) g e
+    (gives_then (HasFew (length line + 1)) (λ (x : Genesis). length x.delegations ≤ length line + 1) (tree_of line) (genesis_of_tree form) (λ d h. genesis_few form (length line + 1) d h) (tree_few line))

@@ -4,6 +4,7 @@ use Rattle.std.specs.Prelude.{Contains, IsOkAnd}
 use Rattle.std.specs.List.{AllByRecursion}
 use Rattle.std.proofs.lemmas.Bool.Decides.{nat_tests}
 use Rattle.std.proofs.lemmas.List.Elements.{All-from_recursion}
+use Rattle.base_bech32.specs.declared.form.Form.{Form}
 use Rattle.base_roles.specs.declared.refusal.Refusal.{Refusal}
 use Rattle.base_messages.specs.declared.faults.BlockFault.{BlockFault}
 use Rattle.base_messages.specs.declared.faults.LineFault.{LineFault}
@@ -35,47 +36,47 @@ use Rattle.run_app.proofs.SizeLemmas.{delegations_few}
 -- ---- a line that is answered
 
 -- it is within the limit
-pub record IsWithin (n : ℕ) (s : Standing) (line : List ℕ) (answer : Answer) : Type 0 where
+pub record IsWithin (form : Form) (n : ℕ) (s : Standing) (line : List ℕ) (answer : Answer) : Type 0 where
   pub short : length line ≤ 4194304
-  pub is : answer_within n s line ≡ Ok answer
+  pub is : answer_within form n s line ≡ Ok answer
 
-pub within : (n : ℕ) (s : Standing) (line : List ℕ) (answer : Answer) → line_answer n s line ≡ Ok answer → IsWithin n s line answer
+pub within : (form : Form) (n : ℕ) (s : Standing) (line : List ℕ) (answer : Answer) → line_answer form n s line ≡ Ok answer → IsWithin form n s line answer
 unfolding line_answer
-within n s line answer e = by (nat_lt longest (length line)) refl e
+within form n s line answer e = by (nat_lt longest (length line)) refl e
   where
-    by : (b : Bool) → nat_lt longest (length line) ≡ b → cond b (Err (stop.Long n)) (answer_within n s line) ≡ Ok answer → IsWithin n s line answer
+    by : (b : Bool) → nat_lt longest (length line) ≡ b → cond b (Err (stop.Long n)) (answer_within form n s line) ≡ Ok answer → IsWithin form n s line answer
     by true q h = absurd cc
     by false q h = record { short = grind (arith, nat_tests, q); is = h }
 
 -- a block that the line spells was applied
-pub record Led (line : List ℕ) (s : State) (answer : Answer) : Type 0 where
+pub record Led (form : Form) (line : List ℕ) (s : State) (answer : Answer) : Type 0 where
   pub block : Block
-  pub line_is : block_of line ≡ Ok block
+  pub line_is : block_of form line ≡ Ok block
   pub done : Step
   pub done_is : step block s ≡ Ok done
   pub standing_is : answer.standing ≡ Some done.state
-  pub text_is : answer.text ≡ text_of_block done.report
+  pub text_is : answer.text ≡ text_of_block form done.report
 
-pub block_led : (n : ℕ) (line : List ℕ) (s : State) (r : Result Block LineFault) → block_of line ≡ r → (answer : Answer) → block_answer n s r ≡ Ok answer → Led line s answer
-block_led n line s (Err fault) is answer e = absurd cc
-block_led n line s (Ok block) is answer e = by (step block s) refl e
+pub block_led : (form : Form) (n : ℕ) (line : List ℕ) (s : State) (r : Result Block LineFault) → block_of form line ≡ r → (answer : Answer) → block_answer form n s r ≡ Ok answer → Led form line s answer
+block_led form n line s (Err fault) is answer e = absurd cc
+block_led form n line s (Ok block) is answer e = by (step block s) refl e
   where
-    by : (r : Result Step BlockFault) → step block s ≡ r → applied_answer n r ≡ Ok answer → Led line s answer
+    by : (r : Result Step BlockFault) → step block s ≡ r → applied_answer form n r ≡ Ok answer → Led form line s answer
     by (Ok done) some h =
-        let same : stepped done ≡ answer = cc in
+        let same : stepped form done ≡ answer = cc in
         record { block = block; line_is = is; done = done; done_is = some; standing_is = sym (ap (λ (a : Answer). a.standing) same); text_is = sym (ap (λ (a : Answer). a.text) same) }
     by (Err fault) none h = absurd cc
 
 -- ---- blocks
 
 -- the lines spell blocks, which lead from one state to the other and report this text, and no more of them than there are heights
-record Runs (s : State) (lines : List (List ℕ)) (text : List ℕ) (end : Standing) : Type 0 where
+record Runs (form : Form) (s : State) (lines : List (List ℕ)) (text : List ℕ) (end : Standing) : Type 0 where
   blocks : List Block
-  spelled : SpellBlocks lines blocks
+  spelled : SpellBlocks form lines blocks
   coins : AllByRecursion AllHaveCoins blocks
   low : s.view.ctx.height + length blocks < 2 ^ 63
   no_fault : (run_of blocks s).fault ≡ None
-  text_is : text ≡ texts_of (run_of blocks s).reports
+  text_is : text ≡ texts_of form (run_of blocks s).reports
   end_is : end ≡ Some (run_of blocks s).state
 
 one_run : (b : Block) (blocks : List Block) (s : State) (done : Step) → step b s ≡ Ok done → going_on s (Ok done) (λ u. run_of blocks u) ≡ run_of (b ∷ blocks) s
@@ -84,20 +85,20 @@ one_run b blocks s done is = ap (λ (r : Result Step BlockFault). going_on s r (
 pub next_height : (b : Block) (s : State) (done : Step) → step b s ≡ Ok done → b.height ≡ s.view.ctx.height + 1
 next_height b s done e = let first = first_ok (block_checked b s) _ done e in (is_due b s first.1).height
 
-module _ (P : List ℕ → Type 0) where
-  lines_run : (n : ℕ) (s : State) → StateFits P (total_in s.view) s → s.view.ctx.height < 2 ^ 63 → (lines : List (List ℕ)) (text : List ℕ) (end : Standing) → AreAnswered n (Some s) lines text end → Runs s lines text end
+module _ (form : Form) (P : List ℕ → Type 0) where
+  lines_run : (n : ℕ) (s : State) → StateFits P (total_in s.view) s → s.view.ctx.height < 2 ^ 63 → (lines : List (List ℕ)) (text : List ℕ) (end : Standing) → AreAnswered form n (Some s) lines text end → Runs form s lines text end
   lines_run n s fits low [] text end answered = record { blocks = []; spelled = tt; coins = tt; low = omega (arith, low); no_fault = refl; text_is = answered.0; end_is = answered.1 }
   lines_run n s fits low (line ∷ lines) text end answered =
-      let led : Led line s answered.0 = block_led n line s (block_of line) refl answered.0 (within n (Some s) line answered.0 answered.2).is in
+      let led : Led form line s answered.0 = block_led form n line s (block_of form line) refl answered.0 (within form n (Some s) line answered.0 answered.2).is in
       let next : State = led.done.state in
       let height = next_height led.block s led.done led.done_is in
-      let high = height_is_low line led.block led.line_is in
+      let high = height_is_low form line led.block led.line_is in
       let room : s.view.ctx.height + 1 < 2 ^ 63 = omega (arith, height, high) in
-      let coins : AllHaveCoins led.block = block_has_coins line led.block led.line_is in
+      let coins : AllHaveCoins led.block = block_has_coins form line led.block led.line_is in
       let after : StepFits P s led.done = from_if (StepFits P s) (step led.block s) led.done led.done_is (block_fits P led.block (total_in s.view) s (its_coins led.block coins) fits room) in
       let grown = after.height in
-      let rest : AreAnswered (n + 1) (Some next) lines answered.1 end = rw led.standing_is at answered.4 in
-      let runs : Runs next lines answered.1 end = lines_run (n + 1) next after.fits (omega (arith, grown, room)) lines answered.1 end rest in
+      let rest : AreAnswered form (n + 1) (Some next) lines answered.1 end = rw led.standing_is at answered.4 in
+      let runs : Runs form next lines answered.1 end = lines_run (n + 1) next after.fits (omega (arith, grown, room)) lines answered.1 end rest in
       let few = runs.low in
       let run = one_run led.block runs.blocks s led.done led.done_is in
       record {
@@ -106,15 +107,15 @@ module _ (P : List ℕ → Type 0) where
         coins = (coins, runs.coins);
         low = omega (arith, grown, few);
         no_fault = sym (ap (λ (r : Run). r.fault) run) ∙ runs.no_fault;
-        text_is = answered.3 ∙ ap (λ (t : List ℕ). t ++ answered.1) led.text_is ∙ ap (λ (t : List ℕ). text_of_block led.done.report ++ t) runs.text_is ∙ ap (λ (r : Run). texts_of r.reports) run;
+        text_is = answered.3 ∙ ap (λ (t : List ℕ). t ++ answered.1) led.text_is ∙ ap (λ (t : List ℕ). text_of_block form led.done.report ++ t) runs.text_is ∙ ap (λ (r : Run). texts_of form r.reports) run;
         end_is = runs.end_is ∙ ap (λ (r : Run). Some r.state) run;
       }
 
 -- ---- the first line
 
-pub record Begun (line : List ℕ) (answer : Answer) : Type 0 where
+pub record Begun (form : Form) (line : List ℕ) (answer : Answer) : Type 0 where
   pub genesis : Genesis
-  pub line_is : genesis_of line ≡ Ok genesis
+  pub line_is : genesis_of form line ≡ Ok genesis
   pub good : IsGoodGenesis genesis
   pub start : Start
   pub started : chain_started genesis ≡ Ok start
@@ -125,13 +126,13 @@ good_start : (g : Genesis) (r : Result Start Refusal) → IsOkAnd r (λ s. IsSou
 good_start g (Ok start) k = (start, refl)
 good_start g (Err why) k = absurd k
 
-pub genesis_led : (n : ℕ) (line : List ℕ) → length line ≤ 4194304 → (r : Result Genesis LineFault) → genesis_of line ≡ r → (answer : Answer) → genesis_answer n r ≡ Ok answer → Begun line answer
-genesis_led n line short (Err fault) is answer e = absurd cc
-genesis_led n line short (Ok g) is answer e = by (start_condition g) refl e
+pub genesis_led : (form : Form) (n : ℕ) (line : List ℕ) → length line ≤ 4194304 → (r : Result Genesis LineFault) → genesis_of form line ≡ r → (answer : Answer) → genesis_answer n r ≡ Ok answer → Begun form line answer
+genesis_led form n line short (Err fault) is answer e = absurd cc
+genesis_led form n line short (Ok g) is answer e = by (start_condition g) refl e
   where
-    by : (o : Option ℕ) → start_condition g ≡ o → started_answer n g o ≡ Ok answer → Begun line answer
+    by : (o : Option ℕ) → start_condition g ≡ o → started_answer n g o ≡ Ok answer → Begun form line answer
     by None none h =
-        let few = delegations_few line g is in
+        let few = delegations_few form line g is in
         let good : IsGoodGenesis g = record { no_condition = none; few = omega (arith, few, short) } in
         let first = good_start g (chain_started g) (genesis_is_sound g good) in
         let same : told (begun g (chain_started g)) ≡ answer = cc in
@@ -152,15 +153,15 @@ some_same x y e = cc
 no_coins : All AllHaveCoins []
 no_coins = All-from_recursion AllHaveCoins [] tt
 
-pub lines_replayed : LinesAreReplayed
-lines_replayed line lines text end answered =
-    let first : Begun line answered.0 = genesis_led 1 line (within 1 None line answered.0 answered.2).short (genesis_of line) refl answered.0 (within 1 None line answered.0 answered.2).is in
+pub lines_replayed : (form : Form) → LinesAreReplayed form
+lines_replayed form line lines text end answered =
+    let first : Begun form line answered.0 = genesis_led form 1 line (within form 1 None line answered.0 answered.2).short (genesis_of form line) refl answered.0 (within form 1 None line answered.0 answered.2).is in
     let bare : Replayed = record { genesis = first.genesis; good = first.good; start = first.start; started = first.started; blocks = []; input = record { coins = all_have_coins [] tt; few = omega arith } } in
     let well = started_well bare in
     let zero = well.height in
     let s : State = first.start.state in
-    let rest : AreAnswered 2 (Some s) lines answered.1 (Some end) = rw first.standing_is at answered.4 in
-    let runs : Runs s lines answered.1 (Some end) = lines_run (Contains well.sound.few.some) 2 s (to_fits s well.sound) (omega (arith, zero)) lines answered.1 (Some end) rest in
+    let rest : AreAnswered form 2 (Some s) lines answered.1 (Some end) = rw first.standing_is at answered.4 in
+    let runs : Runs form s lines answered.1 (Some end) = lines_run form (Contains well.sound.few.some) 2 s (to_fits s well.sound) (omega (arith, zero)) lines answered.1 (Some end) rest in
     let low = runs.low in
     record {
       replay = record { genesis = first.genesis; good = first.good; start = first.start; started = first.started; blocks = runs.blocks; input = record { coins = all_have_coins runs.blocks runs.coins; few = omega (arith, low, zero) } };

@@ -2,11 +2,13 @@
 use Rattle.std.proofs.Common.{inl, inr, ◌≡◌, ◌∙◌, ◌⊎◌, ℕ, ◌+◌, List, [], ◌∷◌, ◌++◌, length, Option, Some, None, Ok, Err, refl, sym, ap, subst, append_assoc}
 use Rattle.std.specs.Prelude.{IfSome, IsSome}
 use Rattle.std.proofs.lemmas.List.{append-nil}
+use Rattle.base_bech32.specs.declared.form.Form.{Form}
 use Rattle.run_generated.specs.Writing.{IsFront}
 use Rattle.base_io.specs.Outside.{IsPart}
 use Rattle.base_io.specs.Rows.{Pair}
 use Rattle.store_resuming.specs.Restored.{IsStorable, rows_of}
 use Rattle.rule_modules.specs.Chain.{State}
+use Rattle.run_words.specs.declared.mode.Command.{Command}
 use Rattle.run_words.specs.declared.mode.Mode.{Mode}
 use Rattle.run_words.specs.declared.mode.Mode.TheVariants.{Replay, Resume, Query, Tally, Gen, Trial}
 use Rattle.run_app.specs.declared.status.LimitKind.TheVariants.{Line, Input, Ratio}
@@ -20,7 +22,7 @@ use Rattle.run_app.specs.Modes.{ModeEnds, ReplayEnds}
 use Rattle.run_app.specs.Outcome.{AreEnded, Ends, Passed, RunEnds}
 use Rattle.run_app.specs.Runs.{AreAnswered, Named, Wrote, Unkept, Held, Answered, Reported, Lacking, Finished}
 use Rattle.run_app.specs.Resumes.{ResumeEnds}
-use Rattle.run_app.specs.Stops.{AreRowsBehind, ModeStops, RunStops}
+use Rattle.run_app.specs.Stops.{AreRowsBehind, CommandStops, ModeStops, RunStops}
 use Rattle.run_app.specs.Writes.{Adds}
 use Rattle.run_app.proofs.CutLemmas.{lines-append}
 use Rattle.run_app.proofs.RunLemmas.{answered-append}
@@ -48,10 +50,10 @@ ended_first lines taken rest (inr h) = ([], ap lines_of (ap (λ (r : List ℕ). 
 all_taken : (taken rest : List ℕ) → rest ≡ [] → lines_of (taken ++ rest) ≡ lines_of taken ++ []
 all_taken taken rest none = ap lines_of (ap (λ (r : List ℕ). taken ++ r) none ∙ append-nil taken) ∙ sym (append-nil (lines_of taken))
 
-one_more : (first : Standing) (before : List (List ℕ)) (line : List ℕ) (done : List ℕ) (middle : Standing) (answer : _) → AreAnswered 1 first before done middle → line_answer (1 + length before) middle line ≡ Ok answer → AreAnswered 1 first (before ++ line ∷ []) (done ++ (answer.text ++ [])) answer.standing
-one_more first before line done middle answer good is = answered-append 1 first before (line ∷ []) done middle (answer.text ++ []) answer.standing good (answer, [], is, refl, (refl, refl))
+one_more : (form : Form) (first : Standing) (before : List (List ℕ)) (line : List ℕ) (done : List ℕ) (middle : Standing) (answer : _) → AreAnswered form 1 first before done middle → line_answer form (1 + length before) middle line ≡ Ok answer → AreAnswered form 1 first (before ++ line ∷ []) (done ++ (answer.text ++ [])) answer.standing
+one_more form first before line done middle answer good is = answered-append form 1 first before (line ∷ []) done middle (answer.text ++ []) answer.standing good (answer, [], is, refl, (refl, refl))
 
-module _ (first : Standing) (input : List ℕ) (left : List Pair) (L : Standing → Standing → Type 0) (stop : (s t : Standing) → L s t → AreRowsOf left s ⊎ AreRowsOf left t) where
+module _ (form : Form) (first : Standing) (input : List ℕ) (left : List Pair) (L : Standing → Standing → Type 0) (stop : (s t : Standing) → L s t → AreRowsOf left s ⊎ AreRowsOf left t) where
   -- where one and the same standing may be left
   only : (s : Standing) → L s s → AreRowsOf left s
   only s l = onlywith (stop s s l) where
@@ -60,46 +62,46 @@ module _ (first : Standing) (input : List ℕ) (left : List Pair) (L : Standing 
     onlywith (inr e) = e
 
   -- the texts of these lines were written
-  just : (lines more : List (List ℕ)) (text : List ℕ) (end : Standing) → lines_of input ≡ lines ++ more → AreAnswered 1 first lines text end → AreRowsOf left end → AreRowsBehind first input text left
+  just : (lines more : List (List ℕ)) (text : List ℕ) (end : Standing) → lines_of input ≡ lines ++ more → AreAnswered form 1 first lines text end → AreRowsOf left end → AreRowsBehind form first input text left
   just lines more text end are good is = record { lines = lines; more = more; end = end; answers = text; lines_are = are; answered = good; kept = is; written = inl (all_of text) }
 
-  named : (lines more : List (List ℕ)) (text : List ℕ) (fault : LineStop) → lines_of input ≡ lines ++ more → Named L 1 first lines text fault → AreRowsBehind first input text left
+  named : (lines more : List (List ℕ)) (text : List ℕ) (fault : LineStop) → lines_of input ≡ lines ++ more → Named form L 1 first lines text fault → AreRowsBehind form first input text left
   named lines more text fault are w = just w.before (w.line ∷ (w.after ++ more)) text w.middle (are ∙ ap (λ (l : List (List ℕ)). l ++ more) w.lines_are ∙ append_assoc w.before (w.line ∷ w.after) more) w.answered (only w.middle w.left)
 
   -- the line of this answer was committed, and a front of its text was written
-  behind_one : (lines more before after : List (List ℕ)) (line : List ℕ) (text done front : List ℕ) (middle : Standing) (answer : _) → lines_of input ≡ lines ++ more → lines ≡ before ++ line ∷ after → AreAnswered 1 first before done middle → line_answer (1 + length before) middle line ≡ Ok answer
-      → text ≡ done ++ front → IsFront front answer.text → AreRowsOf left answer.standing → AreRowsBehind first input text left
+  behind_one : (lines more before after : List (List ℕ)) (line : List ℕ) (text done front : List ℕ) (middle : Standing) (answer : _) → lines_of input ≡ lines ++ more → lines ≡ before ++ line ∷ after → AreAnswered form 1 first before done middle → line_answer form (1 + length before) middle line ≡ Ok answer
+      → text ≡ done ++ front → IsFront front answer.text → AreRowsOf left answer.standing → AreRowsBehind form first input text left
   behind_one lines more before after line text done front middle answer are lines_are good is text_is part kept_is = record {
     lines = before ++ line ∷ [];
     more = after ++ more;
     end = answer.standing;
     answers = done ++ (answer.text ++ []);
     lines_are = are ∙ ap (λ (l : List (List ℕ)). l ++ more) lines_are ∙ append_assoc before (line ∷ after) more ∙ sym (append_assoc before (line ∷ []) (after ++ more));
-    answered = one_more first before line done middle answer good is;
+    answered = one_more form first before line done middle answer good is;
     kept = kept_is;
     written = inl (subst (λ (t : List ℕ). IsFront t (done ++ (answer.text ++ []))) (sym text_is) (behind done front (answer.text ++ []) (subst (IsFront front) (sym (append-nil answer.text)) part)));
   }
 
-  wrote : (lines more : List (List ℕ)) (text : List ℕ) → lines_of input ≡ lines ++ more → Wrote L 1 first lines text → AreRowsBehind first input text left
+  wrote : (lines more : List (List ℕ)) (text : List ℕ) → lines_of input ≡ lines ++ more → Wrote form L 1 first lines text → AreRowsBehind form first input text left
   wrote lines more text are w = behind_one lines more w.before w.after w.line text w.done w.front w.middle w.answer are w.lines_are w.answered w.answer_is w.text_is (part_of w.front w.answer.text w.part) (only w.answer.standing w.left)
 
   -- what was to be committed may be there or not
-  unkept : (lines more : List (List ℕ)) (text : List ℕ) → lines_of input ≡ lines ++ more → Unkept L 1 first lines text → AreRowsBehind first input text left
+  unkept : (lines more : List (List ℕ)) (text : List ℕ) → lines_of input ≡ lines ++ more → Unkept form L 1 first lines text → AreRowsBehind form first input text left
   unkept lines more text are w = unkeptwith (stop w.middle w.answer.standing w.left) where
-    unkeptwith : AreRowsOf left w.middle ⊎ AreRowsOf left w.answer.standing → AreRowsBehind first input text left
+    unkeptwith : AreRowsOf left w.middle ⊎ AreRowsOf left w.answer.standing → AreRowsBehind form first input text left
     unkeptwith (inl e) = just w.before (w.line ∷ (w.after ++ more)) text w.middle (are ∙ ap (λ (l : List (List ℕ)). l ++ more) w.lines_are ∙ append_assoc w.before (w.line ∷ w.after) more) w.answered e
     unkeptwith (inr e) = behind_one lines more w.before w.after w.line text text [] w.middle w.answer are w.lines_are w.answered w.answer_is (sym (append-nil text)) (record { rest = w.answer.text; text_is = refl }) e
 
-  held : (lines more : List (List ℕ)) (text : List ℕ) → lines_of input ≡ lines ++ more → Held L 1 first lines text → AreRowsBehind first input text left
+  held : (lines more : List (List ℕ)) (text : List ℕ) → lines_of input ≡ lines ++ more → Held form L 1 first lines text → AreRowsBehind form first input text left
   held lines more text are w = just w.before (w.after ++ more) text w.middle (are ∙ ap (λ (l : List (List ℕ)). l ++ more) w.lines_are ∙ append_assoc w.before w.after more) w.answered (only w.middle w.left)
 
-  answered : (lines more : List (List ℕ)) (text : List ℕ) → lines_of input ≡ lines ++ more → Answered L 1 first lines text → AreRowsBehind first input text left
+  answered : (lines more : List (List ℕ)) (text : List ℕ) → lines_of input ≡ lines ++ more → Answered form L 1 first lines text → AreRowsBehind form first input text left
   answered lines more text are w = just lines more text w.end are w.answered (only w.end w.left)
 
-  lacking : (lines more : List (List ℕ)) (text : List ℕ) (fault : LineStop) → lines_of input ≡ lines ++ more → Lacking L 1 first lines text fault → AreRowsBehind first input text left
+  lacking : (lines more : List (List ℕ)) (text : List ℕ) (fault : LineStop) → lines_of input ≡ lines ++ more → Lacking form L 1 first lines text fault → AreRowsBehind form first input text left
   lacking lines more text fault are w = just lines more text w.end are w.answered (only w.end w.left)
 
-  reported : (lines : List (List ℕ)) (text : List ℕ) → lines_of input ≡ lines ++ [] → Reported L 1 first lines text → AreRowsBehind first input text left
+  reported : (lines : List (List ℕ)) (text : List ℕ) → lines_of input ≡ lines ++ [] → Reported form L 1 first lines text → AreRowsBehind form first input text left
   reported lines text are w = record {
     lines = lines;
     more = [];
@@ -112,16 +114,16 @@ module _ (first : Standing) (input : List ℕ) (left : List Pair) (L : Standing 
   }
 
   -- the standing to which lines lead is one
-  one_end : (n : ℕ) (s : Standing) (lines : List (List ℕ)) (a b : List ℕ) (e f : Standing) → AreAnswered n s lines a e → AreAnswered n s lines b f → e ≡ f
+  one_end : (n : ℕ) (s : Standing) (lines : List (List ℕ)) (a b : List ℕ) (e f : Standing) → AreAnswered form n s lines a e → AreAnswered form n s lines b f → e ≡ f
   one_end n s [] a b e f g h = g.1 ∙ sym h.1
   one_end n s (line ∷ lines) a b e f g h =
       let same : Ok g.0 ≡ Ok h.0 = sym g.2 ∙ h.2 in
       let same2 : g.0 ≡ h.0 = cc in
-      one_end (n + 1) h.0.standing lines g.1 h.1 e f (subst (λ (x : _). AreAnswered (n + 1) x.standing lines g.1 e) same2 g.4) h.4
+      one_end (n + 1) h.0.standing lines g.1 h.1 e f (subst (λ (x : _). AreAnswered form (n + 1) x.standing lines g.1 e) same2 g.4) h.4
 
-  finished : (lines : List (List ℕ)) (text : List ℕ) → lines_of input ≡ lines ++ [] → Finished L 1 first lines text → AreRowsBehind first input text left
+  finished : (lines : List (List ℕ)) (text : List ℕ) → lines_of input ≡ lines ++ [] → Finished form L 1 first lines text → AreRowsBehind form first input text left
   finished lines text are w =
-      let r : Reports 1 first lines text = reports lines 1 first text w.ran in
+      let r : Reports form 1 first lines text = reports form lines 1 first text w.ran in
       record {
         lines = lines;
         more = [];
@@ -133,7 +135,7 @@ module _ (first : Standing) (input : List ℕ) (left : List Pair) (L : Standing 
         written = inr (refl, r.last, r.report_is, subst (λ (t : List ℕ). IsFront t (r.done ++ r.last)) (sym r.text_is) (all_of (r.done ++ r.last)));
       }
 
-  passed : (n : ℕ) (taken rest text : List ℕ) → input ≡ taken ++ rest → Passed first L n taken text → AreRowsBehind first input text left
+  passed : (n : ℕ) (taken rest text : List ℕ) → input ≡ taken ++ rest → Passed form first L n taken text → AreRowsBehind form first input text left
   passed n taken rest text are p =
       let whole : input ≡ p.bytes ++ (p.byte ∷ rest) = are ∙ ap (λ (t : List ℕ). t ++ rest) p.taken_is ∙ append_assoc p.bytes (p.byte ∷ []) rest in
       answered (whole_from [] p.bytes) (lines_from (rest_from [] p.bytes) (p.byte ∷ rest)) text (ap lines_of whole ∙ lines-append p.bytes [] (p.byte ∷ rest)) p.answered
@@ -148,7 +150,7 @@ module _ (first : Standing) (input : List ℕ) (left : List Pair) (L : Standing 
     whole : rest ≡ [] → lines_of input ≡ lines_of taken ++ []
     whole none = here (lines_of taken) [] (all_taken taken rest none)
 
-    pub stopped : (status : Status) → Ends first L taken rest status text → AreRowsBehind first input text left
+    pub stopped : (status : Status) → Ends form first L taken rest status text → AreRowsBehind form first input text left
     stopped Done h = finished (lines_of taken) text (whole h.0) h.2
     stopped Usage h = absurd h
     stopped (BadInput n fault) (short, inl h) = let m = ended h.0 h.1 in named h.0 m.0 text _ m.1 h.2
@@ -170,46 +172,48 @@ module _ (first : Standing) (input : List ℕ) (left : List Pair) (L : Standing 
     stopped NotFound h = absurd h
 
 -- so of a run over a keeper that is honest to its end, whose rows were told as it began
-pub run_stops : (first : Standing) (left left' written written' : Option (List ℕ)) (rows told : Option (List Pair)) (honest : Type 0) (leaves leaves' : List Pair → Type 0) (status : Status) → RunEnds first (LeftIn (record { first = first; rows = rows }) told honest leaves') left left' written written' status → RunStops first left written written' rows honest leaves leaves'
-run_stops first left left' written written' rows told honest leaves leaves' status ends = λ good some input old left_is written_is.
+pub run_stops : (form : Form) (first : Standing) (left left' written written' : Option (List ℕ)) (rows told : Option (List Pair)) (honest : Type 0) (leaves leaves' : List Pair → Type 0) (status : Status) → RunEnds form first (LeftIn (record { first = first; rows = rows }) told honest leaves') left left' written written' status → RunStops form first left written written' rows honest leaves leaves'
+run_stops form first left left' written written' rows told honest leaves leaves' status ends = λ good some input old left_is written_is.
     let e = ends input old left_is written_is in
-    (e.2, e.5, λ now may. inr (stopped first input now (LeftIn (record { first = first; rows = rows }) told honest leaves') (λ s t l. l.stop good some now may) e.0 e.1 e.2 e.3 status e.6))
+    (e.2, e.5, λ now may. inr (stopped form first input now (LeftIn (record { first = first; rows = rows }) told honest leaves') (λ s t l. l.stop good some now may) e.0 e.1 e.2 e.3 status e.6))
 
 -- and of one that did not begin
-pub unbegun_stops : (first : Standing) (left written written' : Option (List ℕ)) (rows told : Option (List Pair)) (honest : Type 0) (leaves leaves' : List Pair → Type 0) → Adds written written' (λ text. text ≡ []) → AreLeft rows told honest leaves leaves' → RunStops first left written written' rows honest leaves leaves'
-unbegun_stops first left written written' rows told honest leaves leaves' adds are = λ good some input old left_is written_is.
+pub unbegun_stops : (form : Form) (first : Standing) (left written written' : Option (List ℕ)) (rows told : Option (List Pair)) (honest : Type 0) (leaves leaves' : List Pair → Type 0) → Adds written written' (λ text. text ≡ []) → AreLeft rows told honest leaves leaves' → RunStops form first left written written' rows honest leaves leaves'
+unbegun_stops form first left written written' rows told honest leaves leaves' adds are = λ good some input old left_is written_is.
     let e = adds old written_is in
     (e.0, e.1, λ now may. inl (are.stop good now may, e.2))
 
-pub replay_stops : (left left' written written' : Option (List ℕ)) (rows rows' : Option (List Pair)) (honest' : Type 0) (leaves leaves' : List Pair → Type 0) (status : Status) → ReplayEnds left left' written written' rows rows' honest' leaves leaves' status → RunStops None left written written' rows honest' leaves leaves'
-replay_stops left left' written written' rows rows' honest' leaves leaves' status (inl ends) = run_stops None left left' written written' rows rows' honest' leaves leaves' status ends
-replay_stops left left' written written' rows rows' honest' leaves leaves' status (inr (why, same, are)) = unbegun_stops None left written written' rows rows' honest' leaves leaves' same.1 are
+pub replay_stops : (form : Form) (left left' written written' : Option (List ℕ)) (rows rows' : Option (List Pair)) (honest' : Type 0) (leaves leaves' : List Pair → Type 0) (status : Status) → ReplayEnds form left left' written written' rows rows' honest' leaves leaves' status → RunStops form None left written written' rows honest' leaves leaves'
+replay_stops form left left' written written' rows rows' honest' leaves leaves' status (inl ends) = run_stops form None left left' written written' rows rows' honest' leaves leaves' status ends
+replay_stops form left left' written written' rows rows' honest' leaves leaves' status (inr (why, same, are)) = unbegun_stops form None left written written' rows rows' honest' leaves leaves' same.1 are
 
-resume_stops : (left left' written written' : Option (List ℕ)) (rows rows' : Option (List Pair)) (honest' : Type 0) (leaves leaves' : List Pair → Type 0) (status : Status) → ResumeEnds left left' written written' rows rows' honest' leaves leaves' status → (p : State) → IsStorable p → rows ≡ Some (rows_of p) → RunStops (Some p) left written written' rows honest' leaves leaves'
-resume_stops left left' written written' rows rows' honest' leaves leaves' status (inl goes) = λ p storable told good some.
+resume_stops : (form : Form) (left left' written written' : Option (List ℕ)) (rows rows' : Option (List Pair)) (honest' : Type 0) (leaves leaves' : List Pair → Type 0) (status : Status) → ResumeEnds form left left' written written' rows rows' honest' leaves leaves' status → (p : State) → IsStorable p → rows ≡ Some (rows_of p) → RunStops form (Some p) left written written' rows honest' leaves leaves'
+resume_stops form left left' written written' rows rows' honest' leaves leaves' status (inl goes) = λ p storable told good some.
     let same : rows_of p ≡ rows_of goes.first = subst (λ (r : Option (List Pair)). IfSome r (λ now. now ≡ rows_of goes.first)) told (goes.loaded good) in
-    run_stops (Some p) left left' written written' rows rows' honest' leaves leaves' status (goes.ends p storable same) good some
-resume_stops left left' written written' rows rows' honest' leaves leaves' status (inr (why, same, are)) = λ p storable told. unbegun_stops (Some p) left written written' rows rows' honest' leaves leaves' same.1 are
+    run_stops form (Some p) left left' written written' rows rows' honest' leaves leaves' status (goes.ends p storable same) good some
+resume_stops form left left' written written' rows rows' honest' leaves leaves' status (inr (why, same, are)) = λ p storable told. unbegun_stops form (Some p) left written written' rows rows' honest' leaves leaves' same.1 are
 
 -- so of each command
-pub mode_stops : (mode : Option Mode) (left left' written written' : Option (List ℕ)) (rows rows' : Option (List Pair)) (honest' : Type 0) (leaves leaves' : List Pair → Type 0) (status : Status) → ModeEnds mode left left' written written' rows rows' honest' leaves leaves' status → ModeStops mode left written written' rows honest' leaves leaves'
-mode_stops None left left' written written' rows rows' honest' leaves leaves' status ends = λ good now may. ends.1.stop now may
-mode_stops (Some Replay) left left' written written' rows rows' honest' leaves leaves' status ends = replay_stops left left' written written' rows rows' honest' leaves leaves' status ends
-mode_stops (Some Resume) left left' written written' rows rows' honest' leaves leaves' status ends = resume_stops left left' written written' rows rows' honest' leaves leaves' status ends
-mode_stops (Some (Query what)) left left' written written' rows rows' honest' leaves leaves' status ends = λ good now may. ends.1.0.stop good now may
-mode_stops (Some Tally) left left' written written' rows rows' honest' leaves leaves' status ends = λ good now may. ends.0.stop good now may
-mode_stops (Some (Gen seed count)) left left' written written' rows rows' honest' leaves leaves' status ends = λ good now may. ends.1.stop now may
-mode_stops (Some (Trial seed count)) left left' written written' rows rows' honest' leaves leaves' status ends = λ good now may. ends.1.stop now may
+pub mode_stops : (form : Form) (mode : Mode) (left left' written written' : Option (List ℕ)) (rows rows' : Option (List Pair)) (honest' : Type 0) (leaves leaves' : List Pair → Type 0) (status : Status) → ModeEnds form mode left left' written written' rows rows' honest' leaves leaves' status → ModeStops form mode left written written' rows honest' leaves leaves'
+mode_stops form Replay left left' written written' rows rows' honest' leaves leaves' status ends = replay_stops form left left' written written' rows rows' honest' leaves leaves' status ends
+mode_stops form Resume left left' written written' rows rows' honest' leaves leaves' status ends = resume_stops form left left' written written' rows rows' honest' leaves leaves' status ends
+mode_stops form (Query what) left left' written written' rows rows' honest' leaves leaves' status ends = λ good now may. ends.1.0.stop good now may
+mode_stops form Tally left left' written written' rows rows' honest' leaves leaves' status ends = λ good now may. ends.0.stop good now may
+mode_stops form (Gen seed count) left left' written written' rows rows' honest' leaves leaves' status ends = λ good now may. ends.1.stop now may
+mode_stops form (Trial seed count) left left' written written' rows rows' honest' leaves leaves' status ends = λ good now may. ends.1.stop now may
 
 -- where nothing was called, a stop leaves what it could leave before
-still : (first : Standing) (left written : Option (List ℕ)) (rows : Option (List Pair)) (honest : Type 0) (leaves : List Pair → Type 0) → RunStops first left written written rows honest leaves leaves
-still first left written rows honest leaves = λ good some input old left_is written_is. ([], written_is ∙ ap (λ (t : List ℕ). Some t) (sym (append-nil old)), λ now may. inl (may, refl))
+still : (form : Form) (first : Standing) (left written : Option (List ℕ)) (rows : Option (List Pair)) (honest : Type 0) (leaves : List Pair → Type 0) → RunStops form first left written written rows honest leaves leaves
+still form first left written rows honest leaves = λ good some input old left_is written_is. ([], written_is ∙ ap (λ (t : List ℕ). Some t) (sym (append-nil old)), λ now may. inl (may, refl))
 
-pub stops_unbegun : (mode : Option Mode) (left written : Option (List ℕ)) (rows : Option (List Pair)) (honest : Type 0) (leaves : List Pair → Type 0) → ModeStops mode left written written rows honest leaves leaves
+mode_unbegun : (form : Form) (mode : Mode) (left written : Option (List ℕ)) (rows : Option (List Pair)) (honest : Type 0) (leaves : List Pair → Type 0) → ModeStops form mode left written written rows honest leaves leaves
+mode_unbegun form Replay left written rows honest leaves = still form None left written rows honest leaves
+mode_unbegun form Resume left written rows honest leaves = λ p storable told. still form (Some p) left written rows honest leaves
+mode_unbegun form (Query what) left written rows honest leaves = λ good now may. may
+mode_unbegun form Tally left written rows honest leaves = λ good now may. may
+mode_unbegun form (Gen seed count) left written rows honest leaves = λ good now may. may
+mode_unbegun form (Trial seed count) left written rows honest leaves = λ good now may. may
+
+pub stops_unbegun : (o : Option Command) (left written : Option (List ℕ)) (rows : Option (List Pair)) (honest : Type 0) (leaves : List Pair → Type 0) → CommandStops o left written written rows honest leaves leaves
 stops_unbegun None left written rows honest leaves = λ good now may. may
-stops_unbegun (Some Replay) left written rows honest leaves = still None left written rows honest leaves
-stops_unbegun (Some Resume) left written rows honest leaves = λ p storable told. still (Some p) left written rows honest leaves
-stops_unbegun (Some (Query what)) left written rows honest leaves = λ good now may. may
-stops_unbegun (Some Tally) left written rows honest leaves = λ good now may. may
-stops_unbegun (Some (Gen seed count)) left written rows honest leaves = λ good now may. may
-stops_unbegun (Some (Trial seed count)) left written rows honest leaves = λ good now may. may
+stops_unbegun (Some c) left written rows honest leaves = mode_unbegun c.form c.mode left written rows honest leaves

@@ -1,5 +1,6 @@
 -- Ballots that are counted over the rows of a keeper.
 use Rattle.std.proofs.Common.{◌≡◌, ◌∙◌, ◌⊎◌, inl, inr, ℕ, ◌+◌, ◌<◌, ◌≤◌, List, [], ◌∷◌, ◌++◌, append-nil, length, length-append, Option, Some, Result, Ok, Err, refl, sym, ap, subst, arith}
+use Rattle.base_bech32.specs.declared.form.Form.{Form}
 use Rattle.base_io.specs.Outside.{Rose}
 use Rattle.base_io.specs.Rows.{Makes, Pair}
 use Rattle.base_roles.specs.declared.items.Item.{Item}
@@ -58,15 +59,15 @@ unwritten whole w = nothing w _ (record { rest = whole; text_is = refl })
 
 -- ---- an input that was counted, or not
 
-pub counted_all : (s : Staked) (left left' w w' : Option (List ℕ)) (kept : Kept) (status : Status) → AllAreKept left left' kept → Writes (text_of_tally (tally_of s (at addr_cmp kept))) w w' status → Counts s left left' w w' status
-counted_all s left left' w w' kept status all writes = λ input old told told_w.
+pub counted_all : (form : Form) (s : Staked) (left left' w w' : Option (List ℕ)) (kept : Kept) (status : Status) → AllAreKept form left left' kept → Writes (text_of_tally (tally_of s (at addr_cmp kept))) w w' status → Counts form s left left' w w' status
+counted_all form s left left' w w' kept status all writes = λ input old told told_w.
     let a = all input told in
     let e = writes old told_w in
     let written : IsWritten (text_of_cast s a.2.cast) status e.0 = subst (λ (whole : List ℕ). IsWritten whole status e.0) (text_of_kept s a.2.cast kept a.2.last) e.2 in
     (input, [], e.0, sym (append-nil input), a.0, e.1, inl (record { cast = a.2.cast; end = refl; short = a.1; read = a.2.read; written = written }))
 
-pub counted_none : (s : Staked) (left left' w : Option (List ℕ)) (status : Status) → AreUncounted left left' status → Counts s left left' w w status
-counted_none s left left' w status none = λ input old told told_w.
+pub counted_none : (form : Form) (s : Staked) (left left' w : Option (List ℕ)) (status : Status) → AreUncounted form left left' status → Counts form s left left' w w status
+counted_none form s left left' w status none = λ input old told told_w.
     let u = none input told in
     (u.0, u.1, [], u.2, u.3, told_w ∙ ap Some (sym (append-nil old)), inr (u.4, refl))
 
@@ -85,31 +86,31 @@ uncounted_unwritten s of e = subst IsOfBallots e of
 
 -- ---- the rows
 
-module _ (left left' w w' : Option (List ℕ)) (rows rows' : Option (List Pair)) (honest' : Type 0) (leaves leaves' : List Pair → Type 0) (same : Makes (λ before. before) rows rows') (stop : honest' → (l : List Pair) → leaves' l → leaves l) where
-  pub tallied : (s : Status) (chain : Chained) → IsChainOf (AreLoaded rows rows' honest') chain → ((p : State) → IsSound p → StandsFor chain.kept p → Counts p.mine.staked left left' w w' s) → TallyEnds left left' w w' rows rows' honest' leaves leaves' s
+module _ (form : Form) (left left' w w' : Option (List ℕ)) (rows rows' : Option (List Pair)) (honest' : Type 0) (leaves leaves' : List Pair → Type 0) (same : Makes (λ before. before) rows rows') (stop : honest' → (l : List Pair) → leaves' l → leaves l) where
+  pub tallied : (s : Status) (chain : Chained) → IsChainOf (AreLoaded rows rows' honest') chain → ((p : State) → IsSound p → StandsFor chain.kept p → Counts form p.mine.staked left left' w w' s) → TallyEnds form left left' w w' rows rows' honest' leaves leaves' s
   tallied s chain c counts = (
     rows_left rows rows' honest' leaves leaves' same stop,
     inl (record { first = c.first; storable = c.storable; loaded = c.rows_are; counts = λ p q alike. counts p q.sound (c.stands p q alike) }),
   )
 
-pub not_tallied : (f : RestoreFault) (left w : Option (List ℕ)) (rows rows' : Option (List Pair)) (honest' : Type 0) (leaves leaves' : List Pair → Type 0) → IsUnrestored rows rows' honest' f → Makes (λ before. before) rows rows' → (honest' → (l : List Pair) → leaves' l → leaves l)
-    → TallyEnds left left w w rows rows' honest' leaves leaves' (status_of_restore f)
-not_tallied f left w rows rows' honest' leaves leaves' h same stop = (rows_left rows rows' honest' leaves leaves' same stop, inr (unresumed f rows rows' honest' h, nothing_done left w))
+pub not_tallied : (form : Form) (f : RestoreFault) (left w : Option (List ℕ)) (rows rows' : Option (List Pair)) (honest' : Type 0) (leaves leaves' : List Pair → Type 0) → IsUnrestored rows rows' honest' f → Makes (λ before. before) rows rows' → (honest' → (l : List Pair) → leaves' l → leaves l)
+    → TallyEnds form left left w w rows rows' honest' leaves leaves' (status_of_restore f)
+not_tallied form f left w rows rows' honest' leaves leaves' h same stop = (rows_left rows rows' honest' leaves leaves' same stop, inr (unresumed f rows rows' honest' h, nothing_done left w))
 
 -- ---- runs that come to their end
 
 never_both : (r : Result Cast LineStop) (cast : Cast) (why : LineStop) → r ≡ Ok cast → r ≡ Err why → ⊥
 never_both r cast why good bad = absurd cc
 
-module _ (input taken rest : List ℕ) (cast : Cast) (good : cast_in input ≡ Ok cast) (short : length input ≤ most_bytes) (is : input ≡ taken ++ rest) where
+module _ (form : Form) (input taken rest : List ℕ) (cast : Cast) (good : cast_in form input ≡ Ok cast) (short : length input ≤ most_bytes) (is : input ≡ taken ++ rest) where
   -- ballots within the limit are all counted
-  never_uncounted : (s : Status) → IsUncounted s taken rest → (s ≡ ReadFault → ⊥) → (s ≡ Done) ⊎ (s ≡ NoMemory)
+  never_uncounted : (s : Status) → IsUncounted form s taken rest → (s ≡ ReadFault → ⊥) → (s ≡ Done) ⊎ (s ≡ NoMemory)
   never_uncounted Done h read = inl refl
   never_uncounted Usage h read = absurd h
   never_uncounted (BadInput n fault) h read =
       let more = ended_first h.1 taken rest h.2 in
-      absurd (never_both (cast_in input) cast (stop.BadInput n fault) good (ap (cast_from 1) (ap lines_of is ∙ more.1) ∙ stopped_front 1 h.1 more.0 (stop.BadInput n fault) h.3))
-  never_uncounted (Limit n Line) h read = absurd (never_both (cast_in input) cast (stop.Long n) good (ap cast_in is ∙ h.1 rest))
+      absurd (never_both (cast_in form input) cast (stop.BadInput n fault) good (ap (cast_from form 1) (ap lines_of is ∙ more.1) ∙ stopped_front form 1 h.1 more.0 (stop.BadInput n fault) h.3))
+  never_uncounted (Limit n Line) h read = absurd (never_both (cast_in form input) cast (stop.Long n) good (ap (cast_in form) is ∙ h.1 rest))
   never_uncounted (Limit n Input) h read =
       let one : length taken ≡ most_bytes + 1 = ap length h.taken_is ∙ length-append h.bytes (h.byte ∷ []) ∙ ap (λ (m : ℕ). m + 1) h.full in
       let all : length input ≡ length taken + length rest = ap length is ∙ length-append taken rest in
@@ -123,9 +124,9 @@ module _ (input taken rest : List ℕ) (cast : Cast) (good : cast_in input ≡ O
   never_uncounted (WrongStore is_empty) h read = absurd h
   never_uncounted NotFound h read = absurd h
 
-pub untroubled_tally : (left left' w w' : Option (List ℕ)) (rows rows' : Option (List Pair)) (honest' : Type 0) (leaves leaves' : List Pair → Type 0) (faults faults' : ℕ) (s : Status) → TallyEnds left left' w w' rows rows' honest' leaves leaves' s → TalliesCalmly left w rows honest' faults faults'
+pub untroubled_tally : (form : Form) (left left' w w' : Option (List ℕ)) (rows rows' : Option (List Pair)) (honest' : Type 0) (leaves leaves' : List Pair → Type 0) (faults faults' : ℕ) (s : Status) → TallyEnds form left left' w w' rows rows' honest' leaves leaves' s → TalliesCalmly form left w rows honest' faults faults'
     → (s ≡ ReadFault → ⊥) → (s ≡ WriteFault → ⊥) → (s ≡ KeepFault → Rose faults faults') → (s ≡ Done) ⊎ (s ≡ NoMemory)
-untroubled_tally left left' w w' rows rows' honest' leaves leaves' faults faults' s (kept, inl tally) calm read write keep =
+untroubled_tally form left left' w w' rows rows' honest' leaves leaves' faults faults' s (kept, inl tally) calm read write keep =
     let b = calm.0 in
     let p = calm.1.0 in
     let fits = calm.1.1 in
@@ -134,7 +135,7 @@ untroubled_tally left left' w w' rows rows' honest' leaves leaves' faults faults
     let e = tally.counts p fits.storable alike b.input b.old b.left_is b.written_is in
     elim e.6 [
       | inl c ↦ written_to_end _ e.2 s c.written write
-      | inr u ↦ never_uncounted b.input e.0 e.1 b.cast b.good b.short e.3 s u.0 read
+      | inr u ↦ never_uncounted form b.input e.0 e.1 b.cast b.good b.short e.3 s u.0 read
     ]
-untroubled_tally left left' w w' rows rows' honest' leaves leaves' faults faults' s (kept, inr none) calm read write keep =
+untroubled_tally form left left' w w' rows rows' honest' leaves leaves' faults faults' s (kept, inr none) calm read write keep =
     never_unresumed calm.1.0 rows rows' honest' faults faults' calm.1.1 kept.rows_are s none.0 keep

@@ -1,5 +1,6 @@
 -- The ballots of an input: each line is one, and a line that is none stops the run.
 use Rattle.std.specs.Prelude.{◌≡◌, ℕ, ◌+◌, ◌≤◌, ◌<◌, ◌⊎◌, List, [], ◌∷◌, ◌++◌, length, nat_lt, if◌then◌else◌, Option, Some, Result, Ok, Err}
+use Rattle.base_bech32.specs.declared.form.Form.{Form}
 use Rattle.base_coins.specs.Steps.{◌>>=◌}
 use Rattle.base_messages.specs.declared.faults.LineFault.{LineFault}
 use Rattle.base_roles.specs.Entries.{at, with}
@@ -24,20 +25,20 @@ ballot_or_stop n (Ok ballot) = Ok ballot
 ballot_or_stop n (Err fault) = Err (not_read n fault)
 
 -- the ballot of the line of this number: nothing is read from a line over its limit
-unfoldable pub ballot_at : ℕ → List ℕ → Result Ballot LineStop
-ballot_at n line =
-    if nat_lt longest (length line) then Err (stop.Long n) else ballot_or_stop n (ballot_of line)
+unfoldable pub ballot_at : Form → ℕ → List ℕ → Result Ballot LineStop
+ballot_at form n line =
+    if nat_lt longest (length line) then Err (stop.Long n) else ballot_or_stop n (ballot_of form line)
 
 -- The ballots that lines from this number on cast, in their order; or why the first line that is
 -- no ballot stops the run.
-abbrev pub cast_from : ℕ → List (List ℕ) → Result Cast LineStop
-cast_from n [] = Ok []
-cast_from n (line ∷ lines) =
-    ballot_at n line >>= λ b. cast_from (n + 1) lines >>= λ later. Ok ((b.voter, b.choice) ∷ later)
+abbrev pub cast_from : Form → ℕ → List (List ℕ) → Result Cast LineStop
+cast_from form n [] = Ok []
+cast_from form n (line ∷ lines) =
+    ballot_at form n line >>= λ b. cast_from form (n + 1) lines >>= λ later. Ok ((b.voter, b.choice) ∷ later)
 
 -- the same of an input
-abbrev pub cast_in : List ℕ → Result Cast LineStop
-cast_in input = cast_from 1 (lines_of input)
+abbrev pub cast_in : Form → List ℕ → Result Cast LineStop
+cast_in form input = cast_from form 1 (lines_of input)
 
 -- ---- what is kept of ballots
 
@@ -46,9 +47,9 @@ abbrev pub Kept : Type 0
 Kept = List (List ℕ × Choice)
 
 -- The lines are ballots, and these are kept of them.
-pub record AreKept (lines : List (List ℕ)) (kept : Kept) : Type 0 where
+pub record AreKept (form : Form) (lines : List (List ℕ)) (kept : Kept) : Type 0 where
   pub cast : Cast
-  pub read : cast_from 1 lines ≡ Ok cast
+  pub read : cast_from form 1 lines ≡ Ok cast
   pub last : (voter : List ℕ) → at addr_cmp kept voter ≡ chosen_in cast voter
 
 -- a ballot is due, and was cast
@@ -69,71 +70,71 @@ IsNone stop.NoMemory due = Unit {0}
 
 -- These bytes were taken: the lines that have ended are ballots, which were cast, and this has come
 -- of the next line, whose number is `n`.
-pub record AreTaken (taken : List ℕ) (n : ℕ) (line : List ℕ) (kept : Kept) : Type 0 where
-  pub kept_are : AreKept (whole_from [] taken) kept
+pub record AreTaken (form : Form) (taken : List ℕ) (n : ℕ) (line : List ℕ) (kept : Kept) : Type 0 where
+  pub kept_are : AreKept form (whole_from [] taken) kept
   pub number_is : n ≡ 1 + length (whole_from [] taken)
   pub line_is : line ≡ rest_from [] taken
   pub short : length line ≤ longest
 
 -- these bytes stop a run, whatever comes behind them
-abbrev pub StopsIn : LineStop → List ℕ → Type 0
-StopsIn (stop.BadInput n fault) taken = cast_from 1 (whole_from [] taken) ≡ Err (stop.BadInput n fault)
-StopsIn (stop.Long n) taken = (more : List ℕ) → cast_in (taken ++ more) ≡ Err (stop.Long n)
-StopsIn (stop.Ratio n over) taken = ⊥
-StopsIn stop.Write taken = ⊥
-StopsIn stop.Keep taken = ⊥
-StopsIn stop.NoMemory taken = Unit {0}
+abbrev pub StopsIn : Form → LineStop → List ℕ → Type 0
+StopsIn form (stop.BadInput n fault) taken = cast_from form 1 (whole_from [] taken) ≡ Err (stop.BadInput n fault)
+StopsIn form (stop.Long n) taken = (more : List ℕ) → cast_in form (taken ++ more) ≡ Err (stop.Long n)
+StopsIn form (stop.Ratio n over) taken = ⊥
+StopsIn form stop.Write taken = ⊥
+StopsIn form stop.Keep taken = ⊥
+StopsIn form stop.NoMemory taken = Unit {0}
 
 -- ---- an input
 
 -- As many bytes were taken as an input may have, and one more came, at which the line was not too
 -- long. The lines that had ended are ballots.
-pub record PassesBallots (n : ℕ) (taken : List ℕ) : Type 0 where
+pub record PassesBallots (form : Form) (n : ℕ) (taken : List ℕ) : Type 0 where
   pub bytes : List ℕ
   pub byte : ℕ
   pub cast : Cast
   pub taken_is : taken ≡ bytes ++ byte ∷ []
   pub full : length bytes ≡ most_bytes
-  pub read : cast_from 1 (whole_from [] bytes) ≡ Ok cast
+  pub read : cast_from form 1 (whole_from [] bytes) ≡ Ok cast
   pub number : n ≡ 1 + length (whole_from [] bytes)
   pub line : (byte ≡ 10) ⊎ (length (rest_from [] bytes) < longest)
 
 -- Why an input of which these bytes were taken and those are left was not read to its end, or not
 -- all of its lines are ballots.
-abbrev pub IsUncounted : Status → List ℕ → List ℕ → Type 0
-IsUncounted Done taken rest = ⊥
-IsUncounted Usage taken rest = ⊥
-IsUncounted (BadInput n fault) taken rest =
+abbrev pub IsUncounted : Form → Status → List ℕ → List ℕ → Type 0
+IsUncounted form Done taken rest = ⊥
+IsUncounted form Usage taken rest = ⊥
+IsUncounted form (BadInput n fault) taken rest =
     (length taken ≤ most_bytes)
     × (lines : List (List ℕ)) × AreEnded lines taken rest
-    × (cast_from 1 lines ≡ Err (stop.BadInput n fault))
-IsUncounted (Limit n Line) taken rest =
+    × (cast_from form 1 lines ≡ Err (stop.BadInput n fault))
+IsUncounted form (Limit n Line) taken rest =
     (length taken ≤ most_bytes + 1)
-    × ((more : List ℕ) → cast_in (taken ++ more) ≡ Err (stop.Long n))
-IsUncounted (Limit n Input) taken rest = PassesBallots n taken
-IsUncounted (Limit n (Ratio over)) taken rest = ⊥
-IsUncounted ReadFault taken rest =
+    × ((more : List ℕ) → cast_in form (taken ++ more) ≡ Err (stop.Long n))
+IsUncounted form (Limit n Input) taken rest = PassesBallots form n taken
+IsUncounted form (Limit n (Ratio over)) taken rest = ⊥
+IsUncounted form ReadFault taken rest =
     (length taken ≤ most_bytes)
-    × (cast : Cast) × (cast_from 1 (whole_from [] taken) ≡ Ok cast)
-IsUncounted WriteFault taken rest = ⊥
-IsUncounted KeepFault taken rest = ⊥
-IsUncounted NoMemory taken rest = length taken ≤ most_bytes
-IsUncounted BadStore taken rest = ⊥
-IsUncounted (WrongStore is_empty) taken rest = ⊥
-IsUncounted NotFound taken rest = ⊥
+    × (cast : Cast) × (cast_from form 1 (whole_from [] taken) ≡ Ok cast)
+IsUncounted form WriteFault taken rest = ⊥
+IsUncounted form KeepFault taken rest = ⊥
+IsUncounted form NoMemory taken rest = length taken ≤ most_bytes
+IsUncounted form BadStore taken rest = ⊥
+IsUncounted form (WrongStore is_empty) taken rest = ⊥
+IsUncounted form NotFound taken rest = ⊥
 
 -- Where the source tells its bytes: it was read to its end, and these are kept of its ballots.
-abbrev pub AllAreKept : Option (List ℕ) → Option (List ℕ) → Kept → Type 0
-AllAreKept left left' kept =
+abbrev pub AllAreKept : Form → Option (List ℕ) → Option (List ℕ) → Kept → Type 0
+AllAreKept form left left' kept =
     (input : List ℕ) → left ≡ Some input →
-    (left' ≡ Some []) × (length input ≤ most_bytes) × AreKept (lines_of input) kept
+    (left' ≡ Some []) × (length input ≤ most_bytes) × AreKept form (lines_of input) kept
 
 -- Or it was not, or not all of its lines are ballots.
-abbrev pub AreUncounted : Option (List ℕ) → Option (List ℕ) → Status → Type 0
-AreUncounted left left' status =
+abbrev pub AreUncounted : Form → Option (List ℕ) → Option (List ℕ) → Status → Type 0
+AreUncounted form left left' status =
     (input : List ℕ) → left ≡ Some input →
     (taken : List ℕ) × (rest : List ℕ) × (input ≡ taken ++ rest) × (left' ≡ Some rest)
-    × IsUncounted status taken rest
+    × IsUncounted form status taken rest
 
 -- a run may end so at an input that was not counted
 abbrev pub IsOfBallots : Status → Type 0

@@ -1,5 +1,6 @@
 -- What the machine answers to each line of the input.
 use Rattle.std.specs.Prelude.{◌≡◌, ℕ, List, length, nat_lt, if◌then◌else◌, Option, Some, None, Result, Ok, Err}
+use Rattle.base_bech32.specs.declared.form.Form.{Form}
 use Rattle.base_messages.specs.declared.faults.LineFault.{LineFault}
 use Rattle.base_messages.specs.declared.faults.LineFault.TheVariants as line
 use Rattle.base_messages.specs.declared.faults.BlockFault.{BlockFault}
@@ -106,30 +107,30 @@ genesis_answer n (Ok g) = started_answer n g (start_condition g)
 
 -- ---- a block
 
-abbrev pub stepped : Step → Answer
-stepped step = record { text = text_of_block step.report; standing = Some step.state }
+abbrev pub stepped : Form → Step → Answer
+stepped form step = record { text = text_of_block form step.report; standing = Some step.state }
 
 -- the answer to a block: its step or its fault
-abbrev pub applied_answer : ℕ → Result Step BlockFault → Result Answer LineStop
-applied_answer n (Ok step) = Ok (stepped step)
-applied_answer n (Err fault) = Err (not_applied n fault)
+abbrev pub applied_answer : Form → ℕ → Result Step BlockFault → Result Answer LineStop
+applied_answer form n (Ok step) = Ok (stepped form step)
+applied_answer form n (Err fault) = Err (not_applied n fault)
 
-abbrev pub block_answer : ℕ → State → Result Block LineFault → Result Answer LineStop
-block_answer n s (Err fault) = Err (not_read n fault)
-block_answer n s (Ok b) = applied_answer n (step b s)
+abbrev pub block_answer : Form → ℕ → State → Result Block LineFault → Result Answer LineStop
+block_answer form n s (Err fault) = Err (not_read n fault)
+block_answer form n s (Ok b) = applied_answer form n (step b s)
 
 -- ---- lines
 
 -- the first line is a genesis, and each further line a block
-abbrev pub answer_within : ℕ → Standing → List ℕ → Result Answer LineStop
-answer_within n None line = genesis_answer n (genesis_of line)
-answer_within n (Some s) line = block_answer n s (block_of line)
+abbrev pub answer_within : Form → ℕ → Standing → List ℕ → Result Answer LineStop
+answer_within form n None line = genesis_answer n (genesis_of form line)
+answer_within form n (Some s) line = block_answer form n s (block_of form line)
 
 -- the answer to the line of this number: nothing is read from a line over its limit
-unfoldable pub line_answer : ℕ → Standing → List ℕ → Result Answer LineStop
-line_answer n s line = if nat_lt longest (length line) then Err (stop.Long n) else answer_within n s line
+unfoldable pub line_answer : Form → ℕ → Standing → List ℕ → Result Answer LineStop
+line_answer form n s line = if nat_lt longest (length line) then Err (stop.Long n) else answer_within form n s line
 
 -- the report of what the lines led to, or that the genesis is missing
-unfoldable pub report_of : Standing → Result (List ℕ) LineStop
-report_of None = Err (stop.BadInput 1 input.Missing)
-report_of (Some s) = Ok (text_of (lines_of (machine.report_of s)))
+unfoldable pub report_of : Form → Standing → Result (List ℕ) LineStop
+report_of form None = Err (stop.BadInput 1 input.Missing)
+report_of form (Some s) = Ok (text_of (lines_of form (machine.report_of s)))

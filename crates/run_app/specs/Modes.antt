@@ -1,8 +1,10 @@
 -- How a run of each command ends.
 use Rattle.std.specs.Prelude.{◌≡◌, ◌⊎◌, ℕ, ◌≤◌, Bool, false, List, [], Option, Some, None, Result, Ok, Err}
+use Rattle.base_bech32.specs.declared.form.Form.{Form}
 use Rattle.base_io.specs.Outside.{Rose}
 use Rattle.base_io.specs.Rows.{Pair}
 use Rattle.base_roles.specs.declared.refusal.Refusal.{Refusal}
+use Rattle.run_words.specs.declared.mode.Command.{Command}
 use Rattle.run_words.specs.declared.mode.Mode.{Mode}
 use Rattle.run_words.specs.declared.mode.Mode.TheVariants.{Replay, Resume, Query, Tally, Gen, Trial}
 use Rattle.run_generated.specs.Writing.{generated_text}
@@ -42,23 +44,27 @@ HasFewBlocks (Gen seed count) = count ≤ 100000
 HasFewBlocks (Trial seed count) = count ≤ 100000
 
 -- A replay begins on no rows, and ends as its input says; or it does not begin, takes and writes nothing, and leaves all rows.
-abbrev pub ReplayEnds : Option (List ℕ) → Option (List ℕ) → Option (List ℕ) → Option (List ℕ) → Option (List Pair) → Option (List Pair) → Type 0 → (List Pair → Type 0) → (List Pair → Type 0) → Status → Type 0
-ReplayEnds left left' written written' rows rows' honest' leaves leaves' status =
-    RunEnds None (LeftIn (on_none rows) rows' honest' leaves') left left' written written' status
+abbrev pub ReplayEnds : Form → Option (List ℕ) → Option (List ℕ) → Option (List ℕ) → Option (List ℕ) → Option (List Pair) → Option (List Pair) → Type 0 → (List Pair → Type 0) → (List Pair → Type 0) → Status → Type 0
+ReplayEnds form left left' written written' rows rows' honest' leaves leaves' status =
+    RunEnds form None (LeftIn (on_none rows) rows' honest' leaves') left left' written written' status
     ⊎ (IsUnbegun status (AreSome rows rows' honest') × Leaves left left' written written' (λ text. text ≡ []) × AreLeft rows rows' honest' leaves leaves')
 
--- What was taken, written and kept at the end of a run: of no command, of a replay, of a run that goes on, of a question, of a
+-- What was taken, written and kept at the end of a run: of a replay, of a run that goes on, of a question, of a
 -- tally, of the generated input, of a trial.
-abbrev pub ModeEnds : Option Mode → Option (List ℕ) → Option (List ℕ) → Option (List ℕ) → Option (List ℕ) → Option (List Pair) → Option (List Pair) → Type 0 → (List Pair → Type 0) → (List Pair → Type 0) → Status → Type 0
-ModeEnds None left left' written written' rows rows' honest' leaves leaves' status = Leaves left left' written written' (λ text. text ≡ []) × AreUntouched rows rows' leaves leaves'
-ModeEnds (Some Replay) left left' written written' rows rows' honest' leaves leaves' status = ReplayEnds left left' written written' rows rows' honest' leaves leaves' status
-ModeEnds (Some Resume) left left' written written' rows rows' honest' leaves leaves' status = ResumeEnds left left' written written' rows rows' honest' leaves leaves' status
-ModeEnds (Some (Query what)) left left' written written' rows rows' honest' leaves leaves' status = (left' ≡ left) × QueryEnds what written written' rows rows' honest' leaves leaves' status
-ModeEnds (Some Tally) left left' written written' rows rows' honest' leaves leaves' status = TallyEnds left left' written written' rows rows' honest' leaves leaves' status
-ModeEnds (Some (Gen seed count)) left left' written written' rows rows' honest' leaves leaves' status =
-    Leaves left left' written written' (IsWritten (generated_text seed count) status) × AreUntouched rows rows' leaves leaves'
-ModeEnds (Some (Trial seed count)) left left' written written' rows rows' honest' leaves leaves' status =
+abbrev pub ModeEnds : Form → Mode → Option (List ℕ) → Option (List ℕ) → Option (List ℕ) → Option (List ℕ) → Option (List Pair) → Option (List Pair) → Type 0 → (List Pair → Type 0) → (List Pair → Type 0) → Status → Type 0
+ModeEnds form Replay left left' written written' rows rows' honest' leaves leaves' status = ReplayEnds form left left' written written' rows rows' honest' leaves leaves' status
+ModeEnds form Resume left left' written written' rows rows' honest' leaves leaves' status = ResumeEnds form left left' written written' rows rows' honest' leaves leaves' status
+ModeEnds form (Query what) left left' written written' rows rows' honest' leaves leaves' status = (left' ≡ left) × QueryEnds form what written written' rows rows' honest' leaves leaves' status
+ModeEnds form Tally left left' written written' rows rows' honest' leaves leaves' status = TallyEnds form left left' written written' rows rows' honest' leaves leaves' status
+ModeEnds form (Gen seed count) left left' written written' rows rows' honest' leaves leaves' status =
+    Leaves left left' written written' (IsWritten (generated_text form seed count) status) × AreUntouched rows rows' leaves leaves'
+ModeEnds form (Trial seed count) left left' written written' rows rows' honest' leaves leaves' status =
     Leaves left left' written written' (IsTried (trial_of seed count) status) × AreUntouched rows rows' leaves leaves'
+
+-- the same of what words ask for: of no command, and of one with addresses in its form
+abbrev pub CommandEnds : Option Command → Option (List ℕ) → Option (List ℕ) → Option (List ℕ) → Option (List ℕ) → Option (List Pair) → Option (List Pair) → Type 0 → (List Pair → Type 0) → (List Pair → Type 0) → Status → Type 0
+CommandEnds None left left' written written' rows rows' honest' leaves leaves' status = Leaves left left' written written' (λ text. text ≡ []) × AreUntouched rows rows' leaves leaves'
+CommandEnds (Some c) left left' written written' rows rows' honest' leaves leaves' status = ModeEnds c.form c.mode left left' written written' rows rows' honest' leaves leaves' status
 
 -- a keeper that keeps nothing, or one without rows, that is honest to the end, and of which no call fails
 pub record FitsReplay (keeps : Bool) (rows : Option (List Pair)) (honest' : Type 0) (faults faults' : ℕ) : Type 0 where
@@ -68,11 +74,15 @@ pub record FitsReplay (keeps : Bool) (rows : Option (List Pair)) (honest' : Type
 
 -- A sink that tells, and an input free of faults: that of the source, or one whose blocks all follow; what `gen` writes needs none.
 -- A replay has a keeper that fits it, and so have a run that goes on, a tally, and a question, which has an answer.
-abbrev pub IsUntroubledAt : Option Mode → Option (List ℕ) → Option (List ℕ) → Bool → Option (List Pair) → Type 0 → ℕ → ℕ → Type 0
-IsUntroubledAt None left written keeps rows honest' faults faults' = ⊥
-IsUntroubledAt (Some Replay) left written keeps rows honest' faults faults' = IsUntroubled None left written × FitsReplay keeps rows honest' faults faults'
-IsUntroubledAt (Some Resume) left written keeps rows honest' faults faults' = ResumesCalmly left written rows honest' faults faults'
-IsUntroubledAt (Some (Query what)) left written keeps rows honest' faults faults' = AsksCalmly what written rows honest' faults faults'
-IsUntroubledAt (Some Tally) left written keeps rows honest' faults faults' = TalliesCalmly left written rows honest' faults faults'
-IsUntroubledAt (Some (Gen seed count)) left written keeps rows honest' faults faults' = (old : List ℕ) × (written ≡ Some old)
-IsUntroubledAt (Some (Trial seed count)) left written keeps rows honest' faults faults' = ((old : List ℕ) × (written ≡ Some old)) × ((summary : List ℕ) × (trial_of seed count ≡ Ok (Ok summary)))
+abbrev pub IsUntroubledAt : Form → Mode → Option (List ℕ) → Option (List ℕ) → Bool → Option (List Pair) → Type 0 → ℕ → ℕ → Type 0
+IsUntroubledAt form Replay left written keeps rows honest' faults faults' = IsUntroubled form None left written × FitsReplay keeps rows honest' faults faults'
+IsUntroubledAt form Resume left written keeps rows honest' faults faults' = ResumesCalmly form left written rows honest' faults faults'
+IsUntroubledAt form (Query what) left written keeps rows honest' faults faults' = AsksCalmly form what written rows honest' faults faults'
+IsUntroubledAt form Tally left written keeps rows honest' faults faults' = TalliesCalmly form left written rows honest' faults faults'
+IsUntroubledAt form (Gen seed count) left written keeps rows honest' faults faults' = (old : List ℕ) × (written ≡ Some old)
+IsUntroubledAt form (Trial seed count) left written keeps rows honest' faults faults' = ((old : List ℕ) × (written ≡ Some old)) × ((summary : List ℕ) × (trial_of seed count ≡ Ok (Ok summary)))
+
+-- the same of what words ask for, which is a command
+abbrev pub IsUntroubledBy : Option Command → Option (List ℕ) → Option (List ℕ) → Bool → Option (List Pair) → Type 0 → ℕ → ℕ → Type 0
+IsUntroubledBy None left written keeps rows honest' faults faults' = ⊥
+IsUntroubledBy (Some c) left written keeps rows honest' faults faults' = IsUntroubledAt c.form c.mode left written keeps rows honest' faults faults'

@@ -1,5 +1,6 @@
 -- What a run took and wrote, at each status.
 use Rattle.std.specs.Prelude.{◌≡◌, ℕ, ◌+◌, ◌^◌, ◌≤◌, ◌⊎◌, ◌<◌, List, [], ◌∷◌, ◌++◌, length, Option, Some, None}
+use Rattle.base_bech32.specs.declared.form.Form.{Form}
 use Rattle.run_app.specs.declared.status.Status.{Status}
 use Rattle.run_app.specs.declared.status.Status.TheVariants.{Done, Usage, BadInput, Limit, ReadFault, WriteFault, KeepFault, NoMemory, BadStore, WrongStore, NotFound}
 use Rattle.run_app.specs.declared.status.LimitKind.TheVariants.{Line, Input, Ratio}
@@ -10,12 +11,12 @@ use Rattle.run_app.specs.Runs.{Ran, ran_from, Named, Wrote, Unkept, Held, Answer
 
 -- What the machine answers to an input, from where a run begins: the whole output, or the output up to the first fault and that
 -- fault.
-abbrev pub answer_from : Standing → List ℕ → Ran
-answer_from first input = ran_from 1 first (lines_of input)
+abbrev pub answer_from : Form → Standing → List ℕ → Ran
+answer_from form first input = ran_from form 1 first (lines_of input)
 
 -- the same of a run that begins with a genesis
-abbrev pub answer_to : List ℕ → Ran
-answer_to input = answer_from None input
+abbrev pub answer_to : Form → List ℕ → Ran
+answer_to form input = answer_from form None input
 
 -- how many bytes an input may have
 abbrev pub most_bytes : ℕ
@@ -26,52 +27,52 @@ abbrev pub AreEnded : List (List ℕ) → List ℕ → List ℕ → Type 0
 AreEnded lines taken rest = (lines ≡ whole_from [] taken) ⊎ ((rest ≡ []) × (lines ≡ lines_of taken))
 
 -- as many bytes were taken as an input may have, and one more came, at which the line was not too long
-pub record Passed (first : Standing) (Left : Standing → Standing → Type 0) (n : ℕ) (taken text : List ℕ) : Type 0 where
+pub record Passed (form : Form) (first : Standing) (Left : Standing → Standing → Type 0) (n : ℕ) (taken text : List ℕ) : Type 0 where
   pub bytes : List ℕ
   pub byte : ℕ
   pub taken_is : taken ≡ bytes ++ byte ∷ []
   pub full : length bytes ≡ most_bytes
-  pub answered : Answered Left 1 first (whole_from [] bytes) text
+  pub answered : Answered form Left 1 first (whole_from [] bytes) text
   pub number : n ≡ 1 + length (whole_from [] bytes)
   pub line : (byte ≡ 10) ⊎ (length (rest_from [] bytes) < longest)
 
 -- From an input of which these bytes were taken and those are left, a run that began at the first standing wrote this text and ended
 -- so. What it left in its keeper is told by `L`.
-abbrev pub Ends : Standing → (Standing → Standing → Type 0) → List ℕ → List ℕ → Status → List ℕ → Type 0
-Ends first L taken rest Done text = (rest ≡ []) × (length taken ≤ most_bytes) × Finished L 1 first (lines_of taken) text
-Ends first L taken rest Usage text = ⊥
-Ends first L taken rest (BadInput n fault) text = (length taken ≤ most_bytes)
-    × (((lines : List (List ℕ)) × AreEnded lines taken rest × Named L 1 first lines text (stop.BadInput n fault))
-    ⊎ ((rest ≡ []) × Lacking L 1 first (lines_of taken) text (stop.BadInput n fault)))
-Ends first L taken rest (Limit n Line) text = (length taken ≤ most_bytes + 1) × ((more : List ℕ) → Named L 1 first (lines_of (taken ++ more)) text (stop.Long n))
-Ends first L taken rest (Limit n Input) text = Passed first L n taken text
-Ends first L taken rest (Limit n (Ratio over)) text = (length taken ≤ most_bytes) × (lines : List (List ℕ)) × AreEnded lines taken rest × Named L 1 first lines text (stop.Ratio n over)
-Ends first L taken rest ReadFault text = (length taken ≤ most_bytes) × Answered L 1 first (whole_from [] taken) text
-Ends first L taken rest WriteFault text = (length taken ≤ most_bytes)
-    × (((lines : List (List ℕ)) × AreEnded lines taken rest × Wrote L 1 first lines text)
-    ⊎ ((rest ≡ []) × Reported L 1 first (lines_of taken) text)
-    ⊎ ((rest ≡ []) × Finished L 1 first (lines_of taken) text))
-Ends first L taken rest KeepFault text = (length taken ≤ most_bytes) × (lines : List (List ℕ)) × AreEnded lines taken rest × Unkept L 1 first lines text
-Ends first L taken rest NoMemory text = (length taken ≤ most_bytes)
-    × (((lines : List (List ℕ)) × AreEnded lines taken rest × (Wrote L 1 first lines text ⊎ Held L 1 first lines text ⊎ Unkept L 1 first lines text))
-    ⊎ ((rest ≡ []) × Reported L 1 first (lines_of taken) text))
-Ends first L taken rest BadStore text = ⊥
-Ends first L taken rest (WrongStore is_empty) text = ⊥
-Ends first L taken rest NotFound text = ⊥
+abbrev pub Ends : Form → Standing → (Standing → Standing → Type 0) → List ℕ → List ℕ → Status → List ℕ → Type 0
+Ends form first L taken rest Done text = (rest ≡ []) × (length taken ≤ most_bytes) × Finished form L 1 first (lines_of taken) text
+Ends form first L taken rest Usage text = ⊥
+Ends form first L taken rest (BadInput n fault) text = (length taken ≤ most_bytes)
+    × (((lines : List (List ℕ)) × AreEnded lines taken rest × Named form L 1 first lines text (stop.BadInput n fault))
+    ⊎ ((rest ≡ []) × Lacking form L 1 first (lines_of taken) text (stop.BadInput n fault)))
+Ends form first L taken rest (Limit n Line) text = (length taken ≤ most_bytes + 1) × ((more : List ℕ) → Named form L 1 first (lines_of (taken ++ more)) text (stop.Long n))
+Ends form first L taken rest (Limit n Input) text = Passed form first L n taken text
+Ends form first L taken rest (Limit n (Ratio over)) text = (length taken ≤ most_bytes) × (lines : List (List ℕ)) × AreEnded lines taken rest × Named form L 1 first lines text (stop.Ratio n over)
+Ends form first L taken rest ReadFault text = (length taken ≤ most_bytes) × Answered form L 1 first (whole_from [] taken) text
+Ends form first L taken rest WriteFault text = (length taken ≤ most_bytes)
+    × (((lines : List (List ℕ)) × AreEnded lines taken rest × Wrote form L 1 first lines text)
+    ⊎ ((rest ≡ []) × Reported form L 1 first (lines_of taken) text)
+    ⊎ ((rest ≡ []) × Finished form L 1 first (lines_of taken) text))
+Ends form first L taken rest KeepFault text = (length taken ≤ most_bytes) × (lines : List (List ℕ)) × AreEnded lines taken rest × Unkept form L 1 first lines text
+Ends form first L taken rest NoMemory text = (length taken ≤ most_bytes)
+    × (((lines : List (List ℕ)) × AreEnded lines taken rest × (Wrote form L 1 first lines text ⊎ Held form L 1 first lines text ⊎ Unkept form L 1 first lines text))
+    ⊎ ((rest ≡ []) × Reported form L 1 first (lines_of taken) text))
+Ends form first L taken rest BadStore text = ⊥
+Ends form first L taken rest (WrongStore is_empty) text = ⊥
+Ends form first L taken rest NotFound text = ⊥
 
 -- the same of a run over a source and a sink, where these tell their bytes
-abbrev pub RunEnds : Standing → (Standing → Standing → Type 0) → Option (List ℕ) → Option (List ℕ) → Option (List ℕ) → Option (List ℕ) → Status → Type 0
-RunEnds first L left left' written written' status =
+abbrev pub RunEnds : Form → Standing → (Standing → Standing → Type 0) → Option (List ℕ) → Option (List ℕ) → Option (List ℕ) → Option (List ℕ) → Status → Type 0
+RunEnds form first L left left' written written' status =
     (input old : List ℕ) → left ≡ Some input → written ≡ Some old →
-    (taken : List ℕ) × (rest : List ℕ) × (text : List ℕ) × (input ≡ taken ++ rest) × (left' ≡ Some rest) × (written' ≡ Some (old ++ text)) × Ends first L taken rest status text
+    (taken : List ℕ) × (rest : List ℕ) × (text : List ℕ) × (input ≡ taken ++ rest) × (left' ≡ Some rest) × (written' ≡ Some (old ++ text)) × Ends form first L taken rest status text
 
 -- a source and a sink that tell, and an input of the form, within its limits, from where a run begins
-pub record IsUntroubled (first : Standing) (left written : Option (List ℕ)) : Type 0 where
+pub record IsUntroubled (form : Form) (first : Standing) (left written : Option (List ℕ)) : Type 0 where
   pub input : List ℕ
   pub old : List ℕ
   pub left_is : left ≡ Some input
   pub written_is : written ≡ Some old
-  pub good : (answer_from first input).fault ≡ None
+  pub good : (answer_from form first input).fault ≡ None
   pub short : length input ≤ most_bytes
 
 -- the fact holds, unless the run ended by a fault of the source

@@ -1,5 +1,6 @@
 -- What the parts of a run leave: a line, a piece of the input, the end of the input.
 use Rattle.std.specs.Prelude.{◌≡◌, ℕ, ◌+◌, ◌≤◌, ◌<◌, ◌==◌, ◌⊎◌, ⊤, false, List, [], ◌∷◌, ◌++◌, length, Option, Some, Result, Ok, Err}
+use Rattle.base_bech32.specs.declared.form.Form.{Form}
 use Rattle.base_io.specs.declared.keeper.KeepFault.{KeepFault as KeeperFault}
 use Rattle.base_io.specs.declared.keeper.KeepFault.TheVariants as keep
 use Rattle.run_app.specs.declared.status.Status.{Status}
@@ -47,27 +48,27 @@ abbrev pub Grows : Option (List ℕ) → Option (List ℕ) → List ℕ → Type
 Grows written written' text = (old : List ℕ) → written ≡ Some old → written' ≡ Some (old ++ text)
 
 -- A part of a run: `lines` are all lines that there will be, by what is still to come, and `ended` are those that have ended.
-abbrev pub PartEnds : {X : Type 0} → (Standing → Standing → Type 0) → ℕ → Standing → (X → List (List ℕ)) → List (List ℕ) → LineStop → List ℕ → Type 0
-PartEnds L n s lines ended (stop.BadInput m fault) text = Named L n s ended text (stop.BadInput m fault)
-PartEnds L n s lines ended (stop.Long m) text = (x : _) → Named L n s (lines x) text (stop.Long m)
-PartEnds L n s lines ended (stop.Ratio m over) text = Named L n s ended text (stop.Ratio m over)
-PartEnds L n s lines ended stop.Write text = Wrote L n s ended text
-PartEnds L n s lines ended stop.Keep text = Unkept L n s ended text
-PartEnds L n s lines ended stop.NoMemory text = Wrote L n s ended text ⊎ Held L n s ended text ⊎ Unkept L n s ended text
+abbrev pub PartEnds : Form → {X : Type 0} → (Standing → Standing → Type 0) → ℕ → Standing → (X → List (List ℕ)) → List (List ℕ) → LineStop → List ℕ → Type 0
+PartEnds form L n s lines ended (stop.BadInput m fault) text = Named form L n s ended text (stop.BadInput m fault)
+PartEnds form L n s lines ended (stop.Long m) text = (x : _) → Named form L n s (lines x) text (stop.Long m)
+PartEnds form L n s lines ended (stop.Ratio m over) text = Named form L n s ended text (stop.Ratio m over)
+PartEnds form L n s lines ended stop.Write text = Wrote form L n s ended text
+PartEnds form L n s lines ended stop.Keep text = Unkept form L n s ended text
+PartEnds form L n s lines ended stop.NoMemory text = Wrote form L n s ended text ⊎ Held form L n s ended text ⊎ Unkept form L n s ended text
 
-abbrev pub PartStops : {X : Type 0} → (Standing → Standing → Type 0) → ℕ → Standing → (X → List (List ℕ)) → List (List ℕ) → Option (List ℕ) → Option (List ℕ) → LineStop → Type 0
-PartStops L n s lines ended written written' stop = (old : List ℕ) → written ≡ Some old → (text : List ℕ) × (written' ≡ Some (old ++ text)) × PartEnds L n s lines ended stop text
+abbrev pub PartStops : Form → {X : Type 0} → (Standing → Standing → Type 0) → ℕ → Standing → (X → List (List ℕ)) → List (List ℕ) → Option (List ℕ) → Option (List ℕ) → LineStop → Type 0
+PartStops form L n s lines ended written written' stop = (old : List ℕ) → written ≡ Some old → (text : List ℕ) × (written' ≡ Some (old ++ text)) × PartEnds form L n s lines ended stop text
 
 -- a line was answered, and its text written
-abbrev pub Took : ℕ → Standing → List ℕ → Standing → Option (List ℕ) → Option (List ℕ) → Type 0
-Took n s line s' written written' = (text : List ℕ) × (line_answer n s line ≡ Ok (record { text = text; standing = s' })) × Grows written written' text
+abbrev pub Took : Form → ℕ → Standing → List ℕ → Standing → Option (List ℕ) → Option (List ℕ) → Type 0
+Took form n s line s' written written' = (text : List ℕ) × (line_answer form n s line ≡ Ok (record { text = text; standing = s' })) × Grows written written' text
 
 -- From this number, from where the chain stands and from this begun line on, the bytes were taken: each of their lines was answered.
-pub record Fed (n : ℕ) (s : Standing) (line bytes : List ℕ) (n' : ℕ) (s' : Standing) (line' : List ℕ) (written written' : Option (List ℕ)) : Type 0 where
+pub record Fed (form : Form) (n : ℕ) (s : Standing) (line bytes : List ℕ) (n' : ℕ) (s' : Standing) (line' : List ℕ) (written written' : Option (List ℕ)) : Type 0 where
   pub text : List ℕ
   pub number : n' ≡ n + length (whole_from line bytes)
   pub line_is : line' ≡ rest_from line bytes
-  pub answered : AreAnswered n s (whole_from line bytes) text s'
+  pub answered : AreAnswered form n s (whole_from line bytes) text s'
   pub short : length line' ≤ longest
   pub grows : Grows written written' text
 
@@ -75,15 +76,15 @@ abbrev pub lines_after : List ℕ → List ℕ → List ℕ → List (List ℕ)
 lines_after line bytes more = lines_from line (bytes ++ more)
 
 -- the end of a run, with these lines left
-abbrev pub FinishEnds : (Standing → Standing → Type 0) → ℕ → Standing → List (List ℕ) → EndStop → List ℕ → Type 0
-FinishEnds L n s lines (end.Line stop) text = PartEnds L n s (λ (_ : ⊤). lines) lines stop text
-FinishEnds L n s lines (end.Lacking m fault) text = Lacking L n s lines text (stop.BadInput m fault)
-FinishEnds L n s lines end.Report text = Reported L n s lines text
-FinishEnds L n s lines end.Flush text = Finished L n s lines text
-FinishEnds L n s lines end.NoMemory text = Reported L n s lines text ⊎ Answered L n s lines text
+abbrev pub FinishEnds : Form → (Standing → Standing → Type 0) → ℕ → Standing → List (List ℕ) → EndStop → List ℕ → Type 0
+FinishEnds form L n s lines (end.Line stop) text = PartEnds form L n s (λ (_ : ⊤). lines) lines stop text
+FinishEnds form L n s lines (end.Lacking m fault) text = Lacking form L n s lines text (stop.BadInput m fault)
+FinishEnds form L n s lines end.Report text = Reported form L n s lines text
+FinishEnds form L n s lines end.Flush text = Finished form L n s lines text
+FinishEnds form L n s lines end.NoMemory text = Reported form L n s lines text ⊎ Answered form L n s lines text
 
-abbrev pub FinishStops : (Standing → Standing → Type 0) → ℕ → Standing → List (List ℕ) → Option (List ℕ) → Option (List ℕ) → EndStop → Type 0
-FinishStops L n s lines written written' stop = (old : List ℕ) → written ≡ Some old → (text : List ℕ) × (written' ≡ Some (old ++ text)) × FinishEnds L n s lines stop text
+abbrev pub FinishStops : Form → (Standing → Standing → Type 0) → ℕ → Standing → List (List ℕ) → Option (List ℕ) → Option (List ℕ) → EndStop → Type 0
+FinishStops form L n s lines written written' stop = (old : List ℕ) → written ≡ Some old → (text : List ℕ) × (written' ≡ Some (old ++ text)) × FinishEnds form L n s lines stop text
 
 -- the report and the flush stop by these
 abbrev pub IsOfReport : EndStop → Type 0
@@ -94,40 +95,40 @@ IsOfReport end.Flush = Unit {0}
 IsOfReport end.NoMemory = Unit {0}
 
 -- what is written for the last lines and the report
-abbrev pub Finishes : (Standing → Standing → Type 0) → ℕ → Standing → List (List ℕ) → Option (List ℕ) → Option (List ℕ) → Type 0
-Finishes L n s lines written written' = (text : List ℕ) × Finished L n s lines text × Grows written written' text
+abbrev pub Finishes : Form → (Standing → Standing → Type 0) → ℕ → Standing → List (List ℕ) → Option (List ℕ) → Option (List ℕ) → Type 0
+Finishes form L n s lines written written' = (text : List ℕ) × Finished form L n s lines text × Grows written written' text
 
 -- Where a run stands that began at the first standing: these bytes were taken, and this rest is left.
-pub record At (first : Standing) (input : List ℕ) (count n : ℕ) (s : Standing) (line : List ℕ) (left written written' : Option (List ℕ)) : Type 0 where
+pub record At (form : Form) (first : Standing) (input : List ℕ) (count n : ℕ) (s : Standing) (line : List ℕ) (left written written' : Option (List ℕ)) : Type 0 where
   pub taken : List ℕ
   pub rest : List ℕ
   pub input_is : input ≡ taken ++ rest
   pub left_is : left ≡ Some rest
   pub count_is : count ≡ length taken
-  pub fed : Fed 1 first [] taken n s line written written'
+  pub fed : Fed form 1 first [] taken n s line written written'
 
 -- the facts that a loop keeps of a source that tells
-abbrev pub Stands : Standing → Option (List ℕ) → ℕ → ℕ → Standing → List ℕ → Option (List ℕ) → Option (List ℕ) → Option (List ℕ) → Type 0
-Stands first from count n s line left w w' = (input : List ℕ) → from ≡ Some input → At first input count n s line left w w'
+abbrev pub Stands : Form → Standing → Option (List ℕ) → ℕ → ℕ → Standing → List ℕ → Option (List ℕ) → Option (List ℕ) → Option (List ℕ) → Type 0
+Stands form first from count n s line left w w' = (input : List ℕ) → from ≡ Some input → At form first input count n s line left w w'
 
 -- at the end of the input, with these lines left
-abbrev pub FinishAs : (Standing → Standing → Type 0) → ℕ → Standing → List (List ℕ) → Status → List ℕ → Type 0
-FinishAs L n s lines Done text = Finished L n s lines text
-FinishAs L n s lines Usage text = ⊥
-FinishAs L n s lines (BadInput m fault) text = Named L n s lines text (stop.BadInput m fault) ⊎ Lacking L n s lines text (stop.BadInput m fault)
-FinishAs L n s lines (Limit m Line) text = ⊥
-FinishAs L n s lines (Limit m Input) text = ⊥
-FinishAs L n s lines (Limit m (Ratio over)) text = Named L n s lines text (stop.Ratio m over)
-FinishAs L n s lines ReadFault text = ⊥
-FinishAs L n s lines WriteFault text = Wrote L n s lines text ⊎ Reported L n s lines text ⊎ Finished L n s lines text
-FinishAs L n s lines KeepFault text = Unkept L n s lines text
-FinishAs L n s lines NoMemory text = (Wrote L n s lines text ⊎ Held L n s lines text ⊎ Unkept L n s lines text) ⊎ Reported L n s lines text
-FinishAs L n s lines BadStore text = ⊥
-FinishAs L n s lines (WrongStore is_empty) text = ⊥
-FinishAs L n s lines NotFound text = ⊥
+abbrev pub FinishAs : Form → (Standing → Standing → Type 0) → ℕ → Standing → List (List ℕ) → Status → List ℕ → Type 0
+FinishAs form L n s lines Done text = Finished form L n s lines text
+FinishAs form L n s lines Usage text = ⊥
+FinishAs form L n s lines (BadInput m fault) text = Named form L n s lines text (stop.BadInput m fault) ⊎ Lacking form L n s lines text (stop.BadInput m fault)
+FinishAs form L n s lines (Limit m Line) text = ⊥
+FinishAs form L n s lines (Limit m Input) text = ⊥
+FinishAs form L n s lines (Limit m (Ratio over)) text = Named form L n s lines text (stop.Ratio m over)
+FinishAs form L n s lines ReadFault text = ⊥
+FinishAs form L n s lines WriteFault text = Wrote form L n s lines text ⊎ Reported form L n s lines text ⊎ Finished form L n s lines text
+FinishAs form L n s lines KeepFault text = Unkept form L n s lines text
+FinishAs form L n s lines NoMemory text = (Wrote form L n s lines text ⊎ Held form L n s lines text ⊎ Unkept form L n s lines text) ⊎ Reported form L n s lines text
+FinishAs form L n s lines BadStore text = ⊥
+FinishAs form L n s lines (WrongStore is_empty) text = ⊥
+FinishAs form L n s lines NotFound text = ⊥
 
-abbrev pub FinishStatus : (Standing → Standing → Type 0) → ℕ → Standing → List (List ℕ) → Option (List ℕ) → Option (List ℕ) → Status → Type 0
-FinishStatus L n s lines written written' status = (old : List ℕ) → written ≡ Some old → (text : List ℕ) × (written' ≡ Some (old ++ text)) × FinishAs L n s lines status text
+abbrev pub FinishStatus : Form → (Standing → Standing → Type 0) → ℕ → Standing → List (List ℕ) → Option (List ℕ) → Option (List ℕ) → Status → Type 0
+FinishStatus form L n s lines written written' status = (old : List ℕ) → written ≡ Some old → (text : List ℕ) × (written' ≡ Some (old ++ text)) × FinishAs form L n s lines status text
 
 -- no end of a line is among the bytes
 abbrev pub HasNoEnd : List ℕ → Type 0

@@ -1,5 +1,6 @@
 -- How runs end that go on from the rows of their keeper: of the commands `resume` and `query`.
 use Rattle.std.specs.Prelude.{◌≡◌, ◌≢◌, ◌⊎◌, ℕ, Bool, true, List, [], Option, Some, None, IfSome}
+use Rattle.base_bech32.specs.declared.form.Form.{Form}
 use Rattle.base_io.specs.Outside.{Rose}
 use Rattle.base_io.specs.Rows.{Pair}
 use Rattle.rule_machine.specs.Report.{report_of}
@@ -47,16 +48,16 @@ on_rows_of p rows = record { first = Some p; rows = rows }
 
 -- A run went on from the rows of its keeper: they are those of a state, where the keeper was honest; and from each state of the same
 -- rows it ended as the machine says from there, with its lines numbered from 1.
-pub record GoesOn (left left' written written' : Option (List ℕ)) (rows rows' : Option (List Pair)) (honest' : Type 0) (leaves' : List Pair → Type 0) (status : Status) : Type 0 where
+pub record GoesOn (form : Form) (left left' written written' : Option (List ℕ)) (rows rows' : Option (List Pair)) (honest' : Type 0) (leaves' : List Pair → Type 0) (status : Status) : Type 0 where
   pub first : State
   pub storable : IsStorable first
   pub loaded : honest' → IfSome rows (λ now. now ≡ rows_of first)
-  pub ends : (p : State) → IsStorable p → HaveSameRows p first → RunEnds (Some p) (LeftIn (on_rows_of p rows) rows' honest' leaves') left left' written written' status
+  pub ends : (p : State) → IsStorable p → HaveSameRows p first → RunEnds form (Some p) (LeftIn (on_rows_of p rows) rows' honest' leaves') left left' written written' status
 
 -- A resume goes on from the rows of its keeper; or no chain comes of them, it takes and writes nothing, and leaves all rows.
-abbrev pub ResumeEnds : Option (List ℕ) → Option (List ℕ) → Option (List ℕ) → Option (List ℕ) → Option (List Pair) → Option (List Pair) → Type 0 → (List Pair → Type 0) → (List Pair → Type 0) → Status → Type 0
-ResumeEnds left left' written written' rows rows' honest' leaves leaves' status =
-    GoesOn left left' written written' rows rows' honest' leaves' status
+abbrev pub ResumeEnds : Form → Option (List ℕ) → Option (List ℕ) → Option (List ℕ) → Option (List ℕ) → Option (List Pair) → Option (List Pair) → Type 0 → (List Pair → Type 0) → (List Pair → Type 0) → Status → Type 0
+ResumeEnds form left left' written written' rows rows' honest' leaves leaves' status =
+    GoesOn form left left' written written' rows rows' honest' leaves' status
     ⊎ (IsUnresumed status rows rows' honest' × Leaves left left' written written' (λ text. text ≡ []) × AreLeft rows rows' honest' leaves leaves')
 
 -- ---- query
@@ -71,17 +72,17 @@ Answers due written written' status = Adds written written' (IsAnswered due stat
 
 -- A run asked the chain of its keeper's rows: they are those of a state, and for each state of the same rows the lines of its report
 -- that answer the question were written.
-pub record Asked (what : Query) (written written' : Option (List ℕ)) (rows rows' : Option (List Pair)) (honest' : Type 0) (status : Status) : Type 0 where
+pub record Asked (form : Form) (what : Query) (written written' : Option (List ℕ)) (rows rows' : Option (List Pair)) (honest' : Type 0) (status : Status) : Type 0 where
   pub first : State
   pub storable : IsStorable first
   pub loaded : AreLoaded rows rows' honest' (λ now. now ≡ rows_of first)
-  pub answered : (p : State) → IsStorable p → HaveSameRows p first → Answers (answered_by (report_of p) what) written written' status
+  pub answered : (p : State) → IsStorable p → HaveSameRows p first → Answers (answered_by form (report_of p) what) written written' status
 
 -- A query leaves all rows. It answers from them; or no chain comes of them, and it writes nothing.
-abbrev pub QueryEnds : Query → Option (List ℕ) → Option (List ℕ) → Option (List Pair) → Option (List Pair) → Type 0 → (List Pair → Type 0) → (List Pair → Type 0) → Status → Type 0
-QueryEnds what written written' rows rows' honest' leaves leaves' status =
+abbrev pub QueryEnds : Form → Query → Option (List ℕ) → Option (List ℕ) → Option (List Pair) → Option (List Pair) → Type 0 → (List Pair → Type 0) → (List Pair → Type 0) → Status → Type 0
+QueryEnds form what written written' rows rows' honest' leaves leaves' status =
     AreLeft rows rows' honest' leaves leaves'
-    × (Asked what written written' rows rows' honest' status ⊎ (IsUnresumed status rows rows' honest' × Adds written written' (λ text. text ≡ [])))
+    × (Asked form what written written' rows rows' honest' status ⊎ (IsUnresumed status rows rows' honest' × Adds written written' (λ text. text ≡ [])))
 
 -- ---- runs that nothing keeps from their end
 
@@ -93,10 +94,10 @@ pub record FitsState (p : State) (rows : Option (List Pair)) (honest' : Type 0) 
   pub quiet : ¬ Rose faults faults'
 
 -- the rows are those of a state from which the input is free of faults
-abbrev pub ResumesCalmly : Option (List ℕ) → Option (List ℕ) → Option (List Pair) → Type 0 → ℕ → ℕ → Type 0
-ResumesCalmly left written rows honest' faults faults' = (p : State) × IsUntroubled (Some p) left written × FitsState p rows honest' faults faults'
+abbrev pub ResumesCalmly : Form → Option (List ℕ) → Option (List ℕ) → Option (List Pair) → Type 0 → ℕ → ℕ → Type 0
+ResumesCalmly form left written rows honest' faults faults' = (p : State) × IsUntroubled form (Some p) left written × FitsState p rows honest' faults faults'
 
 -- the rows are those of a state whose report answers the question
-abbrev pub AsksCalmly : Query → Option (List ℕ) → Option (List Pair) → Type 0 → ℕ → ℕ → Type 0
-AsksCalmly what written rows honest' faults faults' =
-    ((old : List ℕ) × (written ≡ Some old)) × ((p : State) × FitsState p rows honest' faults faults' × ((text : List ℕ) × (answered_by (report_of p) what ≡ Some text)))
+abbrev pub AsksCalmly : Form → Query → Option (List ℕ) → Option (List Pair) → Type 0 → ℕ → ℕ → Type 0
+AsksCalmly form what written rows honest' faults faults' =
+    ((old : List ℕ) × (written ≡ Some old)) × ((p : State) × FitsState p rows honest' faults faults' × ((text : List ℕ) × (answered_by form (report_of p) what ≡ Some text)))

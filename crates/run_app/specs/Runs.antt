@@ -1,5 +1,6 @@
 -- What a run over lines writes, and how it may stop.
 use Rattle.std.specs.Prelude.{◌≡◌, ℕ, ◌+◌, List, [], ◌∷◌, ◌++◌, length, Option, Some, None, Result, Ok, Err}
+use Rattle.base_bech32.specs.declared.form.Form.{Form}
 use Rattle.base_io.specs.Outside.{IsPart}
 use Rattle.run_app.specs.declared.status.LineStop.{LineStop}
 use Rattle.run_app.specs.Machine.{Standing, Answer, line_answer, report_of}
@@ -21,15 +22,15 @@ ran_report (Ok text) = record { text = text; fault = None }
 ran_report (Err fault) = record { text = []; fault = Some fault }
 
 -- what is written for the lines from this number and from where the chain stands, and for the report after them
-abbrev pub ran_from : ℕ → Standing → List (List ℕ) → Ran
-ran_from n s [] = ran_report (report_of s)
-ran_from n s (line ∷ lines) = ran_after (line_answer n s line) (λ next. ran_from (n + 1) next lines)
+abbrev pub ran_from : Form → ℕ → Standing → List (List ℕ) → Ran
+ran_from form n s [] = ran_report (report_of form s)
+ran_from form n s (line ∷ lines) = ran_after (line_answer form n s line) (λ next. ran_from form (n + 1) next lines)
 
 -- each of the lines has an answer; their texts, one after the other, are this text, and this is what they lead to
-abbrev pub AreAnswered : ℕ → Standing → List (List ℕ) → List ℕ → Standing → Type 0
-AreAnswered n s [] text end = (text ≡ []) × (end ≡ s)
-AreAnswered n s (line ∷ lines) text end =
-    (answer : Answer) × (rest : List ℕ) × (line_answer n s line ≡ Ok answer) × (text ≡ answer.text ++ rest) × AreAnswered (n + 1) answer.standing lines rest end
+abbrev pub AreAnswered : Form → ℕ → Standing → List (List ℕ) → List ℕ → Standing → Type 0
+AreAnswered form n s [] text end = (text ≡ []) × (end ≡ s)
+AreAnswered form n s (line ∷ lines) text end =
+    (answer : Answer) × (rest : List ℕ) × (line_answer form n s line ≡ Ok answer) × (text ≡ answer.text ++ rest) × AreAnswered form (n + 1) answer.standing lines rest end
 
 -- ---- what a run leaves
 
@@ -37,18 +38,18 @@ AreAnswered n s (line ∷ lines) text end =
 -- and `t` for those that were to be: it is `s`, unless a commit failed.
 
 -- the first of the lines that has a fault has this one, and the texts of those before it were written
-pub record Named (Left : Standing → Standing → Type 0) (n : ℕ) (s : Standing) (lines : List (List ℕ)) (text : List ℕ) (fault : LineStop) : Type 0 where
+pub record Named (form : Form) (Left : Standing → Standing → Type 0) (n : ℕ) (s : Standing) (lines : List (List ℕ)) (text : List ℕ) (fault : LineStop) : Type 0 where
   pub before : List (List ℕ)
   pub line : List ℕ
   pub after : List (List ℕ)
   pub middle : Standing
   pub lines_are : lines ≡ before ++ line ∷ after
-  pub answered : AreAnswered n s before text middle
-  pub fault_is : line_answer (n + length before) middle line ≡ Err fault
+  pub answered : AreAnswered form n s before text middle
+  pub fault_is : line_answer form (n + length before) middle line ≡ Err fault
   pub left : Left middle middle
 
 -- the texts of the lines before one of the lines were written, and a part of its own
-pub record Wrote (Left : Standing → Standing → Type 0) (n : ℕ) (s : Standing) (lines : List (List ℕ)) (text : List ℕ) : Type 0 where
+pub record Wrote (form : Form) (Left : Standing → Standing → Type 0) (n : ℕ) (s : Standing) (lines : List (List ℕ)) (text : List ℕ) : Type 0 where
   pub before : List (List ℕ)
   pub line : List ℕ
   pub after : List (List ℕ)
@@ -57,62 +58,62 @@ pub record Wrote (Left : Standing → Standing → Type 0) (n : ℕ) (s : Standi
   pub answer : Answer
   pub front : List ℕ
   pub lines_are : lines ≡ before ++ line ∷ after
-  pub answered : AreAnswered n s before done middle
-  pub answer_is : line_answer (n + length before) middle line ≡ Ok answer
+  pub answered : AreAnswered form n s before done middle
+  pub answer_is : line_answer form (n + length before) middle line ≡ Ok answer
   pub part : IsPart front answer.text
   pub text_is : text ≡ done ++ front
   pub left : Left answer.standing answer.standing
 
 -- the texts of the lines before one of the lines were written, and what that line leads to was not committed
-pub record Unkept (Left : Standing → Standing → Type 0) (n : ℕ) (s : Standing) (lines : List (List ℕ)) (text : List ℕ) : Type 0 where
+pub record Unkept (form : Form) (Left : Standing → Standing → Type 0) (n : ℕ) (s : Standing) (lines : List (List ℕ)) (text : List ℕ) : Type 0 where
   pub before : List (List ℕ)
   pub line : List ℕ
   pub after : List (List ℕ)
   pub middle : Standing
   pub answer : Answer
   pub lines_are : lines ≡ before ++ line ∷ after
-  pub answered : AreAnswered n s before text middle
-  pub answer_is : line_answer (n + length before) middle line ≡ Ok answer
+  pub answered : AreAnswered form n s before text middle
+  pub answer_is : line_answer form (n + length before) middle line ≡ Ok answer
   pub left : Left middle answer.standing
 
 -- the texts of the first lines were written
-pub record Held (Left : Standing → Standing → Type 0) (n : ℕ) (s : Standing) (lines : List (List ℕ)) (text : List ℕ) : Type 0 where
+pub record Held (form : Form) (Left : Standing → Standing → Type 0) (n : ℕ) (s : Standing) (lines : List (List ℕ)) (text : List ℕ) : Type 0 where
   pub before : List (List ℕ)
   pub after : List (List ℕ)
   pub middle : Standing
   pub lines_are : lines ≡ before ++ after
-  pub answered : AreAnswered n s before text middle
+  pub answered : AreAnswered form n s before text middle
   pub left : Left middle middle
 
 -- the texts of all lines were written
-pub record Answered (Left : Standing → Standing → Type 0) (n : ℕ) (s : Standing) (lines : List (List ℕ)) (text : List ℕ) : Type 0 where
+pub record Answered (form : Form) (Left : Standing → Standing → Type 0) (n : ℕ) (s : Standing) (lines : List (List ℕ)) (text : List ℕ) : Type 0 where
   pub end : Standing
-  pub answered : AreAnswered n s lines text end
+  pub answered : AreAnswered form n s lines text end
   pub left : Left end end
 
 -- the texts of all lines were written, and a part of the report
-pub record Reported (Left : Standing → Standing → Type 0) (n : ℕ) (s : Standing) (lines : List (List ℕ)) (text : List ℕ) : Type 0 where
+pub record Reported (form : Form) (Left : Standing → Standing → Type 0) (n : ℕ) (s : Standing) (lines : List (List ℕ)) (text : List ℕ) : Type 0 where
   pub end : Standing
   pub done : List ℕ
   pub report : List ℕ
   pub front : List ℕ
-  pub answered : AreAnswered n s lines done end
-  pub report_is : report_of end ≡ Ok report
+  pub answered : AreAnswered form n s lines done end
+  pub report_is : report_of form end ≡ Ok report
   pub part : IsPart front report
   pub text_is : text ≡ done ++ front
   pub left : Left end end
 
 -- the texts of all lines were written, and they lead to no report, by this fault
-pub record Lacking (Left : Standing → Standing → Type 0) (n : ℕ) (s : Standing) (lines : List (List ℕ)) (text : List ℕ) (fault : LineStop) : Type 0 where
+pub record Lacking (form : Form) (Left : Standing → Standing → Type 0) (n : ℕ) (s : Standing) (lines : List (List ℕ)) (text : List ℕ) (fault : LineStop) : Type 0 where
   pub end : Standing
-  pub answered : AreAnswered n s lines text end
-  pub fault_is : report_of end ≡ Err fault
+  pub answered : AreAnswered form n s lines text end
+  pub fault_is : report_of form end ≡ Err fault
   pub left : Left end end
 
 -- the texts of all lines were written, and the whole report
-pub record Finished (Left : Standing → Standing → Type 0) (n : ℕ) (s : Standing) (lines : List (List ℕ)) (text : List ℕ) : Type 0 where
+pub record Finished (form : Form) (Left : Standing → Standing → Type 0) (n : ℕ) (s : Standing) (lines : List (List ℕ)) (text : List ℕ) : Type 0 where
   pub end : Standing
   pub done : List ℕ
-  pub answered : AreAnswered n s lines done end
-  pub ran : ran_from n s lines ≡ record { text = text; fault = None }
+  pub answered : AreAnswered form n s lines done end
+  pub ran : ran_from form n s lines ≡ record { text = text; fault = None }
   pub left : Left end end

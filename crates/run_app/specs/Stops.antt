@@ -1,9 +1,11 @@
 -- What a stop may leave behind a run.
 use Rattle.std.specs.Prelude.{◌≡◌, ◌⊎◌, ℕ, List, [], ◌++◌, Option, Some, None, Ok, IsSome}
+use Rattle.base_bech32.specs.declared.form.Form.{Form}
 use Rattle.run_generated.specs.Writing.{IsFront}
 use Rattle.base_io.specs.Rows.{Pair}
 use Rattle.store_resuming.specs.Restored.{IsStorable, rows_of}
 use Rattle.rule_modules.specs.Chain.{State}
+use Rattle.run_words.specs.declared.mode.Command.{Command}
 use Rattle.run_words.specs.declared.mode.Mode.{Mode}
 use Rattle.run_words.specs.declared.mode.Mode.TheVariants.{Replay, Resume, Query, Tally, Gen, Trial}
 use Rattle.run_app.specs.Kept.{AreRowsOf}
@@ -12,42 +14,46 @@ use Rattle.run_app.specs.Machine.{Standing, report_of}
 use Rattle.run_app.specs.Runs.{AreAnswered}
 
 -- Whatever was written is of these answers, or of them and the report, where they are those of all lines.
-abbrev pub IsOfAnswers : List (List ℕ) → Standing → List ℕ → List ℕ → Type 0
-IsOfAnswers more end answers text = IsFront text answers ⊎ ((more ≡ []) × (report : List ℕ) × (report_of end ≡ Ok report) × IsFront text (answers ++ report))
+abbrev pub IsOfAnswers : Form → List (List ℕ) → Standing → List ℕ → List ℕ → Type 0
+IsOfAnswers form more end answers text = IsFront text answers ⊎ ((more ≡ []) × (report : List ℕ) × (report_of form end ≡ Ok report) × IsFront text (answers ++ report))
 
 -- The rows after a front of the input's lines, each of which has its answer; no line behind it has a byte in what was written.
-pub record AreRowsBehind (first : Standing) (input text : List ℕ) (left : List Pair) : Type 0 where
+pub record AreRowsBehind (form : Form) (first : Standing) (input text : List ℕ) (left : List Pair) : Type 0 where
   pub lines : List (List ℕ)
   pub more : List (List ℕ)
   pub end : Standing
   pub answers : List ℕ
   pub lines_are : lines_of input ≡ lines ++ more
-  pub answered : AreAnswered 1 first lines answers end
+  pub answered : AreAnswered form 1 first lines answers end
   pub kept : AreRowsOf left end
-  pub written : IsOfAnswers more end answers text
+  pub written : IsOfAnswers form more end answers text
 
 -- A stop behind a run that began at the first standing, over this input, and wrote this text: it leaves what it could leave
 -- before, and nothing was written; or the rows after a front of the lines that holds each line of which a byte was written.
-abbrev pub StopLeaves : Standing → (List Pair → Type 0) → (List Pair → Type 0) → List ℕ → List ℕ → Type 0
-StopLeaves first leaves leaves' input text = (left : List Pair) → leaves' left → (leaves left × (text ≡ [])) ⊎ AreRowsBehind first input text left
+abbrev pub StopLeaves : Form → Standing → (List Pair → Type 0) → (List Pair → Type 0) → List ℕ → List ℕ → Type 0
+StopLeaves form first leaves leaves' input text = (left : List Pair) → leaves' left → (leaves left × (text ≡ [])) ⊎ AreRowsBehind form first input text left
 
 -- The same of a run over a source and a sink that tell their bytes, and over a keeper that tells its rows as the run begins, and
 -- is honest to its end.
-abbrev pub RunStops : Standing → Option (List ℕ) → Option (List ℕ) → Option (List ℕ) → Option (List Pair) → Type 0 → (List Pair → Type 0) → (List Pair → Type 0) → Type 0
-RunStops first left written written' rows honest' leaves leaves' =
+abbrev pub RunStops : Form → Standing → Option (List ℕ) → Option (List ℕ) → Option (List ℕ) → Option (List Pair) → Type 0 → (List Pair → Type 0) → (List Pair → Type 0) → Type 0
+RunStops form first left written written' rows honest' leaves leaves' =
     honest' → IsSome rows → (input old : List ℕ) → left ≡ Some input → written ≡ Some old →
-    (text : List ℕ) × (written' ≡ Some (old ++ text)) × StopLeaves first leaves leaves' input text
+    (text : List ℕ) × (written' ≡ Some (old ++ text)) × StopLeaves form first leaves leaves' input text
 
 -- a stop leaves what it could leave before
 abbrev pub LeavesAsBefore : Type 0 → (List Pair → Type 0) → (List Pair → Type 0) → Type 0
 LeavesAsBefore honest' leaves leaves' = honest' → (left : List Pair) → leaves' left → leaves left
 
 -- What a stop leaves behind each command. A replay begins on no rows, a resume on those of a state; nothing else changes any.
-abbrev pub ModeStops : Option Mode → Option (List ℕ) → Option (List ℕ) → Option (List ℕ) → Option (List Pair) → Type 0 → (List Pair → Type 0) → (List Pair → Type 0) → Type 0
-ModeStops None left written written' rows honest' leaves leaves' = LeavesAsBefore honest' leaves leaves'
-ModeStops (Some Replay) left written written' rows honest' leaves leaves' = RunStops None left written written' rows honest' leaves leaves'
-ModeStops (Some Resume) left written written' rows honest' leaves leaves' = (p : State) → IsStorable p → rows ≡ Some (rows_of p) → RunStops (Some p) left written written' rows honest' leaves leaves'
-ModeStops (Some (Query what)) left written written' rows honest' leaves leaves' = LeavesAsBefore honest' leaves leaves'
-ModeStops (Some Tally) left written written' rows honest' leaves leaves' = LeavesAsBefore honest' leaves leaves'
-ModeStops (Some (Gen seed count)) left written written' rows honest' leaves leaves' = LeavesAsBefore honest' leaves leaves'
-ModeStops (Some (Trial seed count)) left written written' rows honest' leaves leaves' = LeavesAsBefore honest' leaves leaves'
+abbrev pub ModeStops : Form → Mode → Option (List ℕ) → Option (List ℕ) → Option (List ℕ) → Option (List Pair) → Type 0 → (List Pair → Type 0) → (List Pair → Type 0) → Type 0
+ModeStops form Replay left written written' rows honest' leaves leaves' = RunStops form None left written written' rows honest' leaves leaves'
+ModeStops form Resume left written written' rows honest' leaves leaves' = (p : State) → IsStorable p → rows ≡ Some (rows_of p) → RunStops form (Some p) left written written' rows honest' leaves leaves'
+ModeStops form (Query what) left written written' rows honest' leaves leaves' = LeavesAsBefore honest' leaves leaves'
+ModeStops form Tally left written written' rows honest' leaves leaves' = LeavesAsBefore honest' leaves leaves'
+ModeStops form (Gen seed count) left written written' rows honest' leaves leaves' = LeavesAsBefore honest' leaves leaves'
+ModeStops form (Trial seed count) left written written' rows honest' leaves leaves' = LeavesAsBefore honest' leaves leaves'
+
+-- the same of what words ask for: where they are no command, a stop leaves what it could leave before
+abbrev pub CommandStops : Option Command → Option (List ℕ) → Option (List ℕ) → Option (List ℕ) → Option (List Pair) → Type 0 → (List Pair → Type 0) → (List Pair → Type 0) → Type 0
+CommandStops None left written written' rows honest' leaves leaves' = LeavesAsBefore honest' leaves leaves'
+CommandStops (Some c) left written written' rows honest' leaves leaves' = ModeStops c.form c.mode left written written' rows honest' leaves leaves'

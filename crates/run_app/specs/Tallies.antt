@@ -1,5 +1,6 @@
 -- How a run ends that counts ballots over the rows of its keeper: of the command `tally`.
 use Rattle.std.specs.Prelude.{◌≡◌, ℕ, ◌≤◌, ◌⊎◌, List, [], ◌++◌, length, Option, Some, Ok}
+use Rattle.base_bech32.specs.declared.form.Form.{Form}
 use Rattle.base_io.specs.Rows.{Pair}
 use Rattle.base_roles.specs.Staked.{Staked}
 use Rattle.line_ballots.specs.Ballots.{text_of_tally}
@@ -20,54 +21,54 @@ text_of_cast s cast = text_of_tally (tally_of s (chosen_in cast))
 
 -- An input was read to its end, each of its lines is a ballot, and the line of their tally is to be
 -- written.
-pub record IsCounted (s : Staked) (taken rest : List ℕ) (status : Status) (text : List ℕ) : Type 0 where
+pub record IsCounted (form : Form) (s : Staked) (taken rest : List ℕ) (status : Status) (text : List ℕ) : Type 0 where
   pub cast : Cast
   pub end : rest ≡ []
   pub short : length taken ≤ most_bytes
-  pub read : cast_in taken ≡ Ok cast
+  pub read : cast_in form taken ≡ Ok cast
   pub written : IsWritten (text_of_cast s cast) status text
 
 -- Or it was not read to its end, or not all of its lines are ballots: then nothing is written.
-abbrev pub CountEnds : Staked → List ℕ → List ℕ → Status → List ℕ → Type 0
-CountEnds s taken rest status text =
-    IsCounted s taken rest status text ⊎ (IsUncounted status taken rest × (text ≡ []))
+abbrev pub CountEnds : Form → Staked → List ℕ → List ℕ → Status → List ℕ → Type 0
+CountEnds form s taken rest status text =
+    IsCounted form s taken rest status text ⊎ (IsUncounted form status taken rest × (text ≡ []))
 
 -- the same of a source and a sink, where these tell their bytes
-abbrev pub Counts : Staked → Option (List ℕ) → Option (List ℕ) → Option (List ℕ) → Option (List ℕ) → Status → Type 0
-Counts s left left' written written' status =
+abbrev pub Counts : Form → Staked → Option (List ℕ) → Option (List ℕ) → Option (List ℕ) → Option (List ℕ) → Status → Type 0
+Counts form s left left' written written' status =
     (input old : List ℕ) → left ≡ Some input → written ≡ Some old →
     (taken : List ℕ) × (rest : List ℕ) × (text : List ℕ) × (input ≡ taken ++ rest)
-    × (left' ≡ Some rest) × (written' ≡ Some (old ++ text)) × CountEnds s taken rest status text
+    × (left' ≡ Some rest) × (written' ≡ Some (old ++ text)) × CountEnds form s taken rest status text
 
 -- A run counted over the rows of its keeper: they are those of a state, and of each state of the
 -- same rows the validators and delegations are counted over.
-pub record Tallied (left left' written written' : Option (List ℕ)) (rows rows' : Option (List Pair)) (honest' : Type 0) (status : Status) : Type 0 where
+pub record Tallied (form : Form) (left left' written written' : Option (List ℕ)) (rows rows' : Option (List Pair)) (honest' : Type 0) (status : Status) : Type 0 where
   pub first : State
   pub storable : IsStorable first
   pub loaded : AreLoaded rows rows' honest' (λ now. now ≡ rows_of first)
   pub counts :
       (p : State) → IsStorable p → HaveSameRows p first
-      → Counts p.mine.staked left left' written written' status
+      → Counts form p.mine.staked left left' written written' status
 
 -- A tally leaves all rows. It counts over them; or no chain comes of them, and it takes and writes
 -- nothing.
-abbrev pub TallyEnds : Option (List ℕ) → Option (List ℕ) → Option (List ℕ) → Option (List ℕ) → Option (List Pair) → Option (List Pair) → Type 0 → (List Pair → Type 0) → (List Pair → Type 0) → Status → Type 0
-TallyEnds left left' written written' rows rows' honest' leaves leaves' status =
+abbrev pub TallyEnds : Form → Option (List ℕ) → Option (List ℕ) → Option (List ℕ) → Option (List ℕ) → Option (List Pair) → Option (List Pair) → Type 0 → (List Pair → Type 0) → (List Pair → Type 0) → Status → Type 0
+TallyEnds form left left' written written' rows rows' honest' leaves leaves' status =
     AreLeft rows rows' honest' leaves leaves'
-    × (Tallied left left' written written' rows rows' honest' status
+    × (Tallied form left left' written written' rows rows' honest' status
     ⊎ (IsUnresumed status rows rows' honest' × Leaves left left' written written' (λ text. text ≡ [])))
 
 -- a source and a sink that tell, and an input within its limit, of which each line is a ballot
-pub record AreBallots (left written : Option (List ℕ)) : Type 0 where
+pub record AreBallots (form : Form) (left written : Option (List ℕ)) : Type 0 where
   pub input : List ℕ
   pub old : List ℕ
   pub cast : Cast
   pub left_is : left ≡ Some input
   pub written_is : written ≡ Some old
-  pub good : cast_in input ≡ Ok cast
+  pub good : cast_in form input ≡ Ok cast
   pub short : length input ≤ most_bytes
 
 -- and the rows are those of a state
-abbrev pub TalliesCalmly : Option (List ℕ) → Option (List ℕ) → Option (List Pair) → Type 0 → ℕ → ℕ → Type 0
-TalliesCalmly left written rows honest' faults faults' =
-    AreBallots left written × ((p : State) × FitsState p rows honest' faults faults')
+abbrev pub TalliesCalmly : Form → Option (List ℕ) → Option (List ℕ) → Option (List Pair) → Type 0 → ℕ → ℕ → Type 0
+TalliesCalmly form left written rows honest' faults faults' =
+    AreBallots form left written × ((p : State) × FitsState p rows honest' faults faults')

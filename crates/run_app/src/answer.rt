@@ -7,6 +7,7 @@ ghost use Rattle.line_report.specs.Asking.{answered_by, ArePendingOf};
 ghost use Rattle.rule_modules.specs.Chain.{State};
 
 use crate::status::EndStop;
+use base_bech32::Form;
 use base_messages::{LineFault, Pending};
 use base_types::Account;
 use chain_whole::{Chain, ChainFault};
@@ -54,12 +55,13 @@ fn pending_asked(alloc: Global, chain: &Chain, what: &Query) -> Result<Vec<Pendi
 /// The report's lines that answer a question; None exactly where no line belongs to its address. Of the pending rewards
 /// only those that are asked for are computed. The only error is `NoMemory`.
 pub(crate) fn answer_text(
+    form: Form,
     alloc: Global,
     chain: &Chain,
     what: &Query,
 ) -> Result<Option<Vec<u8>>, EndStop>
     ensures text { (p : State) → StandsFor chain.now.kept p → IfOk result (λ answer.
-        option_map (λ text. text.items) answer ≡ answered_by (report_of p) what.now) }
+        option_map (λ text. text.items) answer ≡ answered_by form (report_of p) what.now) }
     ensures fault { IfErr result (λ stop. stop ≡ EndStop.NoMemory) }
 {
     states_are_asked();
@@ -69,7 +71,7 @@ pub(crate) fn answer_text(
         Err(_) => unreachable!(),
     };
     let pending = pending_asked(alloc, chain, what)?;
-    match query(alloc, &items, &pending, what) {
+    match query(form, alloc, &items, &pending, what) {
         Ok(answer) => Ok(answer),
         Err(LineFault::NoMemory) => Err(EndStop::NoMemory),
         Err(_) => unreachable!(),

@@ -13,6 +13,7 @@ use crate::feeding::{after, end_of_line, extend};
 use crate::line::{LONGEST, not_read};
 use crate::running::{MOST, PIECE, room};
 use crate::status::{LimitKind, LineStop, Status, status_of};
+use base_bech32::Form;
 use base_io::{Source, read_at_most};
 use json::Scratch;
 use line_ballots::read_ballot;
@@ -31,6 +32,7 @@ pub(crate) struct Balloting {
 
 /// Casts the ballot that the line of this number spells.
 fn cast_line(
+    form: Form,
     alloc: Global,
     scratch: &mut Scratch,
     ballots: &mut Ballots,
@@ -38,10 +40,10 @@ fn cast_line(
     line: &[u8],
 ) -> Result<(), LineStop>
     requires short { length line.now ≤ longest }
-    ensures cast { OnOk result (IsCast (ballot_at number line.now) ballots.old ballots.new) }
-    ensures stop { IfErr result (λ stop. IsNone stop (ballot_at number line.now)) }
+    ensures cast { OnOk result (IsCast (ballot_at form number line.now) ballots.old ballots.new) }
+    ensures stop { IfErr result (λ stop. IsNone stop (ballot_at form number line.now)) }
 {
-    let ballot = match read_ballot(alloc, scratch, line) {
+    let ballot = match read_ballot(form, alloc, scratch, line) {
         Ok(ballot) => ballot,
         Err(fault) => return Err(not_read(number, fault)),
     };
@@ -52,22 +54,28 @@ fn cast_line(
 }
 
 /// Takes the bytes up to the end of a line, and that end.
-fn end_ballot(alloc: Global, balloting: &mut Balloting, bytes: &[u8]) -> Result<(), LineStop>
+fn end_ballot(
+    form: Form,
+    alloc: Global,
+    balloting: &mut Balloting,
+    bytes: &[u8],
+) -> Result<(), LineStop>
     requires number { balloting.old.number < 2 ^ 63 }
     requires short { length balloting.old.line.items ≤ longest }
     requires before { HasNoEnd bytes.now }
-    ensures taken { (taken : List ℕ) → AreTaken taken balloting.old.number
+    ensures taken { (taken : List ℕ) → AreTaken form taken balloting.old.number
         balloting.old.line.items balloting.old.ballots
-        → OnOk result (AreTaken (taken ++ (bytes.now ++ 10 ∷ [])) balloting.new.number
+        → OnOk result (AreTaken form (taken ++ (bytes.now ++ 10 ∷ [])) balloting.new.number
         balloting.new.line.items balloting.new.ballots) }
-    ensures stop { (taken : List ℕ) → AreTaken taken balloting.old.number
+    ensures stop { (taken : List ℕ) → AreTaken form taken balloting.old.number
         balloting.old.line.items balloting.old.ballots
-        → IfErr result (λ stop. StopsIn stop (taken ++ (bytes.now ++ 10 ∷ []))) }
+        → IfErr result (λ stop. StopsIn form stop (taken ++ (bytes.now ++ 10 ∷ []))) }
 {
     if let Err(stop) = extend(balloting.number, &mut balloting.line, bytes) {
         return Err(stop);
     }
     if let Err(stop) = cast_line(
+        form,
         alloc,
         &mut balloting.scratch,
         &mut balloting.ballots,
@@ -83,21 +91,26 @@ fn end_ballot(alloc: Global, balloting: &mut Balloting, bytes: &[u8]) -> Result<
 
 /// Takes the next bytes of the source: the ballot of each line that ends in them is cast, and what is behind the last end
 /// begins the next.
-fn feed_ballots(alloc: Global, balloting: &mut Balloting, piece: &[u8]) -> Result<(), LineStop>
+fn feed_ballots(
+    form: Form,
+    alloc: Global,
+    balloting: &mut Balloting,
+    piece: &[u8],
+) -> Result<(), LineStop>
     requires number { balloting.old.number + length piece.now < 2 ^ 63 }
-    requires taken { (taken : List ℕ) × AreTaken taken balloting.old.number
+    requires taken { (taken : List ℕ) × AreTaken form taken balloting.old.number
         balloting.old.line.items balloting.old.ballots }
-    ensures taken { (taken : List ℕ) → AreTaken taken balloting.old.number
+    ensures taken { (taken : List ℕ) → AreTaken form taken balloting.old.number
         balloting.old.line.items balloting.old.ballots
-        → OnOk result (AreTaken (taken ++ piece.now) balloting.new.number
+        → OnOk result (AreTaken form (taken ++ piece.now) balloting.new.number
         balloting.new.line.items balloting.new.ballots) }
-    ensures stop { (taken : List ℕ) → AreTaken taken balloting.old.number
+    ensures stop { (taken : List ℕ) → AreTaken form taken balloting.old.number
         balloting.old.line.items balloting.old.ballots
-        → IfErr result (λ stop. StopsIn stop (taken ++ piece.now)) }
+        → IfErr result (λ stop. StopsIn form stop (taken ++ piece.now)) }
 {
     let mut rest = piece;
     while let Some(end) = end_of_line(rest) {
-        if let Err(stop) = end_ballot(alloc, balloting, &rest[..end]) {
+        if let Err(stop) = end_ballot(form, alloc, balloting, &rest[..end]) {
             return Err(stop);
         }
         rest = after(rest, end + 1);
@@ -107,14 +120,14 @@ fn feed_ballots(alloc: Global, balloting: &mut Balloting, piece: &[u8]) -> Resul
 
 /// The input has ended: the ballot of a last line that came without its end is cast, where there is one. The error is how
 /// the run ends whose last line is no ballot.
-fn last_ballot(alloc: Global, balloting: &mut Balloting) -> Result<(), Status>
+fn last_ballot(form: Form, alloc: Global, balloting: &mut Balloting) -> Result<(), Status>
     requires short { length balloting.old.line.items ≤ longest }
-    ensures kept { (taken : List ℕ) → AreTaken taken balloting.old.number
+    ensures kept { (taken : List ℕ) → AreTaken form taken balloting.old.number
         balloting.old.line.items balloting.old.ballots
-        → OnOk result (AreKept (lines_of taken) balloting.new.ballots) }
+        → OnOk result (AreKept form (lines_of taken) balloting.new.ballots) }
     ensures uncounted { (taken : List ℕ) → length taken ≤ most_bytes
-        → AreTaken taken balloting.old.number balloting.old.line.items balloting.old.ballots
-        → IfErr result (λ status. IsUncounted status taken []) }
+        → AreTaken form taken balloting.old.number balloting.old.line.items balloting.old.ballots
+        → IfErr result (λ status. IsUncounted form status taken []) }
     ensures of_ballots { IfErr result IsOfBallots }
     ensures read { IsErrOf result Status.ReadFault → ⊥ }
 {
@@ -122,6 +135,7 @@ fn last_ballot(alloc: Global, balloting: &mut Balloting) -> Result<(), Status>
         return Ok(());
     }
     match cast_line(
+        form,
         alloc,
         &mut balloting.scratch,
         &mut balloting.ballots,
@@ -139,6 +153,7 @@ fn last_ballot(alloc: Global, balloting: &mut Balloting) -> Result<(), Status>
 /// The error is how a run ends at the first line that is no ballot, at a limit, where the source failed, or where memory
 /// is wanting.
 pub(crate) fn read_ballots<S: Source>(
+    form: Form,
     alloc: Global,
     source: &mut S,
     balloting: &mut Balloting,
@@ -147,8 +162,8 @@ pub(crate) fn read_ballots<S: Source>(
     requires line { balloting.old.line.items ≡ [] }
     requires none { balloting.old.ballots ≡ [] }
     ensures kept { OnOk result
-        (AllAreKept (S.left source.old) (S.left source.new) balloting.new.ballots) }
-    ensures uncounted { IfErr result (AreUncounted (S.left source.old) (S.left source.new)) }
+        (AllAreKept form (S.left source.old) (S.left source.new) balloting.new.ballots) }
+    ensures uncounted { IfErr result (AreUncounted form (S.left source.old) (S.left source.new)) }
     ensures of_ballots { IfErr result IsOfBallots }
     ensures cause { IsErrOf result Status.ReadFault
         → Rose (S.faults source.old) (S.faults source.new) }
@@ -159,9 +174,9 @@ pub(crate) fn read_ballots<S: Source>(
     while taken < MOST {
         match read_at_most(source, &mut piece, room(taken)) {
             Err(_) => return Err(Status::ReadFault),
-            Ok(0) => return last_ballot(alloc, balloting),
+            Ok(0) => return last_ballot(form, alloc, balloting),
             Ok(n) => {
-                if let Err(stop) = feed_ballots(alloc, balloting, &piece[..n]) {
+                if let Err(stop) = feed_ballots(form, alloc, balloting, &piece[..n]) {
                     return Err(status_of(stop));
                 }
                 taken += n as u64;
@@ -170,7 +185,7 @@ pub(crate) fn read_ballots<S: Source>(
     }
     match read_at_most(source, &mut piece, 1) {
         Err(_) => Err(Status::ReadFault),
-        Ok(0) => last_ballot(alloc, balloting),
+        Ok(0) => last_ballot(form, alloc, balloting),
         Ok(_) => {
             if piece[0] != b'\n' && balloting.line.len() == LONGEST {
                 Err(Status::Limit(balloting.number, LimitKind::Line))

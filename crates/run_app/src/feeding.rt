@@ -11,6 +11,7 @@ ghost use Rattle.store_commits.specs.Held.{TakesDistinct};
 
 use crate::line::{Buffers, LONGEST, take_line};
 use crate::status::LineStop;
+use base_bech32::Form;
 use base_io::{Keeper, Sink};
 use chain_whole::Chain;
 use memchr::memchr;
@@ -61,6 +62,7 @@ pub(crate) fn extend(number: u64, line: &mut Vec<u8>, bytes: &[u8]) -> Result<()
 
 /// Takes the bytes up to the end of a line, and that end.
 fn end_line<K: Sink, D: Keeper>(
+    form: Form,
     alloc: Global,
     buffers: &mut Buffers,
     sink: &mut K,
@@ -77,13 +79,13 @@ fn end_line<K: Sink, D: Keeper>(
     ensures fed { (b : Began) → (s : Standing) → Keeping b progress.old.chain
         (D.rows keeper.old) (D.is_honest keeper.old) (D.may_leave keeper.old) s
         → OnOk result ((next : Standing)
-        × Fed progress.old.number s progress.old.line.items (bytes.now ++ 10 ∷ [])
+        × Fed form progress.old.number s progress.old.line.items (bytes.now ++ 10 ∷ [])
         progress.new.number next progress.new.line.items (K.written sink.old) (K.written sink.new)
         × Keeping b progress.new.chain
         (D.rows keeper.new) (D.is_honest keeper.new) (D.may_leave keeper.new) next) }
     ensures stops { (b : Began) → (s : Standing) → Keeping b progress.old.chain
         (D.rows keeper.old) (D.is_honest keeper.old) (D.may_leave keeper.old) s
-        → IfErr result (PartStops
+        → IfErr result (PartStops form
         (LeftIn b (D.rows keeper.new) (D.is_honest keeper.new) (D.may_leave keeper.new))
         progress.old.number s (lines_after progress.old.line.items (bytes.now ++ 10 ∷ []))
         (whole_from progress.old.line.items (bytes.now ++ 10 ∷ []))
@@ -104,6 +106,7 @@ fn end_line<K: Sink, D: Keeper>(
         return Err(stop);
     }
     if let Err(stop) = take_line(
+        form,
         alloc,
         buffers,
         sink,
@@ -127,6 +130,7 @@ fn end_line<K: Sink, D: Keeper>(
 /// no end yet. The texts of the lines before it were written. `Keep` comes only where the keeper's count of faults
 /// rose, and `Write` only where the sink's did.
 pub fn feed<K: Sink, D: Keeper>(
+    form: Form,
     alloc: Global,
     buffers: &mut Buffers,
     sink: &mut K,
@@ -142,13 +146,13 @@ pub fn feed<K: Sink, D: Keeper>(
     ensures fed { (b : Began) → (s : Standing) → Keeping b progress.old.chain
         (D.rows keeper.old) (D.is_honest keeper.old) (D.may_leave keeper.old) s
         → OnOk result ((next : Standing)
-        × Fed progress.old.number s progress.old.line.items piece.now
+        × Fed form progress.old.number s progress.old.line.items piece.now
         progress.new.number next progress.new.line.items (K.written sink.old) (K.written sink.new)
         × Keeping b progress.new.chain
         (D.rows keeper.new) (D.is_honest keeper.new) (D.may_leave keeper.new) next) }
     ensures stops { (b : Began) → (s : Standing) → Keeping b progress.old.chain
         (D.rows keeper.old) (D.is_honest keeper.old) (D.may_leave keeper.old) s
-        → IfErr result (PartStops
+        → IfErr result (PartStops form
         (LeftIn b (D.rows keeper.new) (D.is_honest keeper.new) (D.may_leave keeper.new))
         progress.old.number s (lines_after progress.old.line.items piece.now)
         (whole_from progress.old.line.items piece.now) (K.written sink.old) (K.written sink.new)) }
@@ -166,7 +170,7 @@ pub fn feed<K: Sink, D: Keeper>(
 {
     let mut rest = piece;
     while let Some(end) = end_of_line(rest) {
-        if let Err(stop) = end_line(alloc, buffers, sink, keeper, progress, &rest[..end]) {
+        if let Err(stop) = end_line(form, alloc, buffers, sink, keeper, progress, &rest[..end]) {
             return Err(stop);
         }
         rest = after(rest, end + 1);

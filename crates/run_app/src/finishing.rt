@@ -11,18 +11,24 @@ ghost use Rattle.run_app.specs.Parts.{EndLongOnly, IsOfReport, FinishStops, Fini
 use crate::line::{Buffers, take_line};
 use crate::report::report_text;
 use crate::status::{EndStop, InputFault, LineStop};
+use base_bech32::Form;
 use base_io::{Keeper, Sink, SinkFault, write_all};
 use chain_whole::Chain;
 use std::alloc::Global;
 
 /// Writes the report, and flushes.
 #[tactic(auto, unfolding(crate::specs::Machine::report_of))]
-fn report<K: Sink>(alloc: Global, sink: &mut K, chain: &Option<Chain>) -> Result<(), EndStop>
+fn report<K: Sink>(
+    form: Form,
+    alloc: Global,
+    sink: &mut K,
+    chain: &Option<Chain>,
+) -> Result<(), EndStop>
     ensures clean { OnOk result (K.clean sink.new ≡ true) }
     ensures written { (s : Standing) → StandsAt chain.now s → OnOk result
-        (Finishes (λ _ _. Unit {0}) 1 s [] (K.written sink.old) (K.written sink.new)) }
+        (Finishes form (λ _ _. Unit {0}) 1 s [] (K.written sink.old) (K.written sink.new)) }
     ensures stops { (s : Standing) → StandsAt chain.now s → IfErr result
-        (FinishStops (λ _ _. Unit {0}) 1 s [] (K.written sink.old) (K.written sink.new)) }
+        (FinishStops form (λ _ _. Unit {0}) 1 s [] (K.written sink.old) (K.written sink.new)) }
     ensures no_line { IfErr result IsOfReport }
     ensures later { K.faults sink.old ≤ K.faults sink.new }
     ensures report_cause { IsErrOf result EndStop.Report
@@ -34,7 +40,7 @@ fn report<K: Sink>(alloc: Global, sink: &mut K, chain: &Option<Chain>) -> Result
     let Some(chain) = chain else {
         return Err(EndStop::Lacking(1, InputFault::Missing));
     };
-    let Ok(text) = report_text(alloc, chain) else {
+    let Ok(text) = report_text(form, alloc, chain) else {
         return Err(EndStop::NoMemory);
     };
     match write_all(sink, &text) {
@@ -56,6 +62,7 @@ fn report<K: Sink>(alloc: Global, sink: &mut K, chain: &Option<Chain>) -> Result
 /// nor a line, so that the genesis is missing. `Report` and `Flush`, where the sink failed at the report or at the
 /// flush, and only where its count of faults rose. `NoMemory`, where memory was wanting for the report.
 pub fn finish<K: Sink, D: Keeper>(
+    form: Form,
     alloc: Global,
     buffers: &mut Buffers,
     sink: &mut K,
@@ -70,12 +77,12 @@ pub fn finish<K: Sink, D: Keeper>(
     ensures clean { OnOk result (K.clean sink.new ≡ true) }
     ensures done { (b : Began) → (s : Standing) → Keeping b chain.old
         (D.rows keeper.old) (D.is_honest keeper.old) (D.may_leave keeper.old) s
-        → OnOk result (Finishes
+        → OnOk result (Finishes form
         (LeftIn b (D.rows keeper.new) (D.is_honest keeper.new) (D.may_leave keeper.new))
         number s (last_line line.now) (K.written sink.old) (K.written sink.new)) }
     ensures stops { (b : Began) → (s : Standing) → Keeping b chain.old
         (D.rows keeper.old) (D.is_honest keeper.old) (D.may_leave keeper.old) s
-        → IfErr result (FinishStops
+        → IfErr result (FinishStops form
         (LeftIn b (D.rows keeper.new) (D.is_honest keeper.new) (D.may_leave keeper.new))
         number s (last_line line.now) (K.written sink.old) (K.written sink.new)) }
     ensures long { IfErr result (λ stop. EndLongOnly stop line.now) }
@@ -94,10 +101,10 @@ pub fn finish<K: Sink, D: Keeper>(
     ensures keep_quiet { UnlessKeepAtEnd result (D.faults keeper.new ≡ D.faults keeper.old) }
 {
     if line.is_empty() {
-        return report(alloc, sink, chain);
+        return report(form, alloc, sink, chain);
     }
-    if let Err(stop) = take_line(alloc, buffers, sink, keeper, number, chain, line) {
+    if let Err(stop) = take_line(form, alloc, buffers, sink, keeper, number, chain, line) {
         return Err(EndStop::Line(stop));
     }
-    report(alloc, sink, chain)
+    report(form, alloc, sink, chain)
 }

@@ -10,6 +10,7 @@ ghost use Rattle.run_app.specs.Writes.{Writes, status_of_sink};
 
 use crate::line::not_applied;
 use crate::status::{Status, status_of};
+use base_bech32::Form;
 use base_io::{Sink, SinkFault};
 use run_generated::{write_input, write_text};
 use run_trial::{TrialFault, try_input};
@@ -26,10 +27,16 @@ pub(crate) fn status_of_sink(written: Result<(), SinkFault>) -> Status
     }
 }
 
-/// The command `gen`: writes the generated input, a line at a time.
-pub(crate) fn write_generated<K: Sink>(alloc: Global, sink: &mut K, seed: u64, count: u32) -> Status
+/// The command `gen`: writes the generated input, with addresses in this form, a line at a time.
+pub(crate) fn write_generated<K: Sink>(
+    form: Form,
+    alloc: Global,
+    sink: &mut K,
+    seed: u64,
+    count: u32,
+) -> Status
     requires most { count ≤ 100_000 }
-    ensures ends { Writes (generated_text seed count) (K.written sink.old) (K.written sink.new)
+    ensures ends { Writes (generated_text form seed count) (K.written sink.old) (K.written sink.new)
         result }
     ensures busy { result ≡ Status.Usage → ⊥ }
     ensures read { result ≡ Status.ReadFault → ⊥ }
@@ -39,7 +46,7 @@ pub(crate) fn write_generated<K: Sink>(alloc: Global, sink: &mut K, seed: u64, c
         → Rose (K.faults sink.old) (K.faults sink.new) }
     ensures write_quiet { UnlessWriteFault result (K.faults sink.new ≡ K.faults sink.old) }
 {
-    status_of_sink(write_input(alloc, sink, seed, count))
+    status_of_sink(write_input(form, alloc, sink, seed, count))
 }
 
 /// The command `trial`: applies the generated input to a chain, and writes its summary.

@@ -15,6 +15,7 @@ ghost use Rattle.base_io.specs.declared.keeper.Change.{Change};
 ghost use Rattle.store_commits.specs.Held.{TakesDistinct};
 
 use crate::status::{InputFault, LineStop};
+use base_bech32::Form;
 use base_io::{KeepFault, Keeper, Sink, SinkFault, write_all};
 use base_messages::{BlockFault, LineFault};
 use chain_whole::{Chain, ChainFault};
@@ -69,17 +70,23 @@ pub struct Buffers {
     pub text: Vec<u8>,
 }
 
-/// The answer to the first line: the chain that it starts, and its text. A genesis may be far longer than a block, so it has
-/// a scratch of its own.
-fn begin(alloc: Global, text: &mut Vec<u8>, number: u64, line: &[u8]) -> Result<Chain, LineStop>
+/// The answer to the first line, whose addresses have this form: the chain that it starts, and its text. A genesis may be
+/// far longer than a block, so it has a scratch of its own.
+fn begin(
+    form: Form,
+    alloc: Global,
+    text: &mut Vec<u8>,
+    number: u64,
+    line: &[u8],
+) -> Result<Chain, LineStop>
     requires { text.old.items ≡ [] }
-    ensures ok { IfOk result (λ chain. AnswersTo (genesis_answer number (genesis_of line.now))
+    ensures ok { IfOk result (λ chain. AnswersTo (genesis_answer number (genesis_of form line.now))
         text.new.items (StandsAt (Some chain))) }
     ensures settled { IfOk result (λ chain. chain.settled ≡ chain.kept) }
     ensures err { IfErr result
-        (λ stop. IsFault stop (genesis_answer number (genesis_of line.now))) }
+        (λ stop. IsFault stop (genesis_answer number (genesis_of form line.now))) }
 {
-    let genesis = match read_genesis(alloc, &mut Scratch::new(alloc), line) {
+    let genesis = match read_genesis(form, alloc, &mut Scratch::new(alloc), line) {
         Ok(genesis) => genesis,
         Err(fault) => return Err(not_read(number, fault)),
     };
@@ -102,6 +109,7 @@ fn begin(alloc: Global, text: &mut Vec<u8>, number: u64, line: &[u8]) -> Result<
 /// The answer to a line after the genesis, which leads the chain on.
 #[tactic(auto, using(crate::proofs::ReadLemmas::height_is_low))]
 fn advance(
+    form: Form,
     alloc: Global,
     buffers: &mut Buffers,
     number: u64,
@@ -110,14 +118,14 @@ fn advance(
 ) -> Result<(), LineStop>
     requires { buffers.old.text.items ≡ [] }
     ensures ok { (p : State) → StandsFor chain.old.kept p
-        → OnOk result (AnswersTo (block_answer number p (block_of line.now))
+        → OnOk result (AnswersTo (block_answer form number p (block_of form line.now))
         buffers.new.text.items (StandsAt (Some chain.new))) }
     ensures settled { OnOk result (chain.new.settled ≡ chain.old.settled) }
     ensures err { (p : State) → StandsFor chain.old.kept p
-        → IfErr result (λ stop. IsFault stop (block_answer number p (block_of line.now))) }
+        → IfErr result (λ stop. IsFault stop (block_answer form number p (block_of form line.now))) }
     ensures of_line { IfErr result (λ stop. IsOfLine stop line.now) }
 {
-    let block = match read_block(alloc, &mut buffers.scratch, line) {
+    let block = match read_block(form, alloc, &mut buffers.scratch, line) {
         Ok(block) => block,
         Err(fault) => return Err(not_read(number, fault)),
     };
@@ -125,7 +133,7 @@ fn advance(
         Ok(report) => report,
         Err(fault) => return Err(not_applied(number, fault)),
     };
-    match push_lines_of_block(alloc, &mut buffers.text, &report) {
+    match push_lines_of_block(form, alloc, &mut buffers.text, &report) {
         Ok(()) => Ok(()),
         Err(LineFault::NoMemory) => Err(LineStop::NoMemory),
         Err(_) => unreachable!(),
@@ -144,6 +152,7 @@ fn not_kept(fault: KeepFault) -> LineStop
 
 /// The answer to the first line, once the rows of the chain that it starts are committed.
 fn start<D: Keeper>(
+    form: Form,
     alloc: Global,
     text: &mut Vec<u8>,
     keeper: &mut D,
@@ -156,14 +165,14 @@ fn start<D: Keeper>(
         (D.rows keeper.old) (D.is_honest keeper.old) (D.may_leave keeper.old) None }
     ensures ok { (b : Began) → Keeping b None
         (D.rows keeper.old) (D.is_honest keeper.old) (D.may_leave keeper.old) None
-        → IfOk result (λ chain. AnswersTo (genesis_answer number (genesis_of line.now))
+        → IfOk result (λ chain. AnswersTo (genesis_answer number (genesis_of form line.now))
         text.new.items (Keeping b (Some chain)
         (D.rows keeper.new) (D.is_honest keeper.new) (D.may_leave keeper.new))) }
     ensures err { (b : Began) → Keeping b None
         (D.rows keeper.old) (D.is_honest keeper.old) (D.may_leave keeper.old) None
         → IfErr result (λ stop. NotAnswered
         (LeftIn b (D.rows keeper.new) (D.is_honest keeper.new) (D.may_leave keeper.new))
-        stop None (genesis_answer number (genesis_of line.now))) }
+        stop None (genesis_answer number (genesis_of form line.now))) }
     ensures honest { D.is_honest keeper.new → D.is_honest keeper.old }
     ensures takes { (changes : List Change) → D.takes keeper.old changes
         → D.takes keeper.new changes }
@@ -172,7 +181,7 @@ fn start<D: Keeper>(
         → Rose (D.faults keeper.old) (D.faults keeper.new) }
     ensures quiet { UnlessKeep result (D.faults keeper.new ≡ D.faults keeper.old) }
 {
-    let chain = match begin(alloc, text, number, line) {
+    let chain = match begin(form, alloc, text, number, line) {
         Ok(chain) => chain,
         Err(stop) => return Err(stop),
     };
@@ -184,6 +193,7 @@ fn start<D: Keeper>(
 
 /// The answer to a line after the genesis, once the rows that it changes are committed.
 fn go_on<D: Keeper>(
+    form: Form,
     alloc: Global,
     buffers: &mut Buffers,
     keeper: &mut D,
@@ -197,14 +207,14 @@ fn go_on<D: Keeper>(
         (D.rows keeper.old) (D.is_honest keeper.old) (D.may_leave keeper.old) (Some p) }
     ensures ok { (b : Began) → (p : State) → Keeping b (Some chain.old)
         (D.rows keeper.old) (D.is_honest keeper.old) (D.may_leave keeper.old) (Some p)
-        → OnOk result (AnswersTo (block_answer number p (block_of line.now))
+        → OnOk result (AnswersTo (block_answer form number p (block_of form line.now))
         buffers.new.text.items (Keeping b (Some chain.new)
         (D.rows keeper.new) (D.is_honest keeper.new) (D.may_leave keeper.new))) }
     ensures err { (b : Began) → (p : State) → Keeping b (Some chain.old)
         (D.rows keeper.old) (D.is_honest keeper.old) (D.may_leave keeper.old) (Some p)
         → IfErr result (λ stop. NotAnswered
         (LeftIn b (D.rows keeper.new) (D.is_honest keeper.new) (D.may_leave keeper.new))
-        stop (Some p) (block_answer number p (block_of line.now))) }
+        stop (Some p) (block_answer form number p (block_of form line.now))) }
     ensures of_line { IfErr result (λ stop. IsOfLine stop line.now) }
     ensures honest { D.is_honest keeper.new → D.is_honest keeper.old }
     ensures takes { (changes : List Change) → D.takes keeper.old changes
@@ -214,7 +224,7 @@ fn go_on<D: Keeper>(
         → Rose (D.faults keeper.old) (D.faults keeper.new) }
     ensures quiet { UnlessKeep result (D.faults keeper.new ≡ D.faults keeper.old) }
 {
-    if let Err(stop) = advance(alloc, buffers, number, chain, line) {
+    if let Err(stop) = advance(form, alloc, buffers, number, chain, line) {
         return Err(stop);
     }
     match commit_next(alloc, keeper, chain) {
@@ -227,6 +237,7 @@ fn go_on<D: Keeper>(
 /// is committed.
 #[tactic(auto, unfolding(crate::specs::Machine::line_answer))]
 fn answer<D: Keeper>(
+    form: Form,
     alloc: Global,
     buffers: &mut Buffers,
     keeper: &mut D,
@@ -239,14 +250,14 @@ fn answer<D: Keeper>(
         (D.rows keeper.old) (D.is_honest keeper.old) (D.may_leave keeper.old) s }
     ensures ok { (b : Began) → (s : Standing) → Keeping b chain.old
         (D.rows keeper.old) (D.is_honest keeper.old) (D.may_leave keeper.old) s
-        → OnOk result (AnswersTo (line_answer number s line.now) buffers.new.text.items
+        → OnOk result (AnswersTo (line_answer form number s line.now) buffers.new.text.items
         (Keeping b chain.new
         (D.rows keeper.new) (D.is_honest keeper.new) (D.may_leave keeper.new))) }
     ensures err { (b : Began) → (s : Standing) → Keeping b chain.old
         (D.rows keeper.old) (D.is_honest keeper.old) (D.may_leave keeper.old) s
         → IfErr result (λ stop. NotAnswered
         (LeftIn b (D.rows keeper.new) (D.is_honest keeper.new) (D.may_leave keeper.new))
-        stop s (line_answer number s line.now)) }
+        stop s (line_answer form number s line.now)) }
     ensures of_line { IfErr result (λ stop. IsOfLine stop line.now) }
     ensures honest { D.is_honest keeper.new → D.is_honest keeper.old }
     ensures takes { (changes : List Change) → D.takes keeper.old changes
@@ -261,9 +272,9 @@ fn answer<D: Keeper>(
     }
     buffers.text.clear();
     match chain {
-        Some(chain) => go_on(alloc, buffers, keeper, number, chain, line),
+        Some(chain) => go_on(form, alloc, buffers, keeper, number, chain, line),
         None => {
-            let first = match start(alloc, &mut buffers.text, keeper, number, line) {
+            let first = match start(form, alloc, &mut buffers.text, keeper, number, line) {
                 Ok(first) => first,
                 Err(stop) => return Err(stop),
             };
@@ -281,6 +292,7 @@ fn answer<D: Keeper>(
 /// where the sink's did; and `NoMemory`. Nothing was written then, but for `Write` and `NoMemory`, at which a front of
 /// the line's text may have been.
 pub fn take_line<K: Sink, D: Keeper>(
+    form: Form,
     alloc: Global,
     buffers: &mut Buffers,
     sink: &mut K,
@@ -295,12 +307,12 @@ pub fn take_line<K: Sink, D: Keeper>(
     ensures took { (b : Began) → (s : Standing) → Keeping b chain.old
         (D.rows keeper.old) (D.is_honest keeper.old) (D.may_leave keeper.old) s
         → OnOk result ((next : Standing)
-        × Took number s line.now next (K.written sink.old) (K.written sink.new)
+        × Took form number s line.now next (K.written sink.old) (K.written sink.new)
         × Keeping b chain.new
         (D.rows keeper.new) (D.is_honest keeper.new) (D.may_leave keeper.new) next) }
     ensures stops { (b : Began) → (s : Standing) → Keeping b chain.old
         (D.rows keeper.old) (D.is_honest keeper.old) (D.may_leave keeper.old) s
-        → IfErr result (PartStops
+        → IfErr result (PartStops form
         (LeftIn b (D.rows keeper.new) (D.is_honest keeper.new) (D.may_leave keeper.new))
         number s (λ (more : List (List ℕ)). line.now ∷ more) (line.now ∷ [])
         (K.written sink.old) (K.written sink.new)) }
@@ -317,7 +329,7 @@ pub fn take_line<K: Sink, D: Keeper>(
         → Rose (D.faults keeper.old) (D.faults keeper.new) }
     ensures keep_quiet { UnlessKeep result (D.faults keeper.new ≡ D.faults keeper.old) }
 {
-    if let Err(stop) = answer(alloc, buffers, keeper, number, chain, line) {
+    if let Err(stop) = answer(form, alloc, buffers, keeper, number, chain, line) {
         return Err(stop);
     }
     match write_all(sink, &buffers.text) {

@@ -6,16 +6,17 @@ ghost use Rattle.chain_modules.specs.Kept.{StandsFor};
 ghost use Rattle.rule_modules.specs.Chain.{State};
 
 use crate::status::EndStop;
+use base_bech32::Form;
 use base_messages::LineFault;
 use chain_whole::{Chain, ChainFault};
 use line_report::{report, states_are_reported};
 use std::alloc::Global;
 
-/// The report of a chain, with its pending rewards. The only error is `NoMemory`.
+/// The report of a chain, with its pending rewards, and with addresses in this form. The only error is `NoMemory`.
 #[tactic(auto, unfolding(crate::specs::Machine::report_of))]
-pub fn report_text(alloc: Global, chain: &Chain) -> Result<Vec<u8>, EndStop>
+pub fn report_text(form: Form, alloc: Global, chain: &Chain) -> Result<Vec<u8>, EndStop>
     ensures text { (p : State) → StandsFor chain.now.kept p
-        → IfOk result (λ text. report_of (Some p) ≡ Ok text.items) }
+        → IfOk result (λ text. report_of form (Some p) ≡ Ok text.items) }
     ensures fault { IfErr result (λ stop. stop ≡ EndStop.NoMemory) }
 {
     states_are_reported();
@@ -29,7 +30,7 @@ pub fn report_text(alloc: Global, chain: &Chain) -> Result<Vec<u8>, EndStop>
         Err(ChainFault::NoMemory) => return Err(EndStop::NoMemory),
         Err(_) => unreachable!(),
     };
-    match report(alloc, &items, &pending) {
+    match report(form, alloc, &items, &pending) {
         Ok(text) => Ok(text),
         Err(LineFault::NoMemory) => Err(EndStop::NoMemory),
         Err(_) => unreachable!(),

@@ -15,6 +15,7 @@ use crate::answer::answer_text;
 use crate::generating::status_of_sink;
 use crate::running::drive;
 use crate::status::Status;
+use base_bech32::Form;
 use base_io::{Keeper, Sink, Source};
 use chain_whole::Chain;
 use line_report::Query;
@@ -36,13 +37,14 @@ pub(crate) fn status_of_restore(fault: RestoreFault) -> Status
 
 /// The command `resume`: each line is a block behind what the keeper has.
 pub(crate) fn resume<S: Source, K: Sink, D: Keeper>(
+    form: Form,
     alloc: Global,
     source: &mut S,
     sink: &mut K,
     keeper: &mut D,
 ) -> Status
     requires takes { TakesDistinct (D.takes keeper.old) }
-    ensures ends { ResumeEnds (S.left source.old) (S.left source.new)
+    ensures ends { ResumeEnds form (S.left source.old) (S.left source.new)
         (K.written sink.old) (K.written sink.new) (D.rows keeper.old) (D.rows keeper.new)
         (D.is_honest keeper.new) (D.may_leave keeper.old) (D.may_leave keeper.new) result }
     ensures busy { result ≡ Status.Usage → ⊥ }
@@ -58,15 +60,21 @@ pub(crate) fn resume<S: Source, K: Sink, D: Keeper>(
     ensures keep_quiet { UnlessKeepFault result (D.faults keeper.new ≡ D.faults keeper.old) }
 {
     match restore(alloc, keeper) {
-        Ok(chain) => drive(alloc, source, sink, keeper, Some(chain)),
+        Ok(chain) => drive(form, alloc, source, sink, keeper, Some(chain)),
         Err(fault) => status_of_restore(fault),
     }
 }
 
 /// Writes the report's lines of a chain that answer the question.
-fn write_answer<K: Sink>(alloc: Global, sink: &mut K, chain: &Chain, what: &Query) -> Status
+fn write_answer<K: Sink>(
+    form: Form,
+    alloc: Global,
+    sink: &mut K,
+    chain: &Chain,
+    what: &Query,
+) -> Status
     ensures ends { (p : State) → StandsFor chain.now.kept p
-        → Answers (answered_by (report_of p) what.now)
+        → Answers (answered_by form (report_of p) what.now)
         (K.written sink.old) (K.written sink.new) result }
     ensures busy { result ≡ Status.Usage → ⊥ }
     ensures read { result ≡ Status.ReadFault → ⊥ }
@@ -76,7 +84,7 @@ fn write_answer<K: Sink>(alloc: Global, sink: &mut K, chain: &Chain, what: &Quer
         → Rose (K.faults sink.old) (K.faults sink.new) }
     ensures write_quiet { UnlessWriteFault result (K.faults sink.new ≡ K.faults sink.old) }
 {
-    match answer_text(alloc, chain, what) {
+    match answer_text(form, alloc, chain, what) {
         Ok(Some(text)) => status_of_sink(write_text(sink, &text)),
         Ok(None) => Status::NotFound,
         Err(_) => Status::NoMemory,
@@ -85,12 +93,13 @@ fn write_answer<K: Sink>(alloc: Global, sink: &mut K, chain: &Chain, what: &Quer
 
 /// The command `query`: the report's lines that answer the question are written, and nothing is committed.
 pub(crate) fn answer<K: Sink, D: Keeper>(
+    form: Form,
     alloc: Global,
     sink: &mut K,
     keeper: &mut D,
     what: &Query,
 ) -> Status
-    ensures ends { QueryEnds what.now (K.written sink.old) (K.written sink.new)
+    ensures ends { QueryEnds form what.now (K.written sink.old) (K.written sink.new)
         (D.rows keeper.old) (D.rows keeper.new) (D.is_honest keeper.new)
         (D.may_leave keeper.old) (D.may_leave keeper.new) result }
     ensures busy { result ≡ Status.Usage → ⊥ }
@@ -104,7 +113,7 @@ pub(crate) fn answer<K: Sink, D: Keeper>(
     ensures keep_quiet { UnlessKeepFault result (D.faults keeper.new ≡ D.faults keeper.old) }
 {
     match restore(alloc, keeper) {
-        Ok(chain) => write_answer(alloc, sink, &chain, what),
+        Ok(chain) => write_answer(form, alloc, sink, &chain, what),
         Err(fault) => status_of_restore(fault),
     }
 }

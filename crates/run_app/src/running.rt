@@ -2,14 +2,15 @@
 //! how it ended.
 
 ghost use Rattle.std.specs.Prelude.{◌≡◌, ◌≤◌, ◌<◌, ◌^◌, ◌+◌, ◌⊎◌, [], ◌∷◌, List, ℕ, Some, None, length, map, string_bytes, true, false, IfErr, OnOk, IfOk, IfSome};
+ghost use Rattle.base_bech32.specs.declared.form.Form.{Form};
 ghost use Rattle.base_io.specs.Outside.{Rose};
 ghost use Rattle.run_app.specs.Lines.{last_line};
 ghost use Rattle.run_app.specs.Kept.{Began, Keeping, LeftIn, UnlessKeepFault};
 ghost use Rattle.run_app.specs.Machine.{longest, Standing};
-ghost use Rattle.run_words.specs.Words.{mode_of};
-ghost use Rattle.run_app.specs.Modes.{HasFewBlocks, IsUntroubledAt, ModeEnds, ReplayEnds};
+ghost use Rattle.run_words.specs.Words.{command_of};
+ghost use Rattle.run_app.specs.Modes.{CommandEnds, HasFewBlocks, IsUntroubledBy, ModeEnds, ReplayEnds};
 ghost use Rattle.store_commits.specs.Held.{TakesDistinct};
-ghost use Rattle.run_app.specs.Stops.{ModeStops};
+ghost use Rattle.run_app.specs.Stops.{CommandStops};
 ghost use Rattle.run_app.specs.Outcome.{RunEnds, most_bytes, UnlessReadFault, UnlessWriteFault};
 ghost use Rattle.run_app.specs.Parts.{FinishStatus, Stands};
 ghost use Rattle.rule_machine.specs.Promises.{AccountsHoldWhatIsOwed, AllTransactionsEnd, ClaimsAreBracketed, RunsAreSound, ShortfallsAreBounded, SuppliesFallByBurns};
@@ -27,6 +28,7 @@ use crate::line::{Buffers, LONGEST};
 use crate::resuming::{answer, resume};
 use crate::status::{LimitKind, Status, status_at_end, status_of};
 use crate::tallying::tally;
+use base_bech32::Form;
 use base_io::{KeepFault, Keeper, Sink, Source, read_at_most};
 use chain_whole::Chain;
 use json::Scratch;
@@ -65,6 +67,7 @@ pub(crate) fn room(taken: u64) -> usize
 
 /// The input was read to its end.
 fn end<K: Sink, D: Keeper>(
+    form: Form,
     alloc: Global,
     buffers: &mut Buffers,
     sink: &mut K,
@@ -77,7 +80,7 @@ fn end<K: Sink, D: Keeper>(
         (D.rows keeper.old) (D.is_honest keeper.old) (D.may_leave keeper.old) s }
     ensures status { (b : Began) → (s : Standing) → Keeping b progress.old.chain
         (D.rows keeper.old) (D.is_honest keeper.old) (D.may_leave keeper.old) s
-        → FinishStatus
+        → FinishStatus form
         (LeftIn b (D.rows keeper.new) (D.is_honest keeper.new) (D.may_leave keeper.new))
         progress.old.number s (last_line progress.old.line.items)
         (K.written sink.old) (K.written sink.new) result }
@@ -95,6 +98,7 @@ fn end<K: Sink, D: Keeper>(
     ensures keep_quiet { UnlessKeepFault result (D.faults keeper.new ≡ D.faults keeper.old) }
 {
     match finish(
+        form,
         alloc,
         buffers,
         sink,
@@ -111,6 +115,7 @@ fn end<K: Sink, D: Keeper>(
 /// Takes the source to its end, from where a run begins. What was led on stays the caller's, so that no way out of
 /// the loop has a chain to let go of.
 fn take_all<S: Source, K: Sink, D: Keeper>(
+    form: Form,
     alloc: Global,
     buffers: &mut Buffers,
     source: &mut S,
@@ -125,7 +130,7 @@ fn take_all<S: Source, K: Sink, D: Keeper>(
         (D.rows keeper.old) (D.is_honest keeper.old) (D.may_leave keeper.old) s }
     ensures ends { (b : Began) → (s : Standing) → Keeping b progress.old.chain
         (D.rows keeper.old) (D.is_honest keeper.old) (D.may_leave keeper.old) s
-        → RunEnds s
+        → RunEnds form s
         (LeftIn b (D.rows keeper.new) (D.is_honest keeper.new) (D.may_leave keeper.new))
         (S.left source.old) (S.left source.new) (K.written sink.old) (K.written sink.new) result }
     ensures busy { result ≡ Status.Usage → ⊥ }
@@ -148,9 +153,9 @@ fn take_all<S: Source, K: Sink, D: Keeper>(
     while taken < MOST {
         match read_at_most(source, &mut piece, room(taken)) {
             Err(_) => return Status::ReadFault,
-            Ok(0) => return end(alloc, buffers, sink, keeper, progress),
+            Ok(0) => return end(form, alloc, buffers, sink, keeper, progress),
             Ok(n) => {
-                if let Err(stop) = feed(alloc, buffers, sink, keeper, progress, &piece[..n]) {
+                if let Err(stop) = feed(form, alloc, buffers, sink, keeper, progress, &piece[..n]) {
                     return status_of(stop);
                 }
                 taken += n as u64;
@@ -159,7 +164,7 @@ fn take_all<S: Source, K: Sink, D: Keeper>(
     }
     match read_at_most(source, &mut piece, 1) {
         Err(_) => Status::ReadFault,
-        Ok(0) => end(alloc, buffers, sink, keeper, progress),
+        Ok(0) => end(form, alloc, buffers, sink, keeper, progress),
         Ok(_) => {
             if piece[0] != b'\n' && progress.line.len() == LONGEST {
                 Status::Limit(progress.number, LimitKind::Line)
@@ -172,6 +177,7 @@ fn take_all<S: Source, K: Sink, D: Keeper>(
 
 /// Runs the machine over all lines of the source, from where this chain stands.
 pub(crate) fn drive<S: Source, K: Sink, D: Keeper>(
+    form: Form,
     alloc: Global,
     source: &mut S,
     sink: &mut K,
@@ -183,7 +189,7 @@ pub(crate) fn drive<S: Source, K: Sink, D: Keeper>(
         (D.rows keeper.old) (D.is_honest keeper.old) (D.may_leave keeper.old) s }
     ensures ends { (b : Began) → (s : Standing) → Keeping b chain
         (D.rows keeper.old) (D.is_honest keeper.old) (D.may_leave keeper.old) s
-        → RunEnds s
+        → RunEnds form s
         (LeftIn b (D.rows keeper.new) (D.is_honest keeper.new) (D.may_leave keeper.new))
         (S.left source.old) (S.left source.new) (K.written sink.old) (K.written sink.new) result }
     ensures busy { result ≡ Status.Usage → ⊥ }
@@ -210,18 +216,27 @@ pub(crate) fn drive<S: Source, K: Sink, D: Keeper>(
         scratch: Scratch::new(alloc),
         text: Vec::new(alloc),
     };
-    take_all(alloc, &mut buffers, source, sink, keeper, &mut progress)
+    take_all(
+        form,
+        alloc,
+        &mut buffers,
+        source,
+        sink,
+        keeper,
+        &mut progress,
+    )
 }
 
 /// The command `replay`: a run that begins on no rows.
 fn replay<S: Source, K: Sink, D: Keeper>(
+    form: Form,
     alloc: Global,
     source: &mut S,
     sink: &mut K,
     keeper: &mut D,
 ) -> Status
     requires takes { TakesDistinct (D.takes keeper.old) }
-    ensures ends { ReplayEnds (S.left source.old) (S.left source.new)
+    ensures ends { ReplayEnds form (S.left source.old) (S.left source.new)
         (K.written sink.old) (K.written sink.new) (D.rows keeper.old) (D.rows keeper.new)
         (D.is_honest keeper.new) (D.may_leave keeper.old) (D.may_leave keeper.new) result }
     ensures busy { result ≡ Status.Usage → ⊥ }
@@ -239,7 +254,7 @@ fn replay<S: Source, K: Sink, D: Keeper>(
     ensures keep_quiet { UnlessKeepFault result (D.faults keeper.new ≡ D.faults keeper.old) }
 {
     match has_rows(keeper) {
-        Ok(false) => drive(alloc, source, sink, keeper, None),
+        Ok(false) => drive(form, alloc, source, sink, keeper, None),
         Ok(true) => Status::WrongStore(false),
         Err(KeepFault::Failed) => Status::KeepFault,
         Err(KeepFault::NoMemory) => Status::NoMemory,
@@ -248,6 +263,7 @@ fn replay<S: Source, K: Sink, D: Keeper>(
 
 /// Carries out a command.
 fn carry_out<S: Source, K: Sink, D: Keeper>(
+    form: Form,
     alloc: Global,
     mode: Mode,
     source: &mut S,
@@ -256,7 +272,7 @@ fn carry_out<S: Source, K: Sink, D: Keeper>(
 ) -> Status
     requires few { HasFewBlocks mode }
     requires takes { TakesDistinct (D.takes keeper.old) }
-    ensures ends { ModeEnds (Some mode) (S.left source.old) (S.left source.new)
+    ensures ends { ModeEnds form mode (S.left source.old) (S.left source.new)
         (K.written sink.old) (K.written sink.new) (D.rows keeper.old) (D.rows keeper.new)
         (D.is_honest keeper.new) (D.may_leave keeper.old) (D.may_leave keeper.new) result }
     ensures busy { result ≡ Status.Usage → ⊥ }
@@ -275,17 +291,19 @@ fn carry_out<S: Source, K: Sink, D: Keeper>(
     ensures keep_quiet { UnlessKeepFault result (D.faults keeper.new ≡ D.faults keeper.old) }
 {
     match mode {
-        Mode::Replay => replay(alloc, source, sink, keeper),
-        Mode::Resume => resume(alloc, source, sink, keeper),
-        Mode::Query(what) => answer(alloc, sink, keeper, &what),
-        Mode::Tally => tally(alloc, source, sink, keeper),
-        Mode::Gen { seed, count } => write_generated(alloc, sink, seed, count),
+        Mode::Replay => replay(form, alloc, source, sink, keeper),
+        Mode::Resume => resume(form, alloc, source, sink, keeper),
+        Mode::Query(what) => answer(form, alloc, sink, keeper, &what),
+        Mode::Tally => tally(form, alloc, source, sink, keeper),
+        Mode::Gen { seed, count } => write_generated(form, alloc, sink, seed, count),
         Mode::Trial { seed, count } => write_trial(alloc, sink, seed, count),
     }
 }
 
 /// Runs the command of these words: `replay`, `resume`, `query` with a kind and perhaps an address, `tally`, `gen SEED
-/// COUNT` or `trial SEED COUNT`.
+/// COUNT` or `trial SEED COUNT`; each may stand behind the word `bech32`. Addresses are read and written as forty
+/// hexadecimal digits, and behind `bech32` as their spellings of BIP 173 alone, modules being written by their names.
+/// Nothing else depends on that word: what is kept has no texts of addresses, so either form goes on from a store.
 ///
 /// Of `replay` the first line of the source is a genesis, each further line a block. It begins on a keeper without rows.
 /// What a line leads to is committed, and then its text is written; at the end of the input the report is written, and the
@@ -321,18 +339,18 @@ pub fn run<S: Source, K: Sink, D: Keeper>(
     // Its keeper takes every list of changes of distinct keys.
     requires takes { TakesDistinct (D.takes keeper.old) }
     // What was written and kept is what the words ask for.
-    ensures ends { ModeEnds (mode_of (map string_bytes words.now)) (S.left source.old)
+    ensures ends { CommandEnds (command_of (map string_bytes words.now)) (S.left source.old)
         (S.left source.new) (K.written sink.old) (K.written sink.new)
         (D.rows keeper.old) (D.rows keeper.new) (D.is_honest keeper.new)
         (D.may_leave keeper.old) (D.may_leave keeper.new) result }
     ensures clean { result ≡ Status.Done → K.clean sink.new ≡ true }
     // Whatever the status, a stop leaves the rows after a front of the lines that holds each line of which a byte was written.
-    ensures stops { ModeStops (mode_of (map string_bytes words.now)) (S.left source.old)
+    ensures stops { CommandStops (command_of (map string_bytes words.now)) (S.left source.old)
         (K.written sink.old) (K.written sink.new) (D.rows keeper.old)
         (D.is_honest keeper.new) (D.may_leave keeper.old) (D.may_leave keeper.new) }
     // Usage only where the words are no command, and there nothing else but want of memory.
-    ensures usage { result ≡ Status.Usage → mode_of (map string_bytes words.now) ≡ None }
-    ensures no_command { mode_of (map string_bytes words.now) ≡ None
+    ensures usage { result ≡ Status.Usage → command_of (map string_bytes words.now) ≡ None }
+    ensures no_command { command_of (map string_bytes words.now) ≡ None
         → (result ≡ Status.Usage) ⊎ (result ≡ Status.NoMemory) }
     // A fault has its cause.
     ensures read_cause { result ≡ Status.ReadFault
@@ -345,20 +363,20 @@ pub fn run<S: Source, K: Sink, D: Keeper>(
         → Rose (D.faults keeper.old) (D.faults keeper.new) }
     ensures keep_quiet { UnlessKeepFault result (D.faults keeper.new ≡ D.faults keeper.old) }
     // Nothing else keeps the run from its end.
-    ensures complete { IsUntroubledAt (mode_of (map string_bytes words.now)) (S.left source.old)
+    ensures complete { IsUntroubledBy (command_of (map string_bytes words.now)) (S.left source.old)
         (K.written sink.old) (D.keeps keeper.old) (D.rows keeper.old) (D.is_honest keeper.new)
         (D.faults keeper.old) (D.faults keeper.new)
         → ¬ Rose (S.faults source.old) (S.faults source.new)
         → ¬ Rose (K.faults sink.old) (K.faults sink.new)
         → (result ≡ Status.Done) ⊎ (result ≡ Status.NoMemory) }
-    // Lines that are answered are a replay, and what was written for them is what it reports.
-    ensures replayed { LinesAreReplayed }
-    ensures whole { AnswersAreReplays }
+    // In each form of addresses: lines that are answered are a replay, and what was written for them is what it reports.
+    ensures replayed { (form : Form) → LinesAreReplayed form }
+    ensures whole { (form : Form) → AnswersAreReplays form }
     // A stopped and resumed run prints what one run does.
-    ensures rest { ResumesAreTheRest }
-    ensures joined { AnswersJoin }
+    ensures rest { (form : Form) → ResumesAreTheRest form }
+    ensures joined { (form : Form) → AnswersJoin form }
     // And wherever lines lead, a run may go on.
-    ensures onward { RunsMayGoOn }
+    ensures onward { (form : Form) → RunsMayGoOn form }
     // What holds of each replay.
     ensures sound { RunsAreSound }
     ensures accounts { AccountsHoldWhatIsOwed }
@@ -386,7 +404,7 @@ pub fn run<S: Source, K: Sink, D: Keeper>(
     moments_of_runs_do_not_matter();
     shortfalls_are_bounded();
     match read_words(alloc, words) {
-        Ok(mode) => carry_out(alloc, mode, source, sink, keeper),
+        Ok(command) => carry_out(command.form, alloc, command.mode, source, sink, keeper),
         Err(WordsFault::Usage) => Status::Usage,
         Err(WordsFault::NoMemory) => Status::NoMemory,
     }

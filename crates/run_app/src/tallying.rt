@@ -18,6 +18,7 @@ use crate::balloting::{Balloting, read_ballots};
 use crate::generating::status_of_sink;
 use crate::resuming::status_of_restore;
 use crate::status::{EndStop, Status};
+use base_bech32::Form;
 use base_io::{Keeper, Sink, Source};
 use base_messages::LineFault;
 use chain_whole::{Chain, ChainFault};
@@ -77,6 +78,7 @@ fn write_tally<K: Sink>(alloc: Global, sink: &mut K, chain: &Chain, ballots: &Ba
 /// Counts the ballots of the source over a chain. Nothing is written unless the source was read to its end, and each of
 /// its lines is a ballot.
 fn count_ballots<S: Source, K: Sink>(
+    form: Form,
     alloc: Global,
     source: &mut S,
     sink: &mut K,
@@ -84,7 +86,7 @@ fn count_ballots<S: Source, K: Sink>(
 ) -> Status
     requires sound { (p : State) × IsSound p × StandsFor chain.now.kept p }
     ensures counts { (p : State) → IsSound p → StandsFor chain.now.kept p
-        → Counts p.mine.staked (S.left source.old) (S.left source.new)
+        → Counts form p.mine.staked (S.left source.old) (S.left source.new)
         (K.written sink.old) (K.written sink.new) result }
     ensures busy { result ≡ Status.Usage → ⊥ }
     ensures keep { result ≡ Status.KeepFault → ⊥ }
@@ -102,7 +104,7 @@ fn count_ballots<S: Source, K: Sink>(
         ballots: Ballots::new(alloc),
         scratch: Scratch::new(alloc),
     };
-    match read_ballots(alloc, source, &mut balloting) {
+    match read_ballots(form, alloc, source, &mut balloting) {
         Ok(()) => write_tally(alloc, sink, chain, &balloting.ballots),
         Err(status) => status,
     }
@@ -111,12 +113,13 @@ fn count_ballots<S: Source, K: Sink>(
 /// The command `tally`: the ballots of the source are counted, the line of their tally is written, and nothing is
 /// committed.
 pub(crate) fn tally<S: Source, K: Sink, D: Keeper>(
+    form: Form,
     alloc: Global,
     source: &mut S,
     sink: &mut K,
     keeper: &mut D,
 ) -> Status
-    ensures ends { TallyEnds (S.left source.old) (S.left source.new)
+    ensures ends { TallyEnds form (S.left source.old) (S.left source.new)
         (K.written sink.old) (K.written sink.new) (D.rows keeper.old) (D.rows keeper.new)
         (D.is_honest keeper.new) (D.may_leave keeper.old) (D.may_leave keeper.new) result }
     ensures busy { result ≡ Status.Usage → ⊥ }
@@ -132,7 +135,7 @@ pub(crate) fn tally<S: Source, K: Sink, D: Keeper>(
     ensures keep_quiet { UnlessKeepFault result (D.faults keeper.new ≡ D.faults keeper.old) }
 {
     match restore(alloc, keeper) {
-        Ok(chain) => count_ballots(alloc, source, sink, &chain),
+        Ok(chain) => count_ballots(form, alloc, source, sink, &chain),
         Err(fault) => status_of_restore(fault),
     }
 }

@@ -19,13 +19,13 @@ value_at draw first (suc more) x (suc k) h =
     ∙ ap (λ n. Some (draw n (in_turn draw (numbers_from (first + 1) k) (draw first x).state).state).value) same
 
 pub lines_by_place : LinesByPlace
-lines_by_place seed many zero h = refl
-lines_by_place seed many (suc k) h =
+lines_by_place f seed many zero h = refl
+lines_by_place f seed many (suc k) h =
     let less : k < many = omega (arith, h) in
     let height : 1 + k ≡ suc k = omega arith in
     let before : k ≡ suc k - 1 = omega arith in
     let later : (suc k == 0) ≡ false = grind arith in
-    slice_get-map block_line (blocks_of seed many) k
-    ∙ ap (option_map block_line) (value_at block_drawn 1 many seed k less)
-    ∙ ap₂ (λ n b. Some (block_line (block_drawn n (state_behind seed b)).value)) height before
-    ∙ ap (λ b. Some (if b then genesis_line first_genesis else block_line (block_at seed (suc k)))) (sym later)
+    slice_get-map (block_line f) (blocks_of seed many) k
+    ∙ ap (option_map (block_line f)) (value_at block_drawn 1 many seed k less)
+    ∙ ap₂ (λ n b. Some (block_line f (block_drawn n (state_behind seed b)).value)) height before
+    ∙ ap (λ b. Some (if b then genesis_line f first_genesis else block_line f (block_at seed (suc k)))) (sym later)

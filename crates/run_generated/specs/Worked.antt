@@ -1,6 +1,7 @@
 -- Worked rows of the generated input, which were made by a second program that was written from its description alone.
 use Rattle.std.specs.Prelude.{◌≡◌, ℕ, ◌+◌, Bool, true, false, List, [], ◌∷◌, ◌++◌, map, replicate, codes}
 use Rattle.base_types.specs.declared.account.Account.TheVariants as account
+use Rattle.base_bech32.specs.declared.form.Form.TheVariants.{Hex, Bech32}
 use Rattle.base_roles.specs.declared.messages.Evidence.{Evidence}
 use Rattle.base_roles.specs.declared.messages.Vote.{Vote}
 use Rattle.base_messages.specs.declared.block.Block.{Block}
@@ -114,14 +115,14 @@ pub record BlockWithEvidence : Type 0 where
         state = 579170079771326262;
       }
 
--- ---- lines
+-- ---- lines, whose addresses are in hexadecimal digits
 
 -- the genesis with its last account, validator and delegation alone
 abbrev pub small_genesis : Genesis
 small_genesis = record first_genesis { accounts = account_at 39 ∷ []; validators = validator_at 9 ∷ []; delegations = delegation_at 9 ∷ [] }
 
 pub record LinesOfInput : Type 0 where
-  pub genesis : genesis_line small_genesis
+  pub genesis : genesis_line Hex small_genesis
       ≡ codes "{\"accounts\":[{\"address\":\"4000000000000000000000000000000000000027\",\"coins\":[{\"amount\":\"1000000000"
       ++ codes "\",\"denom\":\"uatom\"}]}],\"delegations\":[{\"amount\":\"10000000\",\"delegator\":\"40000000000000000000000"
       ++ codes "00000000000000009\",\"validator\":\"4000000000000000000000000000000000000009\"}],\"kind\":\"genesis\",\"para"
@@ -134,7 +135,7 @@ pub record LinesOfInput : Type 0 where
       ++ codes "0000000000000000000000000000000000009\",\"max_change_rate\":\"0.100000000000000000\",\"max_rate\":\"0.500000"
       ++ codes "000000000000\",\"min_self_delegation\":\"1\",\"operator\":\"4000000000000000000000000000000000000009\",\"rat"
       ++ codes "e\":\"0.100000000000000000\"}]}\n"
-  pub redelegation : block_line (block_as 3 all_cast [] (chosen 2 12 9 644437 14 ∷ []))
+  pub redelegation : block_line Hex (block_as 3 all_cast [] (chosen 2 12 9 644437 14 ∷ []))
       ≡ codes "{\"evidence\":[],\"height\":3,\"kind\":\"block\",\"time\":\"2024-01-01T00:00:15Z\",\"txs\":[{\"fee\":[{\"amo"
       ++ codes "unt\":\"1000\",\"denom\":\"uatom\"}],\"msgs\":[{\"amount\":{\"amount\":\"644437\",\"denom\":\"uatom\"},\"del"
       ++ codes "egator\":\"400000000000000000000000000000000000000c\",\"kind\":\"begin_redelegate\",\"source\":\"40000000000"
@@ -148,32 +149,42 @@ pub record LinesOfInput : Type 0 where
       ++ codes "cons\":\"5000000000000000000000000000000000000007\",\"power\":10,\"signed\":true},{\"cons\":\"50000000000000"
       ++ codes "00000000000000000000000008\",\"power\":10,\"signed\":true},{\"cons\":\"5000000000000000000000000000000000000"
       ++ codes "009\",\"power\":10,\"signed\":true}]}\n"
-  pub evidence : block_line (block_as 2 (false ∷ [])
+  pub evidence : block_line Hex (block_as 2 (false ∷ [])
       (record { cons = signer 6; height = 1; time = time_at 1; power = 10 } ∷ []) [])
       ≡ codes "{\"evidence\":[{\"cons\":\"5000000000000000000000000000000000000006\",\"height\":1,\"power\":10,\"time\":\"2"
       ++ codes "024-01-01T00:00:05Z\"}],\"height\":2,\"kind\":\"block\",\"time\":\"2024-01-01T00:00:10Z\",\"txs\":[],\"votes"
       ++ codes "\":[{\"cons\":\"5000000000000000000000000000000000000000\",\"power\":10,\"signed\":false}]}\n"
-  pub delegation : block_line (block_as 1 [] [] (chosen 0 22 5 732981 22 ∷ []))
+  pub delegation : block_line Hex (block_as 1 [] [] (chosen 0 22 5 732981 22 ∷ []))
       ≡ codes "{\"evidence\":[],\"height\":1,\"kind\":\"block\",\"time\":\"2024-01-01T00:00:05Z\",\"txs\":[{\"fee\":[{\"amo"
       ++ codes "unt\":\"1000\",\"denom\":\"uatom\"}],\"msgs\":[{\"amount\":{\"amount\":\"732981\",\"denom\":\"uatom\"},\"del"
       ++ codes "egator\":\"4000000000000000000000000000000000000016\",\"kind\":\"delegate\",\"validator\":\"4000000000000000"
       ++ codes "000000000000000000000005\"}],\"payer\":\"4000000000000000000000000000000000000016\"}],\"votes\":[]}\n"
-  pub undelegation : block_line (block_as 1 [] [] (chosen 1 28 1 416484 14 ∷ []))
+  pub undelegation : block_line Hex (block_as 1 [] [] (chosen 1 28 1 416484 14 ∷ []))
       ≡ codes "{\"evidence\":[],\"height\":1,\"kind\":\"block\",\"time\":\"2024-01-01T00:00:05Z\",\"txs\":[{\"fee\":[{\"amo"
       ++ codes "unt\":\"1000\",\"denom\":\"uatom\"}],\"msgs\":[{\"amount\":{\"amount\":\"416484\",\"denom\":\"uatom\"},\"del"
       ++ codes "egator\":\"400000000000000000000000000000000000001c\",\"kind\":\"undelegate\",\"validator\":\"40000000000000"
       ++ codes "00000000000000000000000001\"}],\"payer\":\"400000000000000000000000000000000000001c\"}],\"votes\":[]}\n"
-  pub payment : block_line (block_as 1 [] [] (chosen 5 17 8 905614 3 ∷ []))
+  pub payment : block_line Hex (block_as 1 [] [] (chosen 5 17 8 905614 3 ∷ []))
       ≡ codes "{\"evidence\":[],\"height\":1,\"kind\":\"block\",\"time\":\"2024-01-01T00:00:05Z\",\"txs\":[{\"fee\":[{\"amo"
       ++ codes "unt\":\"1000\",\"denom\":\"uatom\"}],\"msgs\":[{\"coins\":[{\"amount\":\"905614\",\"denom\":\"uatom\"}],\"fr"
       ++ codes "om\":\"4000000000000000000000000000000000000011\",\"kind\":\"send\",\"to\":\"4000000000000000000000000000000"
       ++ codes "000000003\"}],\"payer\":\"4000000000000000000000000000000000000011\"}],\"votes\":[]}\n"
-  pub commission : block_line (block_as 2 [] [] (chosen 4 14 6 492380 17 ∷ []))
+  pub commission : block_line Hex (block_as 2 [] [] (chosen 4 14 6 492380 17 ∷ []))
       ≡ codes "{\"evidence\":[],\"height\":2,\"kind\":\"block\",\"time\":\"2024-01-01T00:00:10Z\",\"txs\":[{\"fee\":[{\"amo"
       ++ codes "unt\":\"1000\",\"denom\":\"uatom\"}],\"msgs\":[{\"kind\":\"withdraw_commission\",\"validator\":\"40000000000"
       ++ codes "00000000000000000000000000006\"}],\"payer\":\"4000000000000000000000000000000000000006\"}],\"votes\":[]}\n"
-  pub reward : block_line (block_as 1 [] [] (chosen 3 12 0 145950 2 ∷ []))
+  pub reward : block_line Hex (block_as 1 [] [] (chosen 3 12 0 145950 2 ∷ []))
       ≡ codes "{\"evidence\":[],\"height\":1,\"kind\":\"block\",\"time\":\"2024-01-01T00:00:05Z\",\"txs\":[{\"fee\":[{\"amo"
       ++ codes "unt\":\"1000\",\"denom\":\"uatom\"}],\"msgs\":[{\"delegator\":\"400000000000000000000000000000000000000c\",\""
       ++ codes "kind\":\"withdraw_reward\",\"validator\":\"4000000000000000000000000000000000000000\"}],\"payer\":\"40000000"
       ++ codes "0000000000000000000000000000000c\"}],\"votes\":[]}\n"
+
+-- a line with spellings of addresses, of one vote and one delegation
+pub record SpelledLine : Type 0 where
+  pub delegation : block_line Bech32 (block_as 1 (true ∷ []) [] (chosen 0 22 5 732981 22 ∷ []))
+      ≡ codes "{\"evidence\":[],\"height\":1,\"kind\":\"block\",\"time\":\"2024-01-01T00:00:05Z\",\"txs\":[{\"fee\":[{\"amo"
+      ++ codes "unt\":\"1000\",\"denom\":\"uatom\"}],\"msgs\":[{\"amount\":{\"amount\":\"732981\",\"denom\":\"uatom\"},"
+      ++ codes "\"delegator\":\"cosmos1gqqqqqqqqqqqqqqqqqqqqqqqqqqqqqqk59kedg\",\"kind\":\"delegate\","
+      ++ codes "\"validator\":\"cosmosvaloper1gqqqqqqqqqqqqqqqqqqqqqqqqqqqqqq92rlz6h\"}],"
+      ++ codes "\"payer\":\"cosmos1gqqqqqqqqqqqqqqqqqqqqqqqqqqqqqqk59kedg\"}],\"votes\":[{\"cons\":"
+      ++ codes "\"cosmosvalcons12qqqqqqqqqqqqqqqqqqqqqqqqqqqqqqqmwh46s\",\"power\":10,\"signed\":true}]}\n"

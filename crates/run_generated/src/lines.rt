@@ -7,6 +7,7 @@ use crate::params::push_params;
 use crate::spelling::{
     Spelled, push_fee, push_kind, push_named_list, push_object, push_payer, push_time,
 };
+use base_bech32::Form;
 use base_messages::{
     Block, Genesis, GenesisAccount, GenesisDelegation, GenesisValidator, LineFault, Msg, Tx,
 };
@@ -19,9 +20,9 @@ use std::mem;
 impl Spelled for Vote {
     ghost spelled = { vote_data };
 
-    fn spell(&self, alloc: Global, writer: &mut Writer) -> Result<(), LineFault> {
+    fn spell(&self, form: Form, alloc: Global, writer: &mut Writer) -> Result<(), LineFault> {
         let members = [
-            ("cons", Told::Cons(&self.cons)),
+            ("cons", Told::Cons(form, &self.cons)),
             ("power", Told::Count(self.power)),
             ("signed", Told::Flag(self.signed)),
         ];
@@ -32,9 +33,9 @@ impl Spelled for Vote {
 impl Spelled for Evidence {
     ghost spelled = { evidence_data };
 
-    fn spell(&self, alloc: Global, writer: &mut Writer) -> Result<(), LineFault> {
+    fn spell(&self, form: Form, alloc: Global, writer: &mut Writer) -> Result<(), LineFault> {
         let members = [
-            ("cons", Told::Cons(&self.cons)),
+            ("cons", Told::Cons(form, &self.cons)),
             ("height", Told::Count(self.height)),
             ("power", Told::Count(self.power)),
             ("time", Told::Moment(self.time)),
@@ -46,11 +47,11 @@ impl Spelled for Evidence {
 impl Spelled for Tx {
     ghost spelled = { tx_data };
 
-    fn spell(&self, alloc: Global, writer: &mut Writer) -> Result<(), LineFault> {
+    fn spell(&self, form: Form, alloc: Global, writer: &mut Writer) -> Result<(), LineFault> {
         writer.begin_object()?;
         push_fee(alloc, writer, &self.fee)?;
-        push_named_list::<Msg>(alloc, writer, "msgs", self.msgs.as_slice())?;
-        push_payer(alloc, writer, &self.payer)?;
+        push_named_list::<Msg>(form, alloc, writer, "msgs", self.msgs.as_slice())?;
+        push_payer(form, alloc, writer, &self.payer)?;
         writer.end_object()?;
         Ok(())
     }
@@ -59,9 +60,9 @@ impl Spelled for Tx {
 impl Spelled for GenesisAccount {
     ghost spelled = { holder_data };
 
-    fn spell(&self, alloc: Global, writer: &mut Writer) -> Result<(), LineFault> {
+    fn spell(&self, form: Form, alloc: Global, writer: &mut Writer) -> Result<(), LineFault> {
         let members = [
-            ("address", Told::Account(&self.address)),
+            ("address", Told::Account(form, &self.address)),
             ("coins", Told::Coins(&self.coins)),
         ];
         push_object(alloc, writer, &members)
@@ -71,16 +72,16 @@ impl Spelled for GenesisAccount {
 impl Spelled for GenesisValidator {
     ghost spelled = { validator_data };
 
-    fn spell(&self, alloc: Global, writer: &mut Writer) -> Result<(), LineFault> {
+    fn spell(&self, form: Form, alloc: Global, writer: &mut Writer) -> Result<(), LineFault> {
         let members = [
-            ("cons", Told::Cons(&self.cons)),
+            ("cons", Told::Cons(form, &self.cons)),
             ("max_change_rate", Told::Decimal(self.max_change_rate)),
             ("max_rate", Told::Decimal(self.max_rate)),
             (
                 "min_self_delegation",
                 Told::Amount(self.min_self_delegation),
             ),
-            ("operator", Told::Address(&self.operator)),
+            ("operator", Told::Operator(form, &self.operator)),
             ("rate", Told::Decimal(self.rate)),
         ];
         push_object(alloc, writer, &members)
@@ -90,11 +91,11 @@ impl Spelled for GenesisValidator {
 impl Spelled for GenesisDelegation {
     ghost spelled = { delegation_data };
 
-    fn spell(&self, alloc: Global, writer: &mut Writer) -> Result<(), LineFault> {
+    fn spell(&self, form: Form, alloc: Global, writer: &mut Writer) -> Result<(), LineFault> {
         let members = [
             ("amount", Told::Amount(self.amount)),
-            ("delegator", Told::Address(&self.delegator)),
-            ("validator", Told::Address(&self.validator)),
+            ("delegator", Told::User(form, &self.delegator)),
+            ("validator", Told::Operator(form, &self.validator)),
         ];
         push_object(alloc, writer, &members)
     }
@@ -103,10 +104,17 @@ impl Spelled for GenesisDelegation {
 impl Spelled for Genesis {
     ghost spelled = { genesis_data };
 
-    fn spell(&self, alloc: Global, writer: &mut Writer) -> Result<(), LineFault> {
+    fn spell(&self, form: Form, alloc: Global, writer: &mut Writer) -> Result<(), LineFault> {
         writer.begin_object()?;
-        push_named_list::<GenesisAccount>(alloc, writer, "accounts", self.accounts.as_slice())?;
+        push_named_list::<GenesisAccount>(
+            form,
+            alloc,
+            writer,
+            "accounts",
+            self.accounts.as_slice(),
+        )?;
         push_named_list::<GenesisDelegation>(
+            form,
             alloc,
             writer,
             "delegations",
@@ -114,9 +122,10 @@ impl Spelled for Genesis {
         )?;
         push_kind(writer, "genesis")?;
         writer.key("params")?;
-        push_params(alloc, writer, &self.params)?;
+        push_params(form, alloc, writer, &self.params)?;
         push_time(alloc, writer, self.time)?;
         push_named_list::<GenesisValidator>(
+            form,
             alloc,
             writer,
             "validators",
@@ -130,28 +139,33 @@ impl Spelled for Genesis {
 impl Spelled for Block {
     ghost spelled = { block_data };
 
-    fn spell(&self, alloc: Global, writer: &mut Writer) -> Result<(), LineFault> {
+    fn spell(&self, form: Form, alloc: Global, writer: &mut Writer) -> Result<(), LineFault> {
         writer.begin_object()?;
-        push_named_list::<Evidence>(alloc, writer, "evidence", self.evidence.as_slice())?;
+        push_named_list::<Evidence>(form, alloc, writer, "evidence", self.evidence.as_slice())?;
         writer.key("height")?;
         writer.u64(self.height)?;
         push_kind(writer, "block")?;
         push_time(alloc, writer, self.time)?;
-        push_named_list::<Tx>(alloc, writer, "txs", self.txs.as_slice())?;
-        push_named_list::<Vote>(alloc, writer, "votes", self.votes.as_slice())?;
+        push_named_list::<Tx>(form, alloc, writer, "txs", self.txs.as_slice())?;
+        push_named_list::<Vote>(form, alloc, writer, "votes", self.votes.as_slice())?;
         writer.end_object()?;
         Ok(())
     }
 }
 
 /// Appends the line of a value, and its end.
-fn push_line_of<T: Spelled>(alloc: Global, out: &mut Vec<u8>, value: &T) -> Result<(), LineFault>
+fn push_line_of<T: Spelled>(
+    form: Form,
+    alloc: Global,
+    out: &mut Vec<u8>,
+    value: &T,
+) -> Result<(), LineFault>
     ensures ok { OnOk result
-        (out.new.items ≡ out.old.items ++ line_of (T.spelled value.now)) }
+        (out.new.items ≡ out.old.items ++ line_of (T.spelled form value.now)) }
     ensures fault { IfErr result (λ fault. fault ≡ LineFault.NoMemory) }
 {
     let mut writer = Writer::new(mem::replace(out, Vec::new(alloc)));
-    let pushed = value.spell(alloc, &mut writer);
+    let pushed = value.spell(form, alloc, &mut writer);
     *out = writer.into_inner();
     pushed?;
     out.push(b'\n')?;
@@ -160,20 +174,26 @@ fn push_line_of<T: Spelled>(alloc: Global, out: &mut Vec<u8>, value: &T) -> Resu
 
 /// Appends the line of a genesis, with its end. The only error is `NoMemory`.
 pub fn push_genesis_line(
+    form: Form,
     alloc: Global,
     out: &mut Vec<u8>,
     genesis: &Genesis,
 ) -> Result<(), LineFault>
-    ensures text { OnOk result (out.new.items ≡ out.old.items ++ genesis_line genesis.now) }
+    ensures text { OnOk result (out.new.items ≡ out.old.items ++ genesis_line form genesis.now) }
     ensures fault { IfErr result (λ fault. fault ≡ LineFault.NoMemory) }
 {
-    push_line_of::<Genesis>(alloc, out, genesis)
+    push_line_of::<Genesis>(form, alloc, out, genesis)
 }
 
 /// Appends the line of a block, with its end. The only error is `NoMemory`.
-pub fn push_block_line(alloc: Global, out: &mut Vec<u8>, block: &Block) -> Result<(), LineFault>
-    ensures text { OnOk result (out.new.items ≡ out.old.items ++ block_line block.now) }
+pub fn push_block_line(
+    form: Form,
+    alloc: Global,
+    out: &mut Vec<u8>,
+    block: &Block,
+) -> Result<(), LineFault>
+    ensures text { OnOk result (out.new.items ≡ out.old.items ++ block_line form block.now) }
     ensures fault { IfErr result (λ fault. fault ≡ LineFault.NoMemory) }
 {
-    push_line_of::<Block>(alloc, out, block)
+    push_line_of::<Block>(form, alloc, out, block)
 }

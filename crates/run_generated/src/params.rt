@@ -4,6 +4,7 @@ ghost use Rattle.line_json.specs.Told.{data_tokens};
 ghost use Rattle.run_generated.specs.Lines.{params_data};
 
 use crate::spelling::push_object;
+use base_bech32::Form;
 use base_messages::LineFault;
 use base_roles::Params;
 use json::Writer;
@@ -12,17 +13,18 @@ use std::alloc::Global;
 
 /// The object of parameters.
 pub(crate) fn push_params(
+    form: Form,
     alloc: Global,
     writer: &mut Writer,
     params: &Params,
 ) -> Result<(), LineFault>
     ensures ok { OnOk result (writer.new.tokens
-        ≡ writer.old.tokens ++ data_tokens (params_data params.now)) }
+        ≡ writer.old.tokens ++ data_tokens (params_data form params.now)) }
     ensures before { OnOk result (writer.new.before ≡ writer.old.before) }
     ensures fault { IfErr result (λ fault. fault ≡ LineFault.NoMemory) }
 {
     let members = [
-        ("authority", Told::Address(&params.authority)),
+        ("authority", Told::User(form, &params.authority)),
         ("bond_denom", Told::Denom(&params.bond_denom)),
         ("community_tax", Told::Decimal(params.community_tax)),
         (

@@ -4,10 +4,12 @@ ghost use Rattle.serde_json.specs.Data.{Data, member, no_members, object, string
 ghost use Rattle.serde_json.specs.Written.{members_outline};
 ghost use Rattle.json.specs.Token.{key};
 ghost use Rattle.json.specs.Tree.{members_tokens};
+ghost use Rattle.base_bech32.specs.declared.form.Form.{Form};
 ghost use Rattle.line_json.specs.Told.{data_tokens, listed};
-ghost use Rattle.line_json.specs.Values.{address_data, coins_data, moment_data};
+ghost use Rattle.line_json.specs.Values.{coins_data, moment_data, user_data};
 ghost use Rattle.run_generated.specs.Lines.{list_data, member_tokens, one_coin};
 
+use base_bech32::Form;
 use base_coins::{Coin, Coins};
 use base_messages::LineFault;
 use base_types::{Addr, Moment};
@@ -64,13 +66,18 @@ pub(crate) fn push_fee(alloc: Global, writer: &mut Writer, fee: &Coins) -> Resul
 }
 
 /// The member `payer`.
-pub(crate) fn push_payer(alloc: Global, writer: &mut Writer, payer: &Addr) -> Result<(), LineFault>
+pub(crate) fn push_payer(
+    form: Form,
+    alloc: Global,
+    writer: &mut Writer,
+    payer: &Addr,
+) -> Result<(), LineFault>
     ensures ok { OnOk result (writer.new.tokens ≡ writer.old.tokens
-        ++ member_tokens (member (codes "payer") (address_data payer.now) no_members)) }
+        ++ member_tokens (member (codes "payer") (user_data form payer.now) no_members)) }
     ensures before { OnOk result (writer.new.before ≡ writer.old.before) }
     ensures fault { IfErr result (λ fault. fault ≡ LineFault.NoMemory) }
 {
-    let members = [("payer", Told::Address(payer))];
+    let members = [("payer", Told::User(form, payer))];
     push_members(alloc, writer, &members)
 }
 
@@ -147,26 +154,31 @@ pub(crate) fn push_with_amount(
 /// A value that a line spells.
 pub(crate) trait Spelled {
     // how it is spelled
-    ghost spelled: { Self → Data };
+    ghost spelled: { Form → Self → Data };
 
-    /// Spells it. The only error is `NoMemory`.
-    fn spell(&self, alloc: Global, writer: &mut Writer) -> Result<(), LineFault>
+    /// Spells it, with its addresses in this form. The only error is `NoMemory`.
+    fn spell(&self, form: Form, alloc: Global, writer: &mut Writer) -> Result<(), LineFault>
         ensures ok { OnOk result (writer.new.tokens
-            ≡ writer.old.tokens ++ data_tokens (spelled self.now)) }
+            ≡ writer.old.tokens ++ data_tokens (spelled form self.now)) }
         ensures before { OnOk result (writer.new.before ≡ writer.old.before) }
         ensures fault { IfErr result (λ fault. fault ≡ LineFault.NoMemory) };
 }
 
 /// An array of values, in their order.
-fn push_list<T: Spelled>(alloc: Global, writer: &mut Writer, values: &[T]) -> Result<(), LineFault>
+fn push_list<T: Spelled>(
+    form: Form,
+    alloc: Global,
+    writer: &mut Writer,
+    values: &[T],
+) -> Result<(), LineFault>
     ensures ok { OnOk result (writer.new.tokens
-        ≡ writer.old.tokens ++ data_tokens (list_data T.spelled values.now)) }
+        ≡ writer.old.tokens ++ data_tokens (list_data (T.spelled form) values.now)) }
     ensures before { OnOk result (writer.new.before ≡ writer.old.before) }
     ensures fault { IfErr result (λ fault. fault ≡ LineFault.NoMemory) }
 {
     writer.begin_array()?;
     for value in values {
-        value.spell(alloc, writer)?;
+        value.spell(form, alloc, writer)?;
     }
     writer.end_array()?;
     Ok(())
@@ -174,16 +186,17 @@ fn push_list<T: Spelled>(alloc: Global, writer: &mut Writer, values: &[T]) -> Re
 
 /// A member that is an array of values.
 pub(crate) fn push_named_list<T: Spelled>(
+    form: Form,
     alloc: Global,
     writer: &mut Writer,
     name: &str,
     values: &[T],
 ) -> Result<(), LineFault>
     ensures ok { OnOk result (writer.new.tokens
-        ≡ writer.old.tokens ++ key name.now ∷ data_tokens (list_data T.spelled values.now)) }
+        ≡ writer.old.tokens ++ key name.now ∷ data_tokens (list_data (T.spelled form) values.now)) }
     ensures before { OnOk result (writer.new.before ≡ writer.old.before) }
     ensures fault { IfErr result (λ fault. fault ≡ LineFault.NoMemory) }
 {
     writer.key(name)?;
-    push_list::<T>(alloc, writer, values)
+    push_list::<T>(form, alloc, writer, values)
 }

@@ -1,7 +1,7 @@
 //! Worked rows and a law, as functions that do nothing: their contracts are the rows and the law.
 
 ghost use Rattle.run_generated.specs.Lines.{LinesByPlace};
-ghost use Rattle.run_generated.specs.Worked.{BlockWithEvidence, BlocksOfOthers, BlocksOfZero, FirstDraws, LinesOfInput, MessagesOfKinds};
+ghost use Rattle.run_generated.specs.Worked.{BlockWithEvidence, BlocksOfOthers, BlocksOfZero, FirstDraws, LinesOfInput, MessagesOfKinds, SpelledLine};
 
 /// Draws, messages, blocks and lines of the generated input, by example.
 pub fn input_by_example()
@@ -11,10 +11,10 @@ pub fn input_by_example()
     ensures others { BlocksOfOthers }
     ensures evidence { BlockWithEvidence }
     ensures lines { LinesOfInput }
+    ensures spelled { SpelledLine }
 {}
 
 /// What `generate` gives for a place stands there in the list of all lines.
-#[tactic(auto, using(crate::proofs::LineLemmas::lines_by_place))]
 pub fn lines_stand_at_their_places()
     ensures { LinesByPlace }
 {}

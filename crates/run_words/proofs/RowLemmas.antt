@@ -5,28 +5,43 @@ use Rattle.std.specs.List.{list_any}
 use Rattle.base_decimals.specs.Texts.{is_number, number_of}
 use Rattle.run_words.specs.declared.mode.Mode.{Mode}
 use Rattle.run_words.specs.declared.mode.Mode.TheVariants as mode
-use Rattle.base_types.specs.Accounts.{account_from, account_of}
+use Rattle.base_bech32.specs.declared.form.Form.{Form}
+use Rattle.base_bech32.specs.declared.form.Form.TheVariants.{Hex, Bech32}
+use Rattle.base_types.specs.Accounts.{account_from}
 use Rattle.base_types.specs.Address.{address_of, bytes_of}
+use Rattle.line_json.specs.Addresses.{account_in, bytes_in, cons_in, operator_asked}
 use Rattle.line_report.specs.declared.question.Query.TheVariants as question
 use Rattle.run_words.specs.Questions.{address_asked, kind_asked, of_account}
-use Rattle.run_words.specs.Words.{count_of, generating, is_option, mode_at, mode_of, seed_of, with_input}
+use Rattle.run_words.specs.Words.{command_at, command_of, count_of, generating, in_form, is_bech32, is_option, mode_of, seed_of, with_input}
 use Rattle.run_words.proofs.ClapLemmas.{any_of_texts}
 
--- more than three words are none
-too_long : (words : List (List ℕ)) → 3 < length words → mode_of words ≡ None
+both_none : {A : Type 0} (b : Bool) (x y : Option A) → x ≡ None → y ≡ None → cond b x y ≡ None
+both_none true x y p q = p
+both_none false x y p q = q
+
+-- more than three words behind the form are no command
+long_mode : (form : Form) (words : List (List ℕ)) → 3 < length words → mode_of form words ≡ None
+long_mode form [] h = absurd (omega (arith, h))
+long_mode form (a ∷ []) h = absurd (omega (arith, h))
+long_mode form (a ∷ b ∷ []) h = absurd (omega (arith, h))
+long_mode form (a ∷ b ∷ c ∷ []) h = absurd (omega (arith, h))
+long_mode form (a ∷ b ∷ c ∷ d ∷ more) h = refl
+
+-- nor are more than four words
+too_long : (words : List (List ℕ)) → 4 < length words → command_of words ≡ None
 too_long [] h = absurd (omega (arith, h))
-too_long (a ∷ []) h = absurd (omega (arith, h))
-too_long (a ∷ b ∷ []) h = absurd (omega (arith, h))
-too_long (a ∷ b ∷ c ∷ []) h = absurd (omega (arith, h))
-too_long (a ∷ b ∷ c ∷ d ∷ more) h = refl
+too_long (word ∷ words) h =
+    both_none (is_bech32 word) (in_form Bech32 (mode_of Bech32 words)) (in_form Hex (mode_of Hex (word ∷ words)))
+    (ap (in_form Bech32) (long_mode Bech32 words (omega (arith, h)))) (ap (in_form Hex) (long_mode Hex (word ∷ words) (omega (arith, h))))
 
 -- others are what their places say
-by_places : (words : List (List ℕ)) → length words ≤ 3 → mode_of words ≡ mode_at (slice_get words 0) (slice_get words 1) (slice_get words 2)
+by_places : (words : List (List ℕ)) → length words ≤ 4 → command_of words ≡ command_at (slice_get words 0) (slice_get words 1) (slice_get words 2) (slice_get words 3)
 by_places [] h = refl
 by_places (a ∷ []) h = refl
 by_places (a ∷ b ∷ []) h = refl
 by_places (a ∷ b ∷ c ∷ []) h = refl
-by_places (a ∷ b ∷ c ∷ d ∷ more) h = absurd (omega (arith, h))
+by_places (a ∷ b ∷ c ∷ d ∷ []) h = refl
+by_places (a ∷ b ∷ c ∷ d ∷ e ∷ more) h = absurd (omega (arith, h))
 
 -- ---- a word that begins with a hyphen is none of those of a command
 
@@ -49,7 +64,12 @@ no_name (x ∷ xs) h =
     let is : x ≡ 45 = grind (arith, h) in
     rw is (record { generated = refl; tried = refl; replayed = refl; resumed = refl; tallied = refl; asked = refl })
 
--- and of no question
+-- nor does it tell a form
+no_form : (w : List ℕ) → is_option w ≡ true → is_bech32 w ≡ false
+no_form [] h = absurd (true≢false (sym h))
+no_form (x ∷ xs) h = let is : x ≡ 45 = grind (arith, h) in rw is refl
+
+-- and is of no question
 no_kind : (w : List ℕ) → is_option w ≡ true → kind_asked w ≡ None
 no_kind [] h = absurd (true≢false (sym h))
 no_kind (x ∷ xs) h = let is : x ≡ 45 = grind (arith, h) in rw is refl
@@ -58,11 +78,11 @@ never : {A B : Type 0} (o : Option A) → option_and_then {T = A} {U = B} (λ x.
 never None = refl
 never (Some x) = refl
 
-no_question : (w text : List ℕ) → is_option w ≡ true → address_asked w text ≡ None
-no_question [] text h = absurd (true≢false (sym h))
-no_question (x ∷ xs) text h =
+no_question : (form : Form) (w text : List ℕ) → is_option w ≡ true → address_asked form w text ≡ None
+no_question form [] text h = absurd (true≢false (sym h))
+no_question form (x ∷ xs) text h =
     let is : x ≡ 45 = grind (arith, h) in
-    let nothing : address_asked (45 ∷ xs) text ≡ None = never (account_of text) in
+    let nothing : address_asked form (45 ∷ xs) text ≡ None = never (account_in form text) in
     rw is nothing
 
 -- it is the text of no address
@@ -78,17 +98,27 @@ neither false x h = refl
 no_address : (w : List ℕ) → is_option w ≡ true → address_of w ≡ None
 no_address w h = neither (length w == 40) (bytes_of w) (no_bytes w h)
 
-no_account : (w : List ℕ) → is_option w ≡ true → account_of w ≡ None
-no_account w h = ap (option_map account_from) (no_address w h)
+-- nor a spelling, which begins with the letter c (99)
+no_spelling : (form : Form) (rest w : List ℕ) → is_option w ≡ true → bytes_in form (99 ∷ rest) w ≡ None
+no_spelling Hex rest w h = no_address w h
+no_spelling Bech32 rest [] h = absurd (true≢false (sym h))
+no_spelling Bech32 rest (x ∷ xs) h = let is : x ≡ 45 = grind (arith, h) in rw is refl
 
-both_none : {A : Type 0} (b : Bool) (x y : Option A) → x ≡ None → y ≡ None → cond b x y ≡ None
-both_none true x y p q = p
-both_none false x y p q = q
+no_account : (form : Form) (w : List ℕ) → is_option w ≡ true → account_in form w ≡ None
+no_account form w h = ap (option_map account_from) (no_spelling form _ w h)
 
-no_address_asked : (what w : List ℕ) → is_option w ≡ true → address_asked what w ≡ None
-no_address_asked what w h =
-    both_none (bytes_eq what (codes "signing")) (option_map (λ cons. question.Signing cons) (address_of w)) (option_and_then (λ who. of_account what who) (account_of w))
-    (ap (option_map (λ cons. question.Signing cons)) (no_address w h)) (ap (option_and_then (λ who. of_account what who)) (no_account w h))
+no_operator : (form : Form) (w : List ℕ) → is_option w ≡ true → operator_asked form w ≡ None
+no_operator form w h = ap (option_map account_from) (no_spelling form _ w h)
+
+no_cons : (form : Form) (w : List ℕ) → is_option w ≡ true → cons_in form w ≡ None
+no_cons form w h = no_spelling form _ w h
+
+no_address_asked : (form : Form) (what w : List ℕ) → is_option w ≡ true → address_asked form what w ≡ None
+no_address_asked form what w h =
+    both_none (bytes_eq what (codes "signing")) (option_map (λ cons. question.Signing cons) (cons_in form w)) _
+    (ap (option_map (λ cons. question.Signing cons)) (no_cons form w h))
+    (both_none (bytes_eq what (codes "validator")) (option_map (λ who. question.Validator who) (operator_asked form w)) (option_and_then (λ who. of_account what who) (account_in form w))
+    (ap (option_map (λ who. question.Validator who)) (no_operator form w h)) (ap (option_and_then (λ who. of_account what who)) (no_account form w h)))
 
 no_number : (most : ℕ) (w : List ℕ) → is_option w ≡ true → number_of most w ≡ None
 no_number most [] h = absurd (true≢false (sym h))
@@ -131,33 +161,43 @@ not_generated a b c q = elim (either_true (is_option b) (list_any is_option (c �
 ]
 
 -- nor do they ask anything
-not_asked : (b c : List ℕ) → list_any is_option (b ∷ c ∷ []) ≡ true → address_asked b c ≡ None
-not_asked b c q = elim (either_true (is_option b) (list_any is_option (c ∷ [])) q) [
-  | inl p ↦ no_question b c p
+not_asked : (form : Form) (b c : List ℕ) → list_any is_option (b ∷ c ∷ []) ≡ true → address_asked form b c ≡ None
+not_asked form b c q = elim (either_true (is_option b) (list_any is_option (c ∷ [])) q) [
+  | inl p ↦ no_question form b c p
   | inr r ↦ elim (either_true (is_option c) false r) [
-    | inl p ↦ no_address_asked b c p
+    | inl p ↦ no_address_asked form b c p
     | inr t ↦ absurd (true≢false (sym t))
   ]
 ]
 
-refused_options : (words : List (List ℕ)) → list_any is_option words ≡ true → mode_of words ≡ None
-refused_options [] h = absurd (true≢false (sym h))
-refused_options (a ∷ []) h = elim (either_true (is_option a) false h) [
+refused_options : (form : Form) (words : List (List ℕ)) → list_any is_option words ≡ true → mode_of form words ≡ None
+refused_options form [] h = absurd (true≢false (sym h))
+refused_options form (a ∷ []) h = elim (either_true (is_option a) false h) [
   | inl p ↦ rw ((no_name a p).replayed, (no_name a p).resumed, (no_name a p).tallied) refl
   | inr q ↦ absurd (true≢false (sym q))
 ]
-refused_options (a ∷ b ∷ []) h = elim (either_true (is_option a) (list_any is_option (b ∷ [])) h) [
+refused_options form (a ∷ b ∷ []) h = elim (either_true (is_option a) (list_any is_option (b ∷ [])) h) [
   | inl p ↦ rw (no_name a p).asked refl
   | inr q ↦ elim (either_true (is_option b) false q) [
     | inl p ↦ neither (bytes_eq a (codes "query")) (option_map mode.Query (kind_asked b)) (ap (option_map mode.Query) (no_kind b p))
     | inr t ↦ absurd (true≢false (sym t))
   ]
 ]
-refused_options (a ∷ b ∷ c ∷ []) h = elim (either_true (is_option a) (list_any is_option (b ∷ c ∷ [])) h) [
+refused_options form (a ∷ b ∷ c ∷ []) h = elim (either_true (is_option a) (list_any is_option (b ∷ c ∷ [])) h) [
   | inl p ↦ rw ((no_name a p).asked, (no_name a p).generated, (no_name a p).tried) refl
-  | inr q ↦ both_none (bytes_eq a (codes "query")) (option_map mode.Query (address_asked b c)) (generating a b c) (ap (option_map mode.Query) (not_asked b c q)) (not_generated a b c q)
+  | inr q ↦ both_none (bytes_eq a (codes "query")) (option_map mode.Query (address_asked form b c)) (generating a b c) (ap (option_map mode.Query) (not_asked form b c q)) (not_generated a b c q)
 ]
-refused_options (a ∷ b ∷ c ∷ d ∷ more) h = refl
+refused_options form (a ∷ b ∷ c ∷ d ∷ more) h = refl
+
+-- nor are they one behind the word for a form
+refused_words : (words : List (List ℕ)) → list_any is_option words ≡ true → command_of words ≡ None
+refused_words [] h = absurd (true≢false (sym h))
+refused_words (word ∷ words) h =
+    let plain : in_form Hex (mode_of Hex (word ∷ words)) ≡ None = ap (in_form Hex) (refused_options Hex (word ∷ words) h) in
+    elim (either_true (is_option word) (list_any is_option words) h) [
+      | inl p ↦ rw (no_form word p) plain
+      | inr q ↦ both_none (is_bech32 word) (in_form Bech32 (mode_of Bech32 words)) (in_form Hex (mode_of Hex (word ∷ words))) (ap (in_form Bech32) (refused_options Bech32 words q)) plain
+    ]
 
 -- ---- the same of texts
 
@@ -165,16 +205,16 @@ length_of_texts : (words : List (String Global)) → length (map string_bytes wo
 length_of_texts [] = refl
 length_of_texts (w ∷ words) = ap suc (length_of_texts words)
 
-pub long_texts : (words : List (String Global)) → 3 < length words → mode_of (map string_bytes words) ≡ None
+pub long_texts : (words : List (String Global)) → 4 < length words → command_of (map string_bytes words) ≡ None
 long_texts words h = too_long (map string_bytes words) (omega (arith, h, length_of_texts words))
 
-pub optional_texts : (words : List (String Global)) → list_any (λ word. is_option (string_bytes word)) words ≡ true → mode_of (map string_bytes words) ≡ None
-optional_texts words h = refused_options (map string_bytes words) (sym (any_of_texts words) ∙ h)
+pub optional_texts : (words : List (String Global)) → list_any (λ word. is_option (string_bytes word)) words ≡ true → command_of (map string_bytes words) ≡ None
+optional_texts words h = refused_words (map string_bytes words) (sym (any_of_texts words) ∙ h)
 
 -- what is found at the places says what the words ask for
-pub texts_by_places : (words : List (String Global)) (name seed count : Option (List ℕ)) → length words ≤ 3
-    → name ≡ slice_get (map string_bytes words) 0 → seed ≡ slice_get (map string_bytes words) 1 → count ≡ slice_get (map string_bytes words) 2
-    → mode_of (map string_bytes words) ≡ mode_at name seed count
-texts_by_places words name seed count few n s c =
+pub texts_by_places : (words : List (String Global)) (first second third fourth : Option (List ℕ)) → length words ≤ 4
+    → first ≡ slice_get (map string_bytes words) 0 → second ≡ slice_get (map string_bytes words) 1 → third ≡ slice_get (map string_bytes words) 2 → fourth ≡ slice_get (map string_bytes words) 3
+    → command_of (map string_bytes words) ≡ command_at first second third fourth
+texts_by_places words first second third fourth few a b c d =
     let places = by_places (map string_bytes words) (omega (arith, few, length_of_texts words)) in
-    rw (n, s, c) places
+    rw (a, b, c, d) places

@@ -1,20 +1,29 @@
 -- Worked rows of words.
 use Rattle.std.specs.Prelude.{◌≡◌, ℕ, List, [], ◌∷◌, ◌++◌, codes, replicate, Option, Some, None}
+use Rattle.base_bech32.specs.declared.form.Form.TheVariants.{Hex, Bech32}
+use Rattle.run_words.specs.declared.mode.Command.{Command}
 use Rattle.run_words.specs.declared.mode.Mode.{Mode}
 use Rattle.run_words.specs.declared.mode.Mode.TheVariants.{Replay, Resume, Query, Tally, Gen, Trial}
 use Rattle.base_types.specs.declared.account.Account.TheVariants as account
 use Rattle.base_types.specs.declared.account.Module.TheVariants as holder
 use Rattle.line_report.specs.declared.question.Query.TheVariants as question
-use Rattle.run_words.specs.Words.{mode_of}
+use Rattle.run_words.specs.Words.{command_of}
+
+-- a command without the word for a form, and one behind `bech32`
+abbrev pub hex : Mode → Option Command
+hex m = Some (record { form = Hex; mode = m })
+
+abbrev pub bech32 : Mode → Option Command
+bech32 m = Some (record { form = Bech32; mode = m })
 
 -- words that are a command
 pub record Commands : Type 0 where
-  pub replay : mode_of (codes "replay" ∷ []) ≡ Some Replay
-  pub least : mode_of (codes "gen" ∷ codes "0" ∷ codes "1" ∷ []) ≡ Some (Gen 0 1)
-  pub greatest : mode_of (codes "gen" ∷ codes "18446744073709551615" ∷ codes "100000" ∷ []) ≡ Some (Gen 18446744073709551615 100000)
-  pub zeros : mode_of (codes "gen" ∷ codes "00000000000000000007" ∷ codes "10" ∷ []) ≡ Some (Gen 7 10)
-  pub trial : mode_of (codes "trial" ∷ codes "7" ∷ codes "1000" ∷ []) ≡ Some (Trial 7 1000)
-  pub tally : mode_of (codes "tally" ∷ []) ≡ Some Tally
+  pub replay : command_of (codes "replay" ∷ []) ≡ hex Replay
+  pub least : command_of (codes "gen" ∷ codes "0" ∷ codes "1" ∷ []) ≡ hex (Gen 0 1)
+  pub greatest : command_of (codes "gen" ∷ codes "18446744073709551615" ∷ codes "100000" ∷ []) ≡ hex (Gen 18446744073709551615 100000)
+  pub zeros : command_of (codes "gen" ∷ codes "00000000000000000007" ∷ codes "10" ∷ []) ≡ hex (Gen 7 10)
+  pub trial : command_of (codes "trial" ∷ codes "7" ∷ codes "1000" ∷ []) ≡ hex (Trial 7 1000)
+  pub tally : command_of (codes "tally" ∷ []) ≡ hex Tally
 
 -- an address: thirty-nine digits 0, then this one
 abbrev pub address_text : List ℕ → List ℕ
@@ -27,48 +36,89 @@ user_text = codes "1111111111111111111111111111111111111112"
 abbrev pub user_bytes : List ℕ
 user_bytes = replicate 19 17 ++ 18 ∷ []
 
-abbrev pub asks : List ℕ → List ℕ → Option Mode
-asks what text = mode_of (codes "query" ∷ what ∷ text ∷ [])
+abbrev pub asks : List ℕ → List ℕ → Option Command
+asks what text = command_of (codes "query" ∷ what ∷ text ∷ [])
 
 -- words that ask
 pub record Questions : Type 0 where
-  pub resume : mode_of (codes "resume" ∷ []) ≡ Some Resume
-  pub supply : mode_of (codes "query" ∷ codes "supply" ∷ []) ≡ Some (Query question.Supply)
-  pub pool : mode_of (codes "query" ∷ codes "pool" ∷ []) ≡ Some (Query question.Pool)
-  pub validators : mode_of (codes "query" ∷ codes "validators" ∷ []) ≡ Some (Query question.Validators)
-  pub holdings : asks (codes "account") (address_text (codes "4")) ≡ Some (Query (question.Account (account.Module holder.Distribution)))
-  pub validator : asks (codes "validator") user_text ≡ Some (Query (question.Validator (account.User user_bytes)))
-  pub delegations : asks (codes "delegations") user_text ≡ Some (Query (question.Delegations (account.User user_bytes)))
-  pub rewards : asks (codes "rewards") user_text ≡ Some (Query (question.Rewards (account.User user_bytes)))
-  pub unbondings : asks (codes "unbondings") user_text ≡ Some (Query (question.Unbondings (account.User user_bytes)))
-  pub redelegations : asks (codes "redelegations") user_text ≡ Some (Query (question.Redelegations (account.User user_bytes)))
-  pub signing : asks (codes "signing") user_text ≡ Some (Query (question.Signing user_bytes))
-  pub of_module : asks (codes "validator") (address_text (codes "1")) ≡ Some (Query (question.Validator (account.Module holder.FeeCollector)))
+  pub resume : command_of (codes "resume" ∷ []) ≡ hex Resume
+  pub supply : command_of (codes "query" ∷ codes "supply" ∷ []) ≡ hex (Query question.Supply)
+  pub pool : command_of (codes "query" ∷ codes "pool" ∷ []) ≡ hex (Query question.Pool)
+  pub validators : command_of (codes "query" ∷ codes "validators" ∷ []) ≡ hex (Query question.Validators)
+  pub holdings : asks (codes "account") (address_text (codes "4")) ≡ hex (Query (question.Account (account.Module holder.Distribution)))
+  pub validator : asks (codes "validator") user_text ≡ hex (Query (question.Validator (account.User user_bytes)))
+  pub delegations : asks (codes "delegations") user_text ≡ hex (Query (question.Delegations (account.User user_bytes)))
+  pub rewards : asks (codes "rewards") user_text ≡ hex (Query (question.Rewards (account.User user_bytes)))
+  pub unbondings : asks (codes "unbondings") user_text ≡ hex (Query (question.Unbondings (account.User user_bytes)))
+  pub redelegations : asks (codes "redelegations") user_text ≡ hex (Query (question.Redelegations (account.User user_bytes)))
+  pub signing : asks (codes "signing") user_text ≡ hex (Query (question.Signing user_bytes))
+  pub of_module : asks (codes "validator") (address_text (codes "1")) ≡ hex (Query (question.Validator (account.Module holder.FeeCollector)))
 
 -- words that ask nothing
 pub record NoQuestions : Type 0 where
   pub large_letters : asks (codes "account") (codes "000000000000000000000000000000000000000A") ≡ None
   pub short : asks (codes "account") (codes "00") ≡ None
   pub long : asks (codes "account") (codes "00000000000000000000000000000000000000000") ≡ None
-  pub without_address : mode_of (codes "query" ∷ codes "account" ∷ []) ≡ None
+  pub without_address : command_of (codes "query" ∷ codes "account" ∷ []) ≡ None
   pub with_address : asks (codes "supply") user_text ≡ None
   pub unknown : asks (codes "balance") user_text ≡ None
-  pub nothing_more : mode_of (codes "resume" ∷ codes "1" ∷ []) ≡ None
+  pub nothing_more : command_of (codes "resume" ∷ codes "1" ∷ []) ≡ None
 
 -- words that are none
 pub record NoCommands : Type 0 where
-  pub nothing : mode_of [] ≡ None
-  pub nobody : mode_of (codes "query" ∷ []) ≡ None
-  pub help : mode_of (codes "--help" ∷ []) ≡ None
-  pub alone : mode_of (codes "gen" ∷ []) ≡ None
-  pub short : mode_of (codes "gen" ∷ codes "1" ∷ []) ≡ None
-  pub long : mode_of (codes "gen" ∷ codes "1" ∷ codes "1" ∷ codes "1" ∷ []) ≡ None
-  pub more_than_alone : mode_of (codes "replay" ∷ codes "1" ∷ codes "1" ∷ []) ≡ None
-  pub tally_of_one : mode_of (codes "tally" ∷ codes "7" ∷ []) ≡ None
-  pub no_blocks : mode_of (codes "gen" ∷ codes "1" ∷ codes "0" ∷ []) ≡ None
-  pub too_many : mode_of (codes "gen" ∷ codes "1" ∷ codes "100001" ∷ []) ≡ None
-  pub zero_first : mode_of (codes "gen" ∷ codes "1" ∷ codes "01" ∷ []) ≡ None
-  pub too_great : mode_of (codes "gen" ∷ codes "18446744073709551616" ∷ codes "1" ∷ []) ≡ None
-  pub too_long : mode_of (codes "gen" ∷ codes "000000000000000000001" ∷ codes "1" ∷ []) ≡ None
-  pub signed : mode_of (codes "gen" ∷ codes "+1" ∷ codes "1" ∷ []) ≡ None
-  pub empty : mode_of (codes "gen" ∷ [] ∷ codes "1" ∷ []) ≡ None
+  pub nothing : command_of [] ≡ None
+  pub nobody : command_of (codes "query" ∷ []) ≡ None
+  pub help : command_of (codes "--help" ∷ []) ≡ None
+  pub alone : command_of (codes "gen" ∷ []) ≡ None
+  pub short : command_of (codes "gen" ∷ codes "1" ∷ []) ≡ None
+  pub long : command_of (codes "gen" ∷ codes "1" ∷ codes "1" ∷ codes "1" ∷ []) ≡ None
+  pub more_than_alone : command_of (codes "replay" ∷ codes "1" ∷ codes "1" ∷ []) ≡ None
+  pub tally_of_one : command_of (codes "tally" ∷ codes "7" ∷ []) ≡ None
+  pub no_blocks : command_of (codes "gen" ∷ codes "1" ∷ codes "0" ∷ []) ≡ None
+  pub too_many : command_of (codes "gen" ∷ codes "1" ∷ codes "100001" ∷ []) ≡ None
+  pub zero_first : command_of (codes "gen" ∷ codes "1" ∷ codes "01" ∷ []) ≡ None
+  pub too_great : command_of (codes "gen" ∷ codes "18446744073709551616" ∷ codes "1" ∷ []) ≡ None
+  pub too_long : command_of (codes "gen" ∷ codes "000000000000000000001" ∷ codes "1" ∷ []) ≡ None
+  pub signed : command_of (codes "gen" ∷ codes "+1" ∷ codes "1" ∷ []) ≡ None
+  pub empty : command_of (codes "gen" ∷ [] ∷ codes "1" ∷ []) ≡ None
+
+-- the same user as an account, as an operator and as a consensus address, and a module's account
+abbrev pub spelled_user : List ℕ
+spelled_user = codes "cosmos1zyg3zyg3zyg3zyg3zyg3zyg3zyg3zygj0wz5us"
+
+abbrev pub spelled_operator : List ℕ
+spelled_operator = codes "cosmosvaloper1zyg3zyg3zyg3zyg3zyg3zyg3zyg3zygj26kpsr"
+
+abbrev pub spelled_cons : List ℕ
+spelled_cons = codes "cosmosvalcons1zyg3zyg3zyg3zyg3zyg3zyg3zyg3zygj7f9auz"
+
+abbrev pub spelled_module : List ℕ
+spelled_module = codes "cosmos1qqqqqqqqqqqqqqqqqqqqqqqqqqqqqqqyufzeg8"
+
+abbrev pub asks_spelled : List ℕ → List ℕ → Option Command
+asks_spelled what text = command_of (codes "bech32" ∷ codes "query" ∷ what ∷ text ∷ [])
+
+-- words behind `bech32`
+pub record Spelled : Type 0 where
+  pub replay : command_of (codes "bech32" ∷ codes "replay" ∷ []) ≡ bech32 Replay
+  pub tally : command_of (codes "bech32" ∷ codes "tally" ∷ []) ≡ bech32 Tally
+  pub pool : command_of (codes "bech32" ∷ codes "query" ∷ codes "pool" ∷ []) ≡ bech32 (Query question.Pool)
+  pub generated : command_of (codes "bech32" ∷ codes "gen" ∷ codes "7" ∷ codes "10" ∷ []) ≡ bech32 (Gen 7 10)
+  pub tried : command_of (codes "bech32" ∷ codes "trial" ∷ codes "7" ∷ codes "10" ∷ []) ≡ bech32 (Trial 7 10)
+  pub rewards : asks_spelled (codes "rewards") spelled_user ≡ bech32 (Query (question.Rewards (account.User user_bytes)))
+  pub holdings : asks_spelled (codes "account") spelled_module ≡ bech32 (Query (question.Account (account.Module holder.Distribution)))
+  pub validator : asks_spelled (codes "validator") spelled_operator ≡ bech32 (Query (question.Validator (account.User user_bytes)))
+  pub signing : asks_spelled (codes "signing") spelled_cons ≡ bech32 (Query (question.Signing user_bytes))
+
+-- words that are none for their form
+pub record NotSpelled : Type 0 where
+  pub alone : command_of (codes "bech32" ∷ []) ≡ None
+  pub twice : command_of (codes "bech32" ∷ codes "bech32" ∷ codes "replay" ∷ []) ≡ None
+  pub behind : command_of (codes "replay" ∷ codes "bech32" ∷ []) ≡ None
+  pub within : command_of (codes "gen" ∷ codes "bech32" ∷ codes "7" ∷ codes "10" ∷ []) ≡ None
+  pub capital : command_of (codes "Bech32" ∷ codes "replay" ∷ []) ≡ None
+  pub digits : asks_spelled (codes "account") user_text ≡ None
+  pub letters : asks (codes "account") spelled_user ≡ None
+  pub no_account : asks_spelled (codes "delegations") spelled_operator ≡ None
+  pub no_operator : asks_spelled (codes "validator") spelled_user ≡ None
+  pub no_cons : asks_spelled (codes "signing") spelled_user ≡ None

@@ -2,7 +2,9 @@
 ghost use Rattle.std.specs.Prelude.{◌≡◌};
 ghost use Rattle.run_words.specs.Questions.{address_asked, kind_asked, of_account};
 
-use base_types::{Account, read_account, read_cons};
+use base_bech32::Form;
+use base_types::Account;
+use line_json::{account_of_text, cons_of_text, operator_asked};
 use line_report::Query;
 
 /// The question of this kind, of no address.
@@ -26,8 +28,6 @@ fn of_account(what: &str, who: &Account) -> Option<Query>
 {
     if what == "account" {
         Some(Query::Account(*who))
-    } else if what == "validator" {
-        Some(Query::Validator(*who))
     } else if what == "delegations" {
         Some(Query::Delegations(*who))
     } else if what == "rewards" {
@@ -41,19 +41,16 @@ fn of_account(what: &str, who: &Account) -> Option<Query>
     }
 }
 
-/// The question of this kind, of the address that the text spells.
-pub(crate) fn address_asked(what: &str, text: &str) -> Option<Query>
-    ensures { result ≡ address_asked what.now text.now }
+/// The question of this kind, of the address that the text spells in this form: of a validator its operator, of signing a
+/// consensus address, and of all others an account.
+pub(crate) fn address_asked(form: Form, what: &str, text: &str) -> Option<Query>
+    ensures { result ≡ address_asked form what.now text.now }
 {
     if what == "signing" {
-        match read_cons(text) {
-            Ok(cons) => Some(Query::Signing(cons)),
-            Err(_) => None,
-        }
+        Some(Query::Signing(cons_of_text(form, text)?))
+    } else if what == "validator" {
+        Some(Query::Validator(operator_asked(form, text)?))
     } else {
-        match read_account(text) {
-            Ok(who) => of_account(what, &who),
-            Err(_) => None,
-        }
+        of_account(what, &account_of_text(form, text)?)
     }
 }

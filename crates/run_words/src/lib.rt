@@ -9,6 +9,6 @@ mod words;
 mod worked;
 
 pub use fault::WordsFault;
-pub use mode::Mode;
+pub use mode::{Command, Mode};
 pub use words::read_words;
 pub use worked::words_by_example;

@@ -1,7 +1,18 @@
-//! The commands, each with what its words say: `replay`, `resume`, `query`, `tally`, `gen` and `trial`.
+//! The commands, each with what its words say: `replay`, `resume`, `query`, `tally`, `gen` and `trial`; and before it the
+//! word `bech32`, which tells the form of addresses.
+use base_bech32::Form;
 use line_report::Query;
 
-/// What the words ask for.
+/// What the words ask for: a command, and how it is carried out.
+#[derive(Clone, Copy, Debug, PartialEq, Eq)]
+pub struct Command {
+    /// How addresses are read and printed.
+    pub form: Form,
+    /// The command.
+    pub mode: Mode,
+}
+
+/// What a command does.
 #[derive(Clone, Copy, Debug, PartialEq, Eq)]
 pub enum Mode {
     /// The blocks of an input are applied, and what they do is written.

@@ -3,26 +3,28 @@ ghost use Rattle.std.specs.Prelude.{◌≡◌, ◌≤◌, length, map, string_by
 ghost use Rattle.std.specs.List.{list_any};
 ghost use Rattle.clap.specs.Simple.{app_of};
 ghost use Rattle.clap.specs.Matches.{first_value, found_of};
-ghost use Rattle.run_words.specs.Line.{three};
-ghost use Rattle.run_words.specs.Words.{alone, generating, is_option, mode_at, mode_of, with_word, with_words};
+ghost use Rattle.run_words.specs.Line.{four};
+ghost use Rattle.run_words.specs.Words.{alone, command_at, command_of, generating, in_form, is_option, mode_at, with_word, with_words};
 
 use crate::asked::{address_asked, kind_asked};
 use crate::fault::WordsFault;
-use crate::mode::Mode;
+use crate::mode::{Command, Mode};
 use crate::numbers::{count_of, seed_of};
+use base_bech32::Form;
 use clap::error::ErrorKind;
-use clap::{Arg, ArgMatches, Command};
+use clap::{Arg, ArgMatches};
 use std::alloc::{AllocError, Global};
 
-/// The command line: three words by their places, none of which has to be there.
-fn command_line<'a>(alloc: Global) -> Result<Command<'a>, AllocError>
-    ensures { IfOk result (λ command. app_of command ≡ three) }
+/// The command line: four words by their places, none of which has to be there.
+fn command_line<'a>(alloc: Global) -> Result<clap::Command<'a>, AllocError>
+    ensures { IfOk result (λ command. app_of command ≡ four) }
 {
-    Command::new(alloc, "stakeplay")
+    clap::Command::new(alloc, "stakeplay")
         .no_binary_name(true)
-        .arg(Arg::new(alloc, "command"))?
         .arg(Arg::new(alloc, "first"))?
-        .arg(Arg::new(alloc, "second"))
+        .arg(Arg::new(alloc, "second"))?
+        .arg(Arg::new(alloc, "third"))?
+        .arg(Arg::new(alloc, "fourth"))
 }
 
 /// Whether the word begins with a hyphen.
@@ -39,17 +41,19 @@ fn has_option(words: &[String]) -> bool
     words.iter().any(|word| is_option(word.as_str().as_bytes()))
 }
 
-/// What stands at the places of at most three words, of which none begins with a hyphen. The only error is
+/// What stands at the places of at most four words, of which none begins with a hyphen. The only error is
 /// `NoMemory`.
 fn parsed<'a>(alloc: Global, words: &'a [String]) -> Result<ArgMatches<'a>, WordsFault>
-    requires few { length words.now ≤ 3 }
+    requires few { length words.now ≤ 4 }
     requires plain { list_any (λ word. is_option (string_bytes word)) words.now ≡ false }
-    ensures command { IfOk result (λ matches. first_value (found_of matches) (codes "command")
-        ≡ slice_get (map string_bytes words.now) 0) }
     ensures first { IfOk result (λ matches. first_value (found_of matches) (codes "first")
-        ≡ slice_get (map string_bytes words.now) 1) }
+        ≡ slice_get (map string_bytes words.now) 0) }
     ensures second { IfOk result (λ matches. first_value (found_of matches) (codes "second")
+        ≡ slice_get (map string_bytes words.now) 1) }
+    ensures third { IfOk result (λ matches. first_value (found_of matches) (codes "third")
         ≡ slice_get (map string_bytes words.now) 2) }
+    ensures fourth { IfOk result (λ matches. first_value (found_of matches) (codes "fourth")
+        ≡ slice_get (map string_bytes words.now) 3) }
     ensures fault { IfErr result (λ fault. fault ≡ WordsFault.NoMemory) }
 {
     let command = command_line(alloc)?;
@@ -105,51 +109,93 @@ fn with_word(name: &str, what: &str) -> Option<Mode>
     }
 }
 
-/// The command of this name with two words.
-fn with_words(name: &str, first: &str, second: &str) -> Option<Mode>
-    ensures { result ≡ with_words name.now first.now second.now }
+/// The command of this name with two words, of which one may be an address in this form.
+fn with_words(form: Form, name: &str, first: &str, second: &str) -> Option<Mode>
+    ensures { result ≡ with_words form name.now first.now second.now }
 {
     if name == "query" {
-        Some(Mode::Query(address_asked(first, second)?))
+        Some(Mode::Query(address_asked(form, first, second)?))
     } else {
         generating(name, first, second)
     }
 }
 
-/// What is asked for by what stands at the three places.
-fn mode_at(name: Option<&str>, first: Option<&str>, second: Option<&str>) -> Option<Mode>
-    ensures { result ≡ mode_at (option_map (λ w. w.now) name.entry)
-        (option_map (λ w. w.now) first.entry) (option_map (λ w. w.now) second.entry) }
+/// What is asked for by what stands at the four places behind the word for the form.
+fn mode_at(
+    form: Form,
+    name: Option<&str>,
+    first: Option<&str>,
+    second: Option<&str>,
+    other: Option<&str>,
+) -> Option<Mode>
+    ensures { result ≡ mode_at form (option_map (λ w. w.now) name.entry)
+        (option_map (λ w. w.now) first.entry) (option_map (λ w. w.now) second.entry)
+        (option_map (λ w. w.now) other.entry) }
 {
-    match (name, first, second) {
-        (Some(name), None, None) => alone(name),
-        (Some(name), Some(what), None) => with_word(name, what),
-        (Some(name), Some(first), Some(second)) => with_words(name, first, second),
+    match (name, first, second, other) {
+        (Some(name), None, None, None) => alone(name),
+        (Some(name), Some(what), None, None) => with_word(name, what),
+        (Some(name), Some(first), Some(second), None) => with_words(form, name, first, second),
         _ => None,
     }
 }
 
+/// The command, with addresses in this form.
+fn in_form(form: Form, mode: Option<Mode>) -> Option<Command>
+    ensures { result ≡ in_form form mode }
+{
+    let mode = mode?;
+    Some(Command { form, mode })
+}
+
+/// What is asked for by what stands at the four places: the first may be `bech32`, and then the others are the command.
+fn command_at(
+    first: Option<&str>,
+    second: Option<&str>,
+    third: Option<&str>,
+    fourth: Option<&str>,
+) -> Option<Command>
+    ensures { result ≡ command_at (option_map (λ w. w.now) first.entry)
+        (option_map (λ w. w.now) second.entry) (option_map (λ w. w.now) third.entry)
+        (option_map (λ w. w.now) fourth.entry) }
+{
+    let word = first?;
+    if word == "bech32" {
+        in_form(
+            Form::Bech32,
+            mode_at(Form::Bech32, second, third, fourth, None),
+        )
+    } else {
+        in_form(Form::Hex, mode_at(Form::Hex, first, second, third, fourth))
+    }
+}
+
 /// What the words ask for: `replay`; `resume`; `query` with `supply`, `pool` or `validators`; `query` with `account`,
-/// `validator`, `delegations`, `rewards`, `unbondings`, `redelegations` or `signing` and an address of forty hexadecimal
-/// digits with small letters; `tally`; `gen SEED COUNT`, where SEED is 1 to 20 digits below 2^64 and COUNT is from 1 to
-/// 100,000 without zeros in front; or `trial SEED COUNT`.
+/// `validator`, `delegations`, `rewards`, `unbondings`, `redelegations` or `signing` and an address; `tally`; `gen SEED
+/// COUNT`, where SEED is 1 to 20 digits below 2^64 and COUNT is from 1 to 100,000 without zeros in front; or `trial SEED
+/// COUNT`. The word `bech32` may stand before each of these.
+///
+/// With it an address is a spelling of BIP 173, of `validator` with the prefix `cosmosvaloper`, of `signing` with
+/// `cosmosvalcons`, and of all others with `cosmos`; without it forty hexadecimal digits with small letters.
 ///
 /// The errors are `Usage`, only where the words are none of these, and `NoMemory`.
 #[tactic(auto, using(crate::proofs::RowLemmas::long_texts, crate::proofs::RowLemmas::optional_texts, crate::proofs::RowLemmas::texts_by_places))]
-pub fn read_words(alloc: Global, words: &[String]) -> Result<Mode, WordsFault>
-    ensures mode { IfOk result (λ mode. mode_of (map string_bytes words.now) ≡ Some mode) }
+pub fn read_words(alloc: Global, words: &[String]) -> Result<Command, WordsFault>
+    ensures command { IfOk result (λ command. command_of (map string_bytes words.now)
+        ≡ Some command) }
     ensures usage { IfErr result (λ fault. fault ≡ WordsFault.Usage
-        → mode_of (map string_bytes words.now) ≡ None) }
+        → command_of (map string_bytes words.now) ≡ None) }
 {
-    if words.len() > 3 || has_option(words) {
+    if words.len() > 4 || has_option(words) {
         return Err(WordsFault::Usage);
     }
     let matches = parsed(alloc, words)?;
-    let name = matches.get_str("command");
     let first = matches.get_str("first");
     let second = matches.get_str("second");
-    match mode_at(name, first, second) {
-        Some(mode) => Ok(mode),
+    let third = matches.get_str("third");
+    let fourth = matches.get_str("fourth");
+    match command_at(first, second, third, fourth) {
+        Some(command) => Ok(command),
         None => Err(WordsFault::Usage),
     }
 }

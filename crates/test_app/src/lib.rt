@@ -6,6 +6,8 @@ mod outside_tests;
 #[cfg(test)]
 mod samples;
 #[cfg(test)]
+mod spelled_tests;
+#[cfg(test)]
 mod tally_tests;
 #[cfg(test)]
 mod tests;

@@ -93,14 +93,22 @@ pub fn text(rt: &(impl Abort + AllocGlobal), lines: &[&str]) -> Vec<u8> {
     text
 }
 
+/// The words of a command.
+pub fn command(rt: &(impl Abort + AllocGlobal), command: &[&str]) -> Vec<String> {
+    let mut words = Vec::new(rt.alloc());
+    for word in command {
+        let word = String::from_str(rt.alloc(), word).expect(rt, "memory");
+        match words.push(word) {
+            Ok(()) => {}
+            Err(_) => panic!(rt; "no memory"),
+        }
+    }
+    words
+}
+
 /// The words of a command of one word.
 pub fn words(rt: &(impl Abort + AllocGlobal), word: &str) -> Vec<String> {
-    let word = String::from_str(rt.alloc(), word).expect(rt, "memory");
-    let mut words = Vec::new(rt.alloc());
-    match words.push(word) {
-        Ok(()) => words,
-        Err(_) => panic!(rt; "no memory"),
-    }
+    command(rt, &[word])
 }
 
 /// The input of the worked run: 100 uatom are sent, for a fee of 10.

@@ -1,5 +1,6 @@
 //! Whole inputs, against what a second program wrote.
 
+use base_bech32::Form;
 use json::Scratch;
 use line_json::{read_block, read_genesis};
 use run_generated::{Generator, first_genesis, generate, push_block_line, push_genesis_line};
@@ -13,7 +14,7 @@ fn digest_of(alloc: Global, seed: u64, count: u32) -> Result<(String, usize), Fa
     let mut bytes = 0usize;
     let mut line = Vec::new(alloc);
     let genesis = first_genesis(alloc)?;
-    push_genesis_line(alloc, &mut line, &genesis)?;
+    push_genesis_line(Form::Hex, alloc, &mut line, &genesis)?;
     hasher.update(line.as_slice());
     bytes = bytes.saturating_add(line.len());
     let mut generator = Generator::new(seed);
@@ -22,7 +23,7 @@ fn digest_of(alloc: Global, seed: u64, count: u32) -> Result<(String, usize), Fa
         if height <= 100_000 {
             line.clear();
             let block = generator.block(alloc, height)?;
-            push_block_line(alloc, &mut line, &block)?;
+            push_block_line(Form::Hex, alloc, &mut line, &block)?;
             hasher.update(line.as_slice());
             bytes = bytes.saturating_add(line.len());
         }
@@ -60,11 +61,17 @@ fn inputs_are_those_of_a_second_program(rt: HostRuntime) -> Result<(), Fail> {
 /// The line at a place is that of the whole input; the first is the same for every seed.
 #[test]
 fn a_line_is_made_by_its_place(rt: HostRuntime) -> Result<(), Fail> {
-    let first = generate(rt.alloc(), 0, 1, 0)?;
-    let other = generate(rt.alloc(), 18_446_744_073_709_551_615, 100_000, 0)?;
+    let first = generate(Form::Hex, rt.alloc(), 0, 1, 0)?;
+    let other = generate(
+        Form::Hex,
+        rt.alloc(),
+        18_446_744_073_709_551_615,
+        100_000,
+        0,
+    )?;
     assert!(rt; first.as_slice() == other.as_slice());
     assert_eq!(rt; first.len(), 8_524);
-    let third = generate(rt.alloc(), 0, 3, 3)?;
+    let third = generate(Form::Hex, rt.alloc(), 0, 3, 3)?;
     assert!(rt; third.as_slice() == THIRD.as_bytes());
     Ok(())
 }
@@ -79,8 +86,8 @@ fn lines_are_read(rt: HostRuntime) -> Result<(), Fail> {
     let alloc: Global = rt.alloc();
     let mut line = Vec::new(alloc);
     let genesis = first_genesis(alloc)?;
-    push_genesis_line(alloc, &mut line, &genesis)?;
-    let read = read_genesis(alloc, &mut Scratch::new(alloc), line.as_slice())?;
+    push_genesis_line(Form::Hex, alloc, &mut line, &genesis)?;
+    let read = read_genesis(Form::Hex, alloc, &mut Scratch::new(alloc), line.as_slice())?;
     assert_eq!(rt; read.accounts.len(), 40);
     assert_eq!(rt; read.validators.len(), 10);
     assert!(rt; read.params == genesis.params);
@@ -88,8 +95,8 @@ fn lines_are_read(rt: HostRuntime) -> Result<(), Fail> {
     for height in 1..41u64 {
         line.clear();
         let block = generator.block(alloc, height)?;
-        push_block_line(alloc, &mut line, &block)?;
-        let read = read_block(alloc, &mut Scratch::new(alloc), line.as_slice())?;
+        push_block_line(Form::Hex, alloc, &mut line, &block)?;
+        let read = read_block(Form::Hex, alloc, &mut Scratch::new(alloc), line.as_slice())?;
         assert!(rt; read.height == height && read.time == block.time);
         assert!(rt; read.votes.as_slice() == block.votes.as_slice());
         assert!(rt; read.evidence.as_slice() == block.evidence.as_slice());

@@ -1,5 +1,6 @@
 //! Ballots read from lines, the faults of lines that spell none, and the line of a tally.
 
+use base_bech32::Form;
 use base_decimals::Dec;
 use base_messages::LineFault;
 use base_types::Addr;
@@ -13,7 +14,7 @@ const TALLY_LINE: &str =
     "{\"abstain\":\"0.000000000000000002\",\"bonded\":\"1000000\",\"kind\":\"tally\",\"no\":\"99999999999999999999.999999999999999999\",\"no_with_veto\":\"0.000000000000000000\",\"yes\":\"1.500000000000000000\"}\n";
 
 fn read(alloc: Global, line: &str) -> Result<Ballot, LineFault> {
-    read_ballot(alloc, &mut Scratch::new(alloc), line.as_bytes())
+    read_ballot(Form::Hex, alloc, &mut Scratch::new(alloc), line.as_bytes())
 }
 
 #[test]

@@ -4,6 +4,8 @@
 #![tactic(auto)]
 
 #[cfg(test)]
+mod address_tests;
+#[cfg(test)]
 mod ballot_tests;
 #[cfg(test)]
 mod reading_tests;

@@ -1,5 +1,6 @@
 //! A genesis and blocks read from lines, and the faults of lines that spell neither, by the numbers of members.
 
+use base_bech32::Form;
 use base_messages::{Block, LineFault, Msg};
 use json::Scratch;
 use line_json::{read_block, read_genesis};
@@ -21,7 +22,7 @@ fn replaced(alloc: Global, line: &str, old: &str, new: &str) -> Result<String, A
 }
 
 fn fault_of_block(alloc: Global, line: &[u8]) -> Option<LineFault> {
-    match read_block(alloc, &mut Scratch::new(alloc), line) {
+    match read_block(Form::Hex, alloc, &mut Scratch::new(alloc), line) {
         Ok(_) => None,
         Err(fault) => Some(fault),
     }
@@ -36,7 +37,7 @@ fn block_has(alloc: Global, old: &str, new: &str, fault: Option<LineFault>) -> b
 }
 
 fn fault_of_genesis(alloc: Global, line: &[u8]) -> Option<LineFault> {
-    match read_genesis(alloc, &mut Scratch::new(alloc), line) {
+    match read_genesis(Form::Hex, alloc, &mut Scratch::new(alloc), line) {
         Ok(_) => None,
         Err(fault) => Some(fault),
     }
@@ -321,7 +322,12 @@ fn line_of(rt: &(impl Abort + AllocGlobal), kind: &str, members: &str) -> String
 
 fn reads_as_its_kind(rt: &(impl Abort + AllocGlobal), kind: &str, members: &str) -> bool {
     let line = line_of(rt, kind, members);
-    match read_block(rt.alloc(), &mut Scratch::new(rt.alloc()), line.as_bytes()) {
+    match read_block(
+        Form::Hex,
+        rt.alloc(),
+        &mut Scratch::new(rt.alloc()),
+        line.as_bytes(),
+    ) {
         Ok(block) => kind_of(&block) == kind,
         Err(_) => false,
     }
@@ -478,7 +484,12 @@ fn amount_sent(block: &Block, place: usize) -> Option<u128> {
 
 #[test]
 fn the_values_of_a_block_are_read(rt: HostRuntime) {
-    let block = read_block(rt.alloc(), &mut Scratch::new(rt.alloc()), BLOCK.as_bytes());
+    let block = read_block(
+        Form::Hex,
+        rt.alloc(),
+        &mut Scratch::new(rt.alloc()),
+        BLOCK.as_bytes(),
+    );
     let block = block.expect(&rt, "a block");
     assert_eq!(rt;
         (block.height, block.time.nanos()),
@@ -505,6 +516,7 @@ fn the_values_of_a_block_are_read(rt: HostRuntime) {
 #[test]
 fn the_values_of_a_genesis_are_read(rt: HostRuntime) {
     let genesis = read_genesis(
+        Form::Hex,
         rt.alloc(),
         &mut Scratch::new(rt.alloc()),
         GENESIS.as_bytes(),

@@ -1,5 +1,6 @@
 //! The report of a state with an item of each kind, and the answers to questions about it.
 
+use base_bech32::Form;
 use base_coins::{DecCoin, DecCoins};
 use base_decimals::Dec;
 use base_messages::Pending;
@@ -251,7 +252,7 @@ fn answers(
     what: Query,
     wanted: Option<&str>,
 ) -> bool {
-    let answer = query(rt.alloc(), items, pending, &what).expect(rt, "memory");
+    let answer = query(Form::Hex, rt.alloc(), items, pending, &what).expect(rt, "memory");
     match (answer, wanted) {
         (Some(text), Some(wanted)) => text.as_slice() == wanted.as_bytes(),
         (None, None) => true,
@@ -263,7 +264,7 @@ fn answers(
 fn each_kind_has_its_lines_in_order(rt: HostRuntime) {
     let items = items(&rt);
     let pending = pending(&rt);
-    let text = report(rt.alloc(), items.as_slice(), pending.as_slice());
+    let text = report(Form::Hex, rt.alloc(), items.as_slice(), pending.as_slice());
     let wanted = format!(in rt.alloc();
         "{{\"coins\":[],\"kind\":\"supply\"}}\n{ONES_LINE}{VALIDATOR_LINE}{ONES_DELEGATION}{TWOS_DELEGATION}{ONES_PENDING}{TWOS_PENDING}{UNBONDINGS}{REDELEGATION}{SIGNING}{POOL}"
     );

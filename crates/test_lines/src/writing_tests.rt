@@ -1,5 +1,6 @@
 //! Lines of a block: of the largest numbers, and of results that are over the limit of decimals.
 
+use base_bech32::Form;
 use base_decimals::{Dec, Over, OverKind};
 use base_messages::{BlockReport, Outcome, TxReport};
 use base_roles::{Fact, Facts, Listed, Refusal};
@@ -16,7 +17,7 @@ fn time(rt: &impl Abort) -> Moment {
 /// The lines of a block.
 fn lines_of(rt: &(impl Abort + AllocGlobal), report: &BlockReport) -> Vec<u8> {
     let mut text = Vec::new(rt.alloc());
-    let pushed = push_lines_of_block(rt.alloc(), &mut text, report);
+    let pushed = push_lines_of_block(Form::Hex, rt.alloc(), &mut text, report);
     pushed.expect(rt, "lines");
     text
 }

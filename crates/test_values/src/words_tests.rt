@@ -1,8 +1,9 @@
 //! Words of each command, and words that are none.
 
+use base_bech32::Form;
 use base_types::{Account, Module, read_cons};
 use line_report::Query;
-use run_words::{Mode, WordsFault, read_words};
+use run_words::{Command, Mode, WordsFault, read_words};
 use std::alloc::{AllocError, Global};
 use std::test::Fail;
 
@@ -16,31 +17,48 @@ fn words_of(alloc: Global, line: &str) -> Result<Vec<String>, AllocError> {
 }
 
 /// What they ask for.
-fn read(alloc: Global, line: &str) -> Result<Mode, WordsFault> {
+fn read(alloc: Global, line: &str) -> Result<Command, WordsFault> {
     let words = words_of(alloc, line)?;
     read_words(alloc, &words)
+}
+
+/// A command whose addresses are hexadecimal.
+fn hex(mode: Mode) -> Result<Command, WordsFault> {
+    let form = Form::Hex;
+    Ok(Command { form, mode })
+}
+
+/// A command whose addresses are spelled.
+fn bech32(mode: Mode) -> Result<Command, WordsFault> {
+    let form = Form::Bech32;
+    Ok(Command { form, mode })
+}
+
+/// The module that holds rewards.
+fn pool() -> Account {
+    Account::Module(Module::Distribution)
 }
 
 #[test]
 fn commands_are_read(rt: HostRuntime) -> Result<(), Fail> {
     let alloc: Global = rt.alloc();
-    assert!(rt; read(alloc, "replay") == Ok(Mode::Replay));
-    assert!(rt; read(alloc, "resume") == Ok(Mode::Resume));
-    assert!(rt; read(alloc, "query supply") == Ok(Mode::Query(Query::Supply)));
-    assert!(rt; read(alloc, "query pool") == Ok(Mode::Query(Query::Pool)));
-    assert!(rt; read(alloc, "query validators") == Ok(Mode::Query(Query::Validators)));
-    assert!(rt; read(alloc, "tally") == Ok(Mode::Tally));
-    assert!(rt; read(alloc, "gen 0 1") == Ok(Mode::Gen { seed: 0, count: 1 }));
+    assert!(rt; read(alloc, "replay") == hex(Mode::Replay));
+    assert!(rt; read(alloc, "resume") == hex(Mode::Resume));
+    assert!(rt; read(alloc, "query supply") == hex(Mode::Query(Query::Supply)));
+    assert!(rt; read(alloc, "query pool") == hex(Mode::Query(Query::Pool)));
+    assert!(rt; read(alloc, "query validators") == hex(Mode::Query(Query::Validators)));
+    assert!(rt; read(alloc, "tally") == hex(Mode::Tally));
+    assert!(rt; read(alloc, "gen 0 1") == hex(Mode::Gen { seed: 0, count: 1 }));
     assert!(rt;
         read(alloc, "gen 18446744073709551615 100000")
-            == Ok(Mode::Gen {
+            == hex(Mode::Gen {
                 seed: 18_446_744_073_709_551_615,
                 count: 100_000
             })
     );
     assert!(rt;
         read(alloc, "trial 00000000000000000007 1000")
-            == Ok(Mode::Trial {
+            == hex(Mode::Trial {
                 seed: 7,
                 count: 1_000
             })
@@ -56,13 +74,39 @@ fn questions_have_addresses(rt: HostRuntime) -> Result<(), Fail> {
         alloc,
         "query account 0000000000000000000000000000000000000004",
     );
-    assert!(rt; asked == Ok(Mode::Query(Query::Account(pool))));
+    assert!(rt; asked == hex(Mode::Query(Query::Account(pool))));
     let cons = read_cons("00000000000000000000000000000000000000ff").expect(&rt, "an address");
     let signing = read(
         alloc,
         "query signing 00000000000000000000000000000000000000ff",
     );
-    assert!(rt; signing == Ok(Mode::Query(Query::Signing(cons))));
+    assert!(rt; signing == hex(Mode::Query(Query::Signing(cons))));
+    Ok(())
+}
+
+#[test]
+fn commands_behind_bech32(rt: HostRuntime) -> Result<(), Fail> {
+    let alloc: Global = rt.alloc();
+    assert!(rt; read(alloc, "bech32 replay") == bech32(Mode::Replay));
+    assert!(rt; read(alloc, "bech32 query pool") == bech32(Mode::Query(Query::Pool)));
+    assert!(rt; read(alloc, "bech32 gen 7 10") == bech32(Mode::Gen { seed: 7, count: 10 }));
+    assert!(rt; read(alloc, "bech32 trial 7 10") == bech32(Mode::Trial { seed: 7, count: 10 }));
+    let asked = read(
+        alloc,
+        "bech32 query account cosmos1qqqqqqqqqqqqqqqqqqqqqqqqqqqqqqqyufzeg8",
+    );
+    assert!(rt; asked == bech32(Mode::Query(Query::Account(pool()))));
+    let operator = read(
+        alloc,
+        "bech32 query validator cosmosvaloper1qqqqqqqqqqqqqqqqqqqqqqqqqqqqqqqyeakvy5",
+    );
+    assert!(rt; operator == bech32(Mode::Query(Query::Validator(pool()))));
+    let cons = read_cons("00000000000000000000000000000000000000ff").expect(&rt, "an address");
+    let signing = read(
+        alloc,
+        "bech32 query signing cosmosvalcons1qqqqqqqqqqqqqqqqqqqqqqqqqqqqqq8lvfcx4k",
+    );
+    assert!(rt; signing == bech32(Mode::Query(Query::Signing(cons))));
     Ok(())
 }
 
@@ -96,6 +140,21 @@ fn other_words_are_no_command(rt: HostRuntime) -> Result<(), Fail> {
         "gen 000000000000000000001 1",
         "gen  1",
         "trial 1 ",
+        "bech32",
+        "bech32 ",
+        "bech32 bech32 replay",
+        "replay bech32",
+        "gen bech32 7 10",
+        "Bech32 replay",
+        "bech32 replay 1",
+        "bech32 gen 7 10 1",
+        "bech32 query account 0000000000000000000000000000000000000004",
+        "bech32 query account distribution",
+        "bech32 query account cosmos1qqqqqqqqqqqqqqqqqqqqqqqqqqqqqqqyufzegq",
+        "bech32 query account cosmosvaloper1qqqqqqqqqqqqqqqqqqqqqqqqqqqqqqqyeakvy5",
+        "bech32 query validator cosmos1qqqqqqqqqqqqqqqqqqqqqqqqqqqqqqqyufzeg8",
+        "bech32 query signing cosmos1qqqqqqqqqqqqqqqqqqqqqqqqqqqqqqqyufzeg8",
+        "query account cosmos1qqqqqqqqqqqqqqqqqqqqqqqqqqqqqqqyufzeg8",
     ] {
         assert!(rt; read(alloc, line) == Err(WordsFault::Usage), "{line}");
     }

@@ -4,4 +4,4 @@ use Rattle.line_json.proofs.lines.push_facts.Given as goal
 
 abbrev pub invariant-loop-place : goal.invariant-loop-place
 invariant-loop-place l =
-    l.out.items ++ text_of_facts l.height (drop l.place l.facts) ≡ l.fn.out.items ++ text_of_facts l.height l.facts
+    l.out.items ++ text_of_facts l.form l.height (drop l.place l.facts) ≡ l.fn.out.items ++ text_of_facts l.form l.height l.facts

@@ -5,7 +5,7 @@ use Rattle.line_json.proofs.nested.each.Given as goal
 
 abbrev pub invariant-loop-element : goal.invariant-loop-element
 invariant-loop-element g l =
-    with_front l.values.items (each_element g.T.FromTree.form (g.N.Tree.left l.elements)) ≡ each_element g.T.FromTree.form (g.N.Tree.left l.initial.elements)
+    with_front l.values.items (each_element (g.T.FromTree.reading l.form) (g.N.Tree.left l.elements)) ≡ each_element (g.T.FromTree.reading l.form) (g.N.Tree.left l.initial.elements)
 
 abbrev pub decreases-loop-element : goal.decreases-loop-element
 decreases-loop-element g l = items_len (g.N.Tree.left l.elements)

@@ -8,5 +8,5 @@ use Rattle.line_report.proofs.accounts.push_accounts.Given as goal
 
 abbrev pub invariant-loop-place : goal.invariant-loop-place
 invariant-loop-place l =
-    l.out.items ++ text_of (map account_line (opened (option_map (λ o. (o.account, coins_seen o.coins.items)) l.last) (accounts_in l.place-iterator)))
-    ≡ l.fn.out.items ++ text_of (map account_line (accounts_in l.balances.entries))
+    l.out.items ++ text_of (map (account_line l.form) (opened (option_map (λ o. (o.account, coins_seen o.coins.items)) l.last) (accounts_in l.place-iterator)))
+    ≡ l.fn.out.items ++ text_of (map (account_line l.form) (accounts_in l.balances.entries))

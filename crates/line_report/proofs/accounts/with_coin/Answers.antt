@@ -16,7 +16,7 @@ returns-then-eq-clause-next c = λ rest.
     = sym (account_equal_at c.in-Some.before.account c.args.account.now) ∙ (sym c.eq.ensures ∙ c.if-eq.true) in
     let more : coins_seen c.push.new.self.items ≡ coins_seen c.in-Some.before.coins.items ++ (c.args.denom.now, c.args.amount) ∷ []
     = ap coins_seen c.in_ok-push.ensures.items ∙ map-append _ c.in-Some.before.coins.items ((c.args.denom, c.args.amount) ∷ []) in
-    same_gathered c.in-Some.before.account c.args.account.now (coins_seen c.in-Some.before.coins.items) _ (c.args.denom.now, c.args.amount) _ rest _
+    same_gathered c.args.form c.in-Some.before.account c.args.account.now (coins_seen c.in-Some.before.coins.items) _ (c.args.denom.now, c.args.amount) _ rest _
     same more (ap (option_map (λ o. (o.account, coins_seen o.coins.items))) c.in-Some.is)
 
 pub returns-clause-next : goal.returns-clause-next
@@ -26,16 +26,16 @@ returns-clause-next c = λ rest. elim c.match-last.branch [
       let other : account_equal w.in-Some.before.account c.args.account.now ≡ false = sym w.eq.ensures ∙ w.if-eq.false in
       let one : coins_seen c.push-2.new.self.items ≡ coin ∷ []
       = ap coins_seen (c.in_ok-push-2.ensures.items ∙ ap (λ xs. xs ++ (c.args.denom, c.args.amount) ∷ []) (ap (λ v. v.items) w.coins-is ∙ w.clear.ensures.items)) in
-      other_gathered w.in-Some.before.account c.args.account.now (coins_seen w.in-Some.before.coins.items) (coins_seen c.push-2.new.self.items) coin
+      other_gathered c.args.form w.in-Some.before.account c.args.account.now (coins_seen w.in-Some.before.coins.items) (coins_seen c.push-2.new.self.items) coin
       (option_map (λ o. (o.account, coins_seen o.coins.items)) c.args.last) rest c.args.out.now.items c.match-last.out.items
       other one (ap (option_map (λ o. (o.account, coins_seen o.coins.items))) w.in-Some.is)
       (ap (λ v. v.items) w.out-is ∙ (w.in_ok-push_account.ensures.ok
-      ∙ ap (λ coins. c.args.out.now.items ++ line_of (account_line (w.in-Some.before.account, coins_seen coins))) w.deref.ensures.value))
+      ∙ ap (λ coins. c.args.out.now.items ++ line_of (account_line c.args.form (w.in-Some.before.account, coins_seen coins))) w.deref.ensures.value))
   | in_default w ↦
       let coin : List ℕ × ℕ = (c.args.denom.now, c.args.amount) in
       let one : coins_seen c.push-2.new.self.items ≡ coin ∷ []
       = ap coins_seen (c.in_ok-push-2.ensures.items ∙ ap (λ xs. xs ++ (c.args.denom, c.args.amount) ∷ []) (ap (λ v. v.items) w.coins-is ∙ c.new-coins.ensures.items)) in
-      first_gathered c.args.account.now (coins_seen c.push-2.new.self.items) coin
+      first_gathered c.args.form c.args.account.now (coins_seen c.push-2.new.self.items) coin
       (option_map (λ o. (o.account, coins_seen o.coins.items)) c.args.last) rest c.args.out.now.items c.match-last.out.items
       one (ap (option_map (λ o. (o.account, coins_seen o.coins.items))) w.in_default.is) (ap (λ v. v.items) w.out-is)
 ]

@@ -4,5 +4,5 @@ use Rattle.line_report.proofs.pushing.push_delegations.Given as goal
 
 abbrev pub invariant-loop-who : goal.invariant-loop-who
 invariant-loop-who l =
-    l.out.items ++ text_of (map delegation_line l.who-iterator)
-    ≡ l.fn.out.items ++ text_of (map delegation_line l.delegations.entries)
+    l.out.items ++ text_of (map (delegation_line l.form) l.who-iterator)
+    ≡ l.fn.out.items ++ text_of (map (delegation_line l.form) l.delegations.entries)

@@ -6,5 +6,5 @@ use Rattle.line_report.proofs.pushing.push_rewards.Given as goal
 
 abbrev pub invariant-loop-reward : goal.invariant-loop-reward
 invariant-loop-reward l =
-    l.out.items ++ text_of (map pending_line (values_of (seen l.reward-iterator)))
-    ≡ l.fn.out.items ++ text_of (map pending_line (values_of (seen l.rewards.entries)))
+    l.out.items ++ text_of (map (pending_line l.form) (values_of (seen l.reward-iterator)))
+    ≡ l.fn.out.items ++ text_of (map (pending_line l.form) (values_of (seen l.rewards.entries)))

@@ -4,5 +4,5 @@ use Rattle.line_report.proofs.pushing.push_signing_records.Given as goal
 
 abbrev pub invariant-loop-cons : goal.invariant-loop-cons
 invariant-loop-cons l =
-    l.out.items ++ text_of (map signing_line l.cons-iterator)
-    ≡ l.fn.out.items ++ text_of (map signing_line l.records.entries)
+    l.out.items ++ text_of (map (signing_line l.form) l.cons-iterator)
+    ≡ l.fn.out.items ++ text_of (map (signing_line l.form) l.records.entries)

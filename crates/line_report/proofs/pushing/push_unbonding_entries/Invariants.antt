@@ -4,5 +4,5 @@ use Rattle.line_report.proofs.pushing.push_unbonding_entries.Given as goal
 
 abbrev pub invariant-loop-entry : goal.invariant-loop-entry
 invariant-loop-entry l =
-    l.out.items ++ text_of (map (unbonding_line l.who) (drop l.entry-index l.entries))
-    ≡ l.fn.out.items ++ text_of (map (unbonding_line l.who) l.entries)
+    l.out.items ++ text_of (map (unbonding_line l.form l.who) (drop l.entry-index l.entries))
+    ≡ l.fn.out.items ++ text_of (map (unbonding_line l.form l.who) l.entries)

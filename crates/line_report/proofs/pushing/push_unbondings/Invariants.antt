@@ -6,5 +6,5 @@ use Rattle.line_report.proofs.pushing.push_unbondings.Given as goal
 
 abbrev pub invariant-loop-who : goal.invariant-loop-who
 invariant-loop-who l =
-    l.out.items ++ text_of (flat_map unbonding_lines (seen l.who-iterator))
-    ≡ l.fn.out.items ++ text_of (flat_map unbonding_lines (seen l.unbondings.entries))
+    l.out.items ++ text_of (flat_map (unbonding_lines l.form) (seen l.who-iterator))
+    ≡ l.fn.out.items ++ text_of (flat_map (unbonding_lines l.form) (seen l.unbondings.entries))

@@ -6,5 +6,5 @@ use Rattle.line_report.proofs.pushing.push_validators.Given as goal
 
 abbrev pub invariant-loop-operator : goal.invariant-loop-operator
 invariant-loop-operator l =
-    l.out.items ++ text_of (map validator_line (with_purses (seen l.purses.entries) (seen l.operator-iterator)))
-    ≡ l.fn.out.items ++ text_of (map validator_line (with_purses (seen l.purses.entries) (seen l.validators.entries)))
+    l.out.items ++ text_of (map (validator_line l.form) (with_purses (seen l.purses.entries) (seen l.operator-iterator)))
+    ≡ l.fn.out.items ++ text_of (map (validator_line l.form) (with_purses (seen l.purses.entries) (seen l.validators.entries)))

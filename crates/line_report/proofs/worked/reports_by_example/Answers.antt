@@ -1,5 +1,6 @@
 use Rattle.std.proofs.Common.{refl}
 use Rattle.line_json.proofs.OnWritten.{written_on_literals}
+use Rattle.line_json.proofs.SpelledOnLiterals.{spelled_on_literals}
 use Rattle.line_report.proofs.worked.reports_by_example.Goals as goal
 
 pub returns-clause-run : goal.returns-clause-run
@@ -32,3 +33,7 @@ returns-clause-kinds c = record {
 
 pub returns-clause-state : goal.returns-clause-state
 returns-clause-state c = record { items = refl; report = refl }
+
+pub returns-clause-spelled : goal.returns-clause-spelled
+unfolding spelled_on_literals
+returns-clause-spelled c = record { validator_is = refl; redelegating = refl; delegated = refl; signs = refl; of_module = refl }

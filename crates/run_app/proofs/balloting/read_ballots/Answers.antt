@@ -17,7 +17,7 @@ pub loop-taken-init : goal.loop-taken-init
 loop-taken-init g c = record {
   room = search rules;
   most = omega arith;
-  at = ([], refl, taken_first _ _ _ c.requires.number c.requires.line c.requires.none, told_first _);
+  at = ([], refl, taken_first c.args.form _ _ _ c.requires.number c.requires.line c.requires.none, told_first _);
   later = omega arith;
   quiet = refl;
 }
@@ -25,7 +25,7 @@ loop-taken-init g c = record {
 pub feed_ballots-requires-clause-number : goal.feed_ballots-requires-clause-number
 feed_ballots-requires-clause-number g c =
     let a = c.loop-taken.invariant.at in
-    let number : c.loop-taken.balloting.number ≤ 1 + length a.0 = taken_number a.0 _ _ _ a.2 in
+    let number : c.loop-taken.balloting.number ≤ 1 + length a.0 = taken_number c.args.form a.0 _ _ _ a.2 in
     let size : length a.0 ≡ c.loop-taken.taken = a.1 in
     let piece : length (take c.in-Ok.n c.read_at_most.new.piece) ≤ c.in-Ok.n = short_piece c.in-Ok.n c.read_at_most.new.piece in
     let within : c.in-Ok.n ≤ c.room.result = c.in-Ok.ensures.within in
@@ -40,12 +40,12 @@ returns-in-Err-feed_ballots-clause-uncounted g c =
     let within : c.in-Ok.n ≤ c.room.result = c.in-Ok.ensures.within in
     let most : length (a.0 ++ piece) ≤ most_bytes = omega (arith, c.room.ensures.fits, length-append a.0 piece) in
     rw c.status_of.ensures
-    (stopped _ (a.0 ++ piece) _ c.in-Err-feed_ballots.stop (told_more _ a.0 _ _ c.in-Ok.n c.read_at_most.new.piece a.3 c.in-Ok.ensures.moved) most (c.in-Err-feed_ballots.ensures.stop a.0 a.2))
+    (stopped c.args.form _ (a.0 ++ piece) _ c.in-Err-feed_ballots.stop (told_more _ a.0 _ _ c.in-Ok.n c.read_at_most.new.piece a.3 c.in-Ok.ensures.moved) most (c.in-Err-feed_ballots.ensures.stop a.0 a.2))
 
 pub returns-in-Err-feed_ballots-clause-of_ballots : goal.returns-in-Err-feed_ballots-clause-of_ballots
 returns-in-Err-feed_ballots-clause-of_ballots g c =
     let a = c.loop-taken.invariant.at in
-    rw c.status_of.ensures (bytes_of_ballots c.in-Err-feed_ballots.stop _ (c.in-Err-feed_ballots.ensures.stop a.0 a.2))
+    rw c.status_of.ensures (bytes_of_ballots c.args.form c.in-Err-feed_ballots.stop _ (c.in-Err-feed_ballots.ensures.stop a.0 a.2))
 
 pub returns-then-len-eq-LONGEST-clause-uncounted : goal.returns-then-len-eq-LONGEST-clause-uncounted
 returns-then-len-eq-LONGEST-clause-uncounted g c =
@@ -55,7 +55,7 @@ returns-then-len-eq-LONGEST-clause-uncounted g c =
     let room : 0 < length c.read_at_most-2.new.piece = omega (arith, c.read_at_most-2.auto.piece, c.loop-taken.invariant.room) in
     let full : length c.loop-taken.balloting.line.items ≡ longest = search rules in
     let most : length a.0 ≤ most_bytes = rw a.1 c.loop-taken.invariant.most in
-    over_long _ a.0 _ _ _ _ _ c.read_at_most-2.new.piece _ a.3 a.2 moved (first_of c.read_at_most-2.new.piece 0 room) most c.if-piece-ne10.true full
+    over_long c.args.form _ a.0 _ _ _ _ _ c.read_at_most-2.new.piece _ a.3 a.2 moved (first_of c.read_at_most-2.new.piece 0 room) most c.if-piece-ne10.true full
 
 pub returns-else-piece-ne10-clause-uncounted : goal.returns-else-piece-ne10-clause-uncounted
 returns-else-piece-ne10-clause-uncounted g c =
@@ -70,4 +70,4 @@ returns-else-piece-ne10-clause-uncounted g c =
       | else-piece-ne10-via-then-piece-ne10+else-len-eq-LONGEST w ↦ let ne : length c.loop-taken.balloting.line.items ≢ longest = search rules in inr ne
       | else-piece-ne10-via-else-piece-ne10 w ↦ let ten : slice_index_or c.read_at_most-2.new.piece 0 0 ≡ 10 = search rules in inl ten
     ] in
-    over_input _ a.0 _ _ _ _ _ c.read_at_most-2.new.piece _ a.3 a.2 moved (first_of c.read_at_most-2.new.piece 0 room) full (byte_or _ _ short a.2.short)
+    over_input c.args.form _ a.0 _ _ _ _ _ c.read_at_most-2.new.piece _ a.3 a.2 moved (first_of c.read_at_most-2.new.piece 0 room) full (byte_or _ _ short a.2.short)

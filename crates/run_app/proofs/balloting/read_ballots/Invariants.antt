@@ -12,7 +12,7 @@ invariant-loop-taken g l = record {
   room : length l.piece ≡ 4096;
   most : l.taken ≤ most_bytes;
   at : (t : List ℕ) × (length t ≡ l.taken)
-      × AreTaken t l.balloting.number l.balloting.line.items l.balloting.ballots
+      × AreTaken l.form t l.balloting.number l.balloting.line.items l.balloting.ballots
       × Told (g.S.Source.left l.initial.source) t (g.S.Source.left l.source);
   later : g.S.Source.faults l.initial.source ≤ g.S.Source.faults l.source;
   quiet : g.S.Source.faults l.source ≡ g.S.Source.faults l.initial.source;

@@ -6,7 +6,7 @@ use Rattle.run_app.proofs.feeding.feed.Goals as goal
 
 pub loop-end-init : goal.loop-end-init
 loop-end-init g c = record {
-  fed = λ b s k. (s, fed_first _ s _ _ _ c.requires.short, k);
+  fed = λ b s k. (s, fed_first c.args.form _ s _ _ _ c.requires.short, k);
   later = omega arith;
   quiet = refl;
   honest = λ h. h;
@@ -18,7 +18,7 @@ loop-end-init g c = record {
 pub end_line-requires-clause-number : goal.end_line-requires-clause-number
 end_line-requires-clause-number g c =
     let k = c.requires.kept in
-    let most = fed_to_number _ _ _ _ _ _ _ _ _ _ (c.loop-end.invariant.fed k.0 k.1 k.2).1 in
+    let most = fed_to_number c.args.form _ _ _ _ _ _ _ _ _ _ (c.loop-end.invariant.fed k.0 k.1 k.2).1 in
     omega (arith, c.requires.number, most)
 
 pub end_line-requires-clause-takes : goal.end_line-requires-clause-takes
@@ -33,14 +33,14 @@ end_line-requires-clause-kept g c =
 pub returns-in-Err-clause-stops : goal.returns-in-Err-clause-stops
 returns-in-Err-clause-stops g c = λ b s k.
     let f = c.loop-end.invariant.fed b s k in
-    end_stops _ _ s _ _ _ _ f.0 _ _ _ _ _ _ f.1 c.in-Some.ensures.end (c.in-Err.ensures.stops b f.0 f.2)
+    end_stops c.args.form _ _ s _ _ _ _ f.0 _ _ _ _ _ _ f.1 c.in-Some.ensures.end (c.in-Err.ensures.stops b f.0 f.2)
 
 pub loop-end-preserved : goal.loop-end-preserved
 loop-end-preserved g c = record {
   fed = λ b s k.
       let f = c.loop-end.invariant.fed b s k in
       let t = c.in_default-end_line.ensures.fed b f.0 f.2 in
-      (t.0, rw c.after-rest.ensures (fed_to_end _ s _ _ _ _ f.0 _ _ _ t.0 _ _ _ _ f.1 c.in-Some.ensures.end t.1), t.2);
+      (t.0, rw c.after-rest.ensures (fed_to_end c.args.form _ s _ _ _ _ f.0 _ _ _ t.0 _ _ _ _ f.1 c.in-Some.ensures.end t.1), t.2);
   later = omega (arith, c.end_line.ensures.later);
   quiet = c.in_default-end_line.ensures.quiet ∙ c.loop-end.invariant.quiet;
   honest = λ h. c.loop-end.invariant.honest (c.end_line.ensures.honest h);
@@ -53,10 +53,10 @@ pub returns-clause-fed : goal.returns-clause-fed
 returns-clause-fed g c = λ b s k.
     let f = c.loop-end.invariant.fed b s k in
     let none : HasNoEnd c.loop-end.rest.now = rw c.in_default.is at c.end_of_line.ensures.none in
-    fed_with c.extend.result f.0 _ _ (piece_fed c.extend.result _ s _ _ _ _ f.0 _ _ _ _ f.1 none c.extend.ensures.line c.extend.ensures.short) f.2
+    fed_with c.extend.result f.0 _ _ (piece_fed c.args.form c.extend.result _ s _ _ _ _ f.0 _ _ _ _ f.1 none c.extend.ensures.line c.extend.ensures.short) f.2
 
 pub returns-clause-stops : goal.returns-clause-stops
 returns-clause-stops g c = λ b s k.
     let f = c.loop-end.invariant.fed b s k in
     let none : HasNoEnd c.loop-end.rest.now = rw c.in_default.is at c.end_of_line.ensures.none in
-    piece_stops _ c.extend.result _ s _ _ _ _ f.0 _ _ _ f.1 (left_of b _ _ _ _ f.0 f.2) none c.extend.ensures.err
+    piece_stops c.args.form _ c.extend.result _ s _ _ _ _ f.0 _ _ _ f.1 (left_of b _ _ _ _ f.0 f.2) none c.extend.ensures.err

@@ -7,28 +7,28 @@ use Rattle.run_app.proofs.finishing.finish.Goals as goal
 pub returns-then-is_empty-clause-done : goal.returns-then-is_empty-clause-done
 returns-then-is_empty-clause-done g c =
     let none : length c.args.line.now ≡ 0 = search rules in
-    λ b s k. on_ok_weaker c.report.result (none_done _ _ s _ _ _ none (left_of b _ _ _ _ s k)) (c.report.ensures.written s k.stands)
+    λ b s k. on_ok_weaker c.report.result (none_done c.args.form _ _ s _ _ _ none (left_of b _ _ _ _ s k)) (c.report.ensures.written s k.stands)
 
 pub returns-then-is_empty-clause-stops : goal.returns-then-is_empty-clause-stops
 returns-then-is_empty-clause-stops g c =
     let none : length c.args.line.now ≡ 0 = search rules in
-    λ b s k. none_report_all _ c.report.result _ s _ _ _ none (left_of b _ _ _ _ s k) c.report.ensures.no_line (c.report.ensures.stops s k.stands)
+    λ b s k. none_report_all c.args.form _ c.report.result _ s _ _ _ none (left_of b _ _ _ _ s k) c.report.ensures.no_line (c.report.ensures.stops s k.stands)
 
 pub returns-in-Err-clause-stops : goal.returns-in-Err-clause-stops
 returns-in-Err-clause-stops g c =
     let some : 0 < length c.args.line.now = search rules in
-    λ b s k. last_stops _ _ s _ _ _ c.in-Err.stop some (c.in-Err.ensures.stops b s k)
+    λ b s k. last_stops c.args.form _ _ s _ _ _ c.in-Err.stop some (c.in-Err.ensures.stops b s k)
 
 pub returns-clause-done : goal.returns-clause-done
 returns-clause-done g c =
     let some : 0 < length c.args.line.now = search rules in
     λ b s k.
     let t = c.in_default.ensures.took b s k in
-    on_ok_weaker c.report-2.result (line_done _ _ s t.0 _ _ _ _ some t.1 (left_of b _ _ _ _ t.0 t.2)) (c.report-2.ensures.written t.0 t.2.stands)
+    on_ok_weaker c.report-2.result (line_done c.args.form _ _ s t.0 _ _ _ _ some t.1 (left_of b _ _ _ _ t.0 t.2)) (c.report-2.ensures.written t.0 t.2.stands)
 
 pub returns-clause-stops : goal.returns-clause-stops
 returns-clause-stops g c =
     let some : 0 < length c.args.line.now = search rules in
     λ b s k.
     let t = c.in_default.ensures.took b s k in
-    line_report_all _ c.report-2.result _ s t.0 _ _ _ _ some t.1 (left_of b _ _ _ _ t.0 t.2) c.report-2.ensures.no_line (c.report-2.ensures.stops t.0 t.2.stands)
+    line_report_all c.args.form _ c.report-2.result _ s t.0 _ _ _ _ some t.1 (left_of b _ _ _ _ t.0 t.2) c.report-2.ensures.no_line (c.report-2.ensures.stops t.0 t.2.stands)

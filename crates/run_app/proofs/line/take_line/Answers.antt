@@ -5,20 +5,20 @@ use Rattle.run_app.proofs.KeepLemmas.{left_of}
 use Rattle.run_app.proofs.line.take_line.Goals as goal
 
 pub returns-in-Ok-clause-took : goal.returns-in-Ok-clause-took
-returns-in-Ok-clause-took g c = λ b s k. took_on _ s _ _ _ _ _ _ (c.in_default.ensures.ok b s k) c.deref.ensures.value c.in-Ok.ensures.ok
+returns-in-Ok-clause-took g c = λ b s k. took_on c.args.form _ s _ _ _ _ _ _ (c.in_default.ensures.ok b s k) c.deref.ensures.value c.in-Ok.ensures.ok
 
 pub returns-in-Err-clause-stops : goal.returns-in-Err-clause-stops
-returns-in-Err-clause-stops g c = λ b s k. answer_stops _ _ _ _ _ _ (c.in-Err.ensures.err b s k)
+returns-in-Err-clause-stops g c = λ b s k. answer_stops c.args.form _ _ _ _ _ _ (c.in-Err.ensures.err b s k)
 
 pub returns-in-Err-Failed-clause-stops : goal.returns-in-Err-Failed-clause-stops
 returns-in-Err-Failed-clause-stops g c = λ b s k.
     let a = c.in_default.ensures.ok b s k in
-    write_stops _ _ _ _ _ _ _ a.1 (left_of b _ _ _ _ a.0 a.2) (rw c.deref.ensures.value at c.in-Err-Failed.ensures.err)
+    write_stops c.args.form _ _ _ _ _ _ _ a.1 (left_of b _ _ _ _ a.0 a.2) (rw c.deref.ensures.value at c.in-Err-Failed.ensures.err)
 
 pub returns-in-Err-NoMemory-clause-stops : goal.returns-in-Err-NoMemory-clause-stops
 returns-in-Err-NoMemory-clause-stops g c = λ b s k.
     let a = c.in_default.ensures.ok b s k in
-    full_stops _ _ _ _ _ _ _ a.1 (left_of b _ _ _ _ a.0 a.2) (rw c.deref.ensures.value at c.in-Err-NoMemory.ensures.err)
+    full_stops c.args.form _ _ _ _ _ _ _ a.1 (left_of b _ _ _ _ a.0 a.2) (rw c.deref.ensures.value at c.in-Err-NoMemory.ensures.err)
 
 pub returns-in-Err-clause-long : goal.returns-in-Err-clause-long
 returns-in-Err-clause-long g c = long_only c.in-Err.stop _ c.in-Err.ensures.of_line

@@ -6,7 +6,7 @@ use Rattle.run_app.proofs.resuming.answer.Goals as goal
 pub returns-in-Ok-clause-ends : goal.returns-in-Ok-clause-ends
 returns-in-Ok-clause-ends g c =
     let e = c.restore.ensures in
-    asked _ _ _ _ _ _ _ _ _ _ c.in-Ok.ensures.chain e.same e.stop c.write_answer.ensures.ends
+    asked c.args.form _ _ _ _ _ _ _ _ _ _ c.in-Ok.ensures.chain e.same e.stop c.write_answer.ensures.ends
 
 pub returns-in-Ok-clause-keep_cause : goal.returns-in-Ok-clause-keep_cause
 returns-in-Ok-clause-keep_cause g c = λ e. absurd (c.write_answer.ensures.keep e)
@@ -17,7 +17,7 @@ returns-in-Ok-clause-keep_quiet g c = quiet_keep _ _ c.in-Ok.ensures.quiet
 pub returns-in-Err-clause-ends : goal.returns-in-Err-clause-ends
 returns-in-Err-clause-ends g c =
     let e = c.restore.ensures in
-    rw c.status_of_restore.ensures (not_asked c.in-Err.fault _ _ _ _ _ _ _ c.in-Err.ensures.fault e.same e.stop)
+    rw c.status_of_restore.ensures (not_asked c.args.form c.in-Err.fault _ _ _ _ _ _ _ c.in-Err.ensures.fault e.same e.stop)
 
 pub returns-in-Err-clause-busy : goal.returns-in-Err-clause-busy
 returns-in-Err-clause-busy g c = rw c.status_of_restore.ensures (unresumed_busy c.in-Err.fault)

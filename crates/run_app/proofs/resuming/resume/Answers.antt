@@ -9,17 +9,17 @@ drive-requires-clause-takes g c = λ changes d. c.restore.ensures.takes changes 
 pub drive-requires-clause-kept : goal.drive-requires-clause-kept
 drive-requires-clause-kept g c =
     let e = c.restore.ensures in
-    (_, _, resumed_first _ _ _ _ _ c.in-Ok.ensures.chain e.same e.settled)
+    (_, _, resumed_first c.args.form _ _ _ _ _ c.in-Ok.ensures.chain e.same e.settled)
 
 pub returns-in-Ok-clause-ends : goal.returns-in-Ok-clause-ends
 returns-in-Ok-clause-ends g c =
     let e = c.restore.ensures in
-    inl (went_on _ _ _ _ _ c.in-Ok.ensures.chain e.same e.settled _ _ _ _ _ _ _ _ c.drive.ensures.honest c.drive.ensures.ends)
+    inl (went_on c.args.form _ _ _ _ _ c.in-Ok.ensures.chain e.same e.settled _ _ _ _ _ _ _ _ c.drive.ensures.honest c.drive.ensures.ends)
 
 pub returns-in-Err-clause-ends : goal.returns-in-Err-clause-ends
 returns-in-Err-clause-ends g c =
     let e = c.restore.ensures in
-    rw c.status_of_restore.ensures (not_resumed c.in-Err.fault _ _ _ _ _ _ _ c.in-Err.ensures.fault e.same e.stop)
+    rw c.status_of_restore.ensures (not_resumed c.args.form c.in-Err.fault _ _ _ _ _ _ _ c.in-Err.ensures.fault e.same e.stop)
 
 pub returns-in-Err-clause-busy : goal.returns-in-Err-clause-busy
 returns-in-Err-clause-busy g c = rw c.status_of_restore.ensures (unresumed_busy c.in-Err.fault)

@@ -20,7 +20,7 @@ loop-taken-init g c = record {
   most = omega arith;
   number = omega (arith, c.requires.number);
   short = rw c.requires.line (omega arith);
-  at = λ b s k. (s, k, stands_first s _ _ _ s _ c.requires.number refl c.requires.line);
+  at = λ b s k. (s, k, stands_first c.args.form s _ _ _ s _ c.requires.number refl c.requires.line);
   honest = λ h. h;
   takes = λ changes t. t;
   keep_later = omega arith;
@@ -34,13 +34,13 @@ loop-taken-init g c = record {
 pub returns-in-Err-clause-ends : goal.returns-in-Err-clause-ends
 returns-in-Err-clause-ends g c = λ b s k.
     let a = c.loop-taken.invariant.at b s k in
-    read_ends _ s _ _ _ _ _ _ _ _ _ a.2 (left_of b _ _ _ _ a.0 a.1) c.loop-taken.invariant.most c.in-Err.ensures.err
+    read_ends c.args.form _ s _ _ _ _ _ _ _ _ _ a.2 (left_of b _ _ _ _ a.0 a.1) c.loop-taken.invariant.most c.in-Err.ensures.err
 
 pub returns-in-Ok-eq0-clause-ends : goal.returns-in-Ok-eq0-clause-ends
 returns-in-Ok-eq0-clause-ends g c = λ b s k.
     let read = rw c.in-Ok-eq0.field-0-test at c.in-Ok-eq0.ensures in
     let a = c.loop-taken.invariant.at b s k in
-    end_ends _ s _ _ _ _ _ _ _ _ _ _ _ _ a.2 c.loop-taken.invariant.most (read.end refl) read.moved (c.end.ensures.status b a.0 a.1)
+    end_ends c.args.form _ s _ _ _ _ _ _ _ _ _ _ _ _ a.2 c.loop-taken.invariant.most (read.end refl) read.moved (c.end.ensures.status b a.0 a.1)
 
 pub end-requires-clause-takes : goal.end-requires-clause-takes
 end-requires-clause-takes g c = λ changes d. c.loop-taken.invariant.takes changes (c.requires.takes changes d)
@@ -64,7 +64,7 @@ pub returns-in-Err-feed-clause-ends : goal.returns-in-Err-feed-clause-ends
 returns-in-Err-feed-clause-ends g c = λ b s k.
     let fits : c.loop-taken.taken + c.in-Ok.n ≤ most_bytes = omega (arith, c.in-Ok.ensures.within, c.room.ensures.fits) in
     let a = c.loop-taken.invariant.at b s k in
-    rw c.status_of.ensures (feed_ends _ s _ _ _ _ _ _ _ _ _ _ _ c.read_at_most.new.piece c.in-Err-feed.stop a.2 c.in-Ok.ensures.moved (c.in-Err-feed.ensures.stops b a.0 a.1) fits)
+    rw c.status_of.ensures (feed_ends c.args.form _ s _ _ _ _ _ _ _ _ _ _ _ c.read_at_most.new.piece c.in-Err-feed.stop a.2 c.in-Ok.ensures.moved (c.in-Err-feed.ensures.stops b a.0 a.1) fits)
 
 pub loop-taken-preserved : goal.loop-taken-preserved
 loop-taken-preserved g c =
@@ -72,7 +72,7 @@ loop-taken-preserved g c =
     let k0 = c.requires.kept in
     let a0 = c.loop-taken.invariant.at k0.0 k0.1 k0.2 in
     let fed0 = c.in_default.ensures.fed k0.0 a0.0 a0.1 in
-    let more : c.feed.new.progress.number ≤ c.loop-taken.progress.number + length piece = fed_number _ _ _ _ _ _ _ _ _ fed0.1 in
+    let more : c.feed.new.progress.number ≤ c.loop-taken.progress.number + length piece = fed_number c.args.form _ _ _ _ _ _ _ _ _ fed0.1 in
     let most : length piece ≤ c.in-Ok.n = short_piece c.in-Ok.n c.read_at_most.new.piece in
     let within : c.in-Ok.n ≤ c.room.result = c.in-Ok.ensures.within in
     record {
@@ -83,7 +83,7 @@ loop-taken-preserved g c =
       at = λ b s k.
           let a = c.loop-taken.invariant.at b s k in
           let fed = c.in_default.ensures.fed b a.0 a.1 in
-          (fed.0, fed.2, goes_on s _ _ _ _ _ _ _ _ _ _ _ _ _ _ c.read_at_most.new.piece a.2 c.in-Ok.ensures.moved fed.1);
+          (fed.0, fed.2, goes_on c.args.form s _ _ _ _ _ _ _ _ _ _ _ _ _ _ c.read_at_most.new.piece a.2 c.in-Ok.ensures.moved fed.1);
       read_later = omega (arith, c.read_at_most.ensures.later);
       write_later = omega (arith, c.feed.ensures.later);
       read_quiet = c.in-Ok.ensures.quiet ∙ c.loop-taken.invariant.read_quiet;
@@ -97,13 +97,13 @@ loop-taken-preserved g c =
 pub returns-in-Err-read_at_most-clause-ends : goal.returns-in-Err-read_at_most-clause-ends
 returns-in-Err-read_at_most-clause-ends g c = λ b s k.
     let a = c.loop-taken.invariant.at b s k in
-    read_ends _ s _ _ _ _ _ _ _ _ _ a.2 (left_of b _ _ _ _ a.0 a.1) c.loop-taken.invariant.most c.in-Err-read_at_most.ensures.err
+    read_ends c.args.form _ s _ _ _ _ _ _ _ _ _ a.2 (left_of b _ _ _ _ a.0 a.1) c.loop-taken.invariant.most c.in-Err-read_at_most.ensures.err
 
 pub returns-in-Ok-eq0-read_at_most-clause-ends : goal.returns-in-Ok-eq0-read_at_most-clause-ends
 returns-in-Ok-eq0-read_at_most-clause-ends g c = λ b s k.
     let read = rw c.in-Ok-eq0-read_at_most.field-0-test at c.in-Ok-eq0-read_at_most.ensures in
     let a = c.loop-taken.invariant.at b s k in
-    end_ends _ s _ _ _ _ _ _ _ _ _ _ _ _ a.2 c.loop-taken.invariant.most (read.end refl) read.moved (c.end-in-Ok-eq0-read_at_most.ensures.status b a.0 a.1)
+    end_ends c.args.form _ s _ _ _ _ _ _ _ _ _ _ _ _ a.2 c.loop-taken.invariant.most (read.end refl) read.moved (c.end-in-Ok-eq0-read_at_most.ensures.status b a.0 a.1)
 
 pub returns-then-len-eq-LONGEST-clause-ends : goal.returns-then-len-eq-LONGEST-clause-ends
 returns-then-len-eq-LONGEST-clause-ends g c = λ b s k.
@@ -112,7 +112,7 @@ returns-then-len-eq-LONGEST-clause-ends g c = λ b s k.
     let room : 0 < length c.read_at_most-2.new.piece = omega (arith, c.read_at_most-2.auto.piece, c.loop-taken.invariant.room) in
     let full : length c.loop-taken.progress.line.items ≡ longest = search rules in
     let a = c.loop-taken.invariant.at b s k in
-    long_ends _ s _ _ _ _ _ _ _ _ _ c.read_at_most-2.new.piece _ a.2 moved (first_of c.read_at_most-2.new.piece 0 room) (left_of b _ _ _ _ a.0 a.1) c.loop-taken.invariant.most c.if-piece-ne10.true full
+    long_ends c.args.form _ s _ _ _ _ _ _ _ _ _ c.read_at_most-2.new.piece _ a.2 moved (first_of c.read_at_most-2.new.piece 0 room) (left_of b _ _ _ _ a.0 a.1) c.loop-taken.invariant.most c.if-piece-ne10.true full
 
 pub returns-else-piece-ne10-clause-ends : goal.returns-else-piece-ne10-clause-ends
 returns-else-piece-ne10-clause-ends g c = λ b s k.
@@ -126,4 +126,4 @@ returns-else-piece-ne10-clause-ends g c = λ b s k.
       | else-piece-ne10-via-else-piece-ne10 w ↦ let ten : slice_index_or c.read_at_most-2.new.piece 0 0 ≡ 10 = search rules in inl ten
     ] in
     let a = c.loop-taken.invariant.at b s k in
-    pass_ends _ s _ _ _ _ _ _ _ _ _ c.read_at_most-2.new.piece _ a.2 moved (first_of c.read_at_most-2.new.piece 0 room) (left_of b _ _ _ _ a.0 a.1) full (byte_or _ _ short c.loop-taken.invariant.short)
+    pass_ends c.args.form _ s _ _ _ _ _ _ _ _ _ c.read_at_most-2.new.piece _ a.2 moved (first_of c.read_at_most-2.new.piece 0 room) (left_of b _ _ _ _ a.0 a.1) full (byte_or _ _ short c.loop-taken.invariant.short)

@@ -17,7 +17,7 @@ invariant-loop-taken g l = record {
   short : length l.progress.line.items ≤ longest;
   at : (b : Began) (s0 : Standing) → Keeping b l.initial.progress.chain (g.D.Keeper.rows l.initial.keeper) (g.D.Keeper.is_honest l.initial.keeper) (g.D.Keeper.may_leave l.initial.keeper) s0
       → (s : Standing) × Keeping b l.progress.chain (g.D.Keeper.rows l.keeper) (g.D.Keeper.is_honest l.keeper) (g.D.Keeper.may_leave l.keeper) s
-      × Stands s0 (g.S.Source.left l.initial.source) l.taken l.progress.number s l.progress.line.items (g.S.Source.left l.source) (g.K.Sink.written l.initial.sink) (g.K.Sink.written l.sink);
+      × Stands l.form s0 (g.S.Source.left l.initial.source) l.taken l.progress.number s l.progress.line.items (g.S.Source.left l.source) (g.K.Sink.written l.initial.sink) (g.K.Sink.written l.sink);
   read_later : g.S.Source.faults l.initial.source ≤ g.S.Source.faults l.source;
   write_later : g.K.Sink.faults l.initial.sink ≤ g.K.Sink.faults l.sink;
   read_quiet : g.S.Source.faults l.source ≡ g.S.Source.faults l.initial.source;

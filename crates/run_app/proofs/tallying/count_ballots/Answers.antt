@@ -4,7 +4,7 @@ use Rattle.run_app.proofs.TallyLemmas.{counted_all, counted_none, uncounted_busy
 use Rattle.run_app.proofs.tallying.count_ballots.Goals as goal
 
 pub returns-in-Ok-clause-counts : goal.returns-in-Ok-clause-counts
-returns-in-Ok-clause-counts g c = λ p sound s. counted_all _ _ _ _ _ _ _ c.in-Ok.ensures.kept (c.write_tally.ensures.ends p sound s)
+returns-in-Ok-clause-counts g c = λ p sound s. counted_all c.args.form _ _ _ _ _ _ _ c.in-Ok.ensures.kept (c.write_tally.ensures.ends p sound s)
 
 pub returns-in-Ok-clause-read_cause : goal.returns-in-Ok-clause-read_cause
 returns-in-Ok-clause-read_cause g c = λ e. absurd (c.write_tally.ensures.read e)
@@ -13,7 +13,7 @@ pub returns-in-Ok-clause-read_quiet : goal.returns-in-Ok-clause-read_quiet
 returns-in-Ok-clause-read_quiet g c = quiet_read _ _ c.in-Ok.ensures.quiet
 
 pub returns-clause-counts : goal.returns-clause-counts
-returns-clause-counts g c = λ p sound s. counted_none _ _ _ _ _ c.in-Err.ensures.uncounted
+returns-clause-counts g c = λ p sound s. counted_none c.args.form _ _ _ _ _ c.in-Err.ensures.uncounted
 
 pub returns-clause-busy : goal.returns-clause-busy
 returns-clause-busy g c = uncounted_busy _ c.in-Err.ensures.of_ballots

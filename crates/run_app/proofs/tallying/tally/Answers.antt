@@ -12,7 +12,7 @@ count_ballots-requires g c =
 pub returns-in-Ok-clause-ends : goal.returns-in-Ok-clause-ends
 returns-in-Ok-clause-ends g c =
     let e = c.restore.ensures in
-    tallied _ _ _ _ _ _ _ _ _ e.same e.stop _ _ c.in-Ok.ensures.chain c.count_ballots.ensures.counts
+    tallied c.args.form _ _ _ _ _ _ _ _ _ e.same e.stop _ _ c.in-Ok.ensures.chain c.count_ballots.ensures.counts
 
 pub returns-in-Ok-clause-keep_cause : goal.returns-in-Ok-clause-keep_cause
 returns-in-Ok-clause-keep_cause g c = λ e. absurd (c.count_ballots.ensures.keep e)
@@ -23,7 +23,7 @@ returns-in-Ok-clause-keep_quiet g c = quiet_keep _ _ c.in-Ok.ensures.quiet
 pub returns-in-Err-clause-ends : goal.returns-in-Err-clause-ends
 returns-in-Err-clause-ends g c =
     let e = c.restore.ensures in
-    rw c.status_of_restore.ensures (not_tallied c.in-Err.fault _ _ _ _ _ _ _ c.in-Err.ensures.fault e.same e.stop)
+    rw c.status_of_restore.ensures (not_tallied c.args.form c.in-Err.fault _ _ _ _ _ _ _ c.in-Err.ensures.fault e.same e.stop)
 
 pub returns-in-Err-clause-busy : goal.returns-in-Err-clause-busy
 returns-in-Err-clause-busy g c = rw c.status_of_restore.ensures (unresumed_busy c.in-Err.fault)

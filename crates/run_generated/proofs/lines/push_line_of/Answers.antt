@@ -6,7 +6,7 @@ use Rattle.run_generated.proofs.lines.push_line_of.Goals as goal
 
 pub returns-clause-ok : goal.returns-clause-ok
 returns-clause-ok g c =
-    let d = g.T.Spelled.spelled c.args.value.now in
+    let d = g.T.Spelled.spelled c.args.form c.args.value.now in
     let told : c.spell-pushed.new.writer.tokens ≡ data_tokens d = c.in_ok-pushed.ensures.ok ∙ ap (λ ts. ts ++ data_tokens d) c.new-writer.ensures.tokens in
     let before : c.spell-pushed.new.writer.before ≡ c.args.out.now.items = c.in_ok-pushed.ensures.before ∙ c.new-writer.ensures.before ∙ ap (λ v. v.items) c.replace.ensures.value in
     line_written c.args.out.now.items _ c.spell-pushed.new.writer.tokens d told

@@ -7,4 +7,4 @@ use Rattle.run_generated.proofs.spelling.push_list.Given as goal
 abbrev pub invariant-loop-value : goal.invariant-loop-value
 invariant-loop-value g l =
     (l.writer.before ≡ l.fn.writer.before)
-    × (l.writer.tokens ++ values_tokens g.T.Spelled.spelled (drop l.value-index l.values) ≡ l.fn.writer.tokens ++ data_tokens (list_data g.T.Spelled.spelled l.values))
+    × (l.writer.tokens ++ values_tokens (g.T.Spelled.spelled l.form) (drop l.value-index l.values) ≡ l.fn.writer.tokens ++ data_tokens (list_data (g.T.Spelled.spelled l.form) l.values))

@@ -42,3 +42,7 @@ returns-clause-lines c = record {
   commission = refl;
   reward = refl;
 }
+
+pub returns-clause-spelled : goal.returns-clause-spelled
+unfolding gen_on_literals
+returns-clause-spelled c = record { delegation = refl }
