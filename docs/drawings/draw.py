@@ -76,7 +76,7 @@ class Picture:
 BOXES = [
     ("stakeplay", "main", GREY, ["stakeplay"], (40, 20, 760), 1),
     ("run", "run_: the commands", BLUE, ["run_app", "run_trial", "run_generated", "run_words"], (40, 112, 760), 4),
-    ("line", "line_: lines", VIOLET, ["line_"], (40, 226, 170), 1),
+    ("line", "line_: lines; their law", VIOLET, ["line_", "law_lines"], (40, 226, 170), 1),
     ("store", "store_: a chain in a store", AMBER, ["store_commits", "store_resuming", "store_loading"],
      (590, 226, 210), 1),
     ("chain", "chain_: modules as a chain", GREEN,
@@ -99,7 +99,7 @@ ASIDE = [
 # what stands on what: the arrows of the picture, along which each dependency goes
 ARROWS = [("stakeplay", "run"), ("run", "line"), ("run", "chain"), ("run", "store"), ("store", "chain"),
           ("store", "rows"), ("chain", "records"), ("chain", "mod"), ("records", "mod"), ("records", "rows"),
-          ("mod", "law"), ("mod", "rule"), ("law", "rule"), ("line", "rule"), ("line", "mod"), ("rows", "rule"), ("rule", "base")]
+          ("mod", "law"), ("mod", "rule"), ("law", "rule"), ("line", "law"), ("line", "rule"), ("line", "mod"), ("rows", "rule"), ("rule", "base")]
 ROW = 20
 
 

@@ -1,0 +1,7 @@
+mod BurnLemmas
+mod EndLemmas
+mod FactLemmas
+mod OtherLemmas
+mod ReportLemmas
+mod ValueLemmas
+mod WrittenLemmas

@@ -1,0 +1,5 @@
+pub mod Laws
+pub mod Lines
+pub mod Ranges
+pub mod Reading
+pub mod Worked

@@ -1,0 +1,36 @@
+//! What written lines tell, as functions that do nothing: their contracts are the laws.
+
+ghost use Rattle.law_lines.specs.Laws.{BlocksAreRead, FactsAreRead, GenesesTellNoFact, ReportsAreRead, SuppliesFallByWrittenBurns};
+ghost use Rattle.law_lines.specs.Worked.{LinesTell, LinesTellNothing};
+
+/// The line of a fact is read as the fact, at the height of its block.
+pub fn facts_are_read()
+    ensures { FactsAreRead }
+{}
+
+/// The text of a block tells exactly the facts of its report, in their order.
+pub fn blocks_are_read()
+    ensures { BlocksAreRead }
+{}
+
+/// The texts of blocks, one after another, tell exactly the facts of their reports.
+pub fn reports_are_read()
+    ensures { ReportsAreRead }
+{}
+
+/// The text of a genesis in front of others tells no fact.
+pub fn geneses_tell_no_fact()
+    ensures { GenesesTellNoFact }
+{}
+
+/// Of each denomination, what is there after blocks and what their written lines say was burned come to what was
+/// there at the genesis.
+pub fn supplies_fall_by_written_burns()
+    ensures { SuppliesFallByWrittenBurns }
+{}
+
+/// Worked lines, computed from the definitions.
+pub fn lines_read_by_example()
+    ensures told { LinesTell }
+    ensures nothing { LinesTellNothing }
+{}
