@@ -14,22 +14,22 @@ stakeplay STORE COMMAND   replays the proof-of-stake accounting of a Cosmos SDK 
 STORE is a file that keeps the state, made where there is none, or - for none. COMMAND is one of:
 
   replay                  reads a genesis and blocks, a line each, and writes what each does, then a report
-                            stakeplay.sh - replay < examples/history.jsonl
+                            ./stakeplay.sh - replay < examples/history.jsonl
   resume                  the same from what STORE has: each line is a block
-                            tail -n +5 examples/history.jsonl | stakeplay.sh chain.db resume
+                            tail -n +5 examples/history.jsonl | ./stakeplay.sh chain.db resume
   query supply|pool|validators
   query account|validator|delegations|rewards|unbondings|redelegations|signing ADDRESS
                           answers from what STORE has
-                            stakeplay.sh chain.db query supply
+                            ./stakeplay.sh chain.db query supply
   tally                   reads ballots, a line each, and counts them by the stake of what STORE has
-                            stakeplay.sh chain.db tally < ballots.jsonl
+                            ./stakeplay.sh chain.db tally < ballots.jsonl
   gen SEED COUNT          writes a generated input with COUNT blocks
-                            stakeplay.sh - gen 7 100 | stakeplay.sh - replay
+                            ./stakeplay.sh - gen 7 100 | ./stakeplay.sh - replay
   trial SEED COUNT        replays that input and writes a summary of one line
-                            stakeplay.sh - trial 7 1000
+                            ./stakeplay.sh - trial 7 1000
 
   bech32 COMMAND          the same, with addresses as explorers print them in place of 40 digits
-                            stakeplay.sh - bech32 gen 7 100 | stakeplay.sh - bech32 replay
+                            ./stakeplay.sh - bech32 gen 7 100 | ./stakeplay.sh - bech32 replay
 
 README.md has an example, docs/FORMATS.md every line in and out, docs/OPERATING.md how a run can end.
 TEXT
