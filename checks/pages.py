@@ -138,7 +138,7 @@ ROWS = [
     ("docs/FROM_A_NODE.md", "seq", "cp -r examples/recipes/data/blocks blocks\n",
      {"1000001 10000 1090001": "1001 1 1003", "9999": "0"}, [writes(""), writes("")]),
     ("docs/FROM_A_NODE.md", "tar", "H=1002; cp -r examples/recipes/data/blocks blocks\n"
-     "touch before.json behind.json differences.txt\n", {}, [writes("")]),
+     "touch before.json after.json differences.txt\n", {}, [writes("")]),
     ("--help", "./stakeplay.sh - replay", "", {}, [writes(WHOLE)]),
     ("--help", "tail", REPLAYED, {}, [writes(REST)]),
     ("--help", "./stakeplay.sh chain.db query supply", REPLAYED, {}, [says('"kind":"supply"}')]),

@@ -9,6 +9,7 @@ import collections
 import pathlib
 import re
 import sys
+import textwrap
 
 ROOT = pathlib.Path(__file__).resolve().parent.parent
 CRATES = ROOT / "crates"
@@ -38,11 +39,11 @@ class Module:
         self.names: dict[str, tuple[pathlib.Path, str]] = {}
         self.aliases: dict[str, pathlib.Path] = {}
         self.lines: dict[str, list[str]] = {}
-        self.title = ""
+        text = file.read_text(encoding="utf-8")
+        head_comment = " ".join(line.removeprefix("--").strip() for line in re.match(r"(?:--.*\n)*", text)[0].splitlines())
+        self.title = re.match(r"(?:.*?[.:](?= [A-Z]|$))?", head_comment)[0] or head_comment  # its first sentence
         current, in_record = "", -1  # the depth of the record's head, or -1
-        for line in file.read_text(encoding="utf-8").splitlines():
-            if line.startswith("--") and not self.title:
-                self.title = line.removeprefix("--").strip()
+        for line in text.splitlines():
             if line.startswith("use "):
                 self.take_import(line)
                 continue
@@ -126,6 +127,11 @@ def reached() -> list[tuple[pathlib.Path, str]]:
     return order
 
 
+def wrapped(text: str) -> str:
+    """A paragraph in lines of at most 120 columns."""
+    return textwrap.fill(text, 120, break_long_words=False, break_on_hyphens=False)
+
+
 def text_of_page() -> str:
     order = reached()
     by_file: dict[pathlib.Path, list[str]] = collections.OrderedDict()
@@ -157,8 +163,8 @@ def text_of_page() -> str:
     out += [f"| `{crate}` | {count} | {of_crate[crate]} |" for crate, count in crates.most_common()]
     for number, (file, names) in enumerate(by_file.items(), 1):
         path = file.relative_to(ROOT)
-        out += ["", f"## {number}. `{path}`", "", module_of(file).title, ""]
-        out += [f"{lines[file]} of {whole[file]} lines: " + ", ".join(f"`{name}`" for name in names) + "."]
+        told = f"{lines[file]} of {whole[file]} lines: " + ", ".join(f"`{name}`" for name in names) + "."
+        out += ["", f"## {number}. `{path}`", "", wrapped(module_of(file).title), "", wrapped(told)]
     return "\n".join(out) + "\n"
 
 

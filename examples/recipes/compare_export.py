@@ -7,7 +7,7 @@ What comes out, where a validator's tokens are not the same; nothing where all i
     app_state.staking.validators[cosmosvaloper1..].tokens: chain 1318828, store 1318827
 An element of a list has its key in brackets. One that stands on one side alone is told, and then each of its members.
 What no store has (other modules, descriptions, ..) is not compared, nor is the reserve. With --next, the results of the
-block behind the store's, what was paid ahead to the fee collector is left out.
+block after the store's, what was paid ahead to the fee collector is left out.
 Status: 0 nothing differs, 1 something does, 2 the store or the export is none.
 """
 from __future__ import annotations
@@ -79,7 +79,7 @@ def main() -> int:
     reader = argparse.ArgumentParser(description=__doc__, formatter_class=argparse.RawDescriptionHelpFormatter)
     reader.add_argument("store", metavar="STORE", help="the file of a store")
     reader.add_argument("export", metavar="EXPORT", help="what `simd export` wrote of the store's height")
-    reader.add_argument("--next", metavar="RESULTS", help="the node's /block_results of the block behind the store's")
+    reader.add_argument("--next", metavar="RESULTS", help="the node's /block_results of the block after the store's")
     words = reader.parse_args()
     prefix = Prefix(tells_long=False)
     of_store = export_of(words.store, words.next)

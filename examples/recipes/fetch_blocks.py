@@ -4,7 +4,7 @@
 Who wants it: whoever has a node of a Cosmos SDK v0.47 chain whose RPC and REST servers answer, and that kept the range.
 One command:  python3 fetch_blocks.py http://localhost:26657 http://localhost:1317 FOLDER FIRST LAST
 It asks for each block, its results, the validators of the height before and the decoded transactions, page by page, and
-for the results of the block behind the range, which may be missing. What the folder has in full is not asked for again,
+for the results of the block after the range, which may be missing. What the folder has in full is not asked for again,
 and an answer is written in full or not at all, so a range that was stopped is gone on with by the same command.
 Status: 0 all is there, 2 the node did not answer (`stop`), or with an error.
 """

@@ -30,7 +30,7 @@ def read_words() -> argparse.Namespace:
     reader.add_argument("export", metavar="EXPORT", help="the export of a chain, or with --genesis a genesis document")
     reader.add_argument("store", metavar="STORE", nargs="?", help="the file of the store, which must not be there")
     reader.add_argument("--head", metavar="BLOCK", help="the node's /block of the last height")
-    reader.add_argument("--next", metavar="RESULTS", help="the node's /block_results of the height behind it")
+    reader.add_argument("--next", metavar="RESULTS", help="the node's /block_results of the height after it")
     reader.add_argument("--reserve", metavar="DENOM,..", default="",
                         help="the denominations of which the reserve holds coins")
     reader.add_argument("--power-reduction", metavar="N", type=int, default=1_000_000,
@@ -78,7 +78,7 @@ def pay_ahead(state: State, results: Value) -> None:
     """Moves the coins that the next block's beginning mints from the reserve to the fee collector."""
     height = results.member("height")
     if height.number() != state.height + 1:
-        height.fail(f"is {height.raw}, and the block behind the export is {state.height + 1}", "next")
+        height.fail(f"is {height.raw}, and the block after the export is {state.height + 1}", "next")
     coins = minted(results)
     if any(amount > state.balances.get((RESERVE, denom), 0) for denom, amount in coins.items()):
         height.fail(f"has {coins_text(coins)} to be paid ahead, and the reserve has less", "reserve")

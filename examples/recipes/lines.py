@@ -1,7 +1,7 @@
 """Reads the output lines of stakeplay for the recipes of this folder, and judges whether they are a whole output.
 
 `lines(name)` gives the lines as objects, one by one. It ends the program with status 2 and a sentence where a line is
-cut or of another program, where a block does not follow the one before, or where the end is missing. Behind a report
+cut or of another program, where a block does not follow the one before, or where the end is missing. After a report
 the next blocks and their report may stand, and before the first line of a run or alone an answer: lines of the
 report's kinds.
 """

@@ -2,7 +2,7 @@
 
 For each height H there are `block_H.json` and `block_results_H.json` (CometBFT's `/block` and `/block_results`),
 `validators_H-1.json` (its `/validators` of the height before) and `txs_H.json` (the REST server's
-`/cosmos/tx/v1beta1/txs/block/H`); further pages have `_2`, `_3` and so on behind the height. What does not fit ends the
+`/cosmos/tx/v1beta1/txs/block/H`); further pages have `_2`, `_3` and so on after the height. What does not fit ends the
 recipe: answers of another height, block or chain, pages that are missing, an error in place of an answer.
 """
 from __future__ import annotations
@@ -27,7 +27,7 @@ def length(value: Value) -> int:
 
 
 class Pages:
-    """The elements of a list that a node answered in pages; `raw` has them one behind the other."""
+    """The elements of a list that a node answered in pages; `raw` has them one after the other."""
 
     def __init__(self, lists: list[Value]):
         self.lists = lists

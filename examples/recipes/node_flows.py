@@ -157,7 +157,7 @@ class End:
     spends: list[Moved] = field(default_factory=list)   # of the community pool
 
     def add(self, events: list[Value], is_passed: bool) -> bool:
-        """Adds the events before a proposal's own, or behind the last; whether some spend the pool for it."""
+        """Adds the events before a proposal's own, or after the last; whether some spend the pool for it."""
         count = len(self.spends)
         for move in moves(events):
             if is_passed and parties(move) == (DISTRIBUTION, "other"):

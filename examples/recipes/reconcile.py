@@ -9,9 +9,9 @@ What comes out, for the third user of the example `life.out` and the heights 1 a
 `is` = `was` + received + paid + unbonded - sent - fees - delegated - funded. `paid` is rewards and commission;
 `received` also what the community pool spent, `unbonded` what came back from staking; `burned` is what slashes took
 of stakes (cut to whole units), which are in no account. `known` says where `was` and `is` come from: `report`, where
-the output has one at that height, else `reckoned` from the report that is nearest behind it.
+the output has one at that height, else `reckoned` from the report that is nearest after it.
 
-Behind a report the next blocks and their report may stand, and lines of accounts before the first block; each report is
+After a report the next blocks and their report may stand, and lines of accounts before the first block; each report is
 held against the one before it and all that moved between them.
 Status: 0 all adds up, 1 something does not, 2 the output is cut, of another program, or does not reach from FROM to TO.
 """

@@ -4,7 +4,7 @@
 Who wants it: whoever looks at a store with the tools that read what `simd export` writes, or keeps a state as text.
 One command:  python3 to_export.py chain.db > store.json
 What no store has is left out: other modules, descriptions, keys (a validator has `consensus_address`), what the reserve
-holds (the account that stands for other modules). With --next, the results of the block behind the store's, what was
+holds (the account that stands for other modules). With --next, the results of the block after the store's, what was
 paid ahead to the fee collector is left out too. `from_export.py` reads such a document again.
 Status: 0, or 2 where the store is none.
 """
@@ -26,7 +26,7 @@ def paid_ahead(state: State, results: str | None) -> Coins:
     answer = read_answer(results)
     height = answer.member("height")
     if height.number() != state.height + 1:
-        height.fail(f"is {height.raw}, and the block behind the store's is {state.height + 1}", "next")
+        height.fail(f"is {height.raw}, and the block after the store's is {state.height + 1}", "next")
     return minted(answer)
 
 
@@ -40,7 +40,7 @@ def main() -> None:
     """Writes the document."""
     reader = argparse.ArgumentParser(description=__doc__, formatter_class=argparse.RawDescriptionHelpFormatter)
     reader.add_argument("store", metavar="STORE", help="the file of a store")
-    reader.add_argument("--next", metavar="RESULTS", help="the node's /block_results of the block behind the store's")
+    reader.add_argument("--next", metavar="RESULTS", help="the node's /block_results of the block after the store's")
     reader.add_argument("--prefix", default="cosmos", help="the chain's prefix of addresses (cosmos)")
     words = reader.parse_args()
     print(json.dumps(Writer(Prefix(words.prefix)).document(export_of(words.store, words.next)), indent=1))
