@@ -41,7 +41,7 @@ class Module:
         self.lines: dict[str, list[str]] = {}
         text = file.read_text(encoding="utf-8")
         head_comment = " ".join(line.removeprefix("--").strip() for line in re.match(r"(?:--.*\n)*", text)[0].splitlines())
-        self.title = re.match(r"(?:.*?[.:](?= [A-Z]|$))?", head_comment)[0] or head_comment  # its first sentence
+        self.title = re.match(r"(?:.*?\.(?= [A-Z]|$))?", head_comment)[0] or head_comment  # its first sentence
         current, in_record = "", -1  # the depth of the record's head, or -1
         for line in text.splitlines():
             if line.startswith("use "):
