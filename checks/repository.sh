@@ -51,6 +51,7 @@ python3 checks/tables.py --check || bad=1
 python3 checks/reading.py --check || bad=1
 python3 checks/map.py --check || bad=1
 python3 checks/counts.py || bad=1
+python3 checks/wrap.py --check || bad=1
 python3 docs/drawings/draw.py --check || bad=1
 # each decision has an anchor of its own
 while read -r anchor; do say "docs/DECISIONS.md has the anchor $anchor twice"; done \
