@@ -5,6 +5,8 @@
                                                output to FILE with the second at which it came, prints the table, and ends with its status.
                                                FILE is gate.log in the temporary folder unless it is given
   bench/gate.py read FILE                      prints the table of what an earlier run wrote
+  bench/gate.py page FILE                      prints it as bench/README.md has it: seconds of a processor, of the crates of which some part takes
+                                               at least 120, those that take most first
   bench/gate.py modules FOLDER                 lists the slowest modules (a function's proof, a file of lemmas) of the check that kept its work in
                                                FOLDER, as 'rt check' does in crates/NAME/out/incremental: the first one there, if it had one job
 
@@ -208,6 +210,34 @@ def row(name, checks):
     return "| " + " | ".join(cells) + " |"
 
 
+def page_row(name, checks, per=1):
+    """Returns a line of the page's table: the seconds of a processor, or so many of them, and how many edits there are."""
+    cells = [name]
+    for kinds in (("proof", "build"), ("tests",), ("seed", "edit")):
+        spent = sum(it.cpu for it in checks if it.kind in kinds)
+        cells.append(f"{spent / per:,.0f}" if spent else "")
+    count = len({(it.crate, it.name) for it in checks if it.kind == "edit"})
+    return "| " + " | ".join([*cells, str(count) if count else ""]) + " |"
+
+
+def page(log):
+    """Prints the table of the page."""
+    checks = read(log)[0]
+    kinds = (("proof", "build"), ("tests",), ("seed", "edit"))
+    of_crate = {crate: [it for it in checks if it.crate == crate] for crate in dependencies()}
+
+    def parts(crate):
+        return [sum(it.cpu for it in of_crate[crate] if it.kind in kind) for kind in kinds]
+
+    long = sorted((crate for crate in of_crate if max(parts(crate)) >= 120), key=lambda crate: -sum(parts(crate)))
+    print("| crate | proofs | tests' proofs | edits, with the checks around them | edits |\n|---|---|---|---|---|")
+    for crate in long:
+        print(page_row(f"`{crate}`" + (", built twice" if any(it.kind == "build" for it in of_crate[crate]) else ""), of_crate[crate]))
+    print(page_row("all others", [it for it in checks if it.crate not in long]))
+    cells = page_row("all, in minutes", checks, 60).strip("| ").split(" | ")
+    print("| " + " | ".join(f"**{cell}**" for cell in cells) + " |")
+
+
 def longest_chain(checks):
     """Returns the chain of crates, each of which waits for the one before, whose proofs took longest, and its seconds."""
     below, proof, best = dependencies(), collections.Counter(), {}
@@ -266,6 +296,9 @@ def main(words):
         return status
     if verb == "read" and len(rest) == 1:
         table(rest[0])
+        return 0
+    if verb == "page" and len(rest) == 1:
+        page(rest[0])
         return 0
     if verb == "modules" and len(rest) == 1:
         for seconds, module in module_times(rest[0])[:20]:
