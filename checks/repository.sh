@@ -11,7 +11,7 @@ bad=0
 # their names), and the program, whose body is one call
 no_edits=" rule_modules rule_machine rule_worked rule_histories law_rewards law_soundness law_records law_runs run_worked stakeplay "
 # crates whose check, which an edit costs once more, is long (bench/README.md has the gate's budget), and for which no wrong
-# body is among those that every reader should see refused; they may have edits, and so far have none
+# body is among those that every reader should see refused; they may have edits, and most have none
 long_checks=" base_types base_coins base_roles line_json "
 wrong_bodies="invents_overflow|rounds_exact_quotient|cuts_slash_fraction|starts_after_removal|skips_slash_at_start|drops_slash_reference"
 wrong_bodies="$wrong_bodies|keeps_dead_records|drops_the_dust|burns_from_bonded|hides_a_burn|keeps_refused_reward|writes_before_commit"
