@@ -42,7 +42,8 @@ fi
 
 # 1. what was built here
 built="$here/crates/stakeplay/out/stakeplay"
-if [ -x "$built" ] && [ -z "$(find "$here/crates" -name out -prune -o -type f \( -name '*.rt' -o -name '*.antt' \) -newer "$built" -print -quit)" ]; then
+newer() { find "$here/crates" -name out -prune -o -type f \( -name '*.rt' -o -name '*.antt' \) -newer "$built" -print -quit; }
+if [ -x "$built" ] && [ -z "$(newer)" ]; then
     exec "$built" "$@"
 fi
 

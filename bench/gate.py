@@ -1,18 +1,22 @@
 #!/usr/bin/env python3
 """Tells where the time of the gate goes.
 
-  bench/gate.py run [--log FILE] [COMMAND..]   runs the command (rt ci, if none is given) at the top of the repository, writes each line of its
-                                               output to FILE with the second at which it came, prints the table, and ends with its status.
-                                               FILE is gate.log in the temporary folder unless it is given
-  bench/gate.py read FILE                      prints the table of what an earlier run wrote
-  bench/gate.py page FILE                      prints it as bench/README.md has it: seconds of a processor, of the crates of which some part takes
-                                               at least 120, those that take most first
-  bench/gate.py modules FOLDER                 lists the slowest modules (a function's proof, a file of lemmas) of the check that kept its work in
-                                               FOLDER, as 'rt check' does in crates/NAME/out/incremental: the first one there, if it had one job
+  bench/gate.py run [--log FILE] [COMMAND..]
+      runs the command (rt ci, if none is given) at the top of the repository, writes each line of its output to FILE with
+      the second at which it came, prints the table, and ends with its status. FILE is gate.log in the temporary folder
+      unless it is given
+  bench/gate.py read FILE
+      prints the table of what an earlier run wrote
+  bench/gate.py page FILE
+      prints it as bench/README.md has it: seconds of a processor, of the crates of which some part takes at least 120,
+      those that take most first
+  bench/gate.py modules FOLDER
+      lists the slowest modules (a function's proof, a file of lemmas) of the check that kept its work in FOLDER, as
+      'rt check' does in crates/NAME/out/incremental: the first one there, if it had one job
 
-rt ci says what it has done and not how long it took. So while it runs, its checks are looked at four times a second: a check's time begins when it is
-first seen and ends when it is gone. Of the check that a crate's edits begin with, the files that it writes are looked at too: a module's time is that
-since the one before was written.
+rt ci says what it has done and not how long it took. So while it runs, its checks are looked at four times a second: a
+check's time begins when it is first seen and ends when it is gone. Of the check that a crate's edits begin with, the files
+that it writes are looked at too: a module's time is that since the one before was written.
 """
 import collections
 import os
@@ -232,7 +236,8 @@ def page(log):
     long = sorted((crate for crate in of_crate if max(parts(crate)) >= 120), key=lambda crate: -sum(parts(crate)))
     print("| crate | proofs | tests' proofs | edits, with the checks around them | edits |\n|---|---|---|---|---|")
     for crate in long:
-        print(page_row(f"`{crate}`" + (", built twice" if any(it.kind == "build" for it in of_crate[crate]) else ""), of_crate[crate]))
+        built = ", built twice" if any(it.kind == "build" for it in of_crate[crate]) else ""
+        print(page_row(f"`{crate}`{built}", of_crate[crate]))
     print(page_row("all others", [it for it in checks if it.crate not in long]))
     cells = page_row("all, in minutes", checks, 60).strip("| ").split(" | ")
     print("| " + " | ".join(f"**{cell}**" for cell in cells) + " |")
@@ -278,7 +283,8 @@ def table(log):
     for seconds, module in sorted(modules, reverse=True)[:10]:
         print(f"- `{module}` {seconds:.0f}")
     print(
-        f"\nThe whole run: {last / 60:.1f} minutes (at most {BUDGET[0]} from nothing, {BUDGET[1]} after a change in one module)."
+        f"\nThe whole run: {last / 60:.1f} minutes (at most {BUDGET[0]} from nothing, "
+        f"{BUDGET[1]} after a change in one module)."
     )
     for line in lines:
         if re.match(r"rt: (ok|FAILED)|\d+ passed, |status ", line):

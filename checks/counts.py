@@ -1,7 +1,7 @@
 #!/usr/bin/env python3
 """Counts what pages give numbers of, and ends with 1 where a page has another number.
 
-  checks/counts.py   compares them: kinds of messages, cases, rows of words and of questions, changed stores, crates above a crate
+They are kinds of messages, cases, rows of words and of questions, changed stores, and crates above a crate.
 """
 import pathlib
 import re
