@@ -88,18 +88,19 @@ BOXES = [
     ("law", "law_: of the machine", RED, ["law_runs", "law_rewards", "law_soundness"], (40, 470, 170), 1),
     ("rule", "rule_: what is right, as definitions", RED, ["rule_machine", "rule_modules"], (40, 694, 760), 2),
     ("base", "base_: values, tables, and the roles between modules", GREY,
-     ["base_roles", "base_messages", "base_records", "base_table", "base_io", "base_lists", "base_bech32", "base_coins", "base_shares",
-      "base_types", "base_decimals"], (40, 796, 760), 5),
+     ["base_roles", "base_messages", "base_records", "base_table", "base_io", "base_lists", "base_bech32", "base_coins",
+      "base_shares", "base_types", "base_decimals"], (40, 796, 760), 5),
 ]
 ASIDE = [
-    ("tests", "test_: tests alone", BLUE, ["test_"], (840, 226, 200), 1),
+    ("tests", "test_: tests alone", BLUE, ["test_"], (840, 112, 200), 1),
     ("worked", "worked rows, examples", GREY, ["run_worked", "rule_histories", "rule_worked", "base_roles_example"],
      (840, 470, 200), 1),
 ]
 # what stands on what: the arrows of the picture, along which each dependency goes
 ARROWS = [("stakeplay", "run"), ("run", "line"), ("run", "chain"), ("run", "store"), ("store", "chain"),
           ("store", "rows"), ("chain", "records"), ("chain", "mod"), ("records", "mod"), ("records", "rows"),
-          ("mod", "law"), ("mod", "rule"), ("law", "rule"), ("line", "law"), ("line", "rule"), ("line", "mod"), ("rows", "rule"), ("rule", "base")]
+          ("mod", "law"), ("mod", "rule"), ("law", "rule"), ("line", "law"), ("line", "rule"), ("line", "mod"),
+          ("rows", "rule"), ("rule", "base")]
 ROW = 20
 
 
@@ -135,6 +136,11 @@ def layers():
     if sorted(home) != sorted(graph):
         sys.exit(f"draw: no box has {', '.join(sorted(set(graph) - set(home)))}")
 
+    for key, (x, y, w, h) in places.items():
+        for other, (left, up, wide, high) in places.items():
+            if key < other and x < left + wide and left < x + w and y < up + high and up < y + h:
+                sys.exit(f"draw: the boxes {key} and {other} overlap")
+
     below = {key: {key} for key, *_ in BOXES + ASIDE}
     for _ in BOXES:
         for above, under in ARROWS:
@@ -169,6 +175,7 @@ def layers():
     arrow([(620, bottom("records")), (620, 440), (530, 440), (530, top("mod"))])
     arrow([(720, bottom("records")), (720, top("rows"))])
     arrow([(260, 520), (210, 520)])
+    arrow([(125, bottom("line")), (125, top("law"))])
     arrow([(405, bottom("mod")), (405, top("rule"))])
     arrow([(150, bottom("law")), (150, top("rule"))])
     arrow([(40, 262), (22, 262), (22, 716), (39, 716)])
@@ -180,7 +187,7 @@ def layers():
     picture.note(40, 916, [
         "An arrow: some crate of the upper box stands on one of the lower box. Each dependency goes along arrows, "
         "downwards or within a box.",
-        "Red boxes have no code that runs. Dashed boxes are no part of the program: nothing of it stands on them."])
+        "Red boxes and law_lines have no code that runs. Dashed boxes are no part of the program: nothing of it stands on them."])
     return picture
 
 
