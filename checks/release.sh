@@ -13,7 +13,7 @@ sum() { sha256sum | cut -d ' ' -f 1; }
 [ "$(gzip -dc release/stakeplay.gz | sum)" = "$(release_word . program)" ] || say "the program has another sum than release/RELEASE tells"
 if ! is_of_release .; then
     since="$(git log -1 --format=%H -- release/RELEASE 2>/dev/null)"
-    age="$(git rev-list --count "$since..HEAD" -- 'crates/*/src' 2>/dev/null)"
+    age="$(git rev-list --count "$since..HEAD" -- 'crates/*/src/*' 2>/dev/null)"
     [ $bad = 0 ] && echo "release: of $(release_word . made), whole; sources changed since, in ${age:-some} commits"
     exit $bad
 fi
