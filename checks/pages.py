@@ -170,6 +170,22 @@ def try_block(page, block, row, node):
             bad.append(f"{page}: {command}  ended with {status} and wrote\n{out[-600:]}{err[-600:]}")
 
 
+def try_excerpt():
+    """The lines that README shows of an input and its output stand there, those of the output in their order."""
+    shown = re.search(r"^```json\n(.*?)\n\n(.*?)^```$", pathlib.Path("README.md").read_text(), re.M | re.S)
+    forms = [[re.escape(line).replace(r"\.\.", ".*") for line in part.splitlines()] for part in shown.groups()]
+    given, at = read("history.jsonl"), 0
+    bad.extend(f"README.md: no input has {form}" for form in forms[0] if not re.search(form, given))
+    told = WHOLE.splitlines()
+    for form in forms[1]:
+        found = next((place for place in range(at, len(told)) if re.fullmatch(form, told[place])), None)
+        if found is None:
+            bad.append(f"README.md: the output does not have, after line {at}, {form}")
+        else:
+            at = found + 1
+
+
+try_excerpt()
 with http.server.ThreadingHTTPServer(("127.0.0.1", 0), Node) as server, contextlib.ExitStack() as stack:
     threading.Thread(target=server.serve_forever, daemon=True).start()
     stack.callback(server.shutdown)
