@@ -104,7 +104,7 @@ def ends_by_pool(out, err):
 def spelled_rewards(out, err):
     """What the same run tells of the delegator in the other form of addresses."""
     told = pathlib.Path("cases/bech32/history.out").read_text().splitlines(True)
-    address = re.search(r"rewards (\w+)", pathlib.Path("README.md").read_text())[1]
+    address = re.search(r"query rewards (\w+)", pathlib.Path("README.md").read_text())[1]
     return bool(out) and out == "".join(line for line in told if f'"delegator":"{address}","kind":"pending"' in line)
 
 
