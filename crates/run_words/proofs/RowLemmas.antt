@@ -56,13 +56,14 @@ record IsNoName (w : List ℕ) : Type 0 where
   replayed : bytes_eq w (codes "replay") ≡ false
   resumed : bytes_eq w (codes "resume") ≡ false
   tallied : bytes_eq w (codes "tally") ≡ false
+  checked : bytes_eq w (codes "check") ≡ false
   asked : bytes_eq w (codes "query") ≡ false
 
 no_name : (w : List ℕ) → is_option w ≡ true → IsNoName w
 no_name [] h = absurd (true≢false (sym h))
 no_name (x ∷ xs) h =
     let is : x ≡ 45 = grind (arith, h) in
-    rw is (record { generated = refl; tried = refl; replayed = refl; resumed = refl; tallied = refl; asked = refl })
+    rw is (record { generated = refl; tried = refl; replayed = refl; resumed = refl; tallied = refl; checked = refl; asked = refl })
 
 -- nor does it tell a form
 no_form : (w : List ℕ) → is_option w ≡ true → is_bech32 w ≡ false
@@ -173,7 +174,7 @@ not_asked form b c q = elim (either_true (is_option b) (list_any is_option (c �
 refused_options : (form : Form) (words : List (List ℕ)) → list_any is_option words ≡ true → mode_of form words ≡ None
 refused_options form [] h = absurd (true≢false (sym h))
 refused_options form (a ∷ []) h = elim (either_true (is_option a) false h) [
-  | inl p ↦ rw ((no_name a p).replayed, (no_name a p).resumed, (no_name a p).tallied) refl
+  | inl p ↦ rw ((no_name a p).replayed, (no_name a p).resumed, (no_name a p).tallied, (no_name a p).checked) refl
   | inr q ↦ absurd (true≢false (sym q))
 ]
 refused_options form (a ∷ b ∷ []) h = elim (either_true (is_option a) (list_any is_option (b ∷ [])) h) [

@@ -43,7 +43,8 @@ abbrev pub alone : List ℕ → Option Mode
 alone name =
     if bytes_eq name (codes "replay") then Some mode.Replay
     else (if bytes_eq name (codes "resume") then Some mode.Resume
-    else (if bytes_eq name (codes "tally") then Some mode.Tally else None))
+    else (if bytes_eq name (codes "tally") then Some mode.Tally
+    else (if bytes_eq name (codes "check") then Some mode.Check else None)))
 
 -- the command of this name with one word
 abbrev pub with_word : List ℕ → List ℕ → Option Mode
@@ -55,7 +56,7 @@ with_words form name first second =
     if bytes_eq name (codes "query") then option_map mode.Query (address_asked form first second)
     else generating name first second
 
--- `replay`; `resume`; `tally`; `query` with a kind; `query` with a kind and an address in this form; `gen SEED COUNT`;
+-- `replay`; `resume`; `tally`; `check`; `query` with a kind; `query` with a kind and an address in this form; `gen SEED COUNT`;
 -- `trial SEED COUNT`; and no other words
 abbrev pub mode_of : Form → List (List ℕ) → Option Mode
 mode_of form [] = None

@@ -3,7 +3,7 @@ use Rattle.std.specs.Prelude.{◌≡◌, ℕ, List, [], ◌∷◌, ◌++◌, cod
 use Rattle.base_bech32.specs.declared.form.Form.TheVariants.{Hex, Bech32}
 use Rattle.run_words.specs.declared.mode.Command.{Command}
 use Rattle.run_words.specs.declared.mode.Mode.{Mode}
-use Rattle.run_words.specs.declared.mode.Mode.TheVariants.{Replay, Resume, Query, Tally, Gen, Trial}
+use Rattle.run_words.specs.declared.mode.Mode.TheVariants.{Replay, Resume, Query, Tally, Check, Gen, Trial}
 use Rattle.base_types.specs.declared.account.Account.TheVariants as account
 use Rattle.base_types.specs.declared.account.Module.TheVariants as holder
 use Rattle.line_report.specs.declared.question.Query.TheVariants as question
@@ -24,6 +24,7 @@ pub record Commands : Type 0 where
   pub zeros : command_of (codes "gen" ∷ codes "00000000000000000007" ∷ codes "10" ∷ []) ≡ hex (Gen 7 10)
   pub trial : command_of (codes "trial" ∷ codes "7" ∷ codes "1000" ∷ []) ≡ hex (Trial 7 1000)
   pub tally : command_of (codes "tally" ∷ []) ≡ hex Tally
+  pub check : command_of (codes "check" ∷ []) ≡ hex Check
 
 -- an address: thirty-nine digits 0, then this one
 abbrev pub address_text : List ℕ → List ℕ
@@ -74,6 +75,7 @@ pub record NoCommands : Type 0 where
   pub long : command_of (codes "gen" ∷ codes "1" ∷ codes "1" ∷ codes "1" ∷ []) ≡ None
   pub more_than_alone : command_of (codes "replay" ∷ codes "1" ∷ codes "1" ∷ []) ≡ None
   pub tally_of_one : command_of (codes "tally" ∷ codes "7" ∷ []) ≡ None
+  pub check_of_one : command_of (codes "check" ∷ codes "7" ∷ []) ≡ None
   pub no_blocks : command_of (codes "gen" ∷ codes "1" ∷ codes "0" ∷ []) ≡ None
   pub too_many : command_of (codes "gen" ∷ codes "1" ∷ codes "100001" ∷ []) ≡ None
   pub zero_first : command_of (codes "gen" ∷ codes "1" ∷ codes "01" ∷ []) ≡ None
@@ -102,6 +104,7 @@ asks_spelled what text = command_of (codes "bech32" ∷ codes "query" ∷ what �
 pub record Spelled : Type 0 where
   pub replay : command_of (codes "bech32" ∷ codes "replay" ∷ []) ≡ bech32 Replay
   pub tally : command_of (codes "bech32" ∷ codes "tally" ∷ []) ≡ bech32 Tally
+  pub check : command_of (codes "bech32" ∷ codes "check" ∷ []) ≡ bech32 Check
   pub pool : command_of (codes "bech32" ∷ codes "query" ∷ codes "pool" ∷ []) ≡ bech32 (Query question.Pool)
   pub generated : command_of (codes "bech32" ∷ codes "gen" ∷ codes "7" ∷ codes "10" ∷ []) ≡ bech32 (Gen 7 10)
   pub tried : command_of (codes "bech32" ∷ codes "trial" ∷ codes "7" ∷ codes "10" ∷ []) ≡ bech32 (Trial 7 10)

@@ -1,5 +1,5 @@
-//! The commands, each with what its words say: `replay`, `resume`, `query`, `tally`, `gen` and `trial`; and before it the
-//! word `bech32`, which tells the form of addresses.
+//! The commands, each with what its words say: `replay`, `resume`, `query`, `tally`, `check`, `gen` and `trial`; and
+//! before it the word `bech32`, which tells the form of addresses.
 use base_bech32::Form;
 use line_report::Query;
 
@@ -23,6 +23,8 @@ pub enum Mode {
     Query(Query),
     /// Ballots are counted by the stake of a stored chain, and the totals are written.
     Tally,
+    /// Reward statements are checked, and whether each is right is written.
+    Check,
     /// An input is generated and written.
     Gen {
         /// What its draws begin with.

@@ -76,6 +76,8 @@ fn alone(name: &str) -> Option<Mode>
         Some(Mode::Resume)
     } else if name == "tally" {
         Some(Mode::Tally)
+    } else if name == "check" {
+        Some(Mode::Check)
     } else {
         None
     }
@@ -171,8 +173,8 @@ fn command_at(
 }
 
 /// What the words ask for: `replay`; `resume`; `query` with `supply`, `pool` or `validators`; `query` with `account`,
-/// `validator`, `delegations`, `rewards`, `unbondings`, `redelegations` or `signing` and an address; `tally`; `gen SEED
-/// COUNT`, where SEED is 1 to 20 digits below 2^64 and COUNT is from 1 to 100,000 without zeros in front; or `trial SEED
+/// `validator`, `delegations`, `rewards`, `unbondings`, `redelegations` or `signing` and an address; `tally`; `check`; `gen
+/// SEED COUNT`, where SEED is 1 to 20 digits below 2^64 and COUNT is from 1 to 100,000 without zeros in front; or `trial SEED
 /// COUNT`. The word `bech32` may stand before each of these.
 ///
 /// With it an address is a spelling of BIP 173, of `validator` with the prefix `cosmosvaloper`, of `signing` with
