@@ -134,7 +134,7 @@ faults_on form n line b p k block.NoMemory read h = tt
 -- ---- what is written
 
 -- a text that was written is the growth
-grown : (w w' : Option (List ℕ)) (text text' : List ℕ) → text' ≡ text → IfSome w (λ (bytes : List ℕ). w' ≡ Some (bytes ++ text')) → Grows w w' text
+pub grown : (w w' : Option (List ℕ)) (text text' : List ℕ) → text' ≡ text → IfSome w (λ (bytes : List ℕ). w' ≡ Some (bytes ++ text')) → Grows w w' text
 grown w w' text text' same wrote = λ old held.
     let h : w' ≡ Some (old ++ text') = subst (λ (o : Option (List ℕ)). IfSome o (λ (bytes : List ℕ). w' ≡ Some (bytes ++ text'))) held wrote in
     h ∙ ap (λ (t : List ℕ). Some (old ++ t)) same

@@ -160,7 +160,7 @@ taken_more form t n line kept bytes line' h none is short =
     }
 
 -- the lines that have ended, with bytes that end one more
-one_more : (t : List ℕ) (line bytes : List ℕ) → line ≡ rest_from [] t → HasNoEnd bytes → whole_from [] (t ++ (bytes ++ 10 ∷ [])) ≡ whole_from [] t ++ (line ++ bytes) ∷ []
+pub one_more : (t : List ℕ) (line bytes : List ℕ) → line ≡ rest_from [] t → HasNoEnd bytes → whole_from [] (t ++ (bytes ++ 10 ∷ [])) ≡ whole_from [] t ++ (line ++ bytes) ∷ []
 one_more t line bytes is none =
     whole-append t [] (bytes ++ 10 ∷ [])
     ∙ ap (λ (ls : List (List ℕ)). whole_from [] t ++ ls) (whole_one bytes (rest_from [] t) none ∙ ap (λ (l : List ℕ). (l ++ bytes) ∷ []) (sym is))
@@ -291,7 +291,7 @@ fed_end_stops form (Err why) t piece rest n line kept f none h =
 
 -- ---- the end of the input
 
-all_with : (t line : List ℕ) → line ≡ rest_from [] t → 0 < length line → lines_of t ≡ whole_from [] t ++ line ∷ []
+pub all_with : (t line : List ℕ) → line ≡ rest_from [] t → 0 < length line → lines_of t ≡ whole_from [] t ++ line ∷ []
 all_with t line is some = ap (λ (l : List ℕ). whole_from [] t ++ last_line l) (sym is) ∙ ap (λ (ls : List (List ℕ)). whole_from [] t ++ ls) (last-some line some)
 
 pub ended_some : (form : Form) (t : List ℕ) (n : ℕ) (line : List ℕ) (kept kept' : Kept) → AreTaken form t n line kept → 0 < length line → IsCast (ballot_at form n line) kept kept' → AreKept form (lines_of t) kept'
@@ -349,7 +349,7 @@ stopped form first t left why at most h = λ input told.
     (t, a.0, a.1, a.2, stops_uncounted form why t a.0 most h)
 
 -- the source came to its end
-nothing_left : (first : Option (List ℕ)) (t : List ℕ) (left left' : Option (List ℕ)) (piece : List ℕ) → Told first t left → IfSome left (λ bytes. bytes ≡ []) → TookBytes 0 piece left left' → (input : List ℕ) → first ≡ Some input → (input ≡ t) × (left' ≡ Some [])
+pub nothing_left : (first : Option (List ℕ)) (t : List ℕ) (left left' : Option (List ℕ)) (piece : List ℕ) → Told first t left → IfSome left (λ bytes. bytes ≡ []) → TookBytes 0 piece left left' → (input : List ℕ) → first ≡ Some input → (input ≡ t) × (left' ≡ Some [])
 nothing_left first t left left' piece at end took input told =
     let a = at input told in
     let none : a.0 ≡ [] = rw a.2 at end in

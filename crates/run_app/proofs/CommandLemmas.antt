@@ -7,12 +7,13 @@ use Rattle.run_generated.specs.Writing.{generated_text}
 use Rattle.run_trial.specs.Trial.{trial_of}
 use Rattle.run_words.specs.declared.mode.Command.{Command}
 use Rattle.run_words.specs.declared.mode.Mode.{Mode}
-use Rattle.run_words.specs.declared.mode.Mode.TheVariants.{Replay, Resume, Query, Tally, Gen, Trial}
+use Rattle.run_words.specs.declared.mode.Mode.TheVariants.{Replay, Resume, Query, Tally, Check, Gen, Trial}
 use Rattle.run_app.specs.declared.status.Status.{Status}
 use Rattle.run_app.specs.declared.status.Status.TheVariants.{Done, Usage, ReadFault, WriteFault, KeepFault, NoMemory, WrongStore}
 use Rattle.run_app.specs.Kept.{AreSome}
 use Rattle.run_app.specs.Modes.{CommandEnds, IsTried, IsUntroubledAt, ModeEnds}
 use Rattle.run_app.specs.Writes.{IsWritten}
+use Rattle.run_app.proofs.CheckLemmas.{check_unbegun, untroubled_check}
 use Rattle.run_app.proofs.DriveLemmas.{untroubled_run}
 use Rattle.run_app.proofs.ModeLemmas.{finds_none, nothing, nothing_done, rows_left, same_rows, tried_without_memory, unbegun_replay, untouched, written_to_end}
 use Rattle.run_app.proofs.ResumeLemmas.{untroubled_query, untroubled_resume}
@@ -24,6 +25,7 @@ mode_unbegun form Replay left w rows honest leaves = inr (tt, nothing_done left 
 mode_unbegun form Resume left w rows honest leaves = inr (tt, nothing_done left w, rows_left rows rows honest leaves leaves (same_rows rows) (λ h l x. x))
 mode_unbegun form (Query what) left w rows honest leaves = (refl, (rows_left rows rows honest leaves leaves (same_rows rows) (λ h l x. x), inr (tt, nothing w _ refl)))
 mode_unbegun form Tally left w rows honest leaves = (rows_left rows rows honest leaves leaves (same_rows rows) (λ h l x. x), inr (tt, nothing_done left w))
+mode_unbegun form Check left w rows honest leaves = (check_unbegun form left w, untouched rows leaves)
 mode_unbegun form (Gen seed count) left w rows honest leaves = ((refl, nothing w _ (record { rest = generated_text form seed count; text_is = refl })), untouched rows leaves)
 mode_unbegun form (Trial seed count) left w rows honest leaves = ((refl, tried_without_memory (trial_of seed count) w), untouched rows leaves)
 
@@ -48,6 +50,8 @@ untroubled_command form (Query what) left left' w w' keeps rows rows' honest' le
     untroubled_query form what w w' rows rows' honest' leaves leaves' faults faults' s ends.1 calm write keep
 untroubled_command form Tally left left' w w' keeps rows rows' honest' leaves leaves' faults faults' s ends calm busy read write keep kept =
     untroubled_tally form left left' w w' rows rows' honest' leaves leaves' faults faults' s ends calm read write keep
+untroubled_command form Check left left' w w' keeps rows rows' honest' leaves leaves' faults faults' s ends calm busy read write keep kept =
+    untroubled_check form left left' w w' s ends.0 calm read write
 untroubled_command form (Gen seed count) left left' w w' keeps rows rows' honest' leaves leaves' faults faults' s ends calm busy read write keep kept =
     let e = ends.0.1 calm.0 calm.1 in
     written_to_end (generated_text form seed count) e.0 s e.2 write

@@ -6,7 +6,7 @@ use Rattle.base_bech32.specs.declared.form.Form.{Form}
 use Rattle.base_io.specs.Calls.{Takes, Stays}
 use Rattle.run_app.specs.declared.status.Status.{Status}
 use Rattle.run_app.specs.declared.status.Status.TheVariants.{Done, Usage, BadInput, Limit, ReadFault, WriteFault, KeepFault, NoMemory, BadStore, WrongStore, NotFound}
-use Rattle.run_app.specs.declared.status.LimitKind.TheVariants.{Line, Input, Ratio}
+use Rattle.run_app.specs.declared.status.LimitKind.TheVariants.{Line, Input, Ratio, Bound}
 use Rattle.run_app.specs.declared.status.LineStop.{LineStop}
 use Rattle.run_app.specs.declared.status.LineStop.TheVariants as stops
 use Rattle.run_app.specs.declared.status.EndStop.{EndStop}
@@ -173,6 +173,7 @@ end_as form L s0 n s t line done text (BadInput m fault) most good number e (inr
 end_as form L s0 n s t line done text (Limit m Line) most good number e h = absurd h
 end_as form L s0 n s t line done text (Limit m Input) most good number e h = absurd h
 end_as form L s0 n s t line done text (Limit m (Ratio over)) most good number e h = (most, lines_of t, inr (refl, refl), named_along form L 1 s0 (whole_from [] t) done s (last_line line) [] (lines_of t) text _ good (all_lines t line e) (rw number at h))
+end_as form L s0 n s t line done text (Limit m (Bound over)) most good number e h = absurd h
 end_as form L s0 n s t line done text ReadFault most good number e h = absurd h
 end_as form L s0 n s t line done text WriteFault most good number e (inl h) = (most, inl (lines_of t, inr (refl, refl), wrote_along form L 1 s0 (whole_from [] t) done s (last_line line) [] (lines_of t) text good (all_lines t line e) (rw number at h)))
 end_as form L s0 n s t line done text WriteFault most good number e (inr (inl h)) = (most, inr (inl (refl, all_reported form L s0 n s t line done text good number e h)))
@@ -272,6 +273,7 @@ untroubled_end form L s0 input taken rest text (Limit n Line) e h good short u r
     let f : (answer_from form s0 input).fault ≡ Some (stops.Long n) = rw e (named_ran form L 1 s0 (lines_of (taken ++ rest)) text (stops.Long n) (h.1 rest)) in cc
 untroubled_end form L s0 input taken rest text (Limit n (Ratio over)) e (most, lines, ended, named) good short u r w k =
     let f : (answer_from form s0 input).fault ≡ Some (stops.Ratio n over) = rw e (ended_fault form L s0 taken rest lines text (stops.Ratio n over) ended named) in cc
+untroubled_end form L s0 input taken rest text (Limit n (Bound over)) e h good short u r w k = absurd h
 untroubled_end form L s0 input taken rest text (Limit n Input) e h good short u r w k =
     let size : length input ≡ length h.bytes + length (h.byte ∷ []) + length rest = ap length (e ∙ ap (λ (t : List ℕ). t ++ rest) h.taken_is) ∙ length-append (h.bytes ++ h.byte ∷ []) rest ∙ ap (λ (m : ℕ). m + length rest) (length-append h.bytes (h.byte ∷ [])) in
     let full : length h.bytes ≡ most_bytes = h.full in

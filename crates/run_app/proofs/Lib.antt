@@ -1,6 +1,7 @@
 pub mod AnswerLemmas
 pub mod AskingLemmas
 pub mod BallotLemmas
+pub mod CheckLemmas
 pub mod CommandLemmas
 pub mod CutLemmas
 pub mod DriveLemmas
@@ -17,5 +18,6 @@ pub mod RunLemmas
 pub mod SizeLemmas
 pub mod SoundLemmas
 pub mod StopLemmas
+pub mod TakingLemmas
 pub mod TallyLemmas
 pub mod WholeLemmas

@@ -18,7 +18,7 @@ use Rattle.base_bech32.specs.declared.form.Form.{Form}
 use Rattle.base_bech32.specs.declared.form.Form.TheVariants.{Hex, Bech32}
 use Rattle.run_words.specs.declared.mode.Command.{Command}
 use Rattle.run_words.specs.declared.mode.Mode.{Mode}
-use Rattle.run_words.specs.declared.mode.Mode.TheVariants.{Replay, Resume, Query, Tally, Gen, Trial}
+use Rattle.run_words.specs.declared.mode.Mode.TheVariants.{Replay, Resume, Query, Tally, Check, Gen, Trial}
 use Rattle.line_report.specs.declared.question.Query.{Query as Question}
 use Rattle.run_words.specs.Questions.{address_asked, kind_asked}
 use Rattle.run_words.specs.Words.{alone, begins_with_zero, command_of, count_of, generating, in_form, is_bech32, mode_of, seed_of, with_input, with_word, with_words}
@@ -174,13 +174,14 @@ input_is_few form h (Some s) None m few e = absurd cc
 input_is_few form h None c m few e = absurd cc
 
 few_alone : (name : List ℕ) (m : Mode) → alone name ≡ Some m → HasFewBlocks m
-few_alone name m e = by (bytes_eq name (codes "replay")) (bytes_eq name (codes "resume")) (bytes_eq name (codes "tally")) e
+few_alone name m e = by (bytes_eq name (codes "replay")) (bytes_eq name (codes "resume")) (bytes_eq name (codes "tally")) (bytes_eq name (codes "check")) e
   where
-    by : (b c d : Bool) → (if b then Some Replay else (if c then Some Resume else (if d then Some Tally else None))) ≡ Some m → HasFewBlocks m
-    by true c d f = subst FewIn f tt
-    by false true d f = subst FewIn f tt
-    by false false true f = subst FewIn f tt
-    by false false false f = absurd cc
+    by : (b c d e : Bool) → (if b then Some Replay else (if c then Some Resume else (if d then Some Tally else (if e then Some Check else None)))) ≡ Some m → HasFewBlocks m
+    by true c d e f = subst FewIn f tt
+    by false true d e f = subst FewIn f tt
+    by false false true e f = subst FewIn f tt
+    by false false false true f = subst FewIn f tt
+    by false false false false f = absurd cc
 
 few_asked : (o : Option Question) (m : Mode) → option_map Query o ≡ Some m → HasFewBlocks m
 few_asked (Some what) m e = subst FewIn e tt

@@ -10,8 +10,8 @@ use Rattle.store_resuming.specs.Restored.{IsStorable, rows_of}
 use Rattle.rule_modules.specs.Chain.{State}
 use Rattle.run_words.specs.declared.mode.Command.{Command}
 use Rattle.run_words.specs.declared.mode.Mode.{Mode}
-use Rattle.run_words.specs.declared.mode.Mode.TheVariants.{Replay, Resume, Query, Tally, Gen, Trial}
-use Rattle.run_app.specs.declared.status.LimitKind.TheVariants.{Line, Input, Ratio}
+use Rattle.run_words.specs.declared.mode.Mode.TheVariants.{Replay, Resume, Query, Tally, Check, Gen, Trial}
+use Rattle.run_app.specs.declared.status.LimitKind.TheVariants.{Line, Input, Ratio, Bound}
 use Rattle.run_app.specs.declared.status.Status.{Status}
 use Rattle.run_app.specs.declared.status.Status.TheVariants.{Done, Usage, BadInput, Limit, ReadFault, WriteFault, KeepFault, NoMemory, BadStore, WrongStore, NotFound}
 use Rattle.run_app.specs.declared.status.LineStop.{LineStop}
@@ -158,6 +158,7 @@ module _ (form : Form) (first : Standing) (input : List ℕ) (left : List Pair) 
     stopped (Limit n Line) h = named (lines_of (taken ++ rest)) [] text _ (here (lines_of (taken ++ rest)) [] (sym (append-nil (lines_of (taken ++ rest))))) (h.1 rest)
     stopped (Limit n Input) h = passed n taken rest text input_is h
     stopped (Limit n (Ratio over)) h = let m = ended h.1 h.2 in named h.1 m.0 text _ m.1 h.3
+    stopped (Limit n (Bound over)) h = absurd h
     stopped ReadFault h = let m = ended (whole_from [] taken) (inl refl) in answered (whole_from [] taken) m.0 text m.1 h.1
     stopped WriteFault (short, inl h) = let m = ended h.0 h.1 in wrote h.0 m.0 text m.1 h.2
     stopped WriteFault (short, inr (inl h)) = reported (lines_of taken) text (whole h.0) h.1
@@ -199,6 +200,7 @@ mode_stops form Replay left left' written written' rows rows' honest' leaves lea
 mode_stops form Resume left left' written written' rows rows' honest' leaves leaves' status ends = resume_stops form left left' written written' rows rows' honest' leaves leaves' status ends
 mode_stops form (Query what) left left' written written' rows rows' honest' leaves leaves' status ends = λ good now may. ends.1.0.stop good now may
 mode_stops form Tally left left' written written' rows rows' honest' leaves leaves' status ends = λ good now may. ends.0.stop good now may
+mode_stops form Check left left' written written' rows rows' honest' leaves leaves' status ends = λ good now may. ends.1.stop now may
 mode_stops form (Gen seed count) left left' written written' rows rows' honest' leaves leaves' status ends = λ good now may. ends.1.stop now may
 mode_stops form (Trial seed count) left left' written written' rows rows' honest' leaves leaves' status ends = λ good now may. ends.1.stop now may
 
@@ -211,6 +213,7 @@ mode_unbegun form Replay left written rows honest leaves = still form None left 
 mode_unbegun form Resume left written rows honest leaves = λ p storable told. still form (Some p) left written rows honest leaves
 mode_unbegun form (Query what) left written rows honest leaves = λ good now may. may
 mode_unbegun form Tally left written rows honest leaves = λ good now may. may
+mode_unbegun form Check left written rows honest leaves = λ good now may. may
 mode_unbegun form (Gen seed count) left written rows honest leaves = λ good now may. may
 mode_unbegun form (Trial seed count) left written rows honest leaves = λ good now may. may
 

@@ -23,7 +23,7 @@ use Rattle.store_resuming.specs.Restored.{AreLoaded, rows_of}
 use Rattle.store_resuming.specs.Restoring.{IsChainOf, IsUnrestored}
 use Rattle.run_app.specs.declared.status.Status.{Status}
 use Rattle.run_app.specs.declared.status.Status.TheVariants.{Done, Usage, BadInput, Limit, ReadFault, WriteFault, KeepFault, NoMemory, BadStore, WrongStore, NotFound}
-use Rattle.run_app.specs.declared.status.LimitKind.TheVariants.{Line, Input, Ratio}
+use Rattle.run_app.specs.declared.status.LimitKind.TheVariants.{Line, Input, Ratio, Bound}
 use Rattle.run_app.specs.declared.status.LineStop.{LineStop}
 use Rattle.run_app.specs.declared.status.LineStop.TheVariants as stop
 use Rattle.run_app.specs.Ballots.{AllAreKept, AreUncounted, IsOfBallots, IsUncounted, Kept, cast_from, cast_in}
@@ -116,6 +116,7 @@ module _ (form : Form) (input taken rest : List ℕ) (cast : Cast) (good : cast_
       let all : length input ≡ length taken + length rest = ap length is ∙ length-append taken rest in
       absurd (omega arith)
   never_uncounted (Limit n (Ratio over)) h read = absurd h
+  never_uncounted (Limit n (Bound over)) h read = absurd h
   never_uncounted ReadFault h read = absurd (read refl)
   never_uncounted WriteFault h read = absurd h
   never_uncounted KeepFault h read = absurd h

@@ -11,7 +11,7 @@ use Rattle.mod_tally.specs.declared.choice.Choice.{Choice}
 use Rattle.mod_tally.specs.Ballots.{Cast, chosen_in}
 use Rattle.run_app.specs.declared.status.Status.{Status}
 use Rattle.run_app.specs.declared.status.Status.TheVariants.{Done, Usage, BadInput, Limit, ReadFault, WriteFault, KeepFault, NoMemory, BadStore, WrongStore, NotFound}
-use Rattle.run_app.specs.declared.status.LimitKind.TheVariants.{Line, Input, Ratio}
+use Rattle.run_app.specs.declared.status.LimitKind.TheVariants.{Line, Input, Ratio, Bound}
 use Rattle.run_app.specs.declared.status.LineStop.{LineStop}
 use Rattle.run_app.specs.declared.status.LineStop.TheVariants as stop
 use Rattle.run_app.specs.Lines.{whole_from, rest_from, lines_of}
@@ -113,6 +113,7 @@ IsUncounted form (Limit n Line) taken rest =
     × ((more : List ℕ) → cast_in form (taken ++ more) ≡ Err (stop.Long n))
 IsUncounted form (Limit n Input) taken rest = PassesBallots form n taken
 IsUncounted form (Limit n (Ratio over)) taken rest = ⊥
+IsUncounted form (Limit n (Bound over)) taken rest = ⊥
 IsUncounted form ReadFault taken rest =
     (length taken ≤ most_bytes)
     × (cast : Cast) × (cast_from form 1 (whole_from [] taken) ≡ Ok cast)

@@ -1,4 +1,5 @@
 pub mod Ballots
+pub mod Checks
 pub mod Ending
 pub mod Kept
 pub mod Laws
@@ -12,5 +13,6 @@ pub mod Resumes
 pub mod Runs
 pub mod Sizes
 pub mod Stops
+pub mod Taking
 pub mod Tallies
 pub mod Writes

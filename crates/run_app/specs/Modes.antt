@@ -6,12 +6,13 @@ use Rattle.base_io.specs.Rows.{Pair}
 use Rattle.base_roles.specs.declared.refusal.Refusal.{Refusal}
 use Rattle.run_words.specs.declared.mode.Command.{Command}
 use Rattle.run_words.specs.declared.mode.Mode.{Mode}
-use Rattle.run_words.specs.declared.mode.Mode.TheVariants.{Replay, Resume, Query, Tally, Gen, Trial}
+use Rattle.run_words.specs.declared.mode.Mode.TheVariants.{Replay, Resume, Query, Tally, Check, Gen, Trial}
 use Rattle.run_generated.specs.Writing.{generated_text}
 use Rattle.run_trial.specs.Summary.{Stopped}
 use Rattle.run_trial.specs.Trial.{trial_of}
 use Rattle.run_app.specs.declared.status.Status.{Status}
 use Rattle.run_app.specs.declared.status.Status.TheVariants.{NoMemory}
+use Rattle.run_app.specs.Checks.{CheckEnds, ChecksCalmly}
 use Rattle.run_app.specs.Kept.{AreLeft, AreSome, AreUntouched, IsUnbegun, LeftIn, on_none}
 use Rattle.run_app.specs.Machine.{not_applied}
 use Rattle.run_app.specs.Outcome.{IsUntroubled, RunEnds}
@@ -40,6 +41,7 @@ HasFewBlocks Replay = Unit {0}
 HasFewBlocks Resume = Unit {0}
 HasFewBlocks (Query what) = Unit {0}
 HasFewBlocks Tally = Unit {0}
+HasFewBlocks Check = Unit {0}
 HasFewBlocks (Gen seed count) = count ≤ 100000
 HasFewBlocks (Trial seed count) = count ≤ 100000
 
@@ -50,12 +52,14 @@ ReplayEnds form left left' written written' rows rows' honest' leaves leaves' st
     ⊎ (IsUnbegun status (AreSome rows rows' honest') × Leaves left left' written written' (λ text. text ≡ []) × AreLeft rows rows' honest' leaves leaves')
 
 -- What was taken, written and kept at the end of a run: of a replay, of a run that goes on, of a question, of a
--- tally, of the generated input, of a trial.
+-- tally, of statements that are checked, of the generated input, of a trial.
 abbrev pub ModeEnds : Form → Mode → Option (List ℕ) → Option (List ℕ) → Option (List ℕ) → Option (List ℕ) → Option (List Pair) → Option (List Pair) → Type 0 → (List Pair → Type 0) → (List Pair → Type 0) → Status → Type 0
 ModeEnds form Replay left left' written written' rows rows' honest' leaves leaves' status = ReplayEnds form left left' written written' rows rows' honest' leaves leaves' status
 ModeEnds form Resume left left' written written' rows rows' honest' leaves leaves' status = ResumeEnds form left left' written written' rows rows' honest' leaves leaves' status
 ModeEnds form (Query what) left left' written written' rows rows' honest' leaves leaves' status = (left' ≡ left) × QueryEnds form what written written' rows rows' honest' leaves leaves' status
 ModeEnds form Tally left left' written written' rows rows' honest' leaves leaves' status = TallyEnds form left left' written written' rows rows' honest' leaves leaves' status
+ModeEnds form Check left left' written written' rows rows' honest' leaves leaves' status =
+    CheckEnds form left left' written written' status × AreUntouched rows rows' leaves leaves'
 ModeEnds form (Gen seed count) left left' written written' rows rows' honest' leaves leaves' status =
     Leaves left left' written written' (IsWritten (generated_text form seed count) status) × AreUntouched rows rows' leaves leaves'
 ModeEnds form (Trial seed count) left left' written written' rows rows' honest' leaves leaves' status =
@@ -72,13 +76,15 @@ pub record FitsReplay (keeps : Bool) (rows : Option (List Pair)) (honest' : Type
   pub honest : honest'
   pub quiet : ¬ Rose faults faults'
 
--- A sink that tells, and an input free of faults: that of the source, or one whose blocks all follow; what `gen` writes needs none.
+-- A sink that tells, and an input free of faults: that of the source, of which `check` answers each line, or one whose blocks all
+-- follow; what `gen` writes needs none.
 -- A replay has a keeper that fits it, and so have a run that goes on, a tally, and a question, which has an answer.
 abbrev pub IsUntroubledAt : Form → Mode → Option (List ℕ) → Option (List ℕ) → Bool → Option (List Pair) → Type 0 → ℕ → ℕ → Type 0
 IsUntroubledAt form Replay left written keeps rows honest' faults faults' = IsUntroubled form None left written × FitsReplay keeps rows honest' faults faults'
 IsUntroubledAt form Resume left written keeps rows honest' faults faults' = ResumesCalmly form left written rows honest' faults faults'
 IsUntroubledAt form (Query what) left written keeps rows honest' faults faults' = AsksCalmly form what written rows honest' faults faults'
 IsUntroubledAt form Tally left written keeps rows honest' faults faults' = TalliesCalmly form left written rows honest' faults faults'
+IsUntroubledAt form Check left written keeps rows honest' faults faults' = ChecksCalmly form left written
 IsUntroubledAt form (Gen seed count) left written keeps rows honest' faults faults' = (old : List ℕ) × (written ≡ Some old)
 IsUntroubledAt form (Trial seed count) left written keeps rows honest' faults faults' = ((old : List ℕ) × (written ≡ Some old)) × ((summary : List ℕ) × (trial_of seed count ≡ Ok (Ok summary)))
 

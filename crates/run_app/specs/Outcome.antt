@@ -3,7 +3,7 @@ use Rattle.std.specs.Prelude.{◌≡◌, ℕ, ◌+◌, ◌^◌, ◌≤◌, ◌�
 use Rattle.base_bech32.specs.declared.form.Form.{Form}
 use Rattle.run_app.specs.declared.status.Status.{Status}
 use Rattle.run_app.specs.declared.status.Status.TheVariants.{Done, Usage, BadInput, Limit, ReadFault, WriteFault, KeepFault, NoMemory, BadStore, WrongStore, NotFound}
-use Rattle.run_app.specs.declared.status.LimitKind.TheVariants.{Line, Input, Ratio}
+use Rattle.run_app.specs.declared.status.LimitKind.TheVariants.{Line, Input, Ratio, Bound}
 use Rattle.run_app.specs.declared.status.LineStop.TheVariants as stop
 use Rattle.run_app.specs.Lines.{whole_from, rest_from, lines_of}
 use Rattle.run_app.specs.Machine.{longest, Standing}
@@ -47,6 +47,7 @@ Ends form first L taken rest (BadInput n fault) text = (length taken ≤ most_by
 Ends form first L taken rest (Limit n Line) text = (length taken ≤ most_bytes + 1) × ((more : List ℕ) → Named form L 1 first (lines_of (taken ++ more)) text (stop.Long n))
 Ends form first L taken rest (Limit n Input) text = Passed form first L n taken text
 Ends form first L taken rest (Limit n (Ratio over)) text = (length taken ≤ most_bytes) × (lines : List (List ℕ)) × AreEnded lines taken rest × Named form L 1 first lines text (stop.Ratio n over)
+Ends form first L taken rest (Limit n (Bound over)) text = ⊥
 Ends form first L taken rest ReadFault text = (length taken ≤ most_bytes) × Answered form L 1 first (whole_from [] taken) text
 Ends form first L taken rest WriteFault text = (length taken ≤ most_bytes)
     × (((lines : List (List ℕ)) × AreEnded lines taken rest × Wrote form L 1 first lines text)

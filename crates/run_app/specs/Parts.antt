@@ -5,7 +5,7 @@ use Rattle.base_io.specs.declared.keeper.KeepFault.{KeepFault as KeeperFault}
 use Rattle.base_io.specs.declared.keeper.KeepFault.TheVariants as keep
 use Rattle.run_app.specs.declared.status.Status.{Status}
 use Rattle.run_app.specs.declared.status.Status.TheVariants.{Done, Usage, BadInput, Limit, ReadFault, WriteFault, KeepFault, NoMemory, BadStore, WrongStore, NotFound}
-use Rattle.run_app.specs.declared.status.LimitKind.TheVariants.{Line, Input, Ratio}
+use Rattle.run_app.specs.declared.status.LimitKind.TheVariants.{Line, Input, Ratio, Bound}
 use Rattle.run_app.specs.declared.status.LineStop.{LineStop}
 use Rattle.run_app.specs.declared.status.LineStop.TheVariants as stop
 use Rattle.run_app.specs.declared.status.EndStop.{EndStop}
@@ -119,6 +119,7 @@ FinishAs form L n s lines (BadInput m fault) text = Named form L n s lines text 
 FinishAs form L n s lines (Limit m Line) text = ⊥
 FinishAs form L n s lines (Limit m Input) text = ⊥
 FinishAs form L n s lines (Limit m (Ratio over)) text = Named form L n s lines text (stop.Ratio m over)
+FinishAs form L n s lines (Limit m (Bound over)) text = ⊥
 FinishAs form L n s lines ReadFault text = ⊥
 FinishAs form L n s lines WriteFault text = Wrote form L n s lines text ⊎ Reported form L n s lines text ⊎ Finished form L n s lines text
 FinishAs form L n s lines KeepFault text = Unkept form L n s lines text

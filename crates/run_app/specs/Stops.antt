@@ -7,7 +7,7 @@ use Rattle.store_resuming.specs.Restored.{IsStorable, rows_of}
 use Rattle.rule_modules.specs.Chain.{State}
 use Rattle.run_words.specs.declared.mode.Command.{Command}
 use Rattle.run_words.specs.declared.mode.Mode.{Mode}
-use Rattle.run_words.specs.declared.mode.Mode.TheVariants.{Replay, Resume, Query, Tally, Gen, Trial}
+use Rattle.run_words.specs.declared.mode.Mode.TheVariants.{Replay, Resume, Query, Tally, Check, Gen, Trial}
 use Rattle.run_app.specs.Kept.{AreRowsOf}
 use Rattle.run_app.specs.Lines.{lines_of}
 use Rattle.run_app.specs.Machine.{Standing, report_of}
@@ -50,6 +50,7 @@ ModeStops form Replay left written written' rows honest' leaves leaves' = RunSto
 ModeStops form Resume left written written' rows honest' leaves leaves' = (p : State) → IsStorable p → rows ≡ Some (rows_of p) → RunStops form (Some p) left written written' rows honest' leaves leaves'
 ModeStops form (Query what) left written written' rows honest' leaves leaves' = LeavesAsBefore honest' leaves leaves'
 ModeStops form Tally left written written' rows honest' leaves leaves' = LeavesAsBefore honest' leaves leaves'
+ModeStops form Check left written written' rows honest' leaves leaves' = LeavesAsBefore honest' leaves leaves'
 ModeStops form (Gen seed count) left written written' rows honest' leaves leaves' = LeavesAsBefore honest' leaves leaves'
 ModeStops form (Trial seed count) left written written' rows honest' leaves leaves' = LeavesAsBefore honest' leaves leaves'
 

@@ -4,6 +4,7 @@
 
 mod answer;
 mod balloting;
+mod checking;
 mod feeding;
 mod finishing;
 mod generating;
@@ -12,6 +13,7 @@ mod report;
 mod resuming;
 mod running;
 mod status;
+mod taking;
 mod tallying;
 
 pub use running::run;

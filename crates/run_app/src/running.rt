@@ -21,6 +21,7 @@ ghost use Rattle.law_runs.specs.Payees.{PayeesAreOfTheMoment};
 ghost use Rattle.law_runs.specs.Readers.{RunsTellFairly};
 ghost use Rattle.run_app.specs.Laws.{AnswersAreReplays, AnswersJoin, LinesAreReplayed, ResumesAreTheRest, RunsMayGoOn};
 
+use crate::checking::check_all;
 use crate::feeding::{Progress, feed};
 use crate::finishing::finish;
 use crate::generating::{write_generated, write_trial};
@@ -295,13 +296,14 @@ fn carry_out<S: Source, K: Sink, D: Keeper>(
         Mode::Resume => resume(form, alloc, source, sink, keeper),
         Mode::Query(what) => answer(form, alloc, sink, keeper, &what),
         Mode::Tally => tally(form, alloc, source, sink, keeper),
+        Mode::Check => check_all(form, alloc, source, sink),
         Mode::Gen { seed, count } => write_generated(form, alloc, sink, seed, count),
         Mode::Trial { seed, count } => write_trial(alloc, sink, seed, count),
     }
 }
 
-/// Runs the command of these words: `replay`, `resume`, `query` with a kind and perhaps an address, `tally`, `gen SEED
-/// COUNT` or `trial SEED COUNT`; each may stand behind the word `bech32`. Addresses are read and written as forty
+/// Runs the command of these words: `replay`, `resume`, `query` with a kind and perhaps an address, `tally`, `check`, `gen
+/// SEED COUNT` or `trial SEED COUNT`; each may stand behind the word `bech32`. Addresses are read and written as forty
 /// hexadecimal digits, and behind `bech32` as their spellings of BIP 173 alone, modules being written by their names.
 /// Nothing else depends on that word: what is kept has no texts of addresses, so either form goes on from a store.
 ///
@@ -312,7 +314,8 @@ fn carry_out<S: Source, K: Sink, D: Keeper>(
 /// commits what the machine does from any sound state that has these rows. `query` writes the lines of that state's report
 /// that are of its kind and belong to its address, and commits nothing; it takes nothing from the source. `tally` counts
 /// ballots, of which each line of the source is one, by the stake of that state, and writes the line of the totals once the
-/// source was read to its end; it commits nothing. `gen` writes the generated input, and `trial` the summary of it, which a
+/// source was read to its end; it commits nothing. `check` reads reward statements, of which each line of the source is one, and
+/// writes for each whether it is right; it does not call the keeper. `gen` writes the generated input, and `trial` the summary of it, which a
 /// chain takes block by block; neither takes anything from the source, or calls the keeper.
 ///
 /// What each status leaves: at `Done` the whole output, flushed; at `Usage` nothing was read or
@@ -325,6 +328,9 @@ fn carry_out<S: Source, K: Sink, D: Keeper>(
 /// A stop at a fault of the keeper may also leave the rows that were to be committed. `ReadFault`, `WriteFault` and
 /// `KeepFault` come only where the count of the source's, the sink's, the keeper's faults rose in this call, and that count
 /// rises at no other status.
+///
+/// Of `check` the member 130 is also at fault where the entries of a statement are no span, and `Limit` with `Bound` comes exactly
+/// where an operation of its bounds is over.
 ///
 /// `WrongStore(false)` comes exactly where `replay` loaded rows, and `WrongStore(true)` where `resume`, `query` or `tally`
 /// loaded none; `BadStore` exactly where these loaded rows that are those of no sound state; `NotFound` exactly where a

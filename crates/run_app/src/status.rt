@@ -32,6 +32,8 @@ pub enum LimitKind {
     /// A result of the beginning of a block would be 10^38 units or more, or a period that it ends is 10^18;
     /// its operands.
     Ratio(Over),
+    /// An amount of the bounds of a reward statement would be 10^38 units or more; its operands.
+    Bound(Over),
 }
 
 /// How a run ended.

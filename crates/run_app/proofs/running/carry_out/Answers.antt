@@ -8,6 +8,15 @@ returns-in-Gen-clause-ends g c = rw c.in-Gen.is ((refl, c.write_generated.ensure
 pub returns-in-Trial-clause-ends : goal.returns-in-Trial-clause-ends
 returns-in-Trial-clause-ends g c = rw c.in-Trial.is ((refl, c.write_trial.ensures.ends), untouched _ _)
 
+pub returns-in-Check-clause-ends : goal.returns-in-Check-clause-ends
+returns-in-Check-clause-ends g c = rw c.in-Check.is (c.check_all.ensures.ends, untouched _ _)
+
+pub returns-in-Check-clause-keep_cause : goal.returns-in-Check-clause-keep_cause
+returns-in-Check-clause-keep_cause g c = λ e. absurd (c.check_all.ensures.keep e)
+
+pub returns-in-Check-clause-keep_quiet : goal.returns-in-Check-clause-keep_quiet
+returns-in-Check-clause-keep_quiet g c = quiet_keep _ _ refl
+
 pub returns-in-Gen-clause-keep_cause : goal.returns-in-Gen-clause-keep_cause
 returns-in-Gen-clause-keep_cause g c = λ e. absurd (c.write_generated.ensures.keep e)
 
