@@ -1,7 +1,8 @@
 //! `stakeplay STORE WORDS`: replays the accounting of a chain from standard input to standard
-//! output, answers questions about a store, counts ballots over one, or writes input that it generates. STORE is the path of a database file, in
-//! which the chain's rows are kept, or `-`, and then nothing is kept. WORDS is `replay`, `resume`, `query` with a kind and
-//! perhaps an address, `tally`, `gen SEED COUNT` or `trial SEED COUNT`.
+//! output, answers questions about a store, counts ballots over one, checks reward statements, or writes input that it
+//! generates. STORE is the path of a database file, in which the chain's rows are kept, or `-`, and then nothing is kept.
+//! WORDS is `replay`, `resume`, `query` with a kind and perhaps an address, `tally`, `check`, `gen SEED COUNT` or `trial SEED
+//! COUNT`.
 #![tactic(auto)]
 
 ghost use Rattle.std.specs.Prelude.{◌≡◌};
