@@ -1,5 +1,4 @@
 //! The statement that a line spells.
-ghost use Rattle.std.specs.Prelude.{◌≡◌};
 ghost use Rattle.line_json.specs.Reading.{Gives};
 ghost use Rattle.line_statements.specs.Statements.{statement_of, statement_of_tree};
 

@@ -1,8 +1,8 @@
 -- Lines of an input that are taken one after another.
-use Rattle.std.proofs.Common.{◌≡◌, ◌≢◌, ◌∙◌, ◌⊎◌, inl, inr, ℕ, ◌+◌, ◌<◌, ◌≤◌, Bool, true, false, cond, ◌==◌, List, [], ◌∷◌, ◌++◌, append-nil, append_assoc, length, length-append, take, drop, Option, Some, Result, Ok, Err, OnOk, IfErr, IfSome, refl, sym, ap, subst, arith, add-zero, ne_eqb}
+use Rattle.std.proofs.Common.{◌≡◌, ◌≢◌, ◌∙◌, ◌⊎◌, inl, inr, ℕ, ◌+◌, ◌<◌, ◌≤◌, Bool, true, false, cond, ◌==◌, List, [], ◌∷◌, ◌++◌, append-nil, append_assoc, length, length-append, take, drop, Option, Result, Ok, Err, OnOk, IfErr, IfSome, refl, sym, ap, subst, arith, add-zero, ne_eqb}
 use Rattle.base_io.specs.Calls.{Stays}
 use Rattle.run_app.specs.declared.status.Status.{Status}
-use Rattle.run_app.specs.declared.status.Status.TheVariants.{Limit, ReadFault, WriteFault, NoMemory}
+use Rattle.run_app.specs.declared.status.Status.TheVariants.{Limit, ReadFault, WriteFault}
 use Rattle.run_app.specs.declared.status.LimitKind.TheVariants.{Line, Input}
 use Rattle.run_app.specs.declared.status.LineStop.{LineStop}
 use Rattle.run_app.specs.declared.status.LineStop.TheVariants as stop
@@ -11,7 +11,7 @@ use Rattle.run_app.specs.Lines.{whole_from, rest_from, last_line, lines_from, li
 use Rattle.run_app.specs.Machine.{longest}
 use Rattle.run_app.specs.Outcome.{most_bytes}
 use Rattle.run_app.specs.Parts.{HasNoEnd, NotExtended}
-use Rattle.run_app.specs.Taking.{Halts, HaltsIn, IsCut, IsFed, IsLong, IsTooLong, IsTooMuch, IsUntaken, Leads, MayEnd, MayStop, Pauses, StopsSo, TakesAll, TakesPart, UnlessUnwritten}
+use Rattle.run_app.specs.Taking.{Halts, IsFed, IsLong, IsUntaken, Leads, MayEnd, MayStop, Pauses, StopsSo, TakesAll, TakesPart}
 use Rattle.run_app.proofs.BallotLemmas.{Told, all_with, nothing_left, one_more, told_more}
 use Rattle.run_app.proofs.CutLemmas.{lines-append, rest-append, rest_none, rest_one, whole-append, whole_no_longer, whole_none}
 use Rattle.run_app.proofs.DriveLemmas.{TookBytes}
