@@ -73,8 +73,8 @@ entry_of_kind kind.Touched d = alone entry.Touched d
 -- the entry of a tree
 unfoldable pub entry_of : Data → Result Entry LineFault
 entry_of d = do
-  kind ← kind_at d
-  entry_of_kind kind d
+  found ← kind_at d
+  entry_of_kind found d
 
 -- the entries of a statement, each walked in full
 abbrev pub entries_at : Data → Result (List Entry) LineFault
