@@ -4,13 +4,24 @@ use Rattle.base_io.specs.Rows.{Pair}
 use Rattle.rule_machine.specs.Items.{items_of}
 use Rattle.rule_modules.specs.Chain.{State}
 use Rattle.rule_modules.specs.Sound.{IsSound}
-use Rattle.store_items.specs.Stored.{AreStored, rows_in}
+use Rattle.store_rows.specs.declared.format.Format.{Format}
+use Rattle.store_rows.specs.declared.format.Format.TheVariants.{First}
+use Rattle.store_rows.specs.Formats.{written}
+use Rattle.store_items.specs.Stored.{AreStored, rows_as}
 
 -- ---- the states that rows are of
 
--- the rows of a state
+-- the rows of a state in a format
+abbrev pub state_rows : Format → State → List Pair
+state_rows f p = rows_as f (items_of p)
+
+-- those in the first format
+abbrev pub old_rows_of : State → List Pair
+old_rows_of p = state_rows First p
+
+-- those in the format that is written
 abbrev pub rows_of : State → List Pair
-rows_of p = rows_in (items_of p)
+rows_of p = state_rows written p
 
 -- A state that a keeper can hold between two runs: it is sound, each of its items has a row of its own, and no facts are left of what
 -- led to it. Its log is not kept.
@@ -23,9 +34,16 @@ pub record IsStorable (p : State) : Type 0 where
 abbrev pub HaveSameRows : State → State → Type 0
 HaveSameRows p q = rows_of p ≡ rows_of q
 
--- these are the rows of no such state
+-- these are in a format the rows of no such state
+abbrev pub AreOfNoneIn : Format → List Pair → Type 0
+AreOfNoneIn f rows = (p : State) → IsStorable p → rows ≡ state_rows f p → ⊥
+
 abbrev pub AreOfNone : List Pair → Type 0
-AreOfNone rows = (p : State) → IsStorable p → rows ≡ rows_of p → ⊥
+AreOfNone rows = AreOfNoneIn written rows
+
+-- these are in no format the rows of such a state
+abbrev pub AreOfNoFormat : List Pair → Type 0
+AreOfNoFormat rows = (f : Format) → AreOfNoneIn f rows
 
 -- Rows were loaded, and are left: they are so where they are told; an honest keeper still tells them.
 pub record AreLoaded (rows rows' : Option (List Pair)) (honest' : Type 0) (P : List Pair → Type 0) : Type 0 where

@@ -2,7 +2,7 @@
 //! of these are put into modules.
 //!
 //! [`restore`] loads the rows of a keeper, and gives the chain that stands for each sound state of which they are the
-//! rows, or else a [`RestoreFault`]. [`from_items`] gives the chain of items in any order.
+//! rows, or else a [`RestoreFault`]. [`restore_either`] does so for rows of either format, and tells which it is. [`from_items`] gives the chain of items in any order.
 //!
 //! That rows suffice are laws: the records of a sound state stand for it ([`records_are_kept`]) and are all that does
 //! ([`records_are_all`]), and so rows decide what is kept ([`rows_decide_what_is_kept`]).
@@ -16,5 +16,5 @@ mod telling;
 
 pub use fault::RestoreFault;
 pub use laws::{records_are_all, records_are_kept, rows_decide_what_is_kept};
-pub use restoring::restore;
+pub use restoring::{Restored, restore, restore_either};
 pub use resuming::from_items;
