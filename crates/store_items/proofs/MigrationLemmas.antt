@@ -235,9 +235,6 @@ rises_too (i ∷ items) up = (keys items up.0, rises_too items up.1)
     keys [] all = tt
     keys (j ∷ js) all = (all.0, keys js all.1)
 
-pub old_listed : (items : List Item) (ps : List Pair) → AreOld items ps → (its : List Item) × All HasRow its × (map (row_in First) its ≡ ps)
-old_listed items ps old = let (its, have, are) = rows_listed First items old.0.stored in (its, have, are ∙ sym old.1)
-
 pub is_migration : (items : List Item) (ps : List Pair) (list : List Change) → AreOld items ps → ((its : List Item) → All HasRow its → map (row_in First) its ≡ ps → map change_seen list ≡ flat_map change_between its) → IsMigration items list
 is_migration items ps list old made =
     let begun = old.0 in

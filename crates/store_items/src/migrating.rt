@@ -1,6 +1,6 @@
 //! Rows of the first format brought to the second.
 
-ghost use Rattle.std.specs.Prelude.{◌≡◌, ◌++◌, List, map, IfErr, IfOk, OnOk};
+ghost use Rattle.std.specs.Prelude.{◌≡◌, ◌++◌, All, List, map, IfErr, IfOk, OnOk};
 ghost use Rattle.base_io.specs.Changes.{pair_of};
 ghost use Rattle.base_roles.specs.declared.items.Item.{Item};
 ghost use Rattle.store_rows.specs.declared.format.Format.TheVariants.{First};
@@ -34,12 +34,12 @@ fn push_between(alloc: Global, changes: &mut Vec<Change>, row: &Row) -> Result<(
 /// one of each signing record whose bytes are others in the second format.
 ///
 /// # Errors
-/// `NoMemory` alone, where the rows are those of a chain that has begun, in the order of their keys; and else also
-/// `BadRow`, where a row is that of no item.
+/// `NoMemory` alone, where each row is that of an item; else also `BadRow`.
 pub fn migrate(alloc: Global, rows: &[Row]) -> Result<Vec<Change>, RowFault>
     ensures made { (items : List Item) → AreOld items (map pair_of rows.now)
         → IfOk result (λ list. IsMigration items list.items) }
-    ensures fault { (items : List Item) → AreOld items (map pair_of rows.now)
+    ensures fault { (items : List Item) → All HasRow items
+        → map (row_in First) items ≡ map pair_of rows.now
         → IfErr result (λ fault. fault ≡ RowFault.NoMemory) }
 {
     let mut changes = Vec::new(alloc);

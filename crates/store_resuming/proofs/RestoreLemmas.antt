@@ -61,8 +61,8 @@ module _ (keys : KeysAreOnce) where
       once = λ i j c d same. own_key (items_of p) (keys_apart p s.sound) i j (has_of (items_of p) i c) (has_of (items_of p) j d) same;
     }
 
-    rows_are : (p : State) → IsStateOf items p → InOrder rows (λ now. now ≡ state_rows f p)
-    rows_are p s up =
+    rows_told : (p : State) → IsStateOf items p → InOrder rows (λ now. now ≡ state_rows f p)
+    rows_told p s up =
         sym is ∙ sym (rising_rows items all f (subst Rises (sym is) up)) ∙ sym (permuted_rows f (items_of p) items s.has (state_stored p s))
 
     -- a state of the same rows has the same items
@@ -79,7 +79,7 @@ module _ (keys : KeysAreOnce) where
     chain_is chain stands some settled = record {
       first = some.0;
       storable = record { sound = some.1.sound; stored = state_stored some.0 some.1; none = some.1.none };
-      rows_are = rows_are some.0 some.1;
+      rows_are = rows_told some.0 some.1;
       stands = λ p q same. stands p (same_state p some.0 some.1 q same);
       settled = settled;
     }

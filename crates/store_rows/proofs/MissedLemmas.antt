@@ -38,11 +38,15 @@ missed_at ps i b lt is =
     ∙ ap (λ (m : ℕ). missed_of (take i ps) ++ missed_from m (b ∷ [])) k
 
 -- counted one after the other
-pub counted : (ps : List Bool) (i count more : ℕ) (b : Bool) → i < length ps → b ≡ get_or ps i false → count ≡ length (missed_of (take i ps)) → more ≡ length (missed_from i (b ∷ []))
+pub counted : (ps : List Bool) (i count more : ℕ) (b : Bool) → i < length ps → b ≡ get_or ps i false → count ≡ length (missed_of (take i ps)) → more ≡ length (missed_from 0 (b ∷ []))
     → count + more ≡ length (missed_of (take (i + 1) ps))
 counted ps i count more b lt is so_far one =
     let whole = ap length (missed_at ps i b lt is) in
-    omega (arith, whole, so_far, one, length-append (missed_of (take i ps)) (missed_from i (b ∷ [])))
+    omega (arith, whole, so_far, one, one_counted b, length-append (missed_of (take i ps)) (missed_from i (b ∷ [])))
+  where
+    one_counted : (b : Bool) → length (missed_from 0 (b ∷ [])) ≡ length (missed_from i (b ∷ []))
+    one_counted true = refl
+    one_counted false = refl
 
 pub count_few : (ps : List Bool) (i count : ℕ) → count ≡ length (missed_of (take i ps)) → count ≤ length ps
 count_few ps i count so_far = omega (arith, so_far, missed_few 0 (take i ps), length-take i ps)
@@ -82,6 +86,12 @@ next ms i p lt is = drop_more ms i 0 lt ∙ ap (λ (q : ℕ). q ∷ drop (i + 1)
 pub record IsBuilt (ring : List Bool) (end : ℕ) (left : List ℕ) (total : List Bool) : Type 0 where
   pub ascend : are_places (length ring) end left ≡ true
   pub built : ring ++ places_with (length ring) end left ≡ total
+
+pub none_built : (ring : List Bool) (end : ℕ) (ms : List ℕ) → ring ≡ [] → are_places 0 end ms ≡ true → IsBuilt ring end ms (places_with 0 end ms)
+none_built ring end ms none up = record {
+  ascend = ap (λ (r : List Bool). are_places (length r) end ms) none ∙ up;
+  built = ap (λ (r : List Bool). r ++ places_with (length r) end ms) none;
+}
 
 pub one_built : (ring more new : List Bool) (end i p : ℕ) (ms : List ℕ) (total : List Bool) → i < length ms → p ≡ get_or ms i 0 → more ≡ ring ++ replicate (p - length ring) false → new ≡ more ++ true ∷ []
     → IsBuilt ring end (drop i ms) total → IsBuilt new end (drop (i + 1) ms) total

@@ -100,13 +100,21 @@ pub(crate) fn missed_ring_at(
     Ok(Listed::of(ring))
 }
 
+/// One, where the place was missed.
+fn count_of(missed: bool) -> usize
+    ensures { result ≡ length (missed_from 0 (missed ∷ [])) }
+{
+    if missed { 1 } else { 0 }
+}
+
 /// How many places were missed.
 fn missed_count(places: &[bool]) -> usize
+    requires { length places.now < 2 ^ 32 }
     ensures { result ≡ length (missed_of places.now) }
 {
     let mut count = 0;
     for missed in places {
-        count += if *missed { 1 } else { 0 };
+        count += count_of(*missed);
     }
     count
 }

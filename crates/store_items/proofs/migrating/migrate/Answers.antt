@@ -1,14 +1,13 @@
 use Rattle.std.proofs.lemmas.Result.{err_from_is_err_and}
 use Rattle.store_rows.specs.declared.format.Format.TheVariants.{First}
 use Rattle.store_items.proofs.Loops.{item_at}
-use Rattle.store_items.proofs.MigrationLemmas.{all_on, is_migration, old_listed, one_on}
+use Rattle.store_items.proofs.MigrationLemmas.{all_on, is_migration, one_on}
 use Rattle.store_items.proofs.migrating.migrate.Goals as goal
 
 pub returns-in_err-push_between-clause-fault : goal.returns-in_err-push_between-clause-fault
-returns-in_err-push_between-clause-fault c = λ items old.
+returns-in_err-push_between-clause-fault c = λ items all e.
     let p = err_from_is_err_and c.from_residual.result c.from_residual.ensures.1 in
-    let (its, all, e) = old_listed items _ old in
-    let (x, has, same, more, there) = item_at First its c.args.rows.now c.loop-row.row-index c.row-item.result all e c.loop-row-test.true c.row-item.is in
+    let (x, has, same, more, there) = item_at First items c.args.rows.now c.loop-row.row-index c.row-item.result all e c.loop-row-test.true c.row-item.is in
     rw (p.1, p.2) (c.in_err-push_between.ensures.fault x has same)
 
 pub loop-row-preserved : goal.loop-row-preserved
