@@ -307,9 +307,9 @@ event_takes f key value i key_fits value_fits e =
     let (h, at_h, then_h) = bind_ok (number_at w64 o.1) (λ h. number_at w64 h.1 >>= λ p. ends p.1 >>= λ u. decimal_at value >>= λ f. ends f.1 >>= λ v. Ok (item.Event o.0 (record { height = h.0; period = p.0; fraction = f.0 }))) i then_o in
     let (h_parts, h_fits, h_short) = eight_read.takes o.1 h.0 h.1 o_fits at_h in
     let (p, p_is, p_short, then_p) = ended_ok (number_at w64) eight_bytes IsShort eight_read h.1 (λ p. decimal_at value >>= λ f. ends f.1 >>= λ v. Ok (item.Event o.0 (record { height = h.0; period = p; fraction = f.0 }))) i h_fits then_h in
-    let (f, f_is, f_small, end) = ended_ok decimal_at sixteen_bytes IsDecimal decimal_reads value (λ f. Ok (item.Event o.0 (record { height = h.0; period = p; fraction = f }))) i value_fits then_p in
-    subst (IsRead f kind.Event key value) (ok_is (item.Event o.0 (record { height = h.0; period = p; fraction = f })) i end)
-    (record { kind_is = refl; key_is = o_parts ∙ ap (λ (x : List ℕ). o.0 ++ x) (h_parts ∙ ap (λ (x : List ℕ). eight_bytes h.0 ++ x) p_is); value_is = f_is; has = (tt, (one, (h_short, p_short, f_small))) })
+    let (part, part_is, part_small, end) = ended_ok decimal_at sixteen_bytes IsDecimal decimal_reads value (λ f. Ok (item.Event o.0 (record { height = h.0; period = p; fraction = f }))) i value_fits then_p in
+    subst (IsRead f kind.Event key value) (ok_is (item.Event o.0 (record { height = h.0; period = p; fraction = part })) i end)
+    (record { kind_is = refl; key_is = o_parts ∙ ap (λ (x : List ℕ). o.0 ++ x) (h_parts ∙ ap (λ (x : List ℕ). eight_bytes h.0 ++ x) p_is); value_is = part_is; has = (tt, (one, (h_short, p_short, part_small))) })
 
 -- ---- what is spelled is read
 
