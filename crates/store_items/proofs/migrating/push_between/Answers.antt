@@ -11,10 +11,12 @@ returns-in_err-item-clause-fault c = λ item has same.
 
 pub returns-then-is_eq-clause-made : goal.returns-then-is_eq-clause-made
 returns-then-is_eq-clause-made c = λ item has same.
+    let order = rw (c.as_slice.ensures.value, c.as_slice-2.ensures.value) at c.cmp.ensures in
     pushed_none item c.in_ok-item.item c.args.row.now c.in_ok-second.second c.args.changes.now.items (c.in_ok-item.ensures.alone item has same) c.in_ok-item.ensures.found.1 c.in_ok-second.ensures.row
-    (ap is_eq (sym c.cmp.ensures) ∙ sym c.is_eq.ensures ∙ c.if-is_eq.true)
+    (ap is_eq (sym order) ∙ sym c.is_eq.ensures ∙ c.if-is_eq.true)
 
 pub returns-clause-made : goal.returns-clause-made
 returns-clause-made c = λ item has same.
+    let order = rw (c.as_slice.ensures.value, c.as_slice-2.ensures.value) at c.cmp.ensures in
     pushed_one item c.in_ok-item.item c.args.row.now c.in_ok-second.second c.args.changes.now.items c.push.new.self.items (c.in_ok-item.ensures.alone item has same) c.in_ok-item.ensures.found.1 c.in_ok-second.ensures.row
-    (ap is_eq (sym c.cmp.ensures) ∙ sym c.is_eq.ensures ∙ c.if-is_eq.false) c.in_ok-push.ensures.items
+    (ap is_eq (sym order) ∙ sym c.is_eq.ensures ∙ c.if-is_eq.false) c.in_ok-push.ensures.items
