@@ -192,9 +192,10 @@ item_free i h = by h
     by (inr e) = omega (arith, e, kind_below (kind_in i))
 
 all_free : (items : List Item) (list : List Change) → map change_seen list ≡ flat_map change_between items → AllByRecursion (λ c. IsReserved (rows.key_of c) → ⊥) list
-all_free items list e = all_from (λ c. IsReserved (rows.key_of c) → ⊥) list (λ c h held.
-let (i, r, there, is, row, differ) = put_of items list e c h in
-item_free i (subst IsReserved (ap rows.key_of is ∙ ap (λ (p : Pair). p.0) row) held))
+all_free items list e =
+    all_from (λ c. IsReserved (rows.key_of c) → ⊥) list (λ c h held.
+    let (i, r, there, is, row, differ) = put_of items list e c h in
+    item_free i (subst IsReserved (ap rows.key_of is ∙ ap (λ (p : Pair). p.0) row) held))
 
 -- the number of a format is another in the second
 other_head : (height time : ℕ) → value_in First (item.Head height time) ≡ value_in Second (item.Head height time) → ⊥

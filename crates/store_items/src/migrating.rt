@@ -17,7 +17,7 @@ use store_rows::{Format, RowFault, decode, encode};
 fn push_between(alloc: Global, changes: &mut Vec<Change>, row: &Row) -> Result<(), RowFault>
     ensures made { (item : Item) → HasRow item → row_in First item ≡ pair_of row.now
         → OnOk result (map change_seen changes.new.items
-            ≡ map change_seen changes.old.items ++ change_between item) }
+        ≡ map change_seen changes.old.items ++ change_between item) }
     ensures fault { (item : Item) → HasRow item → row_in First item ≡ pair_of row.now
         → IfErr result (λ fault. fault ≡ RowFault.NoMemory) }
 {

@@ -1,8 +1,8 @@
 //! Signing records in both formats of rows: those that tell each place of a window, and those that tell the missed ones.
 
 use crate::row_tests::{are_same, row};
-use store_rows::{Format, RowFault, decode, encode};
 use std::process::Abort;
+use store_rows::{Format, RowFault, decode, encode};
 
 /// The key of a signing record.
 const KEY: &str = "305000000000000000000000000000000000000001";
@@ -158,7 +158,13 @@ const READ: [(&str, &str, bool, bool); 17] = [
 ];
 
 /// Whether the row of one format is read, and written in the other as this row.
-fn is_told(rt: &(impl Abort + AllocGlobal), given: &str, from: Format, want: &str, to: Format) -> bool {
+fn is_told(
+    rt: &(impl Abort + AllocGlobal),
+    given: &str,
+    from: Format,
+    want: &str,
+    to: Format,
+) -> bool {
     let item = decode(rt.alloc(), from, &row(rt, KEY, given)).expect(rt, "an item");
     let written = encode(rt.alloc(), to, &item).expect(rt, "its row");
     are_same(&written, &row(rt, KEY, want))

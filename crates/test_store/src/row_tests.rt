@@ -285,7 +285,12 @@ fn rows_are_read_and_written_again(rt: HostRuntime) {
 fn rows_of_no_item_are_refused(rt: HostRuntime) {
     for (_what, key, value) in BAD_ROWS {
         let given = row(&rt, key, value);
-        assert!(rt; matches!(decode(rt.alloc(), Format::First, &given), Err(RowFault::BadRow)));
+        assert!(rt;
+            matches!(
+                decode(rt.alloc(), Format::First, &given),
+                Err(RowFault::BadRow)
+            )
+        );
     }
 }
 

@@ -53,7 +53,12 @@ fn rows_are_items(rt: HostRuntime) {
         )
     );
     let rows = [row(&rt, b"\xff", b"")];
-    assert!(rt; matches!(items_of(rt.alloc(), Format::First, &rows), Err(RowFault::BadRow)));
+    assert!(rt;
+        matches!(
+            items_of(rt.alloc(), Format::First, &rows),
+            Err(RowFault::BadRow)
+        )
+    );
 }
 
 /// The same in the second format.
@@ -63,7 +68,8 @@ const SECOND_HEAD: &[u8] = b"\x02\0\0\0\0\0\0\0\x07\0\0\0\0\0\0\0\0\x17\xa6\x10\
 const SIGNING: &[u8] = b"\x30PPPPPPPPPPPPPPPPPPPP";
 
 /// What stands in front of the ring of a signing record: start 0, counted 5, missed 2, jailed until 1970, not tombstoned.
-const BEFORE_RING: &[u8] = b"\0\0\0\0\0\0\0\0\0\0\0\0\0\0\0\x05\0\0\0\0\0\0\0\x02\0\0\0\0\0\0\0\0\0\0\0\0\0\0\0\0\0";
+const BEFORE_RING: &[u8] =
+    b"\0\0\0\0\0\0\0\0\0\0\0\0\0\0\0\x05\0\0\0\0\0\0\0\x02\0\0\0\0\0\0\0\0\0\0\0\0\0\0\0\0\0";
 
 /// The row of a signing record with this ring.
 fn signing_row(rt: &(impl Abort + AllocGlobal), key: &[u8], ring: &[u8]) -> Row {
@@ -82,7 +88,10 @@ fn rows_of_the_first_format_go_to_the_second(rt: HostRuntime) {
     ];
     let ring = b"\0\0\0\x05\0\0\0\x02\0\0\0\x01\0\0\0\x03";
     let second = signing_row(&rt, SIGNING, ring);
-    match migrate(rt.alloc(), &rows).expect(&rt, "two changes").as_slice() {
+    match migrate(rt.alloc(), &rows)
+        .expect(&rt, "two changes")
+        .as_slice()
+    {
         [Change::Put(head), Change::Put(signing)] => {
             assert!(rt; head.key.as_slice() == b"\x01".as_slice());
             assert!(rt; head.value.as_slice() == SECOND_HEAD);
