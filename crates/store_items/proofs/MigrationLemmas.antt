@@ -21,8 +21,6 @@ use Rattle.base_roles.specs.declared.items.Item.TheVariants as item
 use Rattle.store_rows.specs.declared.fault.RowFault.{RowFault}
 use Rattle.store_rows.specs.declared.fault.RowFault.TheVariants.{BadRow, NoMemory}
 use Rattle.store_rows.specs.declared.format.Format.TheVariants.{First, Second}
-use Rattle.store_rows.specs.declared.kind.Kind.{Kind}
-use Rattle.store_rows.specs.declared.kind.Kind.TheVariants as kind
 use Rattle.store_rows.specs.Fields.{eight_bytes, sixteen_bytes}
 use Rattle.store_rows.specs.Kinds.{prefix_of}
 use Rattle.store_rows.specs.Rows.{key_bytes, kind_in, row_in, value_in}
@@ -165,31 +163,31 @@ all_changing items list e up =
 
 -- ---- what every keeper takes
 
-kind_below : (k : Kind) → prefix_of k < 96
-kind_below kind.Head = omega arith
-kind_below kind.Parameters = omega arith
-kind_below kind.Balance = omega arith
-kind_below kind.Supply = omega arith
-kind_below kind.Validator = omega arith
-kind_below kind.Delegation = omega arith
-kind_below kind.Unbonding = omega arith
-kind_below kind.Redelegation = omega arith
-kind_below kind.Signing = omega arith
-kind_below kind.Purse = omega arith
-kind_below kind.Pool = omega arith
-kind_below kind.Withdraw = omega arith
-kind_below kind.CurrentPeriod = omega arith
-kind_below kind.Historical = omega arith
-kind_below kind.Start = omega arith
-kind_below kind.Event = omega arith
+first_below : (i : Item) → prefix_of (kind_in i) < 96
+first_below (item.Head height time) = omega arith
+first_below (item.Parameters params) = omega arith
+first_below (item.Balance account denom amount) = omega arith
+first_below (item.Supply denom amount) = omega arith
+first_below (item.Validator validator) = omega arith
+first_below (item.Delegation operator delegator shares) = omega arith
+first_below (item.Unbonding delegator operator entries) = omega arith
+first_below (item.Redelegation delegator source target entries) = omega arith
+first_below (item.Signing cons info ring) = omega arith
+first_below (item.Purse operator purse) = omega arith
+first_below (item.Pool coins) = omega arith
+first_below (item.Withdraw delegator to) = omega arith
+first_below (item.CurrentPeriod operator period) = omega arith
+first_below (item.Historical operator period history) = omega arith
+first_below (item.Start operator delegator info) = omega arith
+first_below (item.Event operator event) = omega arith
 
 -- keepers have no key of an item for themselves
 item_free : (i : Item) → IsReserved (key_bytes i) → ⊥
 item_free i h = by h
   where
     by : (prefix_of (kind_in i) ≡ 96) ⊎ (prefix_of (kind_in i) ≡ 97) → ⊥
-    by (inl e) = omega (arith, e, kind_below (kind_in i))
-    by (inr e) = omega (arith, e, kind_below (kind_in i))
+    by (inl e) = omega (arith, e, first_below i)
+    by (inr e) = omega (arith, e, first_below i)
 
 all_free : (items : List Item) (list : List Change) → map change_seen list ≡ flat_map change_between items → AllByRecursion (λ c. IsReserved (rows.key_of c) → ⊥) list
 all_free items list e =

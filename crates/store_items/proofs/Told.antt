@@ -26,11 +26,11 @@ first_is Second height time ps = refl
 pub told_by_head : (f : Format) (height time : ℕ) (ps : List Pair) → Rises ps → Has ps (row_in f (item.Head height time)) → format_told ps ≡ Some f
 told_by_head f height time [] up h = absurd h
 told_by_head f height time (p ∷ ps) up (inl same) = ap (λ (q : Pair). format_told (q ∷ ps)) (sym same) ∙ first_is f height time ps
-told_by_head f height time (p ∷ ps) up (inr later) = go (is_head_key p.0) refl
+told_by_head f height time (p ∷ ps) up (inr later) = go (is_head_key p.0) refl (told_by_head f height time ps up.1 later)
   where
     below : key_cmp p.0 (1 ∷ []) ≡ Less
     below = all_has (λ (q : Pair). key_cmp p.0 q.0 ≡ Less) ps (row_in f (item.Head height time)) up.0 later
 
-    go : (b : Bool) → is_head_key p.0 ≡ b → format_told (p ∷ ps) ≡ Some f
-    go true is = absurd (never_itself p.0 (1 ∷ []) below (one_alone p.0 is))
-    go false is = ap (λ (b : Bool). cond b (format_in p.1) (format_told ps)) is ∙ told_by_head f height time ps up.1 later
+    go : (b : Bool) → is_head_key p.0 ≡ b → format_told ps ≡ Some f → format_told (p ∷ ps) ≡ Some f
+    go true is others = absurd (never_itself p.0 (1 ∷ []) below (one_alone p.0 is))
+    go false is others = ap (λ (b : Bool). cond b (format_in p.1) (format_told ps)) is ∙ others

@@ -96,9 +96,7 @@ ring_short window votes most =
     let last = reverse (take window votes) in
     let older = length last - length votes % window in
     let whole : length last ≤ window = omega (arith, length-reverse (take window votes), length-take window votes) in
-    let front : length (take older last) ≤ length last = omega (arith, length-take older last) in
-    let back : length (drop older last) ≤ length last = omega (arith, length-drop older last) in
-    omega (arith, whole, front, back, most, length-append (drop older last) (take older last))
+    omega (arith, whole, most, length-take older last, length-drop older last, length-append (drop older last) (take older last))
 
 -- ---- all items
 
