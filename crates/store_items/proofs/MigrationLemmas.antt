@@ -9,7 +9,7 @@ use Rattle.std.proofs.lemmas.List.Concat.{flat_map-cons}
 use Rattle.std.proofs.lemmas.List.Elements.{recursion_from_All}
 use Rattle.std.proofs.lemmas.Grind.{flat_map-append}
 use Rattle.sqlite_rules.specs.Lists.{Has}
-use Rattle.sqlite_rules.proofs.ListLemmas.{all_from}
+use Rattle.sqlite_rules.proofs.ListLemmas.{all_from, all_has}
 use Rattle.base_io.specs.declared.keeper.Change.{Change}
 use Rattle.base_io.specs.declared.keeper.Change.TheVariants as change
 use Rattle.base_io.specs.declared.keeper.Row.{Row}
@@ -18,6 +18,7 @@ use Rattle.base_io.specs.Rows as rows
 use Rattle.base_io.specs.Changes.{ChangesRows, IsOrdinary, IsPutOfHead, IsReserved, Rises, changed, pair_of, remove, value_of}
 use Rattle.base_roles.specs.declared.items.Item.{Item}
 use Rattle.base_roles.specs.declared.items.Item.TheVariants as item
+use Rattle.base_roles.specs.Items.{key_of}
 use Rattle.store_rows.specs.declared.fault.RowFault.{RowFault}
 use Rattle.store_rows.specs.declared.fault.RowFault.TheVariants.{BadRow, NoMemory}
 use Rattle.store_rows.specs.declared.format.Format.TheVariants.{First, Second}
@@ -25,14 +26,14 @@ use Rattle.store_rows.specs.Fields.{eight_bytes, sixteen_bytes}
 use Rattle.store_rows.specs.Kinds.{prefix_of}
 use Rattle.store_rows.specs.Rows.{key_bytes, kind_in, row_in, value_in}
 use Rattle.store_rows.specs.Spelled.{HasRow}
-use Rattle.store_rows.proofs.CoinReads.{each_weaker}
+use Rattle.store_rows.proofs.KeyLemmas.{keys_one_to_one}
 use Rattle.store_sqlite.proofs.Maps.{total}
 use Rattle.store_items.specs.Making.{change_seen}
-use Rattle.store_items.specs.Migrating.{AreOld, IsMigration, change_between}
+use Rattle.store_items.specs.Migrating.{AreListed, AreOld, IsMigration, change_between}
 use Rattle.store_items.specs.Stored.{AreStored, rows_as}
-use Rattle.store_items.proofs.Listed.{never_itself, rising_rows, rising_stored, rows_listed, rows_same, same_has}
+use Rattle.store_items.proofs.Listed.{AreApart, apart_of, never_itself, rising_rows, rising_stored, rows_listed, rows_same, same_has}
 use Rattle.store_items.proofs.Loops.{item_at}
-use Rattle.store_items.proofs.Members.{has_map, has_of, place_of, rows_rise, tied}
+use Rattle.store_items.proofs.Members.{has_map, has_of, map_has, place_of, rows_rise, tied}
 use Rattle.store_items.proofs.Reached.{made_put, there_value}
 
 -- ---- the changes of items, one after the other
@@ -135,18 +136,46 @@ all_reached (i ∷ items) list e up =
           ∙ ap (λ (ps : List Pair). row_in Second i ∷ ps) (all_reached items it.1 it.5 up.1)
     ]
 
-all_distinct : (items : List Item) (list : List Change) → map change_seen list ≡ flat_map change_between items → Rises (map (row_in First) items) → HasDistinctKeys list
-all_distinct [] list e up = subst HasDistinctKeys (sym (no_changes list e)) tt
-all_distinct (i ∷ items) list e up = elim (parted i items list e) [
-  | inl it ↦ all_distinct items list it.1 up.1
+-- keys of their own are changed once
+none_after : (k : List ℕ) (items : List Item) (list : List Change) → map change_seen list ≡ flat_map change_between items → (Has (map key_bytes items) k → ⊥) → AllByRecursion (λ c. k ≡ rows.key_of c → ⊥) list
+none_after k items list e none =
+    all_from (λ c. k ≡ rows.key_of c → ⊥) list (λ c h same.
+    let (i, r, there, is, row, differ) = put_of items list e c h in
+    let key : k ≡ key_bytes i = same ∙ ap rows.key_of is ∙ ap (λ (p : Pair). p.0) row in
+    none (subst (Has (map key_bytes items)) (sym key) (has_map key_bytes items i there)))
+
+all_distinct : (items : List Item) (list : List Change) → map change_seen list ≡ flat_map change_between items → AreApart (map key_bytes items) → HasDistinctKeys list
+all_distinct [] list e apart = subst HasDistinctKeys (sym (no_changes list e)) tt
+all_distinct (i ∷ items) list e apart = elim (parted i items list e) [
+  | inl it ↦ all_distinct items list it.1 apart.1
   | inr it ↦
       let key : it.0.key.items ≡ key_bytes i = ap (λ (p : Pair). p.0) it.3 in
-      let after = all_after (key_bytes i) items it.1 it.5 up.0 in
       subst HasDistinctKeys (sym it.2) (
-        each_weaker (λ c. key_cmp (key_bytes i) (rows.key_of c) ≡ Less) (λ c. it.0.key.items ≡ rows.key_of c → ⊥) (λ c less same. never_itself (key_bytes i) (rows.key_of c) less (sym key ∙ same)) it.1 after,
-        all_distinct items it.1 it.5 up.1,
+        none_after it.0.key.items items it.1 it.5 (λ h. apart.0 (subst (Has (map key_bytes items)) key h)),
+        all_distinct items it.1 it.5 apart.1,
       )
 ]
+
+-- so are those of rows that rise, and of items of which no two have one key
+rising_keys : (items : List Item) → Rises (map (row_in First) items) → AreApart (map key_bytes items)
+rising_keys [] up = tt
+rising_keys (i ∷ items) up = (first, rising_keys items up.1)
+  where
+    first : Has (map key_bytes items) (key_bytes i) → ⊥
+    first h =
+        let (j, there, is) = map_has key_bytes items (key_bytes i) h in
+        let below = all_has (λ (q : Pair). key_cmp (key_bytes i) q.0 ≡ Less) (map (row_in First) items) (row_in First j) up.0 (has_map (row_in First) items j there) in
+        never_itself (key_bytes i) (key_bytes j) below (sym is)
+
+keys_apart : (items : List Item) → AllByRecursion HasRow items → AreApart (map key_of items) → AreApart (map key_bytes items)
+keys_apart [] all apart = tt
+keys_apart (i ∷ items) all apart = (first, keys_apart items all.1 apart.1)
+  where
+    first : Has (map key_bytes items) (key_bytes i) → ⊥
+    first h =
+        let (j, there, is) = map_has key_bytes items (key_bytes i) h in
+        let same : key_of j ≡ key_of i = keys_one_to_one j i (all_has HasRow items j all.1 there) all.0 is in
+        apart.0 (subst (Has (map key_of items)) same (has_map key_of items j there))
 
 some_same : (v w : List ℕ) → Some v ≡ Some w → v ≡ w
 some_same v w e = cc
@@ -234,7 +263,21 @@ rises_too (i ∷ items) up = (keys items up.0, rises_too items up.1)
     keys [] all = tt
     keys (j ∷ js) all = (all.0, keys js all.1)
 
-pub is_migration : (items : List Item) (ps : List Pair) (list : List Change) → AreOld items ps → ((its : List Item) → All HasRow its → map (row_in First) its ≡ ps → map change_seen list ≡ flat_map change_between its) → IsMigration items list
+module _ (items : List Item) (list : List Change) (e : map change_seen list ≡ flat_map change_between items) where
+  is_ordinary : AreApart (map key_bytes items) → (height time : ℕ) → Has items (item.Head height time) → IsOrdinary list
+  is_ordinary apart height time there =
+      let (r, put_there, row) = head_put items list height time e there in
+      record {
+        distinct = all_distinct items list e apart;
+        head = (change.Put r, place_of list (change.Put r) put_there, is_head r height time row);
+        free = all_free items list e;
+      }
+
+-- what was made of rows that are listed
+abbrev pub IsMadeOf : List Pair → List Change → Type 0
+IsMadeOf ps list = (items : List Item) → All HasRow items → map (row_in First) items ≡ ps → map change_seen list ≡ flat_map change_between items
+
+pub is_migration : (items : List Item) (ps : List Pair) (list : List Change) → AreOld items ps → IsMadeOf ps list → IsMigration items list
 is_migration items ps list old made =
     let begun = old.0 in
     let (its, have, are) = rows_listed First items begun.stored in
@@ -244,16 +287,16 @@ is_migration items ps list old made =
     let same : rows_as First items ≡ rows_as First its = sym are ∙ sym (rising_rows its have First up) in
     let (height, time, there) = begun.head in
     let head = same_has First items its begun.stored stored same (item.Head height time) (has_of items (item.Head height time) there) in
-    let (r, put_there, row) = head_put its list height time e head in
     record {
       reached = ap (changed list) (sym are) ∙ all_reached its list e up ∙ sym (rising_rows its have Second (rises_too its up)) ∙ sym (rows_same First Second items its begun.stored stored same);
       changing = subst (λ (qs : List Pair). AllByRecursion (ChangesRows qs) list) are (all_changing its list e up);
-      ordinary = record {
-        distinct = all_distinct its list e up;
-        head = (change.Put r, place_of list (change.Put r) put_there, is_head r height time row);
-        free = all_free its list e;
-      };
+      ordinary = is_ordinary its list e (rising_keys its up) height time head;
     }
+
+pub listed_taken : (items : List Item) (ps : List Pair) (list : List Change) → AreListed First items ps → IsMadeOf ps list → IsOrdinary list
+listed_taken items ps list l made =
+    let (height, time, there) = l.head in
+    is_ordinary items list (made items l.have_rows l.same) (keys_apart items (recursion_from_All HasRow items l.have_rows) (apart_of (map key_of items) l.once)) height time (has_of items (item.Head height time) there)
 
 -- ---- one row after the other
 

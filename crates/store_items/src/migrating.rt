@@ -1,13 +1,13 @@
 //! Rows of the first format brought to the second.
 
 ghost use Rattle.std.specs.Prelude.{◌≡◌, ◌++◌, All, List, map, IfErr, IfOk, OnOk};
-ghost use Rattle.base_io.specs.Changes.{pair_of};
+ghost use Rattle.base_io.specs.Changes.{IsOrdinary, pair_of};
 ghost use Rattle.base_roles.specs.declared.items.Item.{Item};
 ghost use Rattle.store_rows.specs.declared.format.Format.TheVariants.{First};
 ghost use Rattle.store_rows.specs.Rows.{row_in};
 ghost use Rattle.store_rows.specs.Spelled.{HasRow};
 ghost use Rattle.store_items.specs.Making.{change_seen};
-ghost use Rattle.store_items.specs.Migrating.{AreOld, IsMigration, change_between};
+ghost use Rattle.store_items.specs.Migrating.{AreListed, AreOld, IsMigration, change_between};
 
 use base_io::{Change, Row};
 use std::alloc::Global;
@@ -38,6 +38,9 @@ fn push_between(alloc: Global, changes: &mut Vec<Change>, row: &Row) -> Result<(
 pub fn migrate(alloc: Global, rows: &[Row]) -> Result<Vec<Change>, RowFault>
     ensures made { (items : List Item) → AreOld items (map pair_of rows.now)
         → IfOk result (λ list. IsMigration items list.items) }
+    // Every keeper takes them, in whatever order the rows stand.
+    ensures taken { (items : List Item) → AreListed First items (map pair_of rows.now)
+        → IfOk result (λ list. IsOrdinary list.items) }
     ensures fault { (items : List Item) → All HasRow items
         → map (row_in First) items ≡ map pair_of rows.now
         → IfErr result (λ fault. fault ≡ RowFault.NoMemory) }

@@ -1,18 +1,21 @@
 -- The chain of items whose rows were loaded.
-use Rattle.std.proofs.Common.{◌≡◌, ◌≢◌, ◌∙◌, ℕ, zero, suc, ◌<◌, ◌≤◌, ◌==◌, Bool, false, true≢false, List, [], ◌∷◌, length, map, All, Option, Some, None, Result, Ok, Err, IfErr, IfOk, IfSome, refl, sym, ap, subst, arith, inl, inr}
+use Rattle.std.proofs.Common.{◌≡◌, ◌≢◌, ◌∙◌, ℕ, ◌<◌, ◌≤◌, Bool, List, [], ◌∷◌, length, map, All, Option, Some, None, Result, Ok, Err, IfOk, IfSome, refl, sym, ap, subst, arith, inl, inr}
 use Rattle.std.specs.Prelude.{Contains, IsErrOf, IsSome}
 use Rattle.std.specs.List.Sorted.{IsPermutation}
-use Rattle.std.proofs.lemmas.List.Sorted.{Contains-permutation, IsPermutation-trans}
+use Rattle.std.proofs.lemmas.List.Sorted.{Contains-permutation, IsPermutation-map, IsPermutation-trans}
 use Rattle.sqlite_rules.specs.Lists.{Has}
 use Rattle.chain_whole.specs.Chained.{Chained}
 use Rattle.chain_whole.specs.declared.fault.ChainFault.{ChainFault}
 use Rattle.chain_whole.specs.declared.fault.ChainFault.TheVariants as faults
+use Rattle.base_io.specs.declared.keeper.Change.{Change}
 use Rattle.base_io.specs.declared.keeper.Row.{Row}
 use Rattle.base_io.specs.Rows.{Pair}
-use Rattle.base_io.specs.Changes.{Rises, pair_of}
+use Rattle.base_io.specs.Changes.{IsOrdinary, Rises, pair_of}
 use Rattle.base_roles.specs.declared.entities.SigningInfo.{SigningInfo}
 use Rattle.base_roles.specs.declared.items.Item.{Item}
 use Rattle.base_roles.specs.declared.items.Item.TheVariants as item
+use Rattle.base_records.proofs.KindLemmas.{once-told}
+use Rattle.base_records.proofs.MemberLemmas.{once}
 use Rattle.base_roles.specs.Items.{IsOnce, key_of}
 use Rattle.rule_machine.specs.Items.{items_of}
 use Rattle.chain_modules.specs.Kept.{StandsFor}
@@ -20,20 +23,23 @@ use Rattle.store_resuming.specs.Resumed.{IsResumeFault, IsStateOf}
 use Rattle.store_rows.specs.declared.fault.RowFault.{RowFault}
 use Rattle.store_rows.specs.declared.fault.RowFault.TheVariants as row
 use Rattle.store_rows.specs.declared.format.Format.{Format}
+use Rattle.store_rows.specs.declared.format.Format.TheVariants.{First, Second}
 use Rattle.store_rows.specs.Rows.{row_in}
 use Rattle.store_rows.specs.Spelled.{HasRow}
 use Rattle.store_rows.specs.Told.{format_told, window_of}
 use Rattle.store_rows.proofs.WholeLemmas.{one_to_one}
 use Rattle.rule_modules.specs.Chain.{State}
 use Rattle.rule_modules.specs.Sound.{IsSound}
+use Rattle.store_items.specs.Migrating.{AreListed, AreOld, IsMigration}
 use Rattle.store_items.specs.Stored.{AreStored}
-use Rattle.store_items.proofs.Members.{has_map, has_of, item_there, place_of, row_there}
+use Rattle.store_items.proofs.Members.{has_map, has_of, item_there, place_of, row_there, rows_rise}
 use Rattle.store_items.proofs.Told.{told_by_head}
 use Rattle.store_resuming.specs.declared.fault.RestoreFault.{RestoreFault}
 use Rattle.store_resuming.specs.declared.fault.RestoreFault.TheVariants as fault
-use Rattle.store_resuming.specs.Restored.{AreLoaded, AreOfNoFormat, AreOfNoneIn, IsStorable, state_rows}
-use Rattle.store_resuming.specs.Restoring.{HasLongWindow, InOrder, IsChainIn, IsNoChain, IsUnrestoredBy, UnlessFailed}
-use Rattle.store_items.proofs.Listed.{AreApart, apart_of, bytes_apart, apart_under, has_row, permuted_rows, rising_items_apart, rising_rows, rising_stored, rows_listed, same_rows_permuted}
+use Rattle.store_records.proofs.OnceLaws.{once_anyway}
+use Rattle.store_resuming.specs.Restored.{AreLoaded, AreOfNone, AreStateRows, FormatsTellTheSame, HaveSameRows, IsStorable, old_rows_of, rows_of, state_rows}
+use Rattle.store_resuming.specs.Restoring.{AreChangesFrom, AreMigrated, AreOfNoneIn, HasLongWindow, InOrder, IsChainIn, IsChainOf, IsNoChain, IsRestored, IsUnrestored, UnlessFailed}
+use Rattle.store_items.proofs.Listed.{AreApart, apart_of, bytes_apart, apart_under, has_row, permuted_rows, rising_items_apart, rising_rows, rising_stored, rows_listed, rows_same, same_rows_permuted}
 
 -- no two items have one key
 own_key : (xs : List Item) → AreApart (map key_of xs) → (i j : Item) → Has xs i → Has xs j → key_of i ≡ key_of j → i ≡ j
@@ -42,6 +48,10 @@ own_key (x ∷ xs) apart i j (inl a) (inl b) same = a ∙ sym b
 own_key (x ∷ xs) apart i j (inl a) (inr k) same = absurd (apart.0 (subst (Has (map key_of xs)) (sym same ∙ ap key_of a) (has_map key_of xs j k)))
 own_key (x ∷ xs) apart i j (inr h) (inl b) same = absurd (apart.0 (subst (Has (map key_of xs)) (same ∙ ap key_of b) (has_map key_of xs i h)))
 own_key (x ∷ xs) apart i j (inr h) (inr k) same = own_key xs apart.1 i j h k same
+
+-- the last height and time of a state
+abbrev head_of : State → Item
+head_of p = item.Head p.view.ctx.height p.view.ctx.time
 
 -- items of a sound state have keys of their own
 abbrev pub KeysAreOnce : Type 0
@@ -84,6 +94,15 @@ module _ (keys : KeysAreOnce) where
       settled = settled;
     }
 
+    -- the items are listed, as the rows stand
+    pub all_listed : (p : State) → IsStateOf items p → AreListed f items rows
+    all_listed p s = record {
+      have_rows = all;
+      once = once (map key_of items) (once_anyway (map key_of (items_of p)) (map key_of items) (IsPermutation-map key_of (items_of p) items s.has) (once-told (map key_of (items_of p)) (keys p s.sound)));
+      head = (p.view.ctx.height, p.view.ctx.time, Contains-permutation (items_of p) items (head_of p) s.has (place_of (items_of p) (head_of p) (inl refl)));
+      same = is;
+    }
+
     -- items of no state
     pub no_state : ((p : State) → IsStateOf items p → ⊥) → InOrder rows (AreOfNoneIn f)
     no_state none up p q same =
@@ -99,30 +118,45 @@ module _ (keys : KeysAreOnce) where
 pub no_items : (f : Format) (rows : List Pair) → ((items : List Item) → All HasRow items → map (row_in f) items ≢ rows) → InOrder rows (AreOfNoneIn f)
 no_items f rows none up p q same = let (its, have, are) = rows_listed f (items_of p) q.stored in none its have (are ∙ sym same)
 
--- ---- rows that no sound state has in any format
+-- ---- the format that rows tell
 
 -- rows of a state tell their format
 told_of_state : (f : Format) (p : State) (rows : List Pair) → IsStorable p → Rises rows → rows ≡ state_rows f p → format_told rows ≡ Some f
 told_of_state f p rows q up same =
-    let head : Item = item.Head p.view.ctx.height p.view.ctx.time in
-    let there : Has (state_rows f p) (row_in f head) = row_there f (items_of p) head (bytes_apart (items_of p) q.stored) (inl refl) in
-    told_by_head f p.view.ctx.height p.view.ctx.time rows up (subst (λ (ps : List Pair). Has ps (row_in f head)) (sym same) there)
+    let there : Has (state_rows f p) (row_in f (head_of p)) = row_there f (items_of p) (head_of p) (bytes_apart (items_of p) q.stored) (inl refl) in
+    told_by_head f p.view.ctx.height p.view.ctx.time rows up (subst (λ (ps : List Pair). Has ps (row_in f (head_of p))) (sym same) there)
+
+some_format : (f g : Format) → Some f ≡ Some g → f ≡ g
+some_format f g e = cc
+
+-- so rows are those of states in one format alone
+same_format : (f g : Format) (p q : State) → IsStorable p → IsStorable q → state_rows f p ≡ state_rows g q → f ≡ g
+same_format f g p q s t same =
+    let up : Rises (state_rows f p) = rows_rise f (items_of p) in
+    some_format f g (sym (told_of_state f p (state_rows f p) s up refl) ∙ told_of_state g q (state_rows f p) t up same)
+
+pub formats_same : FormatsTellTheSame
+formats_same p q s t (rows, (f, a), (g, b)) h =
+    let both : state_rows f p ≡ state_rows g q = sym a ∙ b in
+    let one : f ≡ g = same_format f g p q s t both in
+    rows_same f h (items_of p) (items_of q) s.stored t.stored (both ∙ ap (λ (k : Format). state_rows k q) (sym one))
+
+-- a state has the rows that it has
+pub same_itself : (p : State) → HaveSameRows p p
+same_itself p = (rows_of p, (Second, refl), (Second, refl))
 
 -- rows that tell none
-pub untold : (rows : List Pair) → format_told rows ≡ None → InOrder rows AreOfNoFormat
-untold rows none up f p q same = never (sym none ∙ told_of_state f p rows q up same)
+pub untold : (rows : List Pair) → format_told rows ≡ None → InOrder rows AreOfNone
+untold rows none up p q (f, same) = never (sym none ∙ told_of_state f p rows q up same)
   where
     never : None ≡ Some f → ⊥
     never e = cc
 
 -- those of none in the format that they tell
-pub none_told : (g : Format) (rows : List Pair) → format_told rows ≡ Some g → InOrder rows (AreOfNoneIn g) → InOrder rows AreOfNoFormat
-none_told g rows told none up f p q same = none up p q (same ∙ ap (λ (h : Format). state_rows h p) (same_format f g (sym (told_of_state f p rows q up same) ∙ told)))
-  where
-    same_format : (f g : Format) → Some f ≡ Some g → f ≡ g
-    same_format f g e = cc
+none_told : (g : Format) (rows : List Pair) → format_told rows ≡ Some g → InOrder rows (AreOfNoneIn g) → InOrder rows AreOfNone
+none_told g rows told none up p q (f, same) = none up p q (same ∙ ap (λ (h : Format). state_rows h p) (some_format f g (sym (told_of_state f p rows q up same) ∙ told)))
 
-pub none_told_fault : (g : Format) (rows : List Pair) (e : RestoreFault) → format_told rows ≡ Some g → IsNoChain (AreOfNoneIn g) rows e → IsNoChain AreOfNoFormat rows e
+pub none_told_fault : (g : Format) (rows : List Pair) (e : RestoreFault) → format_told rows ≡ Some g → IsNoChain (AreOfNoneIn g) rows e → IsNoChain AreOfNone rows e
 none_told_fault g rows fault.Failed told h = h
 none_told_fault g rows fault.NoMemory told h = h
 none_told_fault g rows fault.Empty told h = h
@@ -140,8 +174,8 @@ is_long n (item.Signing cons info ring) e lt = omega (arith, lt, same (length ri
 is_long n _ e lt = absurd cc
 
 -- so rows that tell a long one are those of none
-pub no_long : (short : WindowsAreShort) (rows : List Pair) → ((f : Format) (items : List Item) → All HasRow items → map (row_in f) items ≡ rows → (i : Item) × Contains items i × HasLongWindow i) → InOrder rows AreOfNoFormat
-no_long short rows long up f p q same =
+pub no_long : (short : WindowsAreShort) (rows : List Pair) → ((f : Format) (items : List Item) → All HasRow items → map (row_in f) items ≡ rows → (i : Item) × Contains items i × HasLongWindow i) → InOrder rows AreOfNone
+no_long short rows long up p q (f, same) =
     let (its, have, are) = rows_listed f (items_of p) q.stored in
     let (i, place, is) = long f its have (are ∙ sym same) in
     let there = has_of its i place in
@@ -163,33 +197,38 @@ module _ (list : List Pair) (rows rows' : Option (List Pair)) (honest' : Type 0)
       by None s u = tt
       by (Some now) s u = subst P s (h (subst Rises (sym s) u))
 
-  loaded_chain : (f : Format) (chain : Chained) → IsChainIn f (InOrder list) chain → IsChainIn f (AreLoaded rows rows' honest') chain
+  -- the chain of rows that were read in a format
+  pub loaded_chain : (f : Format) (chain : Chained) → IsChainIn f (InOrder list) chain → IsChainOf (AreLoaded rows rows' honest') chain
   loaded_chain f chain c = record {
     first = c.first;
     storable = c.storable;
-    rows_are = loaded (λ now. now ≡ state_rows f c.first) c.rows_are;
-    stands = c.stands;
+    rows_are = loaded (λ now. AreStateRows now c.first) (λ u. (f, c.rows_are u));
+    stands = λ p q alike. c.stands p q (formats_same p c.first q c.storable alike f);
     settled = c.settled;
+  }
+
+  -- and the changes for them
+  pub loaded_changes : (f : Format) (chain : Chained) (changes : List Change) → IsChainIn f (InOrder list) chain → ((items : List Item) × AreListed f items list) → AreChangesFrom f list changes → IsRestored (AreLoaded rows rows' honest') chain changes
+  loaded_changes First chain changes c (items, listed) from = record {
+    restored = loaded_chain First chain c;
+    brought = inr (
+      loaded (AreMigrated c.first changes) (λ u. (c.rows_are u, from.0 c.first c.storable (c.rows_are u))),
+      from.1 items listed,
+    );
+  }
+  loaded_changes Second chain changes c listed none = record {
+    restored = loaded_chain Second chain c;
+    brought = inl (loaded (λ now. now ≡ rows_of c.first) c.rows_are, none);
   }
 
   pub none_loaded : list ≡ [] → AreLoaded rows rows' honest' (λ now. now ≡ [])
   none_loaded empty = loaded (λ now. now ≡ []) (λ u. empty)
 
-  unloaded : (OfNone : List Pair → Type 0) (e : RestoreFault) → list ≢ [] → IsNoChain OfNone list e → IsUnrestoredBy OfNone rows rows' honest' e
-  unloaded OfNone fault.Failed some h = tt
-  unloaded OfNone fault.NoMemory some h = tt
-  unloaded OfNone fault.Empty some h = absurd h
-  unloaded OfNone fault.Unsound some h = loaded (λ now. (now ≢ []) × OfNone now) (λ u. (some, h u))
-
-  -- the answer of a chain, or of what has one
-  module _ {X : Type 0} (format : X → Format) (chain : X → Chained) (OfNone : List Pair → Type 0) where
-    pub loaded_result : (r : Result X RestoreFault) → IfOk r (λ x. IsChainIn (format x) (InOrder list) (chain x)) → IfOk r (λ x. IsChainIn (format x) (AreLoaded rows rows' honest') (chain x))
-    loaded_result (Ok x) h = loaded_chain (format x) (chain x) h
-    loaded_result (Err e) h = tt
-
-    pub unloaded_result : (r : Result X RestoreFault) → list ≢ [] → IfErr r (IsNoChain OfNone list) → IfErr r (IsUnrestoredBy OfNone rows rows' honest')
-    unloaded_result (Ok x) some h = tt
-    unloaded_result (Err e) some h = unloaded OfNone e some h
+  pub unloaded : (e : RestoreFault) → list ≢ [] → IsNoChain AreOfNone list e → IsUnrestored rows rows' honest' e
+  unloaded fault.Failed some h = tt
+  unloaded fault.NoMemory some h = tt
+  unloaded fault.Empty some h = absurd h
+  unloaded fault.Unsound some h = loaded (λ now. (now ≢ []) × AreOfNone now) (λ u. (some, h u))
 
 pub empty_pairs : (list : List Row) → length list ≡ 0 → map pair_of list ≡ []
 empty_pairs [] e = refl
@@ -209,21 +248,28 @@ refused_row {T} e P h is = h (subst (λ (x : RowFault). IsErrOf {T = T} (Err x) 
 pub refused_items : (e : ChainFault) (items : List Item) → IsResumeFault items e → e ≡ faults.BadItems → (p : State) → IsStateOf items p → ⊥
 refused_items e items h is = subst (IsResumeFault items) is h
 
-module _ {X : Type 0} where
-  pub never_failed : (r : Result X RestoreFault) (OfNone : List Pair → Type 0) (list : List Pair) → IfErr r (IsNoChain OfNone list) → IsErrOf r fault.Failed → ⊥
-  never_failed (Ok x) OfNone list h e = absurd cc
-  never_failed (Err fault.Failed) OfNone list h e = absurd h
-  never_failed (Err fault.NoMemory) OfNone list h e = absurd cc
-  never_failed (Err fault.Empty) OfNone list h e = absurd cc
-  never_failed (Err fault.Unsound) OfNone list h e = absurd cc
+abbrev failed : {X : Type 0} → RestoreFault → Result X RestoreFault
+failed e = Err e
 
-  pub quiet_result : (r : Result X RestoreFault) (P : Type 0) → P → UnlessFailed r P
-  quiet_result (Ok x) P p = p
-  quiet_result (Err fault.Failed) P p = tt
-  quiet_result (Err fault.NoMemory) P p = p
-  quiet_result (Err fault.Empty) P p = p
-  quiet_result (Err fault.Unsound) P p = p
+-- rows that give no chain were loaded
+pub never_failed : {X : Type 0} (e : RestoreFault) (OfNone : List Pair → Type 0) (list : List Pair) → IsNoChain OfNone list e → IsErrOf (failed {X = X} e) fault.Failed → ⊥
+never_failed fault.Failed OfNone list h e = absurd h
+never_failed fault.NoMemory OfNone list h e = absurd cc
+never_failed fault.Empty OfNone list h e = absurd cc
+never_failed fault.Unsound OfNone list h e = absurd cc
 
-pub not_zero : (n : ℕ) → false ≡ (n == 0) → 0 < n
-not_zero zero e = absurd (true≢false (sym e))
-not_zero (suc n) e = omega arith
+pub quiet_fault : {X : Type 0} (e : RestoreFault) (P : Type 0) → P → UnlessFailed (failed {X = X} e) P
+quiet_fault fault.Failed P p = tt
+quiet_fault fault.NoMemory P p = p
+quiet_fault fault.Empty P p = p
+quiet_fault fault.Unsound P p = p
+
+-- ---- changes
+
+old_of : (p : State) (rows : List Pair) → IsStorable p → rows ≡ old_rows_of p → AreOld (items_of p) rows
+old_of p rows q same = (record { stored = q.stored; head = (p.view.ctx.height, p.view.ctx.time, place_of (items_of p) (head_of p) (inl refl)) }, same)
+
+pub all_migrated : {X : Type 0} (r : Result X RowFault) (items : X → List Change) (rows : List Pair) → ((its : List Item) → AreOld its rows → IfOk r (λ list. IsMigration its (items list))) → ((its : List Item) → AreListed First its rows → IfOk r (λ list. IsOrdinary (items list)))
+    → IfOk r (λ list. AreChangesFrom First rows (items list))
+all_migrated (Ok list) items rows made taken = ((λ p q same. made (items_of p) (old_of p rows q same)), taken)
+all_migrated (Err e) items rows made taken = tt

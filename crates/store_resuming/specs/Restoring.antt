@@ -1,22 +1,53 @@
 -- What a chain restored from rows stands for, and when none is.
-use Rattle.std.specs.Prelude.{◌≡◌, ◌≢◌, ◌<◌, List, [], length, Option, Result, Ok, Err}
+use Rattle.std.specs.Prelude.{◌≡◌, ◌≢◌, ◌⊎◌, ◌<◌, List, [], length, Option, Result, Ok, Err}
 use Rattle.chain_whole.specs.Chained.{Chained}
+use Rattle.base_io.specs.declared.keeper.Change.{Change}
 use Rattle.base_io.specs.Rows.{Pair}
 use Rattle.base_roles.specs.declared.items.Item.{Item}
 use Rattle.base_roles.specs.declared.items.Item.TheVariants as item
-use Rattle.base_io.specs.Changes.{Rises}
+use Rattle.base_io.specs.Changes.{IsOrdinary, Rises}
 use Rattle.chain_modules.specs.Kept.{StandsFor}
+use Rattle.rule_machine.specs.Items.{items_of}
 use Rattle.rule_modules.specs.Chain.{State}
+use Rattle.store_items.specs.Migrating.{AreListed, IsMigration}
 use Rattle.store_resuming.specs.declared.fault.RestoreFault.{RestoreFault}
 use Rattle.store_resuming.specs.declared.fault.RestoreFault.TheVariants as fault
 use Rattle.store_rows.specs.declared.format.Format.{Format}
-use Rattle.store_rows.specs.Formats.{written}
-use Rattle.store_resuming.specs.Restored.{state_rows, IsStorable, AreOfNone, AreLoaded}
+use Rattle.store_rows.specs.declared.format.Format.TheVariants.{First, Second}
+use Rattle.store_resuming.specs.Restored.{AreLoaded, AreOfNone, AreStateRows, HaveSameRows, IsStorable, old_rows_of, rows_of, state_rows}
 
 -- ---- the chain of rows
 
--- A chain of rows in a format: it stands for a state of which these are the rows, as far as they are told, and for each of the same
--- rows; and it is settled.
+-- A chain of rows: it stands for a state of which these are the rows, as far as they are told, and for each of the same rows; and it is
+-- settled.
+pub record IsChainOf (told : (List Pair → Type 0) → Type 0) (chain : Chained) : Type 0 where
+  pub first : State
+  pub storable : IsStorable first
+  pub rows_are : told (λ now. AreStateRows now first)
+  pub stands : (p : State) → IsStorable p → HaveSameRows p first → StandsFor chain.kept p
+  pub settled : chain.settled ≡ chain.kept
+
+-- these are the rows of a state in the first format, and the changes bring them to the one that is written
+abbrev pub AreMigrated : State → List Change → List Pair → Type 0
+AreMigrated p list rows = (rows ≡ old_rows_of p) × IsMigration (items_of p) list
+
+-- Changes for the rows of a state: there are none where they are in the format that is written; where they are in the first, the changes
+-- bring them to that format, and every keeper takes them.
+abbrev pub AreBrought : ((List Pair → Type 0) → Type 0) → State → List Change → Type 0
+AreBrought told p list =
+    (told (λ now. now ≡ rows_of p) × (list ≡ []))
+    ⊎ (told (AreMigrated p list) × IsOrdinary list)
+
+-- A chain of rows, and the changes for them.
+pub record IsRestored (told : (List Pair → Type 0) → Type 0) (chain : Chained) (list : List Change) : Type 0 where
+  pub restored : IsChainOf told chain
+  pub brought : AreBrought told restored.first list
+
+-- rows are told as a keeper gives them, in the order of their keys
+abbrev pub InOrder : List Pair → (List Pair → Type 0) → Type 0
+InOrder rows P = Rises rows → P rows
+
+-- The same of rows that were read in one format.
 pub record IsChainIn (f : Format) (told : (List Pair → Type 0) → Type 0) (chain : Chained) : Type 0 where
   pub first : State
   pub storable : IsStorable first
@@ -24,12 +55,16 @@ pub record IsChainIn (f : Format) (told : (List Pair → Type 0) → Type 0) (ch
   pub stands : (p : State) → IsStorable p → state_rows f p ≡ state_rows f first → StandsFor chain.kept p
   pub settled : chain.settled ≡ chain.kept
 
-abbrev pub IsChainOf : ((List Pair → Type 0) → Type 0) → Chained → Type 0
-IsChainOf told chain = IsChainIn written told chain
+-- these are in a format the rows of no state
+abbrev pub AreOfNoneIn : Format → List Pair → Type 0
+AreOfNoneIn f rows = (p : State) → IsStorable p → rows ≡ state_rows f p → ⊥
 
--- rows are told as a keeper gives them, in the order of their keys
-abbrev pub InOrder : List Pair → (List Pair → Type 0) → Type 0
-InOrder rows P = Rises rows → P rows
+-- changes for rows that were read in a format
+abbrev pub AreChangesFrom : Format → List Pair → List Change → Type 0
+AreChangesFrom First rows list =
+    ((p : State) → IsStorable p → rows ≡ old_rows_of p → IsMigration (items_of p) list)
+    × ((items : List Item) → AreListed First items rows → IsOrdinary list)
+AreChangesFrom Second rows list = list ≡ []
 
 -- Why no chain comes of rows: they are those of no sound state (`OfNone`), or memory is wanting.
 abbrev pub IsNoChain : (List Pair → Type 0) → List Pair → RestoreFault → Type 0
@@ -38,16 +73,12 @@ IsNoChain OfNone rows fault.NoMemory = Unit {0}
 IsNoChain OfNone rows fault.Empty = ⊥
 IsNoChain OfNone rows fault.Unsound = InOrder rows OfNone
 
--- Why none comes of a keeper: its rows are not loaded, memory is wanting, there are none, or they are those of no sound state
--- (`OfNone`).
-abbrev pub IsUnrestoredBy : (List Pair → Type 0) → Option (List Pair) → Option (List Pair) → Type 0 → RestoreFault → Type 0
-IsUnrestoredBy OfNone rows rows' honest' fault.Failed = Unit {0}
-IsUnrestoredBy OfNone rows rows' honest' fault.NoMemory = Unit {0}
-IsUnrestoredBy OfNone rows rows' honest' fault.Empty = AreLoaded rows rows' honest' (λ now. now ≡ [])
-IsUnrestoredBy OfNone rows rows' honest' fault.Unsound = AreLoaded rows rows' honest' (λ now. (now ≢ []) × OfNone now)
-
+-- Why none comes of a keeper: its rows are not loaded, memory is wanting, there are none, or they are those of no sound state.
 abbrev pub IsUnrestored : Option (List Pair) → Option (List Pair) → Type 0 → RestoreFault → Type 0
-IsUnrestored rows rows' honest' fault = IsUnrestoredBy AreOfNone rows rows' honest' fault
+IsUnrestored rows rows' honest' fault.Failed = Unit {0}
+IsUnrestored rows rows' honest' fault.NoMemory = Unit {0}
+IsUnrestored rows rows' honest' fault.Empty = AreLoaded rows rows' honest' (λ now. now ≡ [])
+IsUnrestored rows rows' honest' fault.Unsound = AreLoaded rows rows' honest' (λ now. (now ≢ []) × AreOfNone now)
 
 -- the fact holds, unless the keeper failed
 abbrev pub UnlessFailed : {X : Type 0} → Result X RestoreFault → Type 0 → Type 0

@@ -1,28 +1,67 @@
 //! Rows that are loaded, and the chain of them.
 
-ghost use Rattle.std.specs.Prelude.{◌≡◌, ◌≤◌, All, Contains, List, map, true, IfErr, IfOk, IsErrOf};
+ghost use Rattle.std.specs.Prelude.{◌≡◌, ◌≢◌, ◌≤◌, [], All, Contains, List, map, true, IfErr, IfOk, IfSome, IsErrOf, IsSome, OnOk};
 ghost use Rattle.base_io.specs.declared.keeper.Change.{Change};
 ghost use Rattle.base_io.specs.Outside.{Rose};
 ghost use Rattle.base_io.specs.Rows.{Makes, Pair};
-ghost use Rattle.base_io.specs.Changes.{LeavesRows, pair_of};
+ghost use Rattle.base_io.specs.Changes.{LeavesRows, Rises, pair_of};
 ghost use Rattle.base_roles.specs.declared.items.Item.{Item};
 ghost use Rattle.store_rows.specs.declared.format.Format.{Format};
 ghost use Rattle.store_rows.specs.Rows.{row_in};
 ghost use Rattle.store_rows.specs.Spelled.{HasRow};
-ghost use Rattle.store_resuming.specs.Restored.{AreLoaded, AreOfNoFormat, AreOfNoneIn};
-ghost use Rattle.store_resuming.specs.Restoring.{HasLongWindow, InOrder, IsChainIn, IsChainOf, IsNoChain, IsUnrestored, IsUnrestoredBy, UnlessFailed};
+ghost use Rattle.store_items.specs.Migrating.{AreListed};
+ghost use Rattle.store_resuming.specs.Restored.{AreLoaded, AreOfNone};
+ghost use Rattle.store_resuming.specs.Restoring.{AreChangesFrom, AreOfNoneIn, HasLongWindow, InOrder, IsChainIn, IsChainOf, IsNoChain, IsRestored, IsUnrestored, UnlessFailed};
 
 use crate::fault::RestoreFault;
 use crate::from_items;
-use base_io::{KeepFault, Keeper, Row};
+use base_io::{Change, KeepFault, Keeper, Row};
 use chain_whole::{Chain, ChainFault};
 use std::alloc::Global;
-use store_items::{items_can_be_kept, items_of};
+use store_items::{items_can_be_kept, items_of, migrate};
 use store_rows::{Format, RowFault, format_of, window_of};
+
+/// The rows of a keeper, of which there are some. The rows are left, and what a stop may leave.
+///
+/// # Errors
+/// `Failed`, only where the count of faults rose; `Empty`, exactly where there are no rows; and `NoMemory`.
+fn load_rows<D: Keeper>(keeper: &mut D) -> Result<Vec<Row>, RestoreFault>
+    ensures rows { IfOk result (λ rows.
+        IfSome (D.rows keeper.new) (λ now. map pair_of rows.items ≡ now)) }
+    ensures some { IfOk result (λ rows. map pair_of rows.items ≢ []) }
+    ensures told { OnOk result (D.is_honest keeper.new → IsSome (D.rows keeper.old)
+        → IsSome (D.rows keeper.new)) }
+    ensures ascending { IfSome (D.rows keeper.new) Rises }
+    ensures fault { IfErr result (IsUnrestored
+        (D.rows keeper.old) (D.rows keeper.new) (D.is_honest keeper.new)) }
+    ensures same { Makes (λ rows. rows) (D.rows keeper.old) (D.rows keeper.new) }
+    ensures settled { LeavesRows (D.may_leave keeper.new) (D.rows keeper.new) }
+    ensures honest { D.is_honest keeper.new → D.is_honest keeper.old }
+    ensures stop { D.is_honest keeper.new → (left : List Pair)
+        → D.may_leave keeper.new left → D.may_leave keeper.old left }
+    ensures takes { (changes : List Change) → D.takes keeper.old changes
+        → D.takes keeper.new changes }
+    ensures later { D.faults keeper.old ≤ D.faults keeper.new }
+    ensures cause { IsErrOf result RestoreFault.Failed
+        → Rose (D.faults keeper.old) (D.faults keeper.new) }
+    ensures quiet { UnlessFailed result (D.faults keeper.new ≡ D.faults keeper.old) }
+{
+    let rows = match keeper.load() {
+        Ok(rows) => rows,
+        Err(KeepFault::Failed) => return Err(RestoreFault::Failed),
+        Err(KeepFault::NoMemory) => return Err(RestoreFault::NoMemory),
+    };
+    if rows.is_empty() {
+        return Err(RestoreFault::Empty);
+    }
+    Ok(rows)
+}
 
 /// The chain of rows in a format. The errors are `Unsound`, exactly where they are those of no sound state, and `NoMemory`.
 fn chain_of(alloc: Global, format: Format, rows: &[Row]) -> Result<Chain, RestoreFault>
     ensures chain { IfOk result (IsChainIn format (InOrder (map pair_of rows.now))) }
+    ensures listed { IfOk result
+        (λ _. (items : List Item) × AreListed format items (map pair_of rows.now)) }
     ensures fault { IfErr result (IsNoChain (AreOfNoneIn format) (map pair_of rows.now)) }
 {
     items_can_be_kept();
@@ -67,19 +106,14 @@ fn have_long_window(rows: &[Row]) -> bool
     false
 }
 
-/// A chain of rows, and their format.
-#[derive(Drop)]
-pub struct Restored {
-    pub chain: Chain,
-    pub format: Format,
-}
-
-/// The chain of rows in the format that they tell. What a row tells of a window takes no memory where no sound state has it. The
-/// errors are `Unsound`, exactly where they are those of no sound state in either format, and `NoMemory`.
-fn chain_told(alloc: Global, rows: &[Row]) -> Result<Restored, RestoreFault>
-    ensures chain { IfOk result
-        (λ r. IsChainIn r.format (InOrder (map pair_of rows.now)) r.chain) }
-    ensures fault { IfErr result (IsNoChain AreOfNoFormat (map pair_of rows.now)) }
+/// The chain of rows in the format that they tell, and this format. What a row tells of a window takes no memory where no
+/// sound state has it. The errors are `Unsound`, exactly where they are those of no sound state in either format, and
+/// `NoMemory`.
+fn chain_told(alloc: Global, rows: &[Row]) -> Result<(Chain, Format), RestoreFault>
+    ensures chain { IfOk result (λ r. IsChainIn r.1 (InOrder (map pair_of rows.now)) r.0) }
+    ensures listed { IfOk result
+        (λ r. (items : List Item) × AreListed r.1 items (map pair_of rows.now)) }
+    ensures fault { IfErr result (IsNoChain AreOfNone (map pair_of rows.now)) }
 {
     items_can_be_kept();
     if have_long_window(rows) {
@@ -90,51 +124,17 @@ fn chain_told(alloc: Global, rows: &[Row]) -> Result<Restored, RestoreFault>
         None => return Err(RestoreFault::Unsound),
     };
     match chain_of(alloc, format, rows) {
-        Ok(chain) => Ok(Restored { chain, format }),
+        Ok(chain) => Ok((chain, format)),
         Err(fault) => Err(fault),
     }
 }
 
-/// The chain of a keeper's rows in either format, settled, and which format it is: it stands for each sound state of which they
-/// are the rows. The rows are left, and what a stop may leave.
+/// The chain of a keeper's rows in either format, settled: it stands for each sound state of which they are the rows. The rows
+/// are left, and what a stop may leave.
 ///
 /// # Errors
 /// `Failed`, only where the count of faults rose; `Empty`, exactly where there are no rows; `Unsound`, exactly where they
-/// are those of no sound state; and `NoMemory`.
-pub fn restore_either<D: Keeper>(alloc: Global, keeper: &mut D) -> Result<Restored, RestoreFault>
-    ensures chain { IfOk result (λ r. IsChainIn r.format
-        (AreLoaded (D.rows keeper.old) (D.rows keeper.new) (D.is_honest keeper.new)) r.chain) }
-    ensures fault { IfErr result (IsUnrestoredBy AreOfNoFormat
-        (D.rows keeper.old) (D.rows keeper.new) (D.is_honest keeper.new)) }
-    ensures same { Makes (λ rows. rows) (D.rows keeper.old) (D.rows keeper.new) }
-    ensures settled { LeavesRows (D.may_leave keeper.new) (D.rows keeper.new) }
-    ensures honest { D.is_honest keeper.new → D.is_honest keeper.old }
-    ensures stop { D.is_honest keeper.new → (left : List Pair)
-        → D.may_leave keeper.new left → D.may_leave keeper.old left }
-    ensures takes { (changes : List Change) → D.takes keeper.old changes
-        → D.takes keeper.new changes }
-    ensures later { D.faults keeper.old ≤ D.faults keeper.new }
-    ensures cause { IsErrOf result RestoreFault.Failed
-        → Rose (D.faults keeper.old) (D.faults keeper.new) }
-    ensures quiet { UnlessFailed result (D.faults keeper.new ≡ D.faults keeper.old) }
-{
-    let rows = match keeper.load() {
-        Ok(rows) => rows,
-        Err(KeepFault::Failed) => return Err(RestoreFault::Failed),
-        Err(KeepFault::NoMemory) => return Err(RestoreFault::NoMemory),
-    };
-    if rows.is_empty() {
-        return Err(RestoreFault::Empty);
-    }
-    chain_told(alloc, &rows)
-}
-
-/// The chain of a keeper's rows in the format that is written, settled: it stands for each sound state of which they are the
-/// rows. The rows are left, and what a stop may leave.
-///
-/// # Errors
-/// `Failed`, only where the count of faults rose; `Empty`, exactly where there are no rows; `Unsound`, exactly where they
-/// are those of no sound state in that format; and `NoMemory`.
+/// are those of no sound state in either format; and `NoMemory`.
 pub fn restore<D: Keeper>(alloc: Global, keeper: &mut D) -> Result<Chain, RestoreFault>
     ensures chain { IfOk result (IsChainOf
         (AreLoaded (D.rows keeper.old) (D.rows keeper.new) (D.is_honest keeper.new))) }
@@ -152,13 +152,69 @@ pub fn restore<D: Keeper>(alloc: Global, keeper: &mut D) -> Result<Chain, Restor
         → Rose (D.faults keeper.old) (D.faults keeper.new) }
     ensures quiet { UnlessFailed result (D.faults keeper.new ≡ D.faults keeper.old) }
 {
-    let rows = match keeper.load() {
+    let rows = match load_rows(keeper) {
         Ok(rows) => rows,
-        Err(KeepFault::Failed) => return Err(RestoreFault::Failed),
-        Err(KeepFault::NoMemory) => return Err(RestoreFault::NoMemory),
+        Err(fault) => return Err(fault),
     };
-    if rows.is_empty() {
-        return Err(RestoreFault::Empty);
+    match chain_told(alloc, &rows) {
+        Ok((chain, _)) => Ok(chain),
+        Err(fault) => Err(fault),
     }
-    chain_of(alloc, Format::WRITTEN, &rows)
+}
+
+/// A chain of rows, and the changes that bring these to the format that is written: none where they are in it.
+#[derive(Drop)]
+pub struct Restored {
+    pub chain: Chain,
+    pub changes: Vec<Change>,
+}
+
+/// The changes that bring rows of a format to the one that is written.
+fn changes_from(alloc: Global, format: Format, rows: &[Row]) -> Result<Vec<Change>, RowFault>
+    ensures { IfOk result (λ list. AreChangesFrom format (map pair_of rows.now) list.items) }
+{
+    match format {
+        Format::First => migrate(alloc, rows),
+        Format::Second => Ok(Vec::new(alloc)),
+    }
+}
+
+/// The chain of a keeper's rows in either format, as [`restore`] gives it, and the changes that bring these rows to the format
+/// that is written, for a run that goes on from them. The rows are left, and what a stop may leave.
+///
+/// # Errors
+/// Those of [`restore`].
+pub fn restore_with_changes<D: Keeper>(
+    alloc: Global,
+    keeper: &mut D,
+) -> Result<Restored, RestoreFault>
+    ensures restored { IfOk result (λ r. IsRestored
+        (AreLoaded (D.rows keeper.old) (D.rows keeper.new) (D.is_honest keeper.new))
+        r.chain r.changes.items) }
+    ensures fault { IfErr result (IsUnrestored
+        (D.rows keeper.old) (D.rows keeper.new) (D.is_honest keeper.new)) }
+    ensures same { Makes (λ rows. rows) (D.rows keeper.old) (D.rows keeper.new) }
+    ensures settled { LeavesRows (D.may_leave keeper.new) (D.rows keeper.new) }
+    ensures honest { D.is_honest keeper.new → D.is_honest keeper.old }
+    ensures stop { D.is_honest keeper.new → (left : List Pair)
+        → D.may_leave keeper.new left → D.may_leave keeper.old left }
+    ensures takes { (changes : List Change) → D.takes keeper.old changes
+        → D.takes keeper.new changes }
+    ensures later { D.faults keeper.old ≤ D.faults keeper.new }
+    ensures cause { IsErrOf result RestoreFault.Failed
+        → Rose (D.faults keeper.old) (D.faults keeper.new) }
+    ensures quiet { UnlessFailed result (D.faults keeper.new ≡ D.faults keeper.old) }
+{
+    let rows = match load_rows(keeper) {
+        Ok(rows) => rows,
+        Err(fault) => return Err(fault),
+    };
+    let (chain, format) = match chain_told(alloc, &rows) {
+        Ok(told) => told,
+        Err(fault) => return Err(fault),
+    };
+    match changes_from(alloc, format, &rows) {
+        Ok(changes) => Ok(Restored { chain, changes }),
+        Err(_) => Err(RestoreFault::NoMemory),
+    }
 }

@@ -9,4 +9,4 @@ number_of Second = 2
 
 -- the format in which rows are written
 abbrev pub written : Format
-written = First
+written = Second

@@ -15,7 +15,7 @@ pub enum Format {
 
 impl Format {
     /// The format in which rows are written.
-    pub const WRITTEN: Format = Format::First;
+    pub const WRITTEN: Format = Format::Second;
 
     /// The number of the format, in front of the last height.
     pub(crate) fn number(self) -> u8

@@ -1,7 +1,7 @@
 use Rattle.std.proofs.lemmas.Result.{err_from_is_err_and}
 use Rattle.store_rows.specs.declared.format.Format.TheVariants.{First}
 use Rattle.store_items.proofs.Loops.{item_at}
-use Rattle.store_items.proofs.MigrationLemmas.{all_on, is_migration, one_on}
+use Rattle.store_items.proofs.MigrationLemmas.{all_on, is_migration, listed_taken, one_on}
 use Rattle.store_items.proofs.migrating.migrate.Goals as goal
 
 pub returns-in_err-push_between-clause-fault : goal.returns-in_err-push_between-clause-fault
@@ -17,3 +17,7 @@ loop-row-preserved c = λ items all e.
 pub returns-clause-made : goal.returns-clause-made
 returns-clause-made c = λ items old.
     is_migration items _ c.loop-row.changes.items old (λ its all e. all_on its c.args.rows.now c.loop-row.row-index c.loop-row.changes.items e c.loop-row-test.false (c.loop-row.invariant its all e))
+
+pub returns-clause-taken : goal.returns-clause-taken
+returns-clause-taken c = λ items listed.
+    listed_taken items _ c.loop-row.changes.items listed (λ its all e. all_on its c.args.rows.now c.loop-row.row-index c.loop-row.changes.items e c.loop-row-test.false (c.loop-row.invariant its all e))
