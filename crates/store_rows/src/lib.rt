@@ -12,16 +12,22 @@
 mod coins;
 mod fault;
 mod fields;
+mod format;
 mod front;
 mod items;
 mod kind;
 pub mod laws;
 mod lists;
+mod missed;
 mod places;
+mod rings;
 mod rows;
+mod told;
 mod values;
 pub mod worked;
 mod writing;
 
 pub use fault::RowFault;
+pub use format::Format;
 pub use rows::{decode, encode, key_of, read_back};
+pub use told::{format_of, window_of};
