@@ -13,6 +13,7 @@ pub mod ReadLemmas
 pub mod ReportLemmas
 pub mod RestLemmas
 pub mod ResumeLemmas
+pub mod RisenLemmas
 pub mod RunLemmas
 pub mod SizeLemmas
 pub mod SoundLemmas

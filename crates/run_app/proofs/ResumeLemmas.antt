@@ -10,7 +10,7 @@ use Rattle.base_io.specs.declared.keeper.Change.{Change}
 use Rattle.base_io.specs.declared.keeper.KeepFault.{KeepFault as Unkept}
 use Rattle.base_io.specs.Outside.{Rose}
 use Rattle.base_io.specs.Rows.{Makes, Pair, key_cmp, put}
-use Rattle.base_io.specs.Changes.{ChangeRows, ChangesRows, LeavesRows, changed}
+use Rattle.base_io.specs.Changes.{ChangeRows, ChangesRows, IsOrdinary, LeavesRows, changed}
 use Rattle.base_roles.specs.declared.items.Item.{Item}
 use Rattle.rule_machine.specs.Items.{items_of}
 use Rattle.rule_machine.specs.Report.{report_of}
@@ -20,7 +20,6 @@ use Rattle.line_report.specs.Asking.{answered_by}
 use Rattle.store_resuming.specs.declared.fault.RestoreFault.{RestoreFault}
 use Rattle.store_resuming.specs.declared.fault.RestoreFault.TheVariants as fault
 use Rattle.store_commits.specs.Commits.{Commits, LeadTo}
-use Rattle.store_commits.specs.Held.{TakesDistinct}
 use Rattle.store_resuming.specs.Restored.{AreLoaded, AreOfNone, AreStateRows, HaveSameRows, IsStorable, old_rows_of, rows_of, state_rows}
 use Rattle.store_resuming.specs.Restoring.{AreBrought, AreMigrated, IsChainOf, IsRestored, IsUnrestored, UnlessFailed}
 use Rattle.store_resuming.proofs.RestoreLemmas.{formats_same, same_itself}
@@ -93,7 +92,7 @@ module _ (form : Form) (rows told : Option (List Pair)) (honest : Type 0) (chain
   pub leads_first : LeadTo (items_of first) list told
   leads_first = leads first r.restored.storable (same_itself first)
 
-  -- each change changes the rows, and the keeper takes them
+  -- each change changes the rows, and every keeper takes them
   pub each_changes : ChangeRows list told
   each_changes now is = by r.brought
     where
@@ -103,12 +102,12 @@ module _ (form : Form) (rows told : Option (List Pair)) (honest : Type 0) (chain
           let m : AreMigrated first list now = subst (λ (o : Option (List Pair)). IfSome o (AreMigrated first list)) is are.are in
           subst (λ (ps : List Pair). AllByRecursion (ChangesRows ps) list) (sym m.0) m.1.changing
 
-  pub all_taken : (takes : List Change → Type 0) → TakesDistinct takes → (list ≡ []) ⊎ takes list
-  all_taken takes h = by r.brought
+  pub all_taken : (list ≡ []) ⊎ IsOrdinary list
+  all_taken = by r.brought
     where
-      by : AreBrought (AreLoaded rows told honest) first list → (list ≡ []) ⊎ takes list
+      by : AreBrought (AreLoaded rows told honest) first list → (list ≡ []) ⊎ IsOrdinary list
       by (inl (are, none)) = inl none
-      by (inr (are, ordinary)) = inr (h list ordinary.distinct)
+      by (inr (are, ordinary)) = inr ordinary
 
   module _ (told' : Option (List Pair)) (honest' : Type 0) (leaves leaves' : List Pair → Type 0) where
     -- rows that were brought to the format that is written

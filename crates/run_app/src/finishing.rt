@@ -5,7 +5,6 @@ ghost use Rattle.base_io.specs.Outside.{Rose};
 ghost use Rattle.run_app.specs.Lines.{last_line};
 ghost use Rattle.run_app.specs.Kept.{Began, Keeping, LeftIn};
 ghost use Rattle.run_app.specs.Machine.{Standing, StandsAt};
-ghost use Rattle.store_commits.specs.Held.{TakesDistinct};
 ghost use Rattle.run_app.specs.Parts.{EndLongOnly, IsOfReport, FinishStops, Finishes, UnlessKeepAtEnd, UnlessWriteAtEnd};
 
 use crate::line::{Buffers, take_line};
@@ -71,7 +70,6 @@ pub fn finish<K: Sink, D: Keeper>(
     chain: &mut Option<Chain>,
     line: &[u8],
 ) -> Result<(), EndStop>
-    requires takes { TakesDistinct (D.takes keeper.old) }
     requires kept { (b : Began) × (s : Standing) × Keeping b chain.old
         (D.rows keeper.old) (D.is_honest keeper.old) (D.may_leave keeper.old) s }
     ensures clean { OnOk result (K.clean sink.new ≡ true) }

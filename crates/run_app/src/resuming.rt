@@ -2,7 +2,6 @@
 
 ghost use Rattle.std.specs.Prelude.{◌≡◌, true};
 ghost use Rattle.base_io.specs.Outside.{Rose};
-ghost use Rattle.store_commits.specs.Held.{TakesDistinct};
 ghost use Rattle.rule_machine.specs.Report.{report_of};
 ghost use Rattle.chain_modules.specs.Kept.{StandsFor};
 ghost use Rattle.line_report.specs.Asking.{answered_by};
@@ -45,7 +44,6 @@ pub(crate) fn resume<S: Source, K: Sink, D: Keeper>(
     sink: &mut K,
     keeper: &mut D,
 ) -> Status
-    requires takes { TakesDistinct (D.takes keeper.old) }
     ensures ends { ResumeEnds form (S.left source.old) (S.left source.new)
         (K.written sink.old) (K.written sink.new) (D.rows keeper.old) (D.rows keeper.new)
         (D.is_honest keeper.new) (D.may_leave keeper.old) (D.may_leave keeper.new) result }

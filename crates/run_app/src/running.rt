@@ -75,7 +75,6 @@ fn end<K: Sink, D: Keeper>(
     progress: &mut Progress,
 ) -> Status
     requires short { length progress.old.line.items ≤ longest }
-    requires takes { TakesDistinct (D.takes keeper.old) }
     requires kept { (b : Began) × (s : Standing) × Keeping b progress.old.chain
         (D.rows keeper.old) (D.is_honest keeper.old) (D.may_leave keeper.old) s }
     ensures status { (b : Began) → (s : Standing) → Keeping b progress.old.chain
@@ -125,7 +124,6 @@ fn take_all<S: Source, K: Sink, D: Keeper>(
 ) -> Status
     requires number { progress.old.number ≡ 1 }
     requires line { progress.old.line.items ≡ [] }
-    requires takes { TakesDistinct (D.takes keeper.old) }
     requires kept { (b : Began) × (s : Standing) × Keeping b progress.old.chain
         (D.rows keeper.old) (D.is_honest keeper.old) (D.may_leave keeper.old) s }
     ensures ends { (b : Began) → (s : Standing) → Keeping b progress.old.chain
@@ -184,7 +182,6 @@ pub(crate) fn drive<S: Source, K: Sink, D: Keeper>(
     keeper: &mut D,
     chain: Option<Chain>,
 ) -> Status
-    requires takes { TakesDistinct (D.takes keeper.old) }
     requires kept { (b : Began) × (s : Standing) × Keeping b chain
         (D.rows keeper.old) (D.is_honest keeper.old) (D.may_leave keeper.old) s }
     ensures ends { (b : Began) → (s : Standing) → Keeping b chain
@@ -235,7 +232,6 @@ fn replay<S: Source, K: Sink, D: Keeper>(
     sink: &mut K,
     keeper: &mut D,
 ) -> Status
-    requires takes { TakesDistinct (D.takes keeper.old) }
     ensures ends { ReplayEnds form (S.left source.old) (S.left source.new)
         (K.written sink.old) (K.written sink.new) (D.rows keeper.old) (D.rows keeper.new)
         (D.is_honest keeper.new) (D.may_leave keeper.old) (D.may_leave keeper.new) result }
@@ -271,7 +267,6 @@ fn carry_out<S: Source, K: Sink, D: Keeper>(
     keeper: &mut D,
 ) -> Status
     requires few { HasFewBlocks mode }
-    requires takes { TakesDistinct (D.takes keeper.old) }
     ensures ends { ModeEnds form mode (S.left source.old) (S.left source.new)
         (K.written sink.old) (K.written sink.new) (D.rows keeper.old) (D.rows keeper.new)
         (D.is_honest keeper.new) (D.may_leave keeper.old) (D.may_leave keeper.new) result }

@@ -1,5 +1,5 @@
 -- What a commit brings a keeper to.
-use Rattle.std.proofs.Common.{◌≡◌, ◌≢◌, ◌<◌, ◌∙◌, ◌⊎◌, length, arith, inl, inr, Bool, true, false, true≢false, List, [], ◌∷◌, map, Option, Some, None, Result, Ok, Err, IfSome, refl, sym, ap, subst}
+use Rattle.std.proofs.Common.{◌≡◌, ◌≢◌, ℕ, ◌<◌, ◌∙◌, ◌⊎◌, length, arith, inl, inr, Bool, true, false, true≢false, List, [], ◌∷◌, map, Option, Some, None, Result, Ok, Err, IfSome, refl, sym, ap, subst}
 use Rattle.std.specs.Prelude.{All, Contains, IsSome, OnErr, OnOk, ⊤}
 use Rattle.std.specs.List.{AllByRecursion}
 use Rattle.std.proofs.lemmas.List.Elements.{All-contains, All-from_recursion}
@@ -7,9 +7,10 @@ use Rattle.base_io.specs.declared.keeper.Change.{Change}
 use Rattle.base_io.specs.declared.keeper.Row.{Row}
 use Rattle.base_io.specs.declared.keeper.KeepFault.{KeepFault}
 use Rattle.base_io.specs.declared.keeper.KeepFault.TheVariants as fault
-use Rattle.base_io.specs.Rows.{HasDistinctKeys, Makes, Pair}
-use Rattle.base_io.specs.Changes.{ChangeRows, ChangesRows, LeavesRows, changed, pair_of}
+use Rattle.base_io.specs.Rows.{Makes, Pair}
+use Rattle.base_io.specs.Changes.{ChangeRows, ChangesRows, IsOrdinary, LeavesRows, changed, pair_of}
 use Rattle.base_roles.specs.declared.items.Item.{Item}
+use Rattle.base_roles.specs.declared.items.Item.TheVariants as item
 use Rattle.base_roles.specs.Items.{AreChanges, IsOnce, key_of}
 use Rattle.rule_machine.specs.Items.{items_of}
 use Rattle.store_rows.specs.Spelled.{HasRow, IsWritable}
@@ -17,9 +18,10 @@ use Rattle.store_rows.proofs.KeyLemmas.{key_in_range}
 use Rattle.base_records.proofs.KindLemmas.{once-told}
 use Rattle.base_records.proofs.MemberLemmas.{Member, Once, contained, member, once}
 use Rattle.store_items.specs.Stored.{AreStored, HaveOwnKeys, rows_in}
-use Rattle.store_items.specs.Making.{AreMade, CanBeWritten, HasKeyInRange, HasRowIfPut, change_seen, item_change, item_put}
+use Rattle.store_items.specs.Making.{AreMade, CanBeWritten, HasKeyInRange, HasNewHead, HasRowIfPut, change_seen, item_change, item_put}
 use Rattle.rule_modules.specs.Chain.{State}
 use Rattle.store_commits.specs.Commits.{Commits, Holds, IsCommit, LeadTo}
+use Rattle.store_commits.specs.Held.{HasRisen}
 use Rattle.store_commits.proofs.Ranges.{has_row}
 
 -- ---- items that are stored
@@ -258,28 +260,63 @@ taken list takes (inr t) some = t
 pub all_writable : {all items : List Item} → ((i : Item) → Contains all i → IsWritable i) → items ≡ all → All IsWritable items
 all_writable {all} {items} h is = all_by IsWritable items (λ i c. h i (subst (λ (l : List Item). Contains l i) is c))
 
--- no key is changed twice, by the law of commits
-abbrev pub KeysDiffer : Type 0
-KeysDiffer = (old new : List Item) (list : List Change) → HaveOwnKeys new → AreMade old new list → HasDistinctKeys list
+-- every keeper takes the changes, by the law of commits
+abbrev pub AllTake : Type 0
+AllTake = (old new : List Item) (list : List Change) → HaveOwnKeys new → AreMade old new list → HasNewHead old new → IsOrdinary list
 
-pub first_commit : KeysDiffer → (q : State) (items : List Item) (list : List Change) → IsOnce (map key_of (items_of q)) → items ≡ items_of q → map change_seen list ≡ map item_put items → All HasRow items → IsCommit [] (items_of q) list
-first_commit differ q items list keys is seen rows =
+-- the last height and time are an item
+head_there : (q : State) → Contains (items_of q) (item.Head q.view.ctx.height q.view.ctx.time)
+head_there q = contained (items_of q) (item.Head q.view.ctx.height q.view.ctx.time) (inl refl)
+
+first_head : (q : State) → HasNewHead [] (items_of q)
+first_head q = record {
+  height = q.view.ctx.height;
+  time = q.view.ctx.time;
+  stands = head_there q;
+  is_new = λ c. absurd (member [] (item.Head q.view.ctx.height q.view.ctx.time) c);
+}
+
+same_height : (h t h' t' : ℕ) → item.Head h t ≡ item.Head h' t' → h ≡ h'
+same_height h t h' t' e = cc
+
+-- a height that rose is that of a new head
+new_head : (p q : State) → IsOnce (map key_of (items_of p)) → HasRisen p q → HasNewHead (items_of p) (items_of q)
+new_head p q keys risen = record {
+  height = q.view.ctx.height;
+  time = q.view.ctx.time;
+  stands = head_there q;
+  is_new = λ c. lower (own_keys (items_of p) keys (item.Head q.view.ctx.height q.view.ctx.time) (item.Head p.view.ctx.height p.view.ctx.time) c (head_there p) refl);
+}
+  where
+    lower : item.Head q.view.ctx.height q.view.ctx.time ≡ item.Head p.view.ctx.height p.view.ctx.time → ⊥
+    lower e =
+        let same = same_height q.view.ctx.height q.view.ctx.time p.view.ctx.height p.view.ctx.time e in
+        omega (arith, same, risen)
+
+pub first_commit : AllTake → (q : State) (items : List Item) (list : List Change) → IsOnce (map key_of (items_of q)) → items ≡ items_of q → map change_seen list ≡ map item_put items → All HasRow items → IsCommit [] (items_of q) list
+first_commit take q items list keys is seen rows =
     let have = subst (All HasRow) is rows in
     let made = made_first (items_of q) list keys (seen ∙ ap (map item_put) is) have in
-    record { made = made; distinct = differ [] (items_of q) list (own_keys (items_of q) keys) made; stored = λ none. stored_first (items_of q) keys have }
+    record { made = made; ordinary = take [] (items_of q) list (own_keys (items_of q) keys) made (first_head q); stored = λ none. stored_first (items_of q) keys have }
 
 pub all_can_be_written : {old new : List Item} {changes told : List (Item × Bool)} → AreChanges old new changes → ((i : Item) → Contains new i → IsWritable i) → told ≡ changes → All CanBeWritten told
 all_can_be_written {old} {new} {changes} {told} a writable is = all_by CanBeWritten told (λ c there. can_be_written old new changes a writable c (subst (λ (l : List (Item × Bool)). Contains l c) is there))
 
-pub next_commit : KeysDiffer → (p q : State) (changes told : List (Item × Bool)) (list : List Change) → IsOnce (map key_of (items_of q)) → ((i : Item) → Contains (items_of q) i → IsWritable i) → AreChanges (items_of p) (items_of q) changes → told ≡ changes
-    → map change_seen list ≡ map item_change told → All HasRowIfPut told → All HasKeyInRange told → IsCommit (items_of p) (items_of q) list
-next_commit differ p q changes told list keys writable a is seen rows ranged =
-    let made : AreMade (items_of p) (items_of q) list = record { changes = changes; from_items = a; in_range = subst (All HasKeyInRange) is ranged; same = seen ∙ ap (map item_change) is } in
-    record {
-      made = made;
-      distinct = differ (items_of p) (items_of q) list (own_keys (items_of q) keys) made;
-      stored = λ s. stored_next (items_of p) (items_of q) changes s a keys writable (subst (All HasRowIfPut) is rows);
-    }
+pub next_made : (p q : State) (changes told : List (Item × Bool)) (list : List Change) → AreChanges (items_of p) (items_of q) changes → told ≡ changes → map change_seen list ≡ map item_change told → All HasKeyInRange told
+    → AreMade (items_of p) (items_of q) list
+next_made p q changes told list a is seen ranged = record { changes = changes; from_items = a; in_range = subst (All HasKeyInRange) is ranged; same = seen ∙ ap (map item_change) is }
+
+-- every keeper takes the changes of a chain whose height rose
+pub next_taken : AllTake → (p q : State) (list : List Change) → IsOnce (map key_of (items_of p)) → IsOnce (map key_of (items_of q)) → HasRisen p q → AreMade (items_of p) (items_of q) list → IsOrdinary list
+next_taken take p q list keys keys' risen made = take (items_of p) (items_of q) list (own_keys (items_of q) keys') made (new_head p q keys risen)
+
+pub next_commit : (p q : State) (changes told : List (Item × Bool)) (list : List Change) → IsOrdinary list → IsOnce (map key_of (items_of q)) → ((i : Item) → Contains (items_of q) i → IsWritable i) → AreChanges (items_of p) (items_of q) changes
+    → told ≡ changes → map change_seen list ≡ map item_change told → All HasRowIfPut told → All HasKeyInRange told → IsCommit (items_of p) (items_of q) list
+next_commit p q changes told list ordinary keys writable a is seen rows ranged = record {
+  made = next_made p q changes told list a is seen ranged;
+  ordinary = ordinary;
+  stored = λ s. stored_next (items_of p) (items_of q) changes s a keys writable (subst (All HasRowIfPut) is rows);
+}
 
 -- ---- whether there are rows
 

@@ -3,6 +3,7 @@ pub mod Listed
 pub mod Loops
 pub mod Members
 pub mod MigrationLemmas
+pub mod Ordinary
 pub mod OwnKeys
 pub mod Reached
 pub mod Through

@@ -211,7 +211,7 @@ first_below (item.Start operator delegator info) = omega arith
 first_below (item.Event operator event) = omega arith
 
 -- keepers have no key of an item for themselves
-item_free : (i : Item) → IsReserved (key_bytes i) → ⊥
+pub item_free : (i : Item) → IsReserved (key_bytes i) → ⊥
 item_free i h = by h
   where
     by : (prefix_of (kind_in i) ≡ 96) ⊎ (prefix_of (kind_in i) ≡ 97) → ⊥
@@ -250,7 +250,7 @@ long_enough : (height time : ℕ) → 9 ≤ length (value_in Second (item.Head h
 unfolding eight_bytes sixteen_bytes
 long_enough height time = let len : length (value_in Second (item.Head height time)) ≡ 25 = refl in omega (arith, len)
 
-is_head : (r : Row) (height time : ℕ) → pair_of r ≡ row_in Second (item.Head height time) → IsPutOfHead (change.Put r)
+pub is_head : (r : Row) (height time : ℕ) → pair_of r ≡ row_in Second (item.Head height time) → IsPutOfHead (change.Put r)
 is_head r height time row = (ap (λ (p : Pair). p.0) row, subst (λ (v : List ℕ). 9 ≤ length v) (sym (ap (λ (p : Pair). p.1) row)) (long_enough height time))
 
 -- ---- rows of items in any order

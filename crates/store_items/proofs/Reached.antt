@@ -31,7 +31,7 @@ use Rattle.store_items.proofs.Through.{IsFree, all_rise, kept_through, put_throu
 
 -- ---- changes of rows and of items
 
-seen_key : (d : Change) → (change_seen d).0 ≡ rows.key_of d
+pub seen_key : (d : Change) → (change_seen d).0 ≡ rows.key_of d
 seen_key (change.Put row) = refl
 seen_key (change.Remove key) = refl
 

@@ -10,7 +10,6 @@ loop-end-init g c = record {
   later = omega arith;
   quiet = refl;
   honest = λ h. h;
-  takes = λ changes t. t;
   keep_later = omega arith;
   keep_quiet = refl;
 }
@@ -20,9 +19,6 @@ end_line-requires-clause-number g c =
     let k = c.requires.kept in
     let most = fed_to_number c.args.form _ _ _ _ _ _ _ _ _ _ (c.loop-end.invariant.fed k.0 k.1 k.2).1 in
     omega (arith, c.requires.number, most)
-
-pub end_line-requires-clause-takes : goal.end_line-requires-clause-takes
-end_line-requires-clause-takes g c = λ changes d. c.loop-end.invariant.takes changes (c.requires.takes changes d)
 
 pub end_line-requires-clause-kept : goal.end_line-requires-clause-kept
 end_line-requires-clause-kept g c =
@@ -44,7 +40,6 @@ loop-end-preserved g c = record {
   later = omega (arith, c.end_line.ensures.later);
   quiet = c.in_default-end_line.ensures.quiet ∙ c.loop-end.invariant.quiet;
   honest = λ h. c.loop-end.invariant.honest (c.end_line.ensures.honest h);
-  takes = λ changes t. c.end_line.ensures.takes changes (c.loop-end.invariant.takes changes t);
   keep_later = omega (arith, c.end_line.ensures.keep_later);
   keep_quiet = c.in_default-end_line.ensures.keep_quiet ∙ c.loop-end.invariant.keep_quiet;
 }

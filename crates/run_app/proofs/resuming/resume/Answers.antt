@@ -3,18 +3,15 @@ use Rattle.run_app.proofs.ModeLemmas.{quiet_at, quiet_read}
 use Rattle.run_app.proofs.ResumeLemmas.{all_taken, each_changes, leads_first, never_none, not_brought, not_resumed, resumed_first, unresumed_busy, unresumed_cause, unresumed_quiet, unresumed_undone, unresumed_unread, unresumed_unwritten, went_on}
 use Rattle.run_app.proofs.resuming.resume.Goals as goal
 
-pub commit_migration-requires-clause-takes : goal.commit_migration-requires-clause-takes
-commit_migration-requires-clause-takes g c =
+pub commit_migration-requires-clause-ordinary : goal.commit_migration-requires-clause-ordinary
+commit_migration-requires-clause-ordinary g c =
     let e = c.restore_with_changes.ensures in
-    rw c.deref.ensures.value (all_taken c.args.form _ _ _ _ _ c.in-Ok.ensures.restored e.same _ (λ changes d. e.takes changes (c.requires.takes changes d)))
+    rw c.deref.ensures.value (all_taken c.args.form _ _ _ _ _ c.in-Ok.ensures.restored e.same)
 
 pub commit_migration-requires-clause-changing : goal.commit_migration-requires-clause-changing
 commit_migration-requires-clause-changing g c =
     let e = c.restore_with_changes.ensures in
     rw c.deref.ensures.value (each_changes c.args.form _ _ _ _ _ c.in-Ok.ensures.restored e.same)
-
-pub drive-requires-clause-takes : goal.drive-requires-clause-takes
-drive-requires-clause-takes g c = λ changes d. c.commit_migration.ensures.takes changes (c.restore_with_changes.ensures.takes changes (c.requires.takes changes d))
 
 pub drive-requires-clause-kept : goal.drive-requires-clause-kept
 drive-requires-clause-kept g c =

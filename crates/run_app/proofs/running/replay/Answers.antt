@@ -4,9 +4,6 @@ use Rattle.run_app.proofs.KeepLemmas.{begins_on_none}
 use Rattle.run_app.proofs.ModeLemmas.{nothing_done, rows_left}
 use Rattle.run_app.proofs.running.replay.Goals as goal
 
-pub drive-requires-clause-takes : goal.drive-requires-clause-takes
-drive-requires-clause-takes g c = λ changes d. c.has_rows.ensures.takes changes (c.requires.takes changes d)
-
 pub drive-requires-clause-kept : goal.drive-requires-clause-kept
 drive-requires-clause-kept g c =
     let e = c.has_rows.ensures in

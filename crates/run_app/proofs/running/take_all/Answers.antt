@@ -22,7 +22,6 @@ loop-taken-init g c = record {
   short = rw c.requires.line (omega arith);
   at = λ b s k. (s, k, stands_first c.args.form s _ _ _ s _ c.requires.number refl c.requires.line);
   honest = λ h. h;
-  takes = λ changes t. t;
   keep_later = omega arith;
   keep_quiet = refl;
   read_later = omega arith;
@@ -42,17 +41,11 @@ returns-in-Ok-eq0-clause-ends g c = λ b s k.
     let a = c.loop-taken.invariant.at b s k in
     end_ends c.args.form _ s _ _ _ _ _ _ _ _ _ _ _ _ a.2 c.loop-taken.invariant.most (read.end refl) read.moved (c.end.ensures.status b a.0 a.1)
 
-pub end-requires-clause-takes : goal.end-requires-clause-takes
-end-requires-clause-takes g c = λ changes d. c.loop-taken.invariant.takes changes (c.requires.takes changes d)
-
 pub end-requires-clause-kept : goal.end-requires-clause-kept
 end-requires-clause-kept g c =
     let k = c.requires.kept in
     let a = c.loop-taken.invariant.at k.0 k.1 k.2 in
     (k.0, a.0, a.1)
-
-pub feed-requires-clause-takes : goal.feed-requires-clause-takes
-feed-requires-clause-takes g c = λ changes d. c.loop-taken.invariant.takes changes (c.requires.takes changes d)
 
 pub feed-requires-clause-kept : goal.feed-requires-clause-kept
 feed-requires-clause-kept g c =
@@ -89,7 +82,6 @@ loop-taken-preserved g c =
       read_quiet = c.in-Ok.ensures.quiet ∙ c.loop-taken.invariant.read_quiet;
       write_quiet = c.in_default.ensures.quiet ∙ c.loop-taken.invariant.write_quiet;
       honest = λ h. c.loop-taken.invariant.honest (c.feed.ensures.honest h);
-      takes = λ changes t. c.feed.ensures.takes changes (c.loop-taken.invariant.takes changes t);
       keep_later = omega (arith, c.feed.ensures.keep_later);
       keep_quiet = c.in_default.ensures.keep_quiet ∙ c.loop-taken.invariant.keep_quiet;
     }

@@ -10,7 +10,7 @@ returns-then-is_empty-clause-commits g c =
 pub commit-requires-clause-taken : goal.commit-requires-clause-taken
 commit-requires-clause-taken g c =
     let some : 0 < length c.args.list.now = search rules in
-    taken c.args.list.now _ c.requires.takes some
+    g.met.D.Keeper.takes_ordinary c.args.keeper.now c.args.list.now (taken c.args.list.now _ c.requires.ordinary some)
 
 pub returns-clause-commits : goal.returns-clause-commits
 returns-clause-commits g c = λ items lead.
