@@ -12,6 +12,7 @@ use Rattle.run_app.specs.declared.status.Status.{Status}
 use Rattle.run_app.specs.declared.status.Status.TheVariants.{Done, Usage, ReadFault, WriteFault, KeepFault, NoMemory, WrongStore}
 use Rattle.run_app.specs.Kept.{AreSome}
 use Rattle.run_app.specs.Modes.{CommandEnds, IsTried, IsUntroubledAt, ModeEnds}
+use Rattle.run_app.specs.Unkept.{CommandUnkept, ModeUnkept}
 use Rattle.run_app.specs.Writes.{IsWritten}
 use Rattle.run_app.proofs.DriveLemmas.{untroubled_run}
 use Rattle.run_app.proofs.ModeLemmas.{finds_none, nothing, nothing_done, rows_left, same_rows, tried_without_memory, unbegun_replay, untouched, written_to_end}
@@ -34,24 +35,40 @@ ends_unbegun (Some c) left w rows honest leaves = mode_unbegun c.form c.mode lef
 pub ends_unasked : (o : Option Command) (left w : Option (List ℕ)) (rows : Option (List Pair)) (honest : Type 0) (leaves : List Pair → Type 0) → o ≡ None → CommandEnds o left left w w rows rows honest leaves leaves Usage
 ends_unasked o left w rows honest leaves e = subst (λ p. CommandEnds p left left w w rows rows honest leaves leaves Usage) (sym e) (nothing_done left w, untouched rows leaves)
 
+-- the same over a keeper that keeps nothing
+mode_unkept : (m : Mode) (left w : Option (List ℕ)) → ModeUnkept m left left w w NoMemory
+mode_unkept Replay left w = λ e. absurd cc
+mode_unkept Resume left w = (tt, nothing_done left w)
+mode_unkept (Query what) left w = (tt, nothing_done left w)
+mode_unkept Tally left w = (tt, nothing_done left w)
+mode_unkept (Gen seed count) left w = tt
+mode_unkept (Trial seed count) left w = tt
+
+pub unkept_unbegun : (o : Option Command) (left w : Option (List ℕ)) → CommandUnkept o left left w w NoMemory
+unkept_unbegun None left w = tt
+unkept_unbegun (Some c) left w = mode_unkept c.mode left w
+
+pub unkept_unasked : (o : Option Command) (left w : Option (List ℕ)) → o ≡ None → CommandUnkept o left left w w Usage
+unkept_unasked o left w e = subst (λ p. CommandUnkept p left left w w Usage) (sym e) tt
+
 -- ---- runs that come to their end
 
 pub untroubled_command : (form : Form) (m : Mode) (left left' w w' : Option (List ℕ)) (keeps : Bool) (rows rows' : Option (List Pair)) (honest' : Type 0) (leaves leaves' : List Pair → Type 0) (faults faults' : ℕ) (s : Status) → ModeEnds form m left left' w w' rows rows' honest' leaves leaves' s
-    → IsUntroubledAt form m left w keeps rows honest' faults faults' → (s ≡ Usage → ⊥) → (s ≡ ReadFault → ⊥) → (s ≡ WriteFault → ⊥) → (s ≡ KeepFault → Rose faults faults') → (m ≡ Replay → s ≡ WrongStore false → keeps ≡ true) → (s ≡ Done) ⊎ (s ≡ NoMemory)
-untroubled_command form Replay left left' w w' keeps rows rows' honest' leaves leaves' faults faults' s (inl ends) calm busy read write keep kept =
+    → IsUntroubledAt form m left w keeps rows honest' faults faults' → (s ≡ Usage → ⊥) → (s ≡ ReadFault → ⊥) → (s ≡ WriteFault → ⊥) → (s ≡ KeepFault → Rose faults faults') → (keeps ≡ false → ModeUnkept m left left' w w' s) → (s ≡ Done) ⊎ (s ≡ NoMemory)
+untroubled_command form Replay left left' w w' keeps rows rows' honest' leaves leaves' faults faults' s (inl ends) calm busy read write keep unkept =
     untroubled_run form _ None left left' w w' s ends calm.0 busy read write (λ e. calm.1.quiet (keep e))
-untroubled_command form Replay left left' w w' keeps rows rows' honest' leaves leaves' faults faults' s (inr ends) calm busy read write keep kept =
-    unbegun_replay s (AreSome rows rows' honest') ends.0 (λ e. finds_none keeps rows rows' honest' calm.1.none calm.1.honest ends.2.rows_are (kept refl e)) (λ e. calm.1.quiet (keep e))
-untroubled_command form Resume left left' w w' keeps rows rows' honest' leaves leaves' faults faults' s ends calm busy read write keep kept =
+untroubled_command form Replay left left' w w' keeps rows rows' honest' leaves leaves' faults faults' s (inr ends) calm busy read write keep unkept =
+    unbegun_replay s (AreSome rows rows' honest') ends.0 (λ e. finds_none keeps rows rows' honest' calm.1.none calm.1.honest ends.2.rows_are (λ off. unkept off e)) (λ e. calm.1.quiet (keep e))
+untroubled_command form Resume left left' w w' keeps rows rows' honest' leaves leaves' faults faults' s ends calm busy read write keep unkept =
     untroubled_resume form left left' w w' rows rows' honest' leaves leaves' faults faults' s ends calm busy read write keep
-untroubled_command form (Query what) left left' w w' keeps rows rows' honest' leaves leaves' faults faults' s ends calm busy read write keep kept =
+untroubled_command form (Query what) left left' w w' keeps rows rows' honest' leaves leaves' faults faults' s ends calm busy read write keep unkept =
     untroubled_query form what w w' rows rows' honest' leaves leaves' faults faults' s ends.1 calm write keep
-untroubled_command form Tally left left' w w' keeps rows rows' honest' leaves leaves' faults faults' s ends calm busy read write keep kept =
+untroubled_command form Tally left left' w w' keeps rows rows' honest' leaves leaves' faults faults' s ends calm busy read write keep unkept =
     untroubled_tally form left left' w w' rows rows' honest' leaves leaves' faults faults' s ends calm read write keep
-untroubled_command form (Gen seed count) left left' w w' keeps rows rows' honest' leaves leaves' faults faults' s ends calm busy read write keep kept =
+untroubled_command form (Gen seed count) left left' w w' keeps rows rows' honest' leaves leaves' faults faults' s ends calm busy read write keep unkept =
     let e = ends.0.1 calm.0 calm.1 in
     written_to_end (generated_text form seed count) e.0 s e.2 write
-untroubled_command form (Trial seed count) left left' w w' keeps rows rows' honest' leaves leaves' faults faults' s ends calm busy read write keep kept =
+untroubled_command form (Trial seed count) left left' w w' keeps rows rows' honest' leaves leaves' faults faults' s ends calm busy read write keep unkept =
     let e = ends.0.1 calm.0.0 calm.0.1 in
     let told : IsWritten calm.1.0 s e.0 = subst (λ d. IsTried d s e.0) calm.1.1 e.2 in
     written_to_end calm.1.0 e.0 s told write

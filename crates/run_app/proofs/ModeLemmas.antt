@@ -271,9 +271,9 @@ never_some rows (Some now) honest' none honest m some = some.some (m.2 ∙ some_
     some_same e = cc
 
 -- nor does a replay find rows of a keeper that keeps nothing
-pub finds_none : (keeps : Bool) (rows rows' : Option (List Pair)) (honest' : Type 0) → (keeps ≡ false) ⊎ (rows ≡ Some []) → honest' → Makes (λ before. before) rows rows' → keeps ≡ true → AreSome rows rows' honest' → ⊥
-finds_none keeps rows rows' honest' (inl unkept) honest m kept some = true≢false (sym kept ∙ unkept)
-finds_none keeps rows rows' honest' (inr none) honest m kept some = never_some rows rows' honest' none honest m some
+pub finds_none : (keeps : Bool) (rows rows' : Option (List Pair)) (honest' : Type 0) → (keeps ≡ false) ⊎ (rows ≡ Some []) → honest' → Makes (λ before. before) rows rows' → (keeps ≡ false → ⊥) → AreSome rows rows' honest' → ⊥
+finds_none keeps rows rows' honest' (inl unkept) honest m never some = never unkept
+finds_none keeps rows rows' honest' (inr none) honest m never some = never_some rows rows' honest' none honest m some
 
 pub unbegun_replay : (s : Status) (some : Type 0) → IsUnbegun s some → (s ≡ WrongStore false → some → ⊥) → (s ≡ KeepFault → ⊥) → (s ≡ Done) ⊎ (s ≡ NoMemory)
 unbegun_replay Done some h n k = absurd h

@@ -17,7 +17,7 @@ use Rattle.line_report.specs.Asking.{answered_by}
 use Rattle.store_resuming.specs.declared.fault.RestoreFault.{RestoreFault}
 use Rattle.store_resuming.specs.declared.fault.RestoreFault.TheVariants as fault
 use Rattle.store_resuming.specs.Restored.{AreLoaded, AreOfNone, HaveSameRows, IsStorable, rows_of}
-use Rattle.store_resuming.specs.Restoring.{IsChainOf, IsUnrestored, UnlessFailed}
+use Rattle.store_resuming.specs.Restoring.{IsChainOf, IsOfNothing, IsUnrestored, UnlessFailed}
 use Rattle.store_rows.specs.Rows.{row_of}
 use Rattle.rule_modules.specs.Chain.{State}
 use Rattle.store_items.specs.Stored.{rows_in}
@@ -27,6 +27,7 @@ use Rattle.run_app.specs.Kept.{AreLeft, Began, Keeping, LeftIn, UnlessKeepFault}
 use Rattle.run_app.specs.Machine.{Standing}
 use Rattle.run_app.specs.Outcome.{RunEnds}
 use Rattle.run_app.specs.Resumes.{Answers, AsksCalmly, Asked, FitsState, GoesOn, IsAnswered, IsUnresumed, QueryEnds, ResumeEnds, ResumesCalmly, on_rows_of, status_of_restore}
+use Rattle.run_app.specs.Unkept.{IsOfNoRows}
 use Rattle.run_app.specs.Writes.{Adds, Writes}
 use Rattle.run_app.proofs.DriveLemmas.{untroubled_run}
 use Rattle.run_app.proofs.ModeLemmas.{nothing, nothing_done, rows_left, written_to_end}
@@ -84,6 +85,9 @@ module _ (form : Form) (rows told : Option (List Pair)) (honest : Type 0) (leave
 
 -- ---- a run of which no chain comes
 
+abbrev pub failed : RestoreFault → Result Chained RestoreFault
+failed f = Err f
+
 pub unresumed : (f : RestoreFault) (rows rows' : Option (List Pair)) (honest' : Type 0) → IsUnrestored rows rows' honest' f → IsUnresumed (status_of_restore f) rows rows' honest'
 unresumed fault.Failed rows rows' honest' h = tt
 unresumed fault.NoMemory rows rows' honest' h = tt
@@ -97,6 +101,13 @@ not_resumed form f left w rows rows' honest' leaves leaves' h same stop = inr (u
 pub not_asked : (form : Form) (f : RestoreFault) (what : Query) (w : Option (List ℕ)) (rows rows' : Option (List Pair)) (honest' : Type 0) (leaves leaves' : List Pair → Type 0) → IsUnrestored rows rows' honest' f → Makes (λ before. before) rows rows' → (honest' → (l : List Pair) → leaves' l → leaves l)
     → QueryEnds form what w w rows rows' honest' leaves leaves' (status_of_restore f)
 not_asked form f what w rows rows' honest' leaves leaves' h same stop = (rows_left rows rows' honest' leaves leaves' same stop, inr (unresumed f rows rows' honest' h, nothing w _ refl))
+
+-- nor does one come of a keeper that keeps nothing, and nothing is said of its rows
+pub no_rows_found : (f : RestoreFault) → IsOfNothing (failed f) → IsOfNoRows (status_of_restore f)
+no_rows_found fault.Failed h = tt
+no_rows_found fault.NoMemory h = tt
+no_rows_found fault.Empty h = refl
+no_rows_found fault.Unsound h = absurd h
 
 -- statuses that it does not end by
 pub unresumed_busy : (f : RestoreFault) → status_of_restore f ≡ Usage → ⊥
@@ -122,9 +133,6 @@ unresumed_unwritten fault.Failed e = absurd cc
 unresumed_unwritten fault.NoMemory e = absurd cc
 unresumed_unwritten fault.Empty e = absurd cc
 unresumed_unwritten fault.Unsound e = absurd cc
-
-abbrev failed : RestoreFault → Result Chained RestoreFault
-failed f = Err f
 
 pub unresumed_cause : (f : RestoreFault) (P : Type 0) → (IsErrOf (failed f) fault.Failed → P) → status_of_restore f ≡ KeepFault → P
 unresumed_cause fault.Failed P h e = h refl

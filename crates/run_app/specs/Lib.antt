@@ -13,4 +13,5 @@ pub mod Runs
 pub mod Sizes
 pub mod Stops
 pub mod Tallies
+pub mod Unkept
 pub mod Writes

@@ -1,6 +1,6 @@
 //! The commands that go on from what a keeper has.
 
-ghost use Rattle.std.specs.Prelude.{◌≡◌, true};
+ghost use Rattle.std.specs.Prelude.{◌≡◌, [], true, false};
 ghost use Rattle.base_io.specs.Outside.{Rose};
 ghost use Rattle.store_commits.specs.Held.{TakesDistinct};
 ghost use Rattle.rule_machine.specs.Report.{report_of};
@@ -10,6 +10,8 @@ ghost use Rattle.rule_modules.specs.Chain.{State};
 ghost use Rattle.run_app.specs.Kept.{UnlessKeepFault};
 ghost use Rattle.run_app.specs.Outcome.{UnlessReadFault, UnlessWriteFault};
 ghost use Rattle.run_app.specs.Resumes.{Answers, QueryEnds, ResumeEnds, status_of_restore};
+ghost use Rattle.run_app.specs.Unkept.{FindsNoRows, IsOfNoRows};
+ghost use Rattle.run_app.specs.Writes.{Adds};
 
 use crate::answer::answer_text;
 use crate::generating::status_of_sink;
@@ -47,6 +49,8 @@ pub(crate) fn resume<S: Source, K: Sink, D: Keeper>(
     ensures ends { ResumeEnds form (S.left source.old) (S.left source.new)
         (K.written sink.old) (K.written sink.new) (D.rows keeper.old) (D.rows keeper.new)
         (D.is_honest keeper.new) (D.may_leave keeper.old) (D.may_leave keeper.new) result }
+    ensures unkept { D.keeps keeper.old ≡ false → FindsNoRows (S.left source.old)
+        (S.left source.new) (K.written sink.old) (K.written sink.new) result }
     ensures busy { result ≡ Status.Usage → ⊥ }
     ensures clean { result ≡ Status.Done → K.clean sink.new ≡ true }
     ensures read_cause { result ≡ Status.ReadFault
@@ -102,6 +106,8 @@ pub(crate) fn answer<K: Sink, D: Keeper>(
     ensures ends { QueryEnds form what.now (K.written sink.old) (K.written sink.new)
         (D.rows keeper.old) (D.rows keeper.new) (D.is_honest keeper.new)
         (D.may_leave keeper.old) (D.may_leave keeper.new) result }
+    ensures unkept { D.keeps keeper.old ≡ false → IsOfNoRows result
+        × Adds (K.written sink.old) (K.written sink.new) (λ text. text ≡ []) }
     ensures busy { result ≡ Status.Usage → ⊥ }
     ensures read { result ≡ Status.ReadFault → ⊥ }
     ensures clean { result ≡ Status.Done → K.clean sink.new ≡ true }

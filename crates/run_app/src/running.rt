@@ -11,6 +11,7 @@ ghost use Rattle.run_words.specs.Words.{command_of};
 ghost use Rattle.run_app.specs.Modes.{CommandEnds, HasFewBlocks, IsUntroubledBy, ModeEnds, ReplayEnds};
 ghost use Rattle.store_commits.specs.Held.{TakesDistinct};
 ghost use Rattle.run_app.specs.Stops.{CommandStops};
+ghost use Rattle.run_app.specs.Unkept.{CommandUnkept, ModeUnkept};
 ghost use Rattle.run_app.specs.Outcome.{RunEnds, most_bytes, UnlessReadFault, UnlessWriteFault};
 ghost use Rattle.run_app.specs.Parts.{FinishStatus, Stands};
 ghost use Rattle.rule_machine.specs.Promises.{AccountsHoldWhatIsOwed, AllTransactionsEnd, ClaimsAreBracketed, RunsAreSound, ShortfallsAreBounded, SuppliesFallByBurns};
@@ -241,7 +242,7 @@ fn replay<S: Source, K: Sink, D: Keeper>(
         (D.is_honest keeper.new) (D.may_leave keeper.old) (D.may_leave keeper.new) result }
     ensures busy { result ≡ Status.Usage → ⊥ }
     // A keeper that keeps nothing is never refused.
-    ensures kept { result ≡ Status.WrongStore false → D.keeps keeper.old ≡ true }
+    ensures unkept { D.keeps keeper.old ≡ false → result ≡ Status.WrongStore false → ⊥ }
     ensures clean { result ≡ Status.Done → K.clean sink.new ≡ true }
     ensures read_cause { result ≡ Status.ReadFault
         → Rose (S.faults source.old) (S.faults source.new) }
@@ -276,9 +277,8 @@ fn carry_out<S: Source, K: Sink, D: Keeper>(
         (K.written sink.old) (K.written sink.new) (D.rows keeper.old) (D.rows keeper.new)
         (D.is_honest keeper.new) (D.may_leave keeper.old) (D.may_leave keeper.new) result }
     ensures busy { result ≡ Status.Usage → ⊥ }
-    // Nor does a replay refuse a keeper that keeps nothing.
-    ensures kept { mode ≡ Mode.Replay → result ≡ Status.WrongStore false
-        → D.keeps keeper.old ≡ true }
+    ensures unkept { D.keeps keeper.old ≡ false → ModeUnkept mode (S.left source.old)
+        (S.left source.new) (K.written sink.old) (K.written sink.new) result }
     ensures clean { result ≡ Status.Done → K.clean sink.new ≡ true }
     ensures read_cause { result ≡ Status.ReadFault
         → Rose (S.faults source.old) (S.faults source.new) }
@@ -343,6 +343,10 @@ pub fn run<S: Source, K: Sink, D: Keeper>(
         (S.left source.new) (K.written sink.old) (K.written sink.new)
         (D.rows keeper.old) (D.rows keeper.new) (D.is_honest keeper.new)
         (D.may_leave keeper.old) (D.may_leave keeper.new) result }
+    // Over a keeper that keeps nothing a replay begins, and what goes on from rows finds none.
+    ensures unkept { D.keeps keeper.old ≡ false
+        → CommandUnkept (command_of (map string_bytes words.now)) (S.left source.old)
+        (S.left source.new) (K.written sink.old) (K.written sink.new) result }
     ensures clean { result ≡ Status.Done → K.clean sink.new ≡ true }
     // Whatever the status, a stop leaves the rows after a front of the lines that holds each line of which a byte was written.
     ensures stops { CommandStops (command_of (map string_bytes words.now)) (S.left source.old)

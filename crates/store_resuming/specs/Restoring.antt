@@ -45,3 +45,11 @@ UnlessFailed (Err fault.Failed) P = Unit {0}
 UnlessFailed (Err fault.NoMemory) P = P
 UnlessFailed (Err fault.Empty) P = P
 UnlessFailed (Err fault.Unsound) P = P
+
+-- what comes of a keeper that keeps nothing: no chain, and no judgement of rows, since it has none
+abbrev pub IsOfNothing : {X : Type 0} → Result X RestoreFault → Type 0
+IsOfNothing (Ok x) = ⊥
+IsOfNothing (Err fault.Failed) = Unit {0}
+IsOfNothing (Err fault.NoMemory) = Unit {0}
+IsOfNothing (Err fault.Empty) = Unit {0}
+IsOfNothing (Err fault.Unsound) = ⊥

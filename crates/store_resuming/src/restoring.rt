@@ -1,12 +1,12 @@
 //! Rows that are loaded, and the chain of them.
 
-ghost use Rattle.std.specs.Prelude.{◌≡◌, ◌≤◌, List, map, IfErr, IfOk, IsErrOf};
+ghost use Rattle.std.specs.Prelude.{◌≡◌, ◌≤◌, List, map, false, IfErr, IfOk, IsErrOf};
 ghost use Rattle.base_io.specs.declared.keeper.Change.{Change};
 ghost use Rattle.base_io.specs.Outside.{Rose};
 ghost use Rattle.base_io.specs.Rows.{Makes, Pair};
 ghost use Rattle.base_io.specs.Changes.{LeavesRows, pair_of};
 ghost use Rattle.store_resuming.specs.Restored.{AreLoaded};
-ghost use Rattle.store_resuming.specs.Restoring.{InOrder, IsChainOf, IsNoChain, IsUnrestored, UnlessFailed};
+ghost use Rattle.store_resuming.specs.Restoring.{InOrder, IsChainOf, IsNoChain, IsOfNothing, IsUnrestored, UnlessFailed};
 
 use crate::fault::RestoreFault;
 use crate::from_items;
@@ -46,6 +46,8 @@ pub fn restore<D: Keeper>(alloc: Global, keeper: &mut D) -> Result<Chain, Restor
         (AreLoaded (D.rows keeper.old) (D.rows keeper.new) (D.is_honest keeper.new))) }
     ensures fault { IfErr result (IsUnrestored
         (D.rows keeper.old) (D.rows keeper.new) (D.is_honest keeper.new)) }
+    // One that keeps nothing has no rows.
+    ensures unkept { D.keeps keeper.old ≡ false → IsOfNothing result }
     ensures same { Makes (λ rows. rows) (D.rows keeper.old) (D.rows keeper.new) }
     ensures settled { LeavesRows (D.may_leave keeper.new) (D.rows keeper.new) }
     ensures honest { D.is_honest keeper.new → D.is_honest keeper.old }

@@ -1,4 +1,4 @@
-use Rattle.std.proofs.Common.{inl, inr, refl, ap, ◌∙◌, None, Ok}
+use Rattle.std.proofs.Common.{inl, inr, refl, sym, ap, ◌∙◌, true≢false, None, Ok}
 use Rattle.run_app.specs.Kept.{on_none}
 use Rattle.run_app.proofs.KeepLemmas.{begins_on_none}
 use Rattle.run_app.proofs.ModeLemmas.{nothing_done, rows_left}
@@ -32,7 +32,10 @@ returns-in-Err-NoMemory-clause-ends g c =
     let e = c.has_rows.ensures in
     inr (tt, nothing_done _ _, rows_left _ _ _ _ _ e.same e.stop)
 
-pub returns-in-Ok-true-clause-kept : goal.returns-in-Ok-true-clause-kept
-returns-in-Ok-true-clause-kept g c =
+pub returns-in-Ok-false-clause-unkept : goal.returns-in-Ok-false-clause-unkept
+returns-in-Ok-false-clause-unkept g c = λ off. c.drive.ensures.begun
+
+pub returns-in-Ok-true-clause-unkept : goal.returns-in-Ok-true-clause-unkept
+returns-in-Ok-true-clause-unkept g c =
     let e = c.has_rows.ensures in
-    λ _. e.kept (c.in-Ok-true.is ∙ ap Ok c.in-Ok-true.field-0-test)
+    λ off _. absurd (true≢false (sym (e.kept (c.in-Ok-true.is ∙ ap Ok c.in-Ok-true.field-0-test)) ∙ off))

@@ -1,7 +1,7 @@
 use Rattle.std.proofs.Common.{map}
 use Rattle.std.specs.Prelude.{string_bytes}
 use Rattle.run_app.proofs.ModeLemmas.{few_blocks}
-use Rattle.run_app.proofs.CommandLemmas.{ends_unasked, ends_unbegun, never_asked, untroubled_command}
+use Rattle.run_app.proofs.CommandLemmas.{ends_unasked, ends_unbegun, never_asked, unkept_unasked, unkept_unbegun, untroubled_command}
 use Rattle.run_app.proofs.OnwardLemmas.{runs_may_go_on}
 use Rattle.run_app.proofs.RestLemmas.{answers_join, the_rest}
 use Rattle.run_app.proofs.SoundLemmas.{lines_replayed}
@@ -20,7 +20,7 @@ returns-in-Ok-clause-complete g c =
     rw c.in-Ok.ensures.command
     (λ calm reads writes.
     untroubled_command c.in-Ok.command.form c.in-Ok.command.mode _ _ _ _ _ _ _ _ _ _ _ _ _ c.carry_out.ensures.ends calm c.carry_out.ensures.busy
-    (λ e. reads (c.carry_out.ensures.read_cause e)) (λ e. writes (c.carry_out.ensures.write_cause e)) c.carry_out.ensures.keep_cause c.carry_out.ensures.kept)
+    (λ e. reads (c.carry_out.ensures.read_cause e)) (λ e. writes (c.carry_out.ensures.write_cause e)) c.carry_out.ensures.keep_cause c.carry_out.ensures.unkept)
 
 pub returns-in-Ok-clause-usage : goal.returns-in-Ok-clause-usage
 returns-in-Ok-clause-usage g c = λ e. absurd (c.carry_out.ensures.busy e)
@@ -63,6 +63,15 @@ returns-in-Err-Usage-clause-stops g c = stops_unbegun _ _ _ _ _ _
 
 pub returns-in-Err-NoMemory-clause-stops : goal.returns-in-Err-NoMemory-clause-stops
 returns-in-Err-NoMemory-clause-stops g c = stops_unbegun _ _ _ _ _ _
+
+pub returns-in-Ok-clause-unkept : goal.returns-in-Ok-clause-unkept
+returns-in-Ok-clause-unkept g c = rw c.in-Ok.ensures.command c.carry_out.ensures.unkept
+
+pub returns-in-Err-Usage-clause-unkept : goal.returns-in-Err-Usage-clause-unkept
+returns-in-Err-Usage-clause-unkept g c = λ off. unkept_unasked _ _ _ (c.in-Err-Usage.ensures.usage c.in-Err-Usage.field-0-is)
+
+pub returns-in-Err-NoMemory-clause-unkept : goal.returns-in-Err-NoMemory-clause-unkept
+returns-in-Err-NoMemory-clause-unkept g c = λ off. unkept_unbegun _ _ _
 
 pub returns-in-Ok-clause-rest : goal.returns-in-Ok-clause-rest
 returns-in-Ok-clause-rest g c = the_rest
