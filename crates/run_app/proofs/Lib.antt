@@ -10,6 +10,7 @@ pub mod ModeLemmas
 pub mod OnwardLemmas
 pub mod PartLemmas
 pub mod ReadLemmas
+pub mod RejoinLemmas
 pub mod ReportLemmas
 pub mod RestLemmas
 pub mod ResumeLemmas

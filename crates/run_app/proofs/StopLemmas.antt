@@ -36,9 +36,6 @@ all_of text = record { rest = []; text_is = sym (append-nil text) }
 part_of : (front text : List ℕ) → IsPart front text → IsFront front text
 part_of front text p = record { rest = p.rest; text_is = p.bytes_are }
 
-behind : (done front text : List ℕ) → IsFront front text → IsFront (done ++ front) (done ++ text)
-behind done front text f = record { rest = f.rest; text_is = ap (λ (t : List ℕ). done ++ t) f.text_is ∙ sym (append_assoc done front f.rest) }
-
 -- ---- lines
 
 -- the lines that have ended are a front of all
@@ -50,7 +47,7 @@ ended_first lines taken rest (inr h) = ([], ap lines_of (ap (λ (r : List ℕ). 
 all_taken : (taken rest : List ℕ) → rest ≡ [] → lines_of (taken ++ rest) ≡ lines_of taken ++ []
 all_taken taken rest none = ap lines_of (ap (λ (r : List ℕ). taken ++ r) none ∙ append-nil taken) ∙ sym (append-nil (lines_of taken))
 
-one_more : (form : Form) (first : Standing) (before : List (List ℕ)) (line : List ℕ) (done : List ℕ) (middle : Standing) (answer : _) → AreAnswered form 1 first before done middle → line_answer form (1 + length before) middle line ≡ Ok answer → AreAnswered form 1 first (before ++ line ∷ []) (done ++ (answer.text ++ [])) answer.standing
+pub one_more : (form : Form) (first : Standing) (before : List (List ℕ)) (line : List ℕ) (done : List ℕ) (middle : Standing) (answer : _) → AreAnswered form 1 first before done middle → line_answer form (1 + length before) middle line ≡ Ok answer → AreAnswered form 1 first (before ++ line ∷ []) (done ++ (answer.text ++ [])) answer.standing
 one_more form first before line done middle answer good is = answered-append form 1 first before (line ∷ []) done middle (answer.text ++ []) answer.standing good (answer, [], is, refl, (refl, refl))
 
 module _ (form : Form) (first : Standing) (input : List ℕ) (left : List Pair) (L : Standing → Standing → Type 0) (stop : (s t : Standing) → L s t → AreRowsOf left s ⊎ AreRowsOf left t) where
@@ -63,7 +60,7 @@ module _ (form : Form) (first : Standing) (input : List ℕ) (left : List Pair) 
 
   -- the texts of these lines were written
   just : (lines more : List (List ℕ)) (text : List ℕ) (end : Standing) → lines_of input ≡ lines ++ more → AreAnswered form 1 first lines text end → AreRowsOf left end → AreRowsBehind form first input text left
-  just lines more text end are good is = record { lines = lines; more = more; end = end; answers = text; lines_are = are; answered = good; kept = is; written = inl (all_of text) }
+  just lines more text end are good is = record { lines = lines; more = more; end = end; answers = text; lines_are = are; answered = good; kept = is; written = inl refl }
 
   named : (lines more : List (List ℕ)) (text : List ℕ) (fault : LineStop) → lines_of input ≡ lines ++ more → Named form L 1 first lines text fault → AreRowsBehind form first input text left
   named lines more text fault are w = just w.before (w.line ∷ (w.after ++ more)) text w.middle (are ∙ ap (λ (l : List (List ℕ)). l ++ more) w.lines_are ∙ append_assoc w.before (w.line ∷ w.after) more) w.answered (only w.middle w.left)
@@ -79,7 +76,7 @@ module _ (form : Form) (first : Standing) (input : List ℕ) (left : List Pair) 
     lines_are = are ∙ ap (λ (l : List (List ℕ)). l ++ more) lines_are ∙ append_assoc before (line ∷ after) more ∙ sym (append_assoc before (line ∷ []) (after ++ more));
     answered = one_more form first before line done middle answer good is;
     kept = kept_is;
-    written = inl (subst (λ (t : List ℕ). IsFront t (done ++ (answer.text ++ []))) (sym text_is) (behind done front (answer.text ++ []) (subst (IsFront front) (sym (append-nil answer.text)) part)));
+    written = inr (inl (part.rest, record { before = before; line = line; middle = middle; answer = answer; done = done; front = front; lines_are = refl; answered = good; answer_is = is; text_is = text_is; answer_lacks = part.text_is }));
   }
 
   wrote : (lines more : List (List ℕ)) (text : List ℕ) → lines_of input ≡ lines ++ more → Wrote form L 1 first lines text → AreRowsBehind form first input text left
@@ -110,7 +107,7 @@ module _ (form : Form) (first : Standing) (input : List ℕ) (left : List Pair) 
     lines_are = are;
     answered = w.answered;
     kept = only w.end w.left;
-    written = inr (refl, w.report, w.report_is, subst (λ (t : List ℕ). IsFront t (w.done ++ w.report)) (sym w.text_is) (behind w.done w.front w.report (part_of w.front w.report w.part)));
+    written = inr (inr (refl, record { report = w.report; front = w.front; report_is = w.report_is; part = part_of w.front w.report w.part; text_is = w.text_is }));
   }
 
   -- the standing to which lines lead is one
@@ -132,7 +129,7 @@ module _ (form : Form) (first : Standing) (input : List ℕ) (left : List Pair) 
         lines_are = are;
         answered = r.answered;
         kept = subst (AreRowsOf left) (one_end 1 first lines w.done r.done w.end r.end w.answered r.answered) (only w.end w.left);
-        written = inr (refl, r.last, r.report_is, subst (λ (t : List ℕ). IsFront t (r.done ++ r.last)) (sym r.text_is) (all_of (r.done ++ r.last)));
+        written = inr (inr (refl, record { report = r.last; front = r.last; report_is = r.report_is; part = all_of r.last; text_is = r.text_is }));
       }
 
   passed : (n : ℕ) (taken rest text : List ℕ) → input ≡ taken ++ rest → Passed form first L n taken text → AreRowsBehind form first input text left

@@ -8,6 +8,7 @@ pub mod Machine
 pub mod Modes
 pub mod Outcome
 pub mod Parts
+pub mod Rejoined
 pub mod Resumes
 pub mod Runs
 pub mod Sizes

@@ -20,7 +20,8 @@ ghost use Rattle.law_runs.specs.Going.{RunsGoFairly};
 ghost use Rattle.law_runs.specs.Moments.{MomentsOfRunsDoNotMatter};
 ghost use Rattle.law_runs.specs.Payees.{PayeesAreOfTheMoment};
 ghost use Rattle.law_runs.specs.Readers.{RunsTellFairly};
-ghost use Rattle.run_app.specs.Laws.{AnswersAreReplays, AnswersJoin, LinesAreReplayed, ResumesAreTheRest, RunsMayGoOn};
+ghost use Rattle.run_app.specs.Rejoined.{RunsGoOn};
+ghost use Rattle.run_app.specs.Laws.{AnswersAreReplays, LinesAreReplayed};
 
 use crate::feeding::{Progress, feed};
 use crate::finishing::finish;
@@ -376,11 +377,8 @@ pub fn run<S: Source, K: Sink, D: Keeper>(
     // In each form of addresses: lines that are answered are a replay, and what was written for them is what it reports.
     ensures replayed { (form : Form) → LinesAreReplayed form }
     ensures whole { (form : Form) → AnswersAreReplays form }
-    // A stopped and resumed run prints what one run does.
-    ensures rest { (form : Form) → ResumesAreTheRest form }
-    ensures joined { (form : Form) → AnswersJoin form }
-    // And wherever lines lead, a run may go on.
-    ensures onward { (form : Form) → RunsMayGoOn form }
+    // A stopped and a resumed run print what one run prints; and wherever lines lead, a run may go on.
+    ensures continued { (form : Form) → RunsGoOn form }
     // What holds of each replay.
     ensures sound { RunsAreSound }
     ensures accounts { AccountsHoldWhatIsOwed }

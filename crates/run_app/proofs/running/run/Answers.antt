@@ -2,8 +2,7 @@ use Rattle.std.proofs.Common.{map}
 use Rattle.std.specs.Prelude.{string_bytes}
 use Rattle.run_app.proofs.ModeLemmas.{few_blocks}
 use Rattle.run_app.proofs.CommandLemmas.{ends_unasked, ends_unbegun, never_asked, unkept_unasked, unkept_unbegun, untroubled_command}
-use Rattle.run_app.proofs.OnwardLemmas.{runs_may_go_on}
-use Rattle.run_app.proofs.RestLemmas.{answers_join, the_rest}
+use Rattle.run_app.proofs.RejoinLemmas.{runs_go_on}
 use Rattle.run_app.proofs.SoundLemmas.{lines_replayed}
 use Rattle.run_app.proofs.StopLemmas.{mode_stops, stops_unbegun}
 use Rattle.run_app.proofs.WholeLemmas.{answers_replayed}
@@ -73,29 +72,11 @@ returns-in-Err-Usage-clause-unkept g c = λ off. unkept_unasked _ _ _ (c.in-Err-
 pub returns-in-Err-NoMemory-clause-unkept : goal.returns-in-Err-NoMemory-clause-unkept
 returns-in-Err-NoMemory-clause-unkept g c = λ off. unkept_unbegun _ _ _
 
-pub returns-in-Ok-clause-rest : goal.returns-in-Ok-clause-rest
-returns-in-Ok-clause-rest g c = the_rest
+pub returns-in-Ok-clause-continued : goal.returns-in-Ok-clause-continued
+returns-in-Ok-clause-continued g c = runs_go_on
 
-pub returns-in-Err-Usage-clause-rest : goal.returns-in-Err-Usage-clause-rest
-returns-in-Err-Usage-clause-rest g c = the_rest
+pub returns-in-Err-Usage-clause-continued : goal.returns-in-Err-Usage-clause-continued
+returns-in-Err-Usage-clause-continued g c = runs_go_on
 
-pub returns-in-Err-NoMemory-clause-rest : goal.returns-in-Err-NoMemory-clause-rest
-returns-in-Err-NoMemory-clause-rest g c = the_rest
-
-pub returns-in-Ok-clause-onward : goal.returns-in-Ok-clause-onward
-returns-in-Ok-clause-onward g c = runs_may_go_on
-
-pub returns-in-Err-Usage-clause-onward : goal.returns-in-Err-Usage-clause-onward
-returns-in-Err-Usage-clause-onward g c = runs_may_go_on
-
-pub returns-in-Err-NoMemory-clause-onward : goal.returns-in-Err-NoMemory-clause-onward
-returns-in-Err-NoMemory-clause-onward g c = runs_may_go_on
-
-pub returns-in-Ok-clause-joined : goal.returns-in-Ok-clause-joined
-returns-in-Ok-clause-joined g c = answers_join
-
-pub returns-in-Err-Usage-clause-joined : goal.returns-in-Err-Usage-clause-joined
-returns-in-Err-Usage-clause-joined g c = answers_join
-
-pub returns-in-Err-NoMemory-clause-joined : goal.returns-in-Err-NoMemory-clause-joined
-returns-in-Err-NoMemory-clause-joined g c = answers_join
+pub returns-in-Err-NoMemory-clause-continued : goal.returns-in-Err-NoMemory-clause-continued
+returns-in-Err-NoMemory-clause-continued g c = runs_go_on
