@@ -9,7 +9,7 @@ use Rattle.run_words.specs.declared.mode.Command.{Command}
 use Rattle.run_words.specs.declared.mode.Mode.{Mode}
 use Rattle.run_words.specs.declared.mode.Mode.TheVariants.{Replay, Resume, Query, Tally, Gen, Trial}
 use Rattle.run_app.specs.declared.status.Status.{Status}
-use Rattle.run_app.specs.declared.status.Status.TheVariants.{Done, Usage, ReadFault, WriteFault, KeepFault, NoMemory, WrongStore}
+use Rattle.run_app.specs.declared.status.Status.TheVariants.{Done, Usage, ReadFault, WriteFault, KeepFault, NoMemory}
 use Rattle.run_app.specs.Kept.{AreSome}
 use Rattle.run_app.specs.Modes.{CommandEnds, IsTried, IsUntroubledAt, ModeEnds}
 use Rattle.run_app.specs.Unkept.{CommandUnkept, ModeUnkept}
@@ -54,7 +54,7 @@ unkept_unasked o left w e = subst (λ p. CommandUnkept p left left w w Usage) (s
 -- ---- runs that come to their end
 
 pub untroubled_command : (form : Form) (m : Mode) (left left' w w' : Option (List ℕ)) (keeps : Bool) (rows rows' : Option (List Pair)) (honest' : Type 0) (leaves leaves' : List Pair → Type 0) (faults faults' : ℕ) (s : Status) → ModeEnds form m left left' w w' rows rows' honest' leaves leaves' s
-    → IsUntroubledAt form m left w keeps rows honest' faults faults' → (s ≡ Usage → ⊥) → (s ≡ ReadFault → ⊥) → (s ≡ WriteFault → ⊥) → (s ≡ KeepFault → Rose faults faults') → (keeps ≡ false → ModeUnkept m left left' w w' s) → (s ≡ Done) ⊎ (s ≡ NoMemory)
+    → IsUntroubledAt form m left keeps rows honest' faults faults' → (s ≡ Usage → ⊥) → (s ≡ ReadFault → ⊥) → (s ≡ WriteFault → ⊥) → (s ≡ KeepFault → Rose faults faults') → (keeps ≡ false → ModeUnkept m left left' w w' s) → (s ≡ Done) ⊎ (s ≡ NoMemory)
 untroubled_command form Replay left left' w w' keeps rows rows' honest' leaves leaves' faults faults' s (inl ends) calm busy read write keep unkept =
     untroubled_run form _ None left left' w w' s ends calm.0 busy read write (λ e. calm.1.quiet (keep e))
 untroubled_command form Replay left left' w w' keeps rows rows' honest' leaves leaves' faults faults' s (inr ends) calm busy read write keep unkept =
@@ -66,12 +66,12 @@ untroubled_command form (Query what) left left' w w' keeps rows rows' honest' le
 untroubled_command form Tally left left' w w' keeps rows rows' honest' leaves leaves' faults faults' s ends calm busy read write keep unkept =
     untroubled_tally form left left' w w' rows rows' honest' leaves leaves' faults faults' s ends calm read write keep
 untroubled_command form (Gen seed count) left left' w w' keeps rows rows' honest' leaves leaves' faults faults' s ends calm busy read write keep unkept =
-    let e = ends.0.1 calm.0 calm.1 in
+    let e = ends.0.1 in
     written_to_end (generated_text form seed count) e.0 s e.2 write
 untroubled_command form (Trial seed count) left left' w w' keeps rows rows' honest' leaves leaves' faults faults' s ends calm busy read write keep unkept =
-    let e = ends.0.1 calm.0.0 calm.0.1 in
-    let told : IsWritten calm.1.0 s e.0 = subst (λ d. IsTried d s e.0) calm.1.1 e.2 in
-    written_to_end calm.1.0 e.0 s told write
+    let e = ends.0.1 in
+    let told : IsWritten calm.0 s e.0 = subst (λ d. IsTried d s e.0) calm.1 e.2 in
+    written_to_end calm.0 e.0 s told write
 
 -- words are no command, or are one
 pub never_asked : (o : Option Command) (c : Command) → o ≡ None → o ≡ Some c → ⊥

@@ -12,7 +12,7 @@ use Rattle.run_app.specs.Laws.{IsRest, MayGoOn}
 use Rattle.run_app.specs.Lines.{lines_of}
 use Rattle.run_app.specs.Machine.{Answer, Standing, report_of}
 use Rattle.run_app.specs.Rejoined.{AreJoined, RunsGoOn, StoppedRunsGoOn}
-use Rattle.run_app.specs.Runs.{AreAnswered, Ran, ran_from, ran_report}
+use Rattle.run_app.specs.Runs.{AreAnswered, ran_from, ran_report}
 use Rattle.run_app.specs.Stops.{IsOfAnswers}
 use Rattle.run_app.proofs.OnwardLemmas.{runs_may_go_on}
 use Rattle.run_app.proofs.RestLemmas.{answers_join, the_rest}

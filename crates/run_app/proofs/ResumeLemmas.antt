@@ -203,7 +203,7 @@ module _ (p : State) (rows rows' : Option (List Pair)) (honest' : Type 0) (fault
       absurd (has_rows p (at_rows rows (rows_of p) P fits.rows_are (were_loaded rows rows' honest' P h.1 same fits.honest)))
   never_unresumed NotFound h keep = absurd h
 
-pub untroubled_resume : (form : Form) (left left' w w' : Option (List ℕ)) (rows rows' : Option (List Pair)) (honest' : Type 0) (leaves leaves' : List Pair → Type 0) (faults faults' : ℕ) (s : Status) → ResumeEnds form left left' w w' rows rows' honest' leaves leaves' s → ResumesCalmly form left w rows honest' faults faults'
+pub untroubled_resume : (form : Form) (left left' w w' : Option (List ℕ)) (rows rows' : Option (List Pair)) (honest' : Type 0) (leaves leaves' : List Pair → Type 0) (faults faults' : ℕ) (s : Status) → ResumeEnds form left left' w w' rows rows' honest' leaves leaves' s → ResumesCalmly form left rows honest' faults faults'
     → (s ≡ Usage → ⊥) → (s ≡ ReadFault → ⊥) → (s ≡ WriteFault → ⊥) → (s ≡ KeepFault → Rose faults faults') → (s ≡ Done) ⊎ (s ≡ NoMemory)
 untroubled_resume form left left' w w' rows rows' honest' leaves leaves' faults faults' s (inl goes) calm busy read write keep =
     let fits = calm.2 in
@@ -215,14 +215,14 @@ untroubled_resume form left left' w w' rows rows' honest' leaves leaves' faults 
 answered_to_end : (text written : List ℕ) (s : Status) (due : Option (List ℕ)) → due ≡ Some text → IsAnswered due s written → (s ≡ WriteFault → ⊥) → (s ≡ Done) ⊎ (s ≡ NoMemory)
 answered_to_end text written s due is h write = written_to_end text written s (subst (λ (o : Option (List ℕ)). IsAnswered o s written) is h) write
 
-pub untroubled_query : (form : Form) (what : Query) (w w' : Option (List ℕ)) (rows rows' : Option (List Pair)) (honest' : Type 0) (leaves leaves' : List Pair → Type 0) (faults faults' : ℕ) (s : Status) → QueryEnds form what w w' rows rows' honest' leaves leaves' s → AsksCalmly form what w rows honest' faults faults'
+pub untroubled_query : (form : Form) (what : Query) (w w' : Option (List ℕ)) (rows rows' : Option (List Pair)) (honest' : Type 0) (leaves leaves' : List Pair → Type 0) (faults faults' : ℕ) (s : Status) → QueryEnds form what w w' rows rows' honest' leaves leaves' s → AsksCalmly form what rows honest' faults faults'
     → (s ≡ WriteFault → ⊥) → (s ≡ KeepFault → Rose faults faults') → (s ≡ Done) ⊎ (s ≡ NoMemory)
 untroubled_query form what w w' rows rows' honest' leaves leaves' faults faults' s (left, inl answers) calm write keep =
-    let p = calm.1.0 in
-    let fits = calm.1.1 in
+    let p = calm.0 in
+    let fits = calm.1 in
     let P : List Pair → Type 0 = λ now. now ≡ rows_of answers.first in
     let alike : rows_of p ≡ rows_of answers.first = at_rows rows (rows_of p) P fits.rows_are (were_loaded rows rows' honest' P answers.loaded left.rows_are fits.honest) in
-    let e = answers.answered p fits.storable alike calm.0.0 calm.0.1 in
-    answered_to_end calm.1.2.0 e.0 s (answered_by form (report_of p) what) calm.1.2.1 e.2 write
+    let e = answers.answered p fits.storable alike in
+    answered_to_end calm.2.0 e.0 s (answered_by form (report_of p) what) calm.2.1 e.2 write
 untroubled_query form what w w' rows rows' honest' leaves leaves' faults faults' s (left, inr none) calm write keep =
-    never_unresumed calm.1.0 rows rows' honest' faults faults' calm.1.1 left.rows_are s none.0 keep
+    never_unresumed calm.0 rows rows' honest' faults faults' calm.1 left.rows_are s none.0 keep

@@ -17,15 +17,16 @@ use Rattle.run_app.specs.declared.status.Status.TheVariants.{Done, Usage, BadInp
 use Rattle.run_app.specs.declared.status.LineStop.{LineStop}
 use Rattle.run_app.specs.Kept.{AreLeft, AreRowsOf, LeftIn}
 use Rattle.run_app.specs.Lines.{lines_of, lines_from, whole_from, rest_from}
-use Rattle.run_app.specs.Machine.{Standing, line_answer, report_of}
+use Rattle.run_app.specs.Machine.{Standing, line_answer}
 use Rattle.run_app.specs.Modes.{ModeEnds, ReplayEnds}
 use Rattle.run_app.specs.Outcome.{AreEnded, Ends, Passed, RunEnds}
 use Rattle.run_app.specs.Runs.{AreAnswered, Named, Wrote, Unkept, Held, Answered, Reported, Lacking, Finished}
 use Rattle.run_app.specs.Resumes.{ResumeEnds}
 use Rattle.run_app.specs.Stops.{AreRowsBehind, CommandStops, ModeStops, RunStops}
+use Rattle.run_app.specs.Told.{IsToldAs}
 use Rattle.run_app.specs.Writes.{Adds}
 use Rattle.run_app.proofs.CutLemmas.{lines-append}
-use Rattle.run_app.proofs.RunLemmas.{answered-append}
+use Rattle.run_app.proofs.RunLemmas.{answered-append, no_growth}
 use Rattle.run_app.proofs.WholeLemmas.{Reports, reports}
 
 -- ---- fronts of texts
@@ -170,15 +171,24 @@ module _ (form : Form) (first : Standing) (input : List ℕ) (left : List Pair) 
 
 -- so of a run over a keeper that is honest to its end, whose rows were told as it began
 pub run_stops : (form : Form) (first : Standing) (left left' written written' : Option (List ℕ)) (rows told : Option (List Pair)) (honest : Type 0) (leaves leaves' : List Pair → Type 0) (status : Status) → RunEnds form first (LeftIn (record { first = first; rows = rows }) told honest leaves') left left' written written' status → RunStops form first left written written' rows honest leaves leaves'
-run_stops form first left left' written written' rows told honest leaves leaves' status ends = λ good some input old left_is written_is.
-    let e = ends input old left_is written_is in
-    (e.2, e.5, λ now may. inr (stopped form first input now (LeftIn (record { first = first; rows = rows }) told honest leaves') (λ s t l. l.stop good some now may) e.0 e.1 e.2 e.3 status e.6))
+run_stops form first left left' written written' rows told honest leaves leaves' status e = λ good some. (
+  e.0 ++ e.1,
+  e.2,
+  (λ input is. (e.3 input is).0),
+  e.4,
+  λ now may. inr (stopped form first (e.0 ++ e.1) now (LeftIn (record { first = first; rows = rows }) told honest leaves') (λ s t l. l.stop good some now may) e.0 e.1 e.2 refl status e.5),
+)
+
+-- there is an input
+told_input : (left : Option (List ℕ)) → (input : List ℕ) × IsToldAs left input
+told_input None = ([], λ told is. absurd cc)
+told_input (Some input) = (input, λ told is. let same : input ≡ told = cc in sym same)
 
 -- and of one that did not begin
 pub unbegun_stops : (form : Form) (first : Standing) (left written written' : Option (List ℕ)) (rows told : Option (List Pair)) (honest : Type 0) (leaves leaves' : List Pair → Type 0) → Adds written written' (λ text. text ≡ []) → AreLeft rows told honest leaves leaves' → RunStops form first left written written' rows honest leaves leaves'
-unbegun_stops form first left written written' rows told honest leaves leaves' adds are = λ good some input old left_is written_is.
-    let e = adds old written_is in
-    (e.0, e.1, λ now may. inl (are.stop good now may, e.2))
+unbegun_stops form first left written written' rows told honest leaves leaves' adds are = λ good some.
+    let i = told_input left in
+    (i.0, adds.0, i.1, adds.1, λ now may. inl (are.stop good now may, adds.2))
 
 pub replay_stops : (form : Form) (left left' written written' : Option (List ℕ)) (rows rows' : Option (List Pair)) (honest' : Type 0) (leaves leaves' : List Pair → Type 0) (status : Status) → ReplayEnds form left left' written written' rows rows' honest' leaves leaves' status → RunStops form None left written written' rows honest' leaves leaves'
 replay_stops form left left' written written' rows rows' honest' leaves leaves' status (inl ends) = run_stops form None left left' written written' rows rows' honest' leaves leaves' status ends
@@ -201,7 +211,7 @@ mode_stops form (Trial seed count) left left' written written' rows rows' honest
 
 -- where nothing was called, a stop leaves what it could leave before
 still : (form : Form) (first : Standing) (left written : Option (List ℕ)) (rows : Option (List Pair)) (honest : Type 0) (leaves : List Pair → Type 0) → RunStops form first left written written rows honest leaves leaves
-still form first left written rows honest leaves = λ good some input old left_is written_is. ([], written_is ∙ ap (λ (t : List ℕ). Some t) (sym (append-nil old)), λ now may. inl (may, refl))
+still form first left written rows honest leaves = λ good some. let i = told_input left in (i.0, [], i.1, no_growth written, λ now may. inl (may, refl))
 
 mode_unbegun : (form : Form) (mode : Mode) (left written : Option (List ℕ)) (rows : Option (List Pair)) (honest : Type 0) (leaves : List Pair → Type 0) → ModeStops form mode left written written rows honest leaves leaves
 mode_unbegun form Replay left written rows honest leaves = still form None left written rows honest leaves

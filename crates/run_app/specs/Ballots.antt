@@ -1,5 +1,5 @@
 -- The ballots of an input: each line is one, and a line that is none stops the run.
-use Rattle.std.specs.Prelude.{◌≡◌, ℕ, ◌+◌, ◌≤◌, ◌<◌, ◌⊎◌, List, [], ◌∷◌, ◌++◌, length, nat_lt, if◌then◌else◌, Option, Some, Result, Ok, Err}
+use Rattle.std.specs.Prelude.{◌≡◌, ℕ, ◌+◌, ◌≤◌, ◌<◌, ◌⊎◌, List, [], ◌∷◌, ◌++◌, length, nat_lt, if◌then◌else◌, Option, Result, Ok, Err}
 use Rattle.base_bech32.specs.declared.form.Form.{Form}
 use Rattle.base_coins.specs.Steps.{◌>>=◌}
 use Rattle.base_messages.specs.declared.faults.LineFault.{LineFault}
@@ -17,6 +17,7 @@ use Rattle.run_app.specs.declared.status.LineStop.TheVariants as stop
 use Rattle.run_app.specs.Lines.{whole_from, rest_from, lines_of}
 use Rattle.run_app.specs.Machine.{longest, not_read}
 use Rattle.run_app.specs.Outcome.{AreEnded, UnlessReadFault, most_bytes}
+use Rattle.run_app.specs.Told.{TakesFrom}
 
 -- ---- lines
 
@@ -123,18 +124,16 @@ IsUncounted form BadStore taken rest = ⊥
 IsUncounted form (WrongStore is_empty) taken rest = ⊥
 IsUncounted form NotFound taken rest = ⊥
 
--- Where the source tells its bytes: it was read to its end, and these are kept of its ballots.
+-- There are bytes, as the source tells them where it does: it was read to its end, and these are
+-- kept of its ballots.
 abbrev pub AllAreKept : Form → Option (List ℕ) → Option (List ℕ) → Kept → Type 0
 AllAreKept form left left' kept =
-    (input : List ℕ) → left ≡ Some input →
-    (left' ≡ Some []) × (length input ≤ most_bytes) × AreKept form (lines_of input) kept
+    (taken : List ℕ) × TakesFrom left left' taken [] × (length taken ≤ most_bytes) × AreKept form (lines_of taken) kept
 
 -- Or it was not, or not all of its lines are ballots.
 abbrev pub AreUncounted : Form → Option (List ℕ) → Option (List ℕ) → Status → Type 0
 AreUncounted form left left' status =
-    (input : List ℕ) → left ≡ Some input →
-    (taken : List ℕ) × (rest : List ℕ) × (input ≡ taken ++ rest) × (left' ≡ Some rest)
-    × IsUncounted form status taken rest
+    (taken : List ℕ) × (rest : List ℕ) × TakesFrom left left' taken rest × IsUncounted form status taken rest
 
 -- a run may end so at an input that was not counted
 abbrev pub IsOfBallots : Status → Type 0

@@ -14,5 +14,6 @@ pub mod Runs
 pub mod Sizes
 pub mod Stops
 pub mod Tallies
+pub mod Told
 pub mod Unkept
 pub mod Writes

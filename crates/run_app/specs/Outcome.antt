@@ -8,6 +8,8 @@ use Rattle.run_app.specs.declared.status.LineStop.TheVariants as stop
 use Rattle.run_app.specs.Lines.{whole_from, rest_from, lines_of}
 use Rattle.run_app.specs.Machine.{longest, Standing}
 use Rattle.run_app.specs.Runs.{Ran, ran_from, Named, Wrote, Unkept, Held, Answered, Reported, Lacking, Finished}
+use Rattle.run_app.specs.Told.{TakesFrom}
+use Rattle.run_generated.specs.Writing.{Grows}
 
 -- What the machine answers to an input, from where a run begins: the whole output, or the output up to the first fault and that
 -- fault.
@@ -60,18 +62,17 @@ Ends form first L taken rest BadStore text = ⊥
 Ends form first L taken rest (WrongStore is_empty) text = ⊥
 Ends form first L taken rest NotFound text = ⊥
 
--- the same of a run over a source and a sink, where these tell their bytes
+-- There are bytes that were taken, a rest that is left, and a text that was written, as the source and the sink tell them where they
+-- do, by which a run ended so.
 abbrev pub RunEnds : Form → Standing → (Standing → Standing → Type 0) → Option (List ℕ) → Option (List ℕ) → Option (List ℕ) → Option (List ℕ) → Status → Type 0
 RunEnds form first L left left' written written' status =
-    (input old : List ℕ) → left ≡ Some input → written ≡ Some old →
-    (taken : List ℕ) × (rest : List ℕ) × (text : List ℕ) × (input ≡ taken ++ rest) × (left' ≡ Some rest) × (written' ≡ Some (old ++ text)) × Ends form first L taken rest status text
+    (taken : List ℕ) × (rest : List ℕ) × (text : List ℕ)
+    × TakesFrom left left' taken rest × Grows written written' text × Ends form first L taken rest status text
 
--- a source and a sink that tell, and an input of the form, within its limits, from where a run begins
-pub record IsUntroubled (form : Form) (first : Standing) (left written : Option (List ℕ)) : Type 0 where
+-- a source that tells, and an input of the form, within its limits, from where a run begins
+pub record IsUntroubled (form : Form) (first : Standing) (left : Option (List ℕ)) : Type 0 where
   pub input : List ℕ
-  pub old : List ℕ
   pub left_is : left ≡ Some input
-  pub written_is : written ≡ Some old
   pub good : (answer_from form first input).fault ≡ None
   pub short : length input ≤ most_bytes
 

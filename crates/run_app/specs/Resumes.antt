@@ -94,10 +94,10 @@ pub record FitsState (p : State) (rows : Option (List Pair)) (honest' : Type 0) 
   pub quiet : ¬ Rose faults faults'
 
 -- the rows are those of a state from which the input is free of faults
-abbrev pub ResumesCalmly : Form → Option (List ℕ) → Option (List ℕ) → Option (List Pair) → Type 0 → ℕ → ℕ → Type 0
-ResumesCalmly form left written rows honest' faults faults' = (p : State) × IsUntroubled form (Some p) left written × FitsState p rows honest' faults faults'
+abbrev pub ResumesCalmly : Form → Option (List ℕ) → Option (List Pair) → Type 0 → ℕ → ℕ → Type 0
+ResumesCalmly form left rows honest' faults faults' = (p : State) × IsUntroubled form (Some p) left × FitsState p rows honest' faults faults'
 
 -- the rows are those of a state whose report answers the question
-abbrev pub AsksCalmly : Form → Query → Option (List ℕ) → Option (List Pair) → Type 0 → ℕ → ℕ → Type 0
-AsksCalmly form what written rows honest' faults faults' =
-    ((old : List ℕ) × (written ≡ Some old)) × ((p : State) × FitsState p rows honest' faults faults' × ((text : List ℕ) × (answered_by form (report_of p) what ≡ Some text)))
+abbrev pub AsksCalmly : Form → Query → Option (List Pair) → Type 0 → ℕ → ℕ → Type 0
+AsksCalmly form what rows honest' faults faults' =
+    (p : State) × FitsState p rows honest' faults faults' × ((text : List ℕ) × (answered_by form (report_of p) what ≡ Some text))

@@ -1,7 +1,7 @@
 -- What a stop may leave behind a run.
 use Rattle.std.specs.Prelude.{◌≡◌, ◌⊎◌, ℕ, ◌+◌, List, [], ◌∷◌, ◌++◌, length, Option, Some, None, Ok, IsSome}
 use Rattle.base_bech32.specs.declared.form.Form.{Form}
-use Rattle.run_generated.specs.Writing.{IsFront}
+use Rattle.run_generated.specs.Writing.{Grows, IsFront}
 use Rattle.base_io.specs.Rows.{Pair}
 use Rattle.store_resuming.specs.Restored.{IsStorable, rows_of}
 use Rattle.rule_modules.specs.Chain.{State}
@@ -12,6 +12,7 @@ use Rattle.run_app.specs.Kept.{AreRowsOf}
 use Rattle.run_app.specs.Lines.{lines_of}
 use Rattle.run_app.specs.Machine.{Answer, Standing, line_answer, report_of}
 use Rattle.run_app.specs.Runs.{AreAnswered}
+use Rattle.run_app.specs.Told.{IsToldAs}
 
 -- Each of these lines has its answer. The texts of all but the last one were written, and that one's but for this lacking part.
 pub record LacksOfLast (form : Form) (first : Standing) (lines : List (List ℕ)) (text lacking : List ℕ) : Type 0 where
@@ -61,12 +62,13 @@ pub record AreRowsBehind (form : Form) (first : Standing) (input text : List ℕ
 abbrev pub StopLeaves : Form → Standing → (List Pair → Type 0) → (List Pair → Type 0) → List ℕ → List ℕ → Type 0
 StopLeaves form first leaves leaves' input text = (left : List Pair) → leaves' left → (leaves left × (text ≡ [])) ⊎ AreRowsBehind form first input text left
 
--- The same of a run over a source and a sink that tell their bytes, and over a keeper that tells its rows as the run begins, and
--- is honest to its end.
+-- The same of a run over a keeper that tells its rows as the run begins, and is honest to its end: there are an input and a text, as
+-- the source and the sink tell them where they do, of which a stop leaves so.
 abbrev pub RunStops : Form → Standing → Option (List ℕ) → Option (List ℕ) → Option (List ℕ) → Option (List Pair) → Type 0 → (List Pair → Type 0) → (List Pair → Type 0) → Type 0
 RunStops form first left written written' rows honest' leaves leaves' =
-    honest' → IsSome rows → (input old : List ℕ) → left ≡ Some input → written ≡ Some old →
-    (text : List ℕ) × (written' ≡ Some (old ++ text)) × StopLeaves form first leaves leaves' input text
+    honest' → IsSome rows →
+    (input : List ℕ) × (text : List ℕ)
+    × IsToldAs left input × Grows written written' text × StopLeaves form first leaves leaves' input text
 
 -- a stop leaves what it could leave before
 abbrev pub LeavesAsBefore : Type 0 → (List Pair → Type 0) → (List Pair → Type 0) → Type 0

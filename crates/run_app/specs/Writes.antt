@@ -1,8 +1,8 @@
 -- What a run writes that has one text to write.
-use Rattle.std.specs.Prelude.{◌≡◌, ℕ, List, [], ◌++◌, Option, Some, None, Result, Ok, Err, ⊤}
+use Rattle.std.specs.Prelude.{◌≡◌, ℕ, List, Option, Result, Ok, Err, ⊤}
 use Rattle.base_io.specs.declared.outside.SinkFault.{SinkFault}
 use Rattle.base_io.specs.declared.outside.SinkFault.TheVariants as sink
-use Rattle.run_generated.specs.Writing.{IsFront}
+use Rattle.run_generated.specs.Writing.{Grows, IsFront}
 use Rattle.run_app.specs.declared.status.Status.{Status}
 use Rattle.run_app.specs.declared.status.Status.TheVariants.{Done, Usage, BadInput, Limit, ReadFault, WriteFault, KeepFault, NoMemory, BadStore, WrongStore, NotFound}
 
@@ -27,9 +27,9 @@ IsWritten whole BadStore text = ⊥
 IsWritten whole (WrongStore is_empty) text = ⊥
 IsWritten whole NotFound text = ⊥
 
--- what came to the sink is so, where it is told
+-- There is a text that came to the sink, as the sink tells it where it does, and it is so.
 abbrev pub Adds : Option (List ℕ) → Option (List ℕ) → (List ℕ → Type 0) → Type 0
-Adds written written' P = (old : List ℕ) → written ≡ Some old → (text : List ℕ) × (written' ≡ Some (old ++ text)) × P text
+Adds written written' P = (text : List ℕ) × Grows written written' text × P text
 
 abbrev pub Writes : List ℕ → Option (List ℕ) → Option (List ℕ) → Status → Type 0
 Writes whole written written' status = Adds written written' (IsWritten whole status)

@@ -369,7 +369,7 @@ pub fn run<S: Source, K: Sink, D: Keeper>(
     ensures keep_quiet { UnlessKeepFault result (D.faults keeper.new ≡ D.faults keeper.old) }
     // Nothing else keeps the run from its end.
     ensures complete { IsUntroubledBy (command_of (map string_bytes words.now)) (S.left source.old)
-        (K.written sink.old) (D.keeps keeper.old) (D.rows keeper.old) (D.is_honest keeper.new)
+        (D.keeps keeper.old) (D.rows keeper.old) (D.is_honest keeper.new)
         (D.faults keeper.old) (D.faults keeper.new)
         → ¬ Rose (S.faults source.old) (S.faults source.new)
         → ¬ Rose (K.faults sink.old) (K.faults sink.new)

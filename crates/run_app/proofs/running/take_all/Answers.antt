@@ -63,8 +63,9 @@ feed-requires-clause-kept g c =
 pub returns-in-Err-feed-clause-ends : goal.returns-in-Err-feed-clause-ends
 returns-in-Err-feed-clause-ends g c = λ b s k.
     let fits : c.loop-taken.taken + c.in-Ok.n ≤ most_bytes = omega (arith, c.in-Ok.ensures.within, c.room.ensures.fits) in
+    let there : c.in-Ok.n ≤ length c.read_at_most.new.piece = omega (arith, c.in-Ok.ensures.within, c.room.ensures.within, c.read_at_most.auto.piece, c.loop-taken.invariant.room) in
     let a = c.loop-taken.invariant.at b s k in
-    rw c.status_of.ensures (feed_ends c.args.form _ s _ _ _ _ _ _ _ _ _ _ _ c.read_at_most.new.piece c.in-Err-feed.stop a.2 c.in-Ok.ensures.moved (c.in-Err-feed.ensures.stops b a.0 a.1) fits)
+    rw c.status_of.ensures (feed_ends c.args.form _ s _ _ _ _ _ _ _ _ _ _ _ c.read_at_most.new.piece c.in-Err-feed.stop a.2 c.in-Ok.ensures.moved (c.in-Err-feed.ensures.stops b a.0 a.1) fits there)
 
 pub loop-taken-preserved : goal.loop-taken-preserved
 loop-taken-preserved g c =
@@ -75,6 +76,7 @@ loop-taken-preserved g c =
     let more : c.feed.new.progress.number ≤ c.loop-taken.progress.number + length piece = fed_number c.args.form _ _ _ _ _ _ _ _ _ fed0.1 in
     let most : length piece ≤ c.in-Ok.n = short_piece c.in-Ok.n c.read_at_most.new.piece in
     let within : c.in-Ok.n ≤ c.room.result = c.in-Ok.ensures.within in
+    let there : c.in-Ok.n ≤ length c.read_at_most.new.piece = omega (arith, within, c.room.ensures.within, c.read_at_most.auto.piece, c.loop-taken.invariant.room) in
     record {
       room = omega (arith, c.read_at_most.auto.piece);
       most = omega (arith, c.room.ensures.fits);
@@ -83,7 +85,7 @@ loop-taken-preserved g c =
       at = λ b s k.
           let a = c.loop-taken.invariant.at b s k in
           let fed = c.in_default.ensures.fed b a.0 a.1 in
-          (fed.0, fed.2, goes_on c.args.form s _ _ _ _ _ _ _ _ _ _ _ _ _ _ c.read_at_most.new.piece a.2 c.in-Ok.ensures.moved fed.1);
+          (fed.0, fed.2, goes_on c.args.form s _ _ _ _ _ _ _ _ _ _ _ _ _ _ c.read_at_most.new.piece a.2 c.in-Ok.ensures.moved there fed.1);
       read_later = omega (arith, c.read_at_most.ensures.later);
       write_later = omega (arith, c.feed.ensures.later);
       read_quiet = c.in-Ok.ensures.quiet ∙ c.loop-taken.invariant.read_quiet;
