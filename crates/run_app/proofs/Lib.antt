@@ -2,6 +2,7 @@ pub mod AnswerLemmas
 pub mod AskingLemmas
 pub mod BallotLemmas
 pub mod CommandLemmas
+pub mod CountLemmas
 pub mod CutLemmas
 pub mod DriveLemmas
 pub mod KeepLemmas

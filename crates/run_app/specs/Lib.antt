@@ -1,4 +1,5 @@
 pub mod Ballots
+pub mod Counts
 pub mod Ending
 pub mod Kept
 pub mod Laws

@@ -4,6 +4,7 @@
 ghost use Rattle.std.specs.Prelude.{◌≡◌, ◌≤◌, ◌<◌, ◌^◌, ◌+◌, ◌⊎◌, [], ◌∷◌, List, ℕ, Some, None, length, map, string_bytes, true, false, IfErr, OnOk, IfOk, IfSome};
 ghost use Rattle.base_bech32.specs.declared.form.Form.{Form};
 ghost use Rattle.base_io.specs.Outside.{Rose};
+ghost use Rattle.run_app.specs.Counts.{IsOfWords, Moved, is_keep_fault, is_read_fault, is_write_fault};
 ghost use Rattle.run_app.specs.Lines.{last_line};
 ghost use Rattle.run_app.specs.Kept.{Began, Keeping, LeftIn, UnlessKeepFault};
 ghost use Rattle.run_app.specs.Machine.{longest, Standing};
@@ -28,7 +29,7 @@ use crate::finishing::finish;
 use crate::generating::{write_generated, write_trial};
 use crate::line::{Buffers, LONGEST};
 use crate::resuming::{answer, resume};
-use crate::status::{LimitKind, Status, status_at_end, status_of};
+use crate::status::{LimitKind, Status, status_at_end, status_of, status_of_words};
 use crate::tallying::tally;
 use base_bech32::Form;
 use base_io::{KeepFault, Keeper, Sink, Source, read_at_most};
@@ -43,7 +44,7 @@ use law_soundness::runs::{
     supplies_fall_by_burns,
 };
 use rule_machine::all_transactions_end;
-use run_words::{Mode, WordsFault, read_words};
+use run_words::{Mode, read_words};
 use std::alloc::Global;
 use store_commits::has_rows;
 
@@ -348,25 +349,18 @@ pub fn run<S: Source, K: Sink, D: Keeper>(
     ensures unkept { D.keeps keeper.old ≡ false
         → CommandUnkept (command_of (map string_bytes words.now)) (S.left source.old)
         (S.left source.new) (K.written sink.old) (K.written sink.new) result }
-    ensures clean { result ≡ Status.Done → K.clean sink.new ≡ true }
-    // Whatever the status, a stop leaves the rows after a front of the lines that holds each line of which a byte was written.
+    // Whatever the status, a stop leaves the rows after a front of the lines that holds each line of which a byte was
+    // written, and at most one line more.
     ensures stops { CommandStops (command_of (map string_bytes words.now)) (S.left source.old)
         (K.written sink.old) (K.written sink.new) (D.rows keeper.old)
         (D.is_honest keeper.new) (D.may_leave keeper.old) (D.may_leave keeper.new) }
-    // Usage only where the words are no command, and there nothing else but want of memory.
-    ensures usage { result ≡ Status.Usage → command_of (map string_bytes words.now) ≡ None }
-    ensures no_command { command_of (map string_bytes words.now) ≡ None
-        → (result ≡ Status.Usage) ⊎ (result ≡ Status.NoMemory) }
-    // A fault has its cause.
-    ensures read_cause { result ≡ Status.ReadFault
-        → Rose (S.faults source.old) (S.faults source.new) }
-    ensures write_cause { result ≡ Status.WriteFault
-        → Rose (K.faults sink.old) (K.faults sink.new) }
-    ensures read_quiet { UnlessReadFault result (S.faults source.new ≡ S.faults source.old) }
-    ensures write_quiet { UnlessWriteFault result (K.faults sink.new ≡ K.faults sink.old) }
-    ensures keep_cause { result ≡ Status.KeepFault
-        → Rose (D.faults keeper.old) (D.faults keeper.new) }
-    ensures keep_quiet { UnlessKeepFault result (D.faults keeper.new ≡ D.faults keeper.old) }
+    // Usage is of words that are no command, and every other status but want of memory of words that are one.
+    ensures usage { IsOfWords (command_of (map string_bytes words.now)) result }
+    // A fault has its cause, and there is none without it; at Done all was handed on.
+    ensures reads { Moved (is_read_fault result) (S.faults source.old) (S.faults source.new) }
+    ensures writes { Moved (is_write_fault result) (K.faults sink.old) (K.faults sink.new)
+        × (result ≡ Status.Done → K.clean sink.new ≡ true) }
+    ensures keeps { Moved (is_keep_fault result) (D.faults keeper.old) (D.faults keeper.new) }
     // Nothing else keeps the run from its end.
     ensures complete { IsUntroubledBy (command_of (map string_bytes words.now)) (S.left source.old)
         (D.keeps keeper.old) (D.rows keeper.old) (D.is_honest keeper.new)
@@ -407,7 +401,6 @@ pub fn run<S: Source, K: Sink, D: Keeper>(
     shortfalls_are_bounded();
     match read_words(alloc, words) {
         Ok(command) => carry_out(command.form, alloc, command.mode, source, sink, keeper),
-        Err(WordsFault::Usage) => Status::Usage,
-        Err(WordsFault::NoMemory) => Status::NoMemory,
+        Err(fault) => status_of_words(fault),
     }
 }
