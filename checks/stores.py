@@ -335,17 +335,23 @@ def try_rights(room, good):
         store.chmod(mode)
         try_all(store, (FAULT, FAULT, FAULT), f"a file of mode {mode:03o}", **user)
     (room / "locked").mkdir(mode=0o555)
-    try_all(room / "locked" / "store", (FAULT, FAULT, FAULT), "a file in a folder that may not be written", **user)
+    try_all(room / "locked" / "store", (FAULT, EMPTY, EMPTY), "a file that is not there, in a folder that may not be written", **user)
 
 
 def try_new(room):
-    """Files that hold no rows yet: they are taken, and only a replay puts rows there."""
+    """Files that hold no rows yet: they are taken, and only a replay puts rows there. Where there is none only a replay makes one."""
     for name in ("new", "empty"):
         store = room / name
         if name == "empty":
             store.write_bytes(b"")
         for words in COMMANDS[1:]:
             ask(ran(store, words), (EMPTY, b""), f"{words} on a {name} file")
+        for words in ([], ["queries"], ["query", "account", "nobody"]):
+            ask(ran(store, words), ((1, "stakeplay: usage"), b""), f"{words} on a {name} file")
+        if name == "new":
+            for words in (["gen", "7", "3"], ["trial", "7", "3"]):
+                ask(ran(store, words), ran("-", words), f"{words} on a new file")
+            ask(list(room.glob("new*")), [], "which files are there before a replay makes one")
         ended, printed = ran(store, ["replay"], b"".join(LINES))
         ask((ended, bool(printed)), (DONE, True), f"a replay on a {name} file")
     for word in ("-x", "--help", "-store"):
