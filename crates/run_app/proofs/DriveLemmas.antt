@@ -1,6 +1,6 @@
 -- Where a run stands, and how it ends.
 use Rattle.std.proofs.Common.{◌⊎◌, inl, inr, ◌≡◌, ◌≢◌, ◌∙◌, ℕ, ◌+◌, ◌<◌, ◌≤◌, List, [], ◌∷◌, ◌++◌, length, Option, Some, None, Result, Err, IfSome, refl, sym, ap, subst, append_assoc, arith, take, drop, length-append, ne_eqb, slice_index_or}
-use Rattle.std.specs.Prelude.{⊤}
+use Rattle.std.specs.Prelude.{⊤, false}
 use Rattle.std.proofs.lemmas.List.{append-nil, take-append-drop, length-take-le}
 use Rattle.base_bech32.specs.declared.form.Form.{Form}
 use Rattle.base_io.specs.Calls.{Takes, Stays}
@@ -14,8 +14,8 @@ use Rattle.run_app.specs.declared.status.EndStop.TheVariants as ends
 use Rattle.run_app.specs.Lines.{whole_from, rest_from, last_line, lines_from, lines_of}
 use Rattle.run_app.specs.Machine.{Standing, longest}
 use Rattle.run_app.specs.Runs.{Ran, before, ran_from, AreAnswered, Named, Reported, Lacking, Finished}
-use Rattle.run_app.specs.Outcome.{Ends, RunEnds, answer_from, most_bytes, AreEnded, IsUntroubled}
-use Rattle.run_app.specs.Parts.{Stands, Fed, Finishes, FinishAs, FinishEnds, FinishStops, FinishStatus, status_at_end, PartEnds, PartStops, lines_after, LongOnly, EndLongOnly}
+use Rattle.run_app.specs.Outcome.{Ends, HasBegun, RunEnds, answer_from, most_bytes, AreEnded, IsUntroubled}
+use Rattle.run_app.specs.Parts.{Stands, Fed, Finishes, FinishAs, FinishEnds, FinishStops, FinishStatus, status_at_end, PartEnds, PartStops, lines_after, LongOnly, EndLongOnly, WhereWriteAtEnd}
 use Rattle.run_app.specs.Ending.{status_of}
 use Rattle.run_app.specs.Told.{TakesFrom, Told}
 use Rattle.run_app.proofs.CutLemmas.{whole-append, lines-append}
@@ -290,17 +290,40 @@ untroubled_run form L first left left' w w' status e calm u r wr k =
 abbrev pub Stopped : EndStop → Result (Unit {0}) EndStop
 Stopped stop = Err stop
 
-pub end_cause : (stop : EndStop) (P : Type 0) → (Stopped stop ≡ Err ends.Report → P) → (Stopped stop ≡ Err ends.Flush → P) → (Stopped stop ≡ Err (ends.Line stops.Write) → P) → status_at_end stop ≡ WriteFault → P
-end_cause (ends.Line (stops.BadInput n fault)) P r f l h = absurd cc
-end_cause (ends.Line (stops.Long n)) P r f l h = absurd cc
-end_cause (ends.Line (stops.Ratio n over)) P r f l h = absurd cc
-end_cause (ends.Line stops.Write) P r f l h = l refl
-end_cause (ends.Line stops.Keep) P r f l h = absurd cc
-end_cause (ends.Line stops.NoMemory) P r f l h = absurd cc
-end_cause (ends.Lacking n fault) P r f l h = absurd cc
-end_cause ends.Report P r f l h = r refl
-end_cause ends.Flush P r f l h = f refl
-end_cause ends.NoMemory P r f l h = absurd cc
+pub end_cause : (stop : EndStop) (P : Type 0) → WhereWriteAtEnd (Stopped stop) P → status_at_end stop ≡ WriteFault → P
+end_cause (ends.Line (stops.BadInput n fault)) P c h = absurd cc
+end_cause (ends.Line (stops.Long n)) P c h = absurd cc
+end_cause (ends.Line (stops.Ratio n over)) P c h = absurd cc
+end_cause (ends.Line stops.Write) P c h = c
+end_cause (ends.Line stops.Keep) P c h = absurd cc
+end_cause (ends.Line stops.NoMemory) P c h = absurd cc
+end_cause (ends.Lacking n fault) P c h = absurd cc
+end_cause ends.Report P c h = c
+end_cause ends.Flush P c h = c
+end_cause ends.NoMemory P c h = absurd cc
+
+-- ---- a run that has begun
+
+pub begun_by : (stop : LineStop) → HasBegun (status_of stop)
+begun_by (stops.BadInput n fault) = tt
+begun_by (stops.Long n) = tt
+begun_by (stops.Ratio n over) = tt
+begun_by stops.Write = tt
+begun_by stops.Keep = tt
+begun_by stops.NoMemory = tt
+
+pub begun_at_end : (stop : EndStop) → HasBegun (status_at_end stop)
+begun_at_end (ends.Line stop) = begun_by stop
+begun_at_end (ends.Lacking n fault) = tt
+begun_at_end ends.Report = tt
+begun_at_end ends.Flush = tt
+begun_at_end ends.NoMemory = tt
+
+pub begun_busy : (s : Status) → HasBegun s → s ≡ Usage → ⊥
+begun_busy s h e = subst HasBegun e h
+
+pub begun_unkept : (s : Status) → HasBegun s → s ≡ WrongStore false → ⊥
+begun_unkept s h e = subst HasBegun e h
 
 pub end_keep_cause : (stop : EndStop) (P : Type 0) → (Stopped stop ≡ Err (ends.Line stops.Keep) → P) → status_at_end stop ≡ KeepFault → P
 end_keep_cause (ends.Line (stops.BadInput n fault)) P k h = absurd cc

@@ -10,8 +10,8 @@ use Rattle.line_ballots.specs.Ballots.{ballot_of}
 use Rattle.mod_tally.specs.declared.choice.Choice.{Choice}
 use Rattle.mod_tally.specs.Ballots.{Cast, chosen_in}
 use Rattle.run_app.specs.declared.status.Status.{Status}
-use Rattle.run_app.specs.declared.status.Status.TheVariants.{Done, Usage, BadInput, Limit, ReadFault, WriteFault, KeepFault, NoMemory, BadStore, WrongStore, NotFound}
-use Rattle.run_app.specs.declared.status.LimitKind.TheVariants.{Line, Input, Ratio}
+use Rattle.run_app.specs.declared.status.Status.TheVariants.{BadInput, Limit, ReadFault, NoMemory}
+use Rattle.run_app.specs.declared.status.LimitKind.TheVariants.{Line, Input}
 use Rattle.run_app.specs.declared.status.LineStop.{LineStop}
 use Rattle.run_app.specs.declared.status.LineStop.TheVariants as stop
 use Rattle.run_app.specs.Lines.{whole_from, rest_from, lines_of}
@@ -103,8 +103,6 @@ pub record PassesBallots (form : Form) (n : ℕ) (taken : List ℕ) : Type 0 whe
 -- Why an input of which these bytes were taken and those are left was not read to its end, or not
 -- all of its lines are ballots.
 abbrev pub IsUncounted : Form → Status → List ℕ → List ℕ → Type 0
-IsUncounted form Done taken rest = ⊥
-IsUncounted form Usage taken rest = ⊥
 IsUncounted form (BadInput n fault) taken rest =
     (length taken ≤ most_bytes)
     × (lines : List (List ℕ)) × AreEnded lines taken rest
@@ -113,16 +111,11 @@ IsUncounted form (Limit n Line) taken rest =
     (length taken ≤ most_bytes + 1)
     × ((more : List ℕ) → cast_in form (taken ++ more) ≡ Err (stop.Long n))
 IsUncounted form (Limit n Input) taken rest = PassesBallots form n taken
-IsUncounted form (Limit n (Ratio over)) taken rest = ⊥
 IsUncounted form ReadFault taken rest =
     (length taken ≤ most_bytes)
     × (cast : Cast) × (cast_from form 1 (whole_from [] taken) ≡ Ok cast)
-IsUncounted form WriteFault taken rest = ⊥
-IsUncounted form KeepFault taken rest = ⊥
 IsUncounted form NoMemory taken rest = length taken ≤ most_bytes
-IsUncounted form BadStore taken rest = ⊥
-IsUncounted form (WrongStore is_empty) taken rest = ⊥
-IsUncounted form NotFound taken rest = ⊥
+IsUncounted form _ taken rest = ⊥
 
 -- There are bytes, as the source tells them where it does: it was read to its end, and these are
 -- kept of its ballots.
@@ -137,17 +130,11 @@ AreUncounted form left left' status =
 
 -- a run may end so at an input that was not counted
 abbrev pub IsOfBallots : Status → Type 0
-IsOfBallots Done = ⊥
-IsOfBallots Usage = ⊥
 IsOfBallots (BadInput n fault) = Unit {0}
 IsOfBallots (Limit n kind) = Unit {0}
 IsOfBallots ReadFault = Unit {0}
-IsOfBallots WriteFault = ⊥
-IsOfBallots KeepFault = ⊥
 IsOfBallots NoMemory = Unit {0}
-IsOfBallots BadStore = ⊥
-IsOfBallots (WrongStore is_empty) = ⊥
-IsOfBallots NotFound = ⊥
+IsOfBallots _ = ⊥
 
 -- the fact holds, unless the source failed
 abbrev pub UnlessUnread : {X : Type 0} → Result X Status → Type 0 → Type 0

@@ -1,5 +1,4 @@
--- Which statuses name a fault of what is outside, and how its count of faults moves with them; and which say that words are no
--- command.
+-- How counts of faults move with the status of a run, and which statuses are of words.
 use Rattle.std.specs.Prelude.{◌≡◌, ℕ, Bool, true, false, Option, None}
 use Rattle.base_io.specs.Outside.{Rose}
 use Rattle.run_words.specs.declared.mode.Command.{Command}
@@ -21,13 +20,13 @@ abbrev pub is_keep_fault : Status → Bool
 is_keep_fault KeepFault = true
 is_keep_fault _ = false
 
--- A count of faults rose where a run ended by such a fault, and stands still where it ended otherwise.
+-- A count of faults rose where a run ended by such a fault, and stands still where it did not.
 abbrev pub Moved : Bool → ℕ → ℕ → Type 0
 Moved true before now = Rose before now
 Moved false before now = now ≡ before
 
--- Words that ask for this, or for nothing: Usage is of words that are no command, and everything else of words that are one, but that
--- memory may be wanting for either.
+-- Usage is of words that are no command, and each other status of words that are one; but memory
+-- may be wanting for either.
 abbrev pub IsOfWords : Option Command → Status → Type 0
 IsOfWords asked Usage = asked ≡ None
 IsOfWords asked NoMemory = Unit {0}

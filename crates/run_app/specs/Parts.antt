@@ -4,8 +4,8 @@ use Rattle.base_bech32.specs.declared.form.Form.{Form}
 use Rattle.base_io.specs.declared.keeper.KeepFault.{KeepFault as KeeperFault}
 use Rattle.base_io.specs.declared.keeper.KeepFault.TheVariants as keep
 use Rattle.run_app.specs.declared.status.Status.{Status}
-use Rattle.run_app.specs.declared.status.Status.TheVariants.{Done, Usage, BadInput, Limit, ReadFault, WriteFault, KeepFault, NoMemory, BadStore, WrongStore, NotFound}
-use Rattle.run_app.specs.declared.status.LimitKind.TheVariants.{Line, Input, Ratio}
+use Rattle.run_app.specs.declared.status.Status.TheVariants.{Done, BadInput, Limit, WriteFault, KeepFault, NoMemory}
+use Rattle.run_app.specs.declared.status.LimitKind.TheVariants.{Ratio}
 use Rattle.run_app.specs.declared.status.LineStop.{LineStop}
 use Rattle.run_app.specs.declared.status.LineStop.TheVariants as stop
 use Rattle.run_app.specs.declared.status.EndStop.{EndStop}
@@ -109,18 +109,12 @@ pub record Stands (form : Form) (first : Standing) (from : Option (List ℕ)) (c
 -- at the end of the input, with these lines left
 abbrev pub FinishAs : Form → (Standing → Standing → Type 0) → ℕ → Standing → List (List ℕ) → Status → List ℕ → Type 0
 FinishAs form L n s lines Done text = Finished form L n s lines text
-FinishAs form L n s lines Usage text = ⊥
 FinishAs form L n s lines (BadInput m fault) text = Named form L n s lines text (stop.BadInput m fault) ⊎ Lacking form L n s lines text (stop.BadInput m fault)
-FinishAs form L n s lines (Limit m Line) text = ⊥
-FinishAs form L n s lines (Limit m Input) text = ⊥
 FinishAs form L n s lines (Limit m (Ratio over)) text = Named form L n s lines text (stop.Ratio m over)
-FinishAs form L n s lines ReadFault text = ⊥
 FinishAs form L n s lines WriteFault text = Wrote form L n s lines text ⊎ Reported form L n s lines text ⊎ Finished form L n s lines text
 FinishAs form L n s lines KeepFault text = Unkept form L n s lines text
 FinishAs form L n s lines NoMemory text = (Wrote form L n s lines text ⊎ Held form L n s lines text ⊎ Unkept form L n s lines text) ⊎ Reported form L n s lines text
-FinishAs form L n s lines BadStore text = ⊥
-FinishAs form L n s lines (WrongStore is_empty) text = ⊥
-FinishAs form L n s lines NotFound text = ⊥
+FinishAs form L n s lines _ text = ⊥
 
 abbrev pub FinishStatus : Form → (Standing → Standing → Type 0) → ℕ → Standing → List (List ℕ) → Option (List ℕ) → Option (List ℕ) → Status → Type 0
 FinishStatus form L n s lines written written' status = (text : List ℕ) × Grows written written' text × FinishAs form L n s lines status text
@@ -158,6 +152,16 @@ UnlessWrite (Err (stop.Ratio n over)) P = P
 UnlessWrite (Err stop.Write) P = Unit {0}
 UnlessWrite (Err stop.Keep) P = P
 UnlessWrite (Err stop.NoMemory) P = P
+
+-- the fact holds, where the sink failed at the end
+abbrev pub WhereWriteAtEnd : {X : Type 0} → Result X EndStop → Type 0 → Type 0
+WhereWriteAtEnd (Ok x) P = Unit {0}
+WhereWriteAtEnd (Err (end.Line stop.Write)) P = P
+WhereWriteAtEnd (Err (end.Line _)) P = Unit {0}
+WhereWriteAtEnd (Err (end.Lacking n fault)) P = Unit {0}
+WhereWriteAtEnd (Err end.Report) P = P
+WhereWriteAtEnd (Err end.Flush) P = P
+WhereWriteAtEnd (Err end.NoMemory) P = Unit {0}
 
 abbrev pub UnlessWriteAtEnd : {X : Type 0} → Result X EndStop → Type 0 → Type 0
 UnlessWriteAtEnd (Ok x) P = P

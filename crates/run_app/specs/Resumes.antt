@@ -11,7 +11,7 @@ use Rattle.store_resuming.specs.declared.fault.RestoreFault.TheVariants as fault
 use Rattle.store_resuming.specs.Restored.{AreLoaded, AreOfNone, HaveSameRows, IsStorable, rows_of}
 use Rattle.rule_modules.specs.Chain.{State}
 use Rattle.run_app.specs.declared.status.Status.{Status}
-use Rattle.run_app.specs.declared.status.Status.TheVariants.{Done, Usage, BadInput, Limit, ReadFault, WriteFault, KeepFault, NoMemory, BadStore, WrongStore, NotFound}
+use Rattle.run_app.specs.declared.status.Status.TheVariants.{KeepFault, NoMemory, BadStore, WrongStore, NotFound}
 use Rattle.run_app.specs.Kept.{AreLeft, Began, LeftIn}
 use Rattle.run_app.specs.Outcome.{IsUntroubled, RunEnds}
 use Rattle.run_app.specs.Writes.{Adds, IsWritten, Leaves}
@@ -28,17 +28,11 @@ status_of_restore fault.Unsound = BadStore
 -- Why a run did not go on from the rows of its keeper: they were not loaded, memory was wanting, there are none, or they are those of
 -- no sound state.
 abbrev pub IsUnresumed : Status → Option (List Pair) → Option (List Pair) → Type 0 → Type 0
-IsUnresumed Done rows rows' honest' = ⊥
-IsUnresumed Usage rows rows' honest' = ⊥
-IsUnresumed (BadInput n fault) rows rows' honest' = ⊥
-IsUnresumed (Limit n kind) rows rows' honest' = ⊥
-IsUnresumed ReadFault rows rows' honest' = ⊥
-IsUnresumed WriteFault rows rows' honest' = ⊥
 IsUnresumed KeepFault rows rows' honest' = Unit {0}
 IsUnresumed NoMemory rows rows' honest' = Unit {0}
 IsUnresumed BadStore rows rows' honest' = AreLoaded rows rows' honest' (λ now. (now ≢ []) × AreOfNone now)
 IsUnresumed (WrongStore is_empty) rows rows' honest' = (is_empty ≡ true) × AreLoaded rows rows' honest' (λ now. now ≡ [])
-IsUnresumed NotFound rows rows' honest' = ⊥
+IsUnresumed _ rows rows' honest' = ⊥
 
 -- ---- resume
 

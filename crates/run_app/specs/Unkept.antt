@@ -23,13 +23,17 @@ FindsNoRows left left' written written' status =
 -- rows finds none.
 abbrev pub ModeUnkept : Mode → Option (List ℕ) → Option (List ℕ) → Option (List ℕ) → Option (List ℕ) → Status → Type 0
 ModeUnkept Replay left left' written written' status = status ≡ WrongStore false → ⊥
-ModeUnkept Resume left left' written written' status = FindsNoRows left left' written written' status
-ModeUnkept (Query what) left left' written written' status = FindsNoRows left left' written written' status
-ModeUnkept Tally left left' written written' status = FindsNoRows left left' written written' status
+ModeUnkept Resume left left' written written' status =
+    FindsNoRows left left' written written' status
+ModeUnkept (Query what) left left' written written' status =
+    FindsNoRows left left' written written' status
+ModeUnkept Tally left left' written written' status =
+    FindsNoRows left left' written written' status
 ModeUnkept (Gen seed count) left left' written written' status = Unit {0}
 ModeUnkept (Trial seed count) left left' written written' status = Unit {0}
 
 -- the same of what words ask for
 abbrev pub CommandUnkept : Option Command → Option (List ℕ) → Option (List ℕ) → Option (List ℕ) → Option (List ℕ) → Status → Type 0
 CommandUnkept None left left' written written' status = Unit {0}
-CommandUnkept (Some c) left left' written written' status = ModeUnkept c.mode left left' written written' status
+CommandUnkept (Some c) left left' written written' status =
+    ModeUnkept c.mode left left' written written' status

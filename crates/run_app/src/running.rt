@@ -6,14 +6,14 @@ ghost use Rattle.base_bech32.specs.declared.form.Form.{Form};
 ghost use Rattle.base_io.specs.Outside.{Rose};
 ghost use Rattle.run_app.specs.Counts.{IsOfWords, Moved, is_keep_fault, is_read_fault, is_write_fault};
 ghost use Rattle.run_app.specs.Lines.{last_line};
-ghost use Rattle.run_app.specs.Kept.{Began, Keeping, LeftIn, UnlessKeepFault};
+ghost use Rattle.run_app.specs.Kept.{Began, IsLater, Keeping, LeftIn, UnlessKeepFault};
 ghost use Rattle.run_app.specs.Machine.{longest, Standing};
 ghost use Rattle.run_words.specs.Words.{command_of};
 ghost use Rattle.run_app.specs.Modes.{CommandEnds, HasFewBlocks, IsUntroubledBy, ModeEnds, ReplayEnds};
 ghost use Rattle.store_commits.specs.Held.{TakesDistinct};
 ghost use Rattle.run_app.specs.Stops.{CommandStops};
 ghost use Rattle.run_app.specs.Unkept.{CommandUnkept, ModeUnkept};
-ghost use Rattle.run_app.specs.Outcome.{RunEnds, most_bytes, UnlessReadFault, UnlessWriteFault};
+ghost use Rattle.run_app.specs.Outcome.{HasBegun, RunEnds, most_bytes, UnlessReadFault, UnlessWriteFault};
 ghost use Rattle.run_app.specs.Parts.{FinishStatus, Stands};
 ghost use Rattle.rule_machine.specs.Promises.{AccountsHoldWhatIsOwed, AllTransactionsEnd, ClaimsAreBracketed, RunsAreSound, ShortfallsAreBounded, SuppliesFallByBurns};
 ghost use Rattle.law_soundness.specs.Kept.{RefusalsAreNamed, RunsAreAnswered};
@@ -87,15 +87,14 @@ fn end<K: Sink, D: Keeper>(
         (LeftIn b (D.rows keeper.new) (D.is_honest keeper.new) (D.may_leave keeper.new))
         progress.old.number s (last_line progress.old.line.items)
         (K.written sink.old) (K.written sink.new) result }
-    ensures busy { result ≡ Status.Usage → ⊥ }
-    ensures begun { result ≡ Status.WrongStore false → ⊥ }
+    ensures begun { HasBegun result }
     ensures clean { result ≡ Status.Done → K.clean sink.new ≡ true }
     ensures read { result ≡ Status.ReadFault → ⊥ }
     ensures later { K.faults sink.old ≤ K.faults sink.new }
     ensures cause { result ≡ Status.WriteFault → Rose (K.faults sink.old) (K.faults sink.new) }
     ensures quiet { UnlessWriteFault result (K.faults sink.new ≡ K.faults sink.old) }
-    ensures honest { D.is_honest keeper.new → D.is_honest keeper.old }
-    ensures keep_later { D.faults keeper.old ≤ D.faults keeper.new }
+    ensures keeps { IsLater (D.is_honest keeper.old) (D.is_honest keeper.new)
+        (D.takes keeper.old) (D.takes keeper.new) (D.faults keeper.old) (D.faults keeper.new) }
     ensures keep_cause { result ≡ Status.KeepFault
         → Rose (D.faults keeper.old) (D.faults keeper.new) }
     ensures keep_quiet { UnlessKeepFault result (D.faults keeper.new ≡ D.faults keeper.old) }
@@ -136,8 +135,7 @@ fn take_all<S: Source, K: Sink, D: Keeper>(
         → RunEnds form s
         (LeftIn b (D.rows keeper.new) (D.is_honest keeper.new) (D.may_leave keeper.new))
         (S.left source.old) (S.left source.new) (K.written sink.old) (K.written sink.new) result }
-    ensures busy { result ≡ Status.Usage → ⊥ }
-    ensures begun { result ≡ Status.WrongStore false → ⊥ }
+    ensures begun { HasBegun result }
     ensures clean { result ≡ Status.Done → K.clean sink.new ≡ true }
     ensures read_cause { result ≡ Status.ReadFault
         → Rose (S.faults source.old) (S.faults source.new) }
@@ -145,8 +143,8 @@ fn take_all<S: Source, K: Sink, D: Keeper>(
         → Rose (K.faults sink.old) (K.faults sink.new) }
     ensures read_quiet { UnlessReadFault result (S.faults source.new ≡ S.faults source.old) }
     ensures write_quiet { UnlessWriteFault result (K.faults sink.new ≡ K.faults sink.old) }
-    ensures honest { D.is_honest keeper.new → D.is_honest keeper.old }
-    ensures keep_later { D.faults keeper.old ≤ D.faults keeper.new }
+    ensures keeps { IsLater (D.is_honest keeper.old) (D.is_honest keeper.new)
+        (D.takes keeper.old) (D.takes keeper.new) (D.faults keeper.old) (D.faults keeper.new) }
     ensures keep_cause { result ≡ Status.KeepFault
         → Rose (D.faults keeper.old) (D.faults keeper.new) }
     ensures keep_quiet { UnlessKeepFault result (D.faults keeper.new ≡ D.faults keeper.old) }
@@ -195,8 +193,7 @@ pub(crate) fn drive<S: Source, K: Sink, D: Keeper>(
         → RunEnds form s
         (LeftIn b (D.rows keeper.new) (D.is_honest keeper.new) (D.may_leave keeper.new))
         (S.left source.old) (S.left source.new) (K.written sink.old) (K.written sink.new) result }
-    ensures busy { result ≡ Status.Usage → ⊥ }
-    ensures begun { result ≡ Status.WrongStore false → ⊥ }
+    ensures begun { HasBegun result }
     ensures clean { result ≡ Status.Done → K.clean sink.new ≡ true }
     ensures read_cause { result ≡ Status.ReadFault
         → Rose (S.faults source.old) (S.faults source.new) }
@@ -204,8 +201,8 @@ pub(crate) fn drive<S: Source, K: Sink, D: Keeper>(
         → Rose (K.faults sink.old) (K.faults sink.new) }
     ensures read_quiet { UnlessReadFault result (S.faults source.new ≡ S.faults source.old) }
     ensures write_quiet { UnlessWriteFault result (K.faults sink.new ≡ K.faults sink.old) }
-    ensures honest { D.is_honest keeper.new → D.is_honest keeper.old }
-    ensures keep_later { D.faults keeper.old ≤ D.faults keeper.new }
+    ensures keeps { IsLater (D.is_honest keeper.old) (D.is_honest keeper.new)
+        (D.takes keeper.old) (D.takes keeper.new) (D.faults keeper.old) (D.faults keeper.new) }
     ensures keep_cause { result ≡ Status.KeepFault
         → Rose (D.faults keeper.old) (D.faults keeper.new) }
     ensures keep_quiet { UnlessKeepFault result (D.faults keeper.new ≡ D.faults keeper.old) }

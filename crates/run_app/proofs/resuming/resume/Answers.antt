@@ -1,4 +1,5 @@
 use Rattle.std.proofs.Common.{inl, refl}
+use Rattle.run_app.proofs.DriveLemmas.{begun_busy}
 use Rattle.run_app.proofs.ModeLemmas.{nothing_done, quiet_at, quiet_read}
 use Rattle.run_app.proofs.ResumeLemmas.{no_rows_found, not_resumed, resumed_first, unresumed_busy, unresumed_cause, unresumed_quiet, unresumed_undone, unresumed_unread, unresumed_unwritten, went_on}
 use Rattle.run_app.proofs.resuming.resume.Goals as goal
@@ -14,7 +15,7 @@ drive-requires-clause-kept g c =
 pub returns-in-Ok-clause-ends : goal.returns-in-Ok-clause-ends
 returns-in-Ok-clause-ends g c =
     let e = c.restore.ensures in
-    inl (went_on c.args.form _ _ _ _ _ c.in-Ok.ensures.chain e.same e.settled _ _ _ _ _ _ _ _ c.drive.ensures.honest c.drive.ensures.ends)
+    inl (went_on c.args.form _ _ _ _ _ c.in-Ok.ensures.chain e.same e.settled _ _ _ _ _ _ _ _ c.drive.ensures.keeps.honest c.drive.ensures.ends)
 
 pub returns-in-Err-clause-ends : goal.returns-in-Err-clause-ends
 returns-in-Err-clause-ends g c =
@@ -50,3 +51,6 @@ returns-in-Ok-clause-unkept g c = λ off. absurd (c.in-Ok.ensures.unkept off)
 
 pub returns-in-Err-clause-unkept : goal.returns-in-Err-clause-unkept
 returns-in-Err-clause-unkept g c = rw c.status_of_restore.ensures (λ off. (no_rows_found c.in-Err.fault (c.in-Err.ensures.unkept off), nothing_done _ _))
+
+pub returns-in-Ok-clause-busy : goal.returns-in-Ok-clause-busy
+returns-in-Ok-clause-busy g c = begun_busy c.drive.result c.drive.ensures.begun

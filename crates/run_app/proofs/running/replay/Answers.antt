@@ -1,5 +1,6 @@
 use Rattle.std.proofs.Common.{inl, inr, refl, sym, ap, ◌∙◌, true≢false, None, Ok}
 use Rattle.run_app.specs.Kept.{on_none}
+use Rattle.run_app.proofs.DriveLemmas.{begun_busy, begun_unkept}
 use Rattle.run_app.proofs.KeepLemmas.{begins_on_none}
 use Rattle.run_app.proofs.ModeLemmas.{nothing_done, rows_left}
 use Rattle.run_app.proofs.running.replay.Goals as goal
@@ -33,9 +34,12 @@ returns-in-Err-NoMemory-clause-ends g c =
     inr (tt, nothing_done _ _, rows_left _ _ _ _ _ e.same e.stop)
 
 pub returns-in-Ok-false-clause-unkept : goal.returns-in-Ok-false-clause-unkept
-returns-in-Ok-false-clause-unkept g c = λ off. c.drive.ensures.begun
+returns-in-Ok-false-clause-unkept g c = λ off. begun_unkept c.drive.result c.drive.ensures.begun
 
 pub returns-in-Ok-true-clause-unkept : goal.returns-in-Ok-true-clause-unkept
 returns-in-Ok-true-clause-unkept g c =
     let e = c.has_rows.ensures in
     λ off _. absurd (true≢false (sym (e.kept (c.in-Ok-true.is ∙ ap Ok c.in-Ok-true.field-0-test)) ∙ off))
+
+pub returns-in-Ok-false-clause-busy : goal.returns-in-Ok-false-clause-busy
+returns-in-Ok-false-clause-busy g c = begun_busy c.drive.result c.drive.ensures.begun
