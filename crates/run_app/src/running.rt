@@ -319,15 +319,15 @@ fn carry_out<S: Source, K: Sink, D: Keeper>(
 /// nothing; at `ReadFault` those of all lines that were taken with their end, and of a tally nothing; at `WriteFault` all
 /// texts before the one being written and a part of that, or the whole output where the flush failed; at `KeepFault` those
 /// of the lines before the one whose commit failed, and nothing where the rows were not loaded; at `NoMemory` a front of
-/// the whole output; at `WrongStore`, `BadStore` and `NotFound` nothing. The keeper's rows are those of the last committed line, as
-/// they were where there is none: of the lines whose texts were written, and at `WriteFault` and `NoMemory` of one line more.
-/// A stop at a fault of the keeper may also leave the rows that were to be committed. `ReadFault`, `WriteFault` and
-/// `KeepFault` come only where the count of the source's, the sink's, the keeper's faults rose in this call, and that count
-/// rises at no other status.
+/// the whole output; at `WrongStore`, `BadStore` and `NotFound` nothing. What was taken and written is what the source and
+/// the sink tell, where they tell it. The keeper's rows are those of the last committed line, as they were where there is
+/// none: of the lines whose texts were written, and at `WriteFault` and `NoMemory` of one line more. A stop at a fault of
+/// the keeper may also leave the rows that were to be committed. `ReadFault`, `WriteFault` and `KeepFault` come only where
+/// the count of the source's, the sink's, the keeper's faults rose in this call, and that count rises at no other status.
 ///
 /// `WrongStore(false)` comes exactly where `replay` loaded rows, and `WrongStore(true)` where `resume`, `query` or `tally`
-/// loaded none; `BadStore` exactly where these loaded rows that are those of no sound state; `NotFound` exactly where a
-/// query has an address of which the report has no line.
+/// loaded none, as over a keeper that keeps nothing; `BadStore` exactly where these loaded rows that are those of no sound
+/// state; `NotFound` exactly where a query has an address of which the report has no line.
 pub fn run<S: Source, K: Sink, D: Keeper>(
     alloc: Global,
     words: &[String],
