@@ -7,6 +7,8 @@ use Rattle.line_json.specs.Block.{block_of}
 use Rattle.line_json.specs.Genesis.{genesis_of}
 use Rattle.rule_machine.specs.GenesisConditions.{start_condition}
 use Rattle.rule_machine.specs.Machine.{Step, step}
+use Rattle.rule_machine.specs.Report as machine
+use Rattle.line_report.specs.Lines as report
 use Rattle.base_messages.specs.declared.block.Block.{Block}
 use Rattle.base_messages.specs.declared.faults.BlockFault.{BlockFault}
 use Rattle.base_messages.specs.declared.faults.BlockFault.TheVariants as block
@@ -141,7 +143,7 @@ rest_after k (Err d) (Err e) f g same next = record { text_is = refl; fault_is =
 -- a state has a report
 is_reported : (form : Form) (p : State) → (text : List ℕ) × (report_of form (Some p) ≡ Ok text)
 unfolding report_of
-is_reported form p = (_, refl)
+is_reported form p = (report.text_of (report.lines_of form (machine.report_of p)), refl)
 
 report_moved : (k : ℕ) (r : Result (List ℕ) LineStop) (text : List ℕ) → r ≡ Ok text → IsRest k [] (ran_report r) (ran_report r)
 report_moved k (Ok other) text is = record { text_is = refl; fault_is = refl }
