@@ -30,7 +30,8 @@ pub record Keeping (b : Began) (chain : Option Chained) (told : Option (List Pai
   pub tells : honest → IsSome b.rows → IsSome told
   pub settled : LeavesRows leaves told
 
--- these are the rows of what lines have led to, in the format that is written, of which each item has one
+-- these are the rows of what lines have led to, in the format that is written, of which each item
+-- has one
 abbrev pub AreRowsOf : List Pair → Standing → Type 0
 AreRowsOf rows s = (rows ≡ rows_at s) × AreStored (items_at s)
 

@@ -45,8 +45,8 @@ RunStops form first left written written' rows honest' leaves leaves' =
 abbrev pub LeavesAsBefore : Type 0 → (List Pair → Type 0) → (List Pair → Type 0) → Type 0
 LeavesAsBefore honest' leaves leaves' = honest' → (left : List Pair) → leaves' left → leaves left
 
--- What a stop leaves behind each command. A replay begins on no rows, a resume on those of a state in one format or the other; nothing
--- else changes any.
+-- What a stop leaves behind each command. A replay begins on no rows, a resume on those of a state
+-- in one format or the other; nothing else changes any.
 abbrev pub ModeStops : Form → Mode → Option (List ℕ) → Option (List ℕ) → Option (List ℕ) → Option (List Pair) → Type 0 → (List Pair → Type 0) → (List Pair → Type 0) → Type 0
 ModeStops form Replay left written written' rows honest' leaves leaves' = RunStops form None left written written' rows honest' leaves leaves'
 ModeStops form Resume left written written' rows honest' leaves leaves' = (f : Format) (p : State) → IsStorable p → rows ≡ Some (state_rows f p) → RunStops form (Some p) left written written' rows honest' leaves leaves'

@@ -36,8 +36,8 @@ pub(crate) fn status_of_restore(fault: RestoreFault) -> Status
     }
 }
 
-/// The command `resume`: each line is a block behind what the keeper has. Rows of the first format are brought to the second
-/// before anything is taken.
+/// The command `resume`: each line is a block behind what the keeper has. Rows of the first format
+/// are brought to the second before anything is taken.
 pub(crate) fn resume<S: Source, K: Sink, D: Keeper>(
     form: Form,
     alloc: Global,

@@ -36,7 +36,8 @@ fn calls(
     calls
 }
 
-/// How a run ends, and what it leaves: the text of so many lines, and the rows behind so many, or those on which it began.
+/// How a run ends, and what it leaves: the text of so many lines, and the rows behind so many, or
+/// those on which it began.
 #[derive(Clone, Copy)]
 struct Exit {
     status: Status,

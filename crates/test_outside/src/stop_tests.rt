@@ -104,8 +104,8 @@ fn ends_whole<K: Keeper>(
     status == Status::Done && text_of(rt, fronts, WHOLE).get(before..) == Some(rest.as_slice())
 }
 
-/// Of how many lines the rows are that a run left which wrote this: from the last on; or it left those on which it began,
-/// and wrote nothing.
+/// Of how many lines the rows are that a run left which wrote this: from the last on; or it left
+/// those on which it began, and wrote nothing.
 fn lines_left(
     rt: &(impl Abort + AllocGlobal),
     fronts: &Fronts,
@@ -147,9 +147,9 @@ fn goes_on(
         && are_behind(rt, fronts, LINES, &rows)
 }
 
-/// Whether a run that begins on a copy of this store, whose files stop after so many calls, leaves what it may, where nothing
-/// that was written is lost and where all is that was not synced; and how it ended. None, where the calls do not suffice to
-/// open the files.
+/// Whether a run that begins on a copy of this store, whose files stop after so many calls, leaves
+/// what it may, where nothing that was written is lost and where all is that was not synced; and
+/// how it ended. None, where the calls do not suffice to open the files.
 fn stops(
     rt: &(impl Abort + AllocGlobal),
     fronts: &Fronts,
@@ -177,8 +177,8 @@ fn stops(
     ))
 }
 
-/// Whether a run that begins so leaves what it may where the files stop at each call in turn: those of the log, or those of
-/// the database file.
+/// Whether a run that begins so leaves what it may where the files stop at each call in turn: those
+/// of the log, or those of the database file.
 fn loses_nothing(rt: &(impl Abort + AllocGlobal), start: Start, is_log: bool) -> bool {
     let fronts = make_fronts(rt);
     let store = files_of(rt, &begun(rt, &fronts, start).1);

@@ -14,8 +14,8 @@ pub(crate) const LINES: u32 = 4;
 /// The place of the whole output among the texts.
 pub(crate) const WHOLE: u32 = 5;
 
-/// Where runs begin: behind how many lines, and whether the rows are in the first format there. Where there are no lines it is
-/// a replay, else it resumes.
+/// Where runs begin: behind how many lines, and whether the rows are in the first format there.
+/// Where there are no lines it is a replay, else it resumes.
 #[derive(Clone, Copy)]
 pub(crate) struct Start {
     pub(crate) lines: u32,

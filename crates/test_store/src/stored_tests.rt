@@ -67,7 +67,8 @@ fn rows_are_items(rt: HostRuntime) {
 /// The key of a signing record.
 const SIGNING: &[u8] = b"\x30PPPPPPPPPPPPPPPPPPPP";
 
-/// What stands in front of the ring of a signing record: start 0, counted 5, missed 2, jailed until 1970, not tombstoned.
+/// What stands in front of the ring of a signing record: start 0, counted 5, missed 2, jailed until
+/// 1970, not tombstoned.
 const BEFORE_RING: &[u8] =
     b"\0\0\0\0\0\0\0\0\0\0\0\0\0\0\0\x05\0\0\0\0\0\0\0\x02\0\0\0\0\0\0\0\0\0\0\0\0\0\0\0\0\0";
 
