@@ -26,7 +26,7 @@ use Rattle.run_app.proofs.TallyLemmas.{untroubled_tally}
 -- before anything is taken, a run may end where memory is wanting, and leaves all as it was
 mode_unbegun : (form : Form) (m : Mode) (left w : Option (List ℕ)) (rows : Option (List Pair)) (honest : Type 0) (leaves : List Pair → Type 0) → ModeEnds form m left left w w rows rows honest leaves leaves NoMemory
 mode_unbegun form Replay left w rows honest leaves = inr (tt, nothing_done left w, rows_left rows rows honest leaves leaves (same_rows rows) (λ h l x. x))
-mode_unbegun form Resume left w rows honest leaves = inr (tt, nothing_done left w, rows_left rows rows honest leaves leaves (same_rows rows) (λ h l x. x))
+mode_unbegun form Resume left w rows honest leaves = inr (inl (tt, nothing_done left w, rows_left rows rows honest leaves leaves (same_rows rows) (λ h l x. x)))
 mode_unbegun form (Query what) left w rows honest leaves = (refl, (rows_left rows rows honest leaves leaves (same_rows rows) (λ h l x. x), inr (tt, nothing w _ refl)))
 mode_unbegun form Tally left w rows honest leaves = (rows_left rows rows honest leaves leaves (same_rows rows) (λ h l x. x), inr (tt, nothing_done left w))
 mode_unbegun form (Gen seed count) left w rows honest leaves = ((refl, nothing w _ (record { rest = generated_text form seed count; text_is = refl })), untouched rows leaves)

@@ -6,7 +6,10 @@ use Rattle.base_bech32.specs.declared.form.Form.{Form}
 use Rattle.run_generated.specs.Writing.{IsFront}
 use Rattle.base_io.specs.Outside.{IsPart}
 use Rattle.base_io.specs.Rows.{Pair}
-use Rattle.store_resuming.specs.Restored.{IsStorable, rows_of}
+use Rattle.store_resuming.specs.Restored.{AreStateRows, HaveSameRows, IsStorable, rows_of, state_rows}
+use Rattle.store_resuming.proofs.RestoreLemmas.{formats_same}
+use Rattle.store_rows.specs.declared.format.Format.{Format}
+use Rattle.store_rows.specs.declared.format.Format.TheVariants.{First, Second}
 use Rattle.rule_modules.specs.Chain.{State}
 use Rattle.run_words.specs.declared.mode.Command.{Command}
 use Rattle.run_words.specs.declared.mode.Mode.{Mode}
@@ -194,11 +197,38 @@ pub replay_stops : (form : Form) (left left' written written' : Option (List ℕ
 replay_stops form left left' written written' rows rows' honest' leaves leaves' status (inl ends) = run_stops form None left left' written written' rows rows' honest' leaves leaves' status ends
 replay_stops form left left' written written' rows rows' honest' leaves leaves' status (inr (why, same, are)) = unbegun_stops form None left written written' rows rows' honest' leaves leaves' same.1 are
 
-resume_stops : (form : Form) (left left' written written' : Option (List ℕ)) (rows rows' : Option (List Pair)) (honest' : Type 0) (leaves leaves' : List Pair → Type 0) (status : Status) → ResumeEnds form left left' written written' rows rows' honest' leaves leaves' status → (p : State) → IsStorable p → rows ≡ Some (rows_of p) → RunStops form (Some p) left written written' rows honest' leaves leaves'
-resume_stops form left left' written written' rows rows' honest' leaves leaves' status (inl goes) = λ p storable told good some.
-    let same : rows_of p ≡ rows_of goes.first = subst (λ (r : Option (List Pair)). IfSome r (λ now. now ≡ rows_of goes.first)) told (goes.loaded good) in
-    run_stops form (Some p) left left' written written' rows rows' honest' leaves leaves' status (goes.ends p storable same) good some
-resume_stops form left left' written written' rows rows' honest' leaves leaves' status (inr (why, same, are)) = λ p storable told. unbegun_stops form (Some p) left written written' rows rows' honest' leaves leaves' same.1 are
+-- and of one that did not bring the rows of a state to the format that is written
+module _ (form : Form) (p first : State) (storable : IsStorable p) (storable_too : IsStorable first) (alike : HaveSameRows p first) where
+  brought_rows : (left : List Pair) → left ≡ rows_of first → AreRowsOf left (Some p)
+  brought_rows left is = (is ∙ sym (formats_same p first storable storable_too alike Second), storable.stored)
+
+  unmigrated_stops : (left written written' : Option (List ℕ)) (rows : Option (List Pair)) (honest : Type 0) (leaves leaves' : List Pair → Type 0) → Adds written written' (λ text. text ≡ [])
+      → (honest → IsSome rows → (now : List Pair) → leaves' now → leaves now ⊎ (now ≡ rows_of first)) → RunStops form (Some p) left written written' rows honest leaves leaves'
+  unmigrated_stops left written written' rows honest leaves leaves' adds stop = λ good some.
+      let i = told_input left in
+      (i.0, adds.0, i.1, adds.1, λ now may. by i.0 adds.0 adds.2 now (stop good some now may))
+    where
+      by : (input text : List ℕ) → text ≡ [] → (now : List Pair) → leaves now ⊎ (now ≡ rows_of first) → (leaves now × (text ≡ [])) ⊎ AreRowsBehind form (Some p) input text now
+      by input text none now (inl may) = inl (may, none)
+      by input text none now (inr is) = inr (record {
+        lines = [];
+        more = lines_of input;
+        end = Some p;
+        answers = [];
+        lines_are = refl;
+        answered = (refl, refl);
+        kept = brought_rows now is;
+        written = inl none;
+      })
+
+resume_stops : (form : Form) (left left' written written' : Option (List ℕ)) (rows rows' : Option (List Pair)) (honest' : Type 0) (leaves leaves' : List Pair → Type 0) (status : Status) → ResumeEnds form left left' written written' rows rows' honest' leaves leaves' status → (f : Format) (p : State) → IsStorable p → rows ≡ Some (state_rows f p) → RunStops form (Some p) left written written' rows honest' leaves leaves'
+resume_stops form left left' written written' rows rows' honest' leaves leaves' status (inl goes) = λ f p storable told good some.
+    let of : AreStateRows (state_rows f p) goes.first = subst (λ (r : Option (List Pair)). IfSome r (λ now. AreStateRows now goes.first)) told (goes.loaded good) in
+    run_stops form (Some p) left left' written written' rows rows' honest' leaves leaves' status (goes.ends p storable (state_rows f p, (f, refl), of)) good some
+resume_stops form left left' written written' rows rows' honest' leaves leaves' status (inr (inl (why, same, are))) = λ f p storable told. unbegun_stops form (Some p) left written written' rows rows' honest' leaves leaves' same.1 are
+resume_stops form left left' written written' rows rows' honest' leaves leaves' status (inr (inr (none, same))) = λ f p storable told good some.
+    let of : state_rows f p ≡ state_rows First none.first = subst (λ (r : Option (List Pair)). IfSome r (λ now. now ≡ state_rows First none.first)) told (none.loaded good) in
+    unmigrated_stops form p none.first storable none.storable (state_rows f p, (f, refl), (First, of)) left written written' rows honest' leaves leaves' same.1 none.stop good some
 
 -- so of each command
 pub mode_stops : (form : Form) (mode : Mode) (left left' written written' : Option (List ℕ)) (rows rows' : Option (List Pair)) (honest' : Type 0) (leaves leaves' : List Pair → Type 0) (status : Status) → ModeEnds form mode left left' written written' rows rows' honest' leaves leaves' status → ModeStops form mode left written written' rows honest' leaves leaves'
@@ -215,7 +245,7 @@ still form first left written rows honest leaves = λ good some. let i = told_in
 
 mode_unbegun : (form : Form) (mode : Mode) (left written : Option (List ℕ)) (rows : Option (List Pair)) (honest : Type 0) (leaves : List Pair → Type 0) → ModeStops form mode left written written rows honest leaves leaves
 mode_unbegun form Replay left written rows honest leaves = still form None left written rows honest leaves
-mode_unbegun form Resume left written rows honest leaves = λ p storable told. still form (Some p) left written rows honest leaves
+mode_unbegun form Resume left written rows honest leaves = λ f p storable told. still form (Some p) left written rows honest leaves
 mode_unbegun form (Query what) left written rows honest leaves = λ good now may. may
 mode_unbegun form Tally left written rows honest leaves = λ good now may. may
 mode_unbegun form (Gen seed count) left written rows honest leaves = λ good now may. may

@@ -19,7 +19,7 @@ use Rattle.rule_machine.specs.Items.{items_of}
 use Rattle.rule_modules.specs.Chain.{State}
 use Rattle.rule_modules.specs.Sound.{IsSound}
 use Rattle.store_resuming.specs.declared.fault.RestoreFault.{RestoreFault}
-use Rattle.store_resuming.specs.Restored.{AreLoaded, rows_of}
+use Rattle.store_resuming.specs.Restored.{AreLoaded, AreStateRows}
 use Rattle.store_resuming.specs.Restoring.{IsChainOf, IsUnrestored}
 use Rattle.run_app.specs.declared.status.Status.{Status}
 use Rattle.run_app.specs.declared.status.Status.TheVariants.{Done, Usage, BadInput, Limit, ReadFault, WriteFault, KeepFault, NoMemory, BadStore, WrongStore, NotFound}
@@ -34,7 +34,7 @@ use Rattle.run_app.specs.Tallies.{Counts, TalliesCalmly, TallyEnds, text_of_cast
 use Rattle.run_app.specs.Writes.{IsWritten, Writes}
 use Rattle.run_app.proofs.BallotLemmas.{stopped_front}
 use Rattle.run_app.proofs.ModeLemmas.{nothing, nothing_done, rows_left, written_to_end}
-use Rattle.run_app.proofs.ResumeLemmas.{at_rows, never_unresumed, unresumed, were_loaded}
+use Rattle.run_app.proofs.ResumeLemmas.{alike_of, never_unresumed, unresumed, were_loaded}
 use Rattle.run_app.proofs.RunLemmas.{no_growth}
 use Rattle.run_app.proofs.StopLemmas.{ended_first}
 
@@ -127,8 +127,7 @@ untroubled_tally form left left' w w' rows rows' honest' leaves leaves' faults f
     let b = calm.0 in
     let p = calm.1.0 in
     let fits = calm.1.1 in
-    let P : List Pair → Type 0 = λ now. now ≡ rows_of tally.first in
-    let alike : rows_of p ≡ rows_of tally.first = at_rows rows (rows_of p) P fits.rows_are (were_loaded rows rows' honest' P tally.loaded kept.rows_are fits.honest) in
+    let alike = alike_of p tally.first rows honest' faults faults' fits (were_loaded rows rows' honest' (λ now. AreStateRows now tally.first) tally.loaded kept.rows_are fits.honest) in
     let e = tally.counts p fits.storable alike in
     let told = e.3 b.input b.left_is in
     elim e.5 [

@@ -6,7 +6,8 @@ use Rattle.base_io.specs.Rows.{Makes, Pair}
 use Rattle.base_io.specs.Changes.{LeavesRows}
 use Rattle.store_commits.specs.Held.{items_at, rows_at}
 use Rattle.store_commits.specs.Commits.{Holds}
-use Rattle.store_items.specs.Stored.{AreStored}
+use Rattle.store_items.specs.Stored.{AreStored, rows_as}
+use Rattle.store_rows.specs.declared.format.Format.{Format}
 use Rattle.run_app.specs.declared.status.Status.{Status}
 use Rattle.run_app.specs.declared.status.Status.TheVariants.{KeepFault, NoMemory, WrongStore}
 use Rattle.run_app.specs.Machine.{IsSettled, Standing, StandsAt}
@@ -16,13 +17,17 @@ pub record Began : Type 0 where
   pub first : Standing
   pub rows : Option (List Pair)
 
+-- the rows were told, and are those of what it was to go on from, in one format or the other
+abbrev pub BeganOnRows : Began → Type 0
+BeganOnRows b = (f : Format) × (b.rows ≡ Some (rows_as f (items_at b.first)))
+
 -- Between two lines: the chain stands for what they have led to, and is settled; the keeper holds its items. While the keeper is
 -- honest, it still tells its rows, and a stop leaves just these.
 pub record Keeping (b : Began) (chain : Option Chained) (told : Option (List Pair)) (honest : Type 0) (leaves : List Pair → Type 0) (s : Standing) : Type 0 where
   pub stands : StandsAt chain s
   pub same : IsSettled chain
   pub held : Holds (items_at s) told
-  pub began : IfSome told (λ now. b.rows ≡ Some (rows_at b.first))
+  pub began : IfSome told (λ now. BeganOnRows b)
   pub tells : honest → IsSome b.rows → IsSome told
   pub settled : LeavesRows leaves told
 
@@ -32,14 +37,15 @@ pub record IsLater (honest honest' : Type 0) (takes takes' : List Change → Typ
   pub takes : (changes : List Change) → takes changes → takes' changes
   pub count : faults ≤ faults'
 
--- these are the rows of what lines have led to, of which each item has one
+-- these are the rows of what lines have led to, in the format that is written, of which each item
+-- has one
 abbrev pub AreRowsOf : List Pair → Standing → Type 0
 AreRowsOf rows s = (rows ≡ rows_at s) × AreStored (items_at s)
 
 -- What a run leaves that began so, whose last committed lines led to `s`, and that was to commit what leads to `t`: where the
 -- rows are told, they are those of `s`. While the keeper is honest, a stop leaves those of `s` or those of `t`.
 pub record LeftIn (b : Began) (told : Option (List Pair)) (honest : Type 0) (leaves : List Pair → Type 0) (s t : Standing) : Type 0 where
-  pub rows : IfSome told (λ now. (b.rows ≡ Some (rows_at b.first)) × AreRowsOf now s)
+  pub rows : IfSome told (λ now. BeganOnRows b × AreRowsOf now s)
   pub stop : honest → IsSome b.rows → (left : List Pair) → leaves left → AreRowsOf left s ⊎ AreRowsOf left t
 
 -- a run that began on no rows

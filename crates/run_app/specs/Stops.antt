@@ -3,7 +3,8 @@ use Rattle.std.specs.Prelude.{◌≡◌, ◌⊎◌, ℕ, ◌+◌, List, [], ◌�
 use Rattle.base_bech32.specs.declared.form.Form.{Form}
 use Rattle.run_generated.specs.Writing.{Grows, IsFront}
 use Rattle.base_io.specs.Rows.{Pair}
-use Rattle.store_resuming.specs.Restored.{IsStorable, rows_of}
+use Rattle.store_resuming.specs.Restored.{IsStorable, state_rows}
+use Rattle.store_rows.specs.declared.format.Format.{Format}
 use Rattle.rule_modules.specs.Chain.{State}
 use Rattle.run_words.specs.declared.mode.Command.{Command}
 use Rattle.run_words.specs.declared.mode.Mode.{Mode}
@@ -74,10 +75,11 @@ RunStops form first left written written' rows honest' leaves leaves' =
 abbrev pub LeavesAsBefore : Type 0 → (List Pair → Type 0) → (List Pair → Type 0) → Type 0
 LeavesAsBefore honest' leaves leaves' = honest' → (left : List Pair) → leaves' left → leaves left
 
--- What a stop leaves behind each command. A replay begins on no rows, a resume on those of a state; nothing else changes any.
+-- What a stop leaves behind each command. A replay begins on no rows, a resume on those of a state
+-- in one format or the other; nothing else changes any.
 abbrev pub ModeStops : Form → Mode → Option (List ℕ) → Option (List ℕ) → Option (List ℕ) → Option (List Pair) → Type 0 → (List Pair → Type 0) → (List Pair → Type 0) → Type 0
 ModeStops form Replay left written written' rows honest' leaves leaves' = RunStops form None left written written' rows honest' leaves leaves'
-ModeStops form Resume left written written' rows honest' leaves leaves' = (p : State) → IsStorable p → rows ≡ Some (rows_of p) → RunStops form (Some p) left written written' rows honest' leaves leaves'
+ModeStops form Resume left written written' rows honest' leaves leaves' = (f : Format) (p : State) → IsStorable p → rows ≡ Some (state_rows f p) → RunStops form (Some p) left written written' rows honest' leaves leaves'
 ModeStops form (Query what) left written written' rows honest' leaves leaves' = LeavesAsBefore honest' leaves leaves'
 ModeStops form Tally left written written' rows honest' leaves leaves' = LeavesAsBefore honest' leaves leaves'
 ModeStops form (Gen seed count) left written written' rows honest' leaves leaves' = LeavesAsBefore honest' leaves leaves'

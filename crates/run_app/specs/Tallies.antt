@@ -7,7 +7,7 @@ use Rattle.line_ballots.specs.Ballots.{text_of_tally}
 use Rattle.mod_tally.specs.Ballots.{Cast, chosen_in}
 use Rattle.mod_tally.specs.Tally.{tally_of}
 use Rattle.rule_modules.specs.Chain.{State}
-use Rattle.store_resuming.specs.Restored.{AreLoaded, HaveSameRows, IsStorable, rows_of}
+use Rattle.store_resuming.specs.Restored.{AreLoaded, AreStateRows, HaveSameRows, IsStorable}
 use Rattle.run_app.specs.declared.status.Status.{Status}
 use Rattle.run_app.specs.Ballots.{IsUncounted, cast_in}
 use Rattle.run_app.specs.Kept.{AreLeft}
@@ -42,12 +42,12 @@ Counts form s left left' written written' status =
     (taken : List ℕ) × (rest : List ℕ) × (text : List ℕ)
     × TakesFrom left left' taken rest × Grows written written' text × CountEnds form s taken rest status text
 
--- A run counted over the rows of its keeper: they are those of a state, and of each state of the
--- same rows the validators and delegations are counted over.
+-- A run counted over the rows of its keeper: they are those of a state in one format or the other,
+-- and of each state of the same rows the validators and delegations are counted over.
 pub record Tallied (form : Form) (left left' written written' : Option (List ℕ)) (rows rows' : Option (List Pair)) (honest' : Type 0) (status : Status) : Type 0 where
   pub first : State
   pub storable : IsStorable first
-  pub loaded : AreLoaded rows rows' honest' (λ now. now ≡ rows_of first)
+  pub loaded : AreLoaded rows rows' honest' (λ now. AreStateRows now first)
   pub counts :
       (p : State) → IsStorable p → HaveSameRows p first
       → Counts form p.mine.staked left left' written written' status

@@ -18,12 +18,13 @@ use crate::generating::status_of_sink;
 use crate::running::drive;
 use crate::status::Status;
 use base_bech32::Form;
-use base_io::{Keeper, Sink, Source};
+use base_io::{KeepFault, Keeper, Sink, Source};
 use chain_whole::Chain;
 use line_report::Query;
 use run_generated::write_text;
 use std::alloc::Global;
-use store_resuming::{RestoreFault, restore};
+use store_commits::commit_migration;
+use store_resuming::{RestoreFault, restore, restore_with_changes};
 
 /// How a run ends where no chain comes of its keeper.
 pub(crate) fn status_of_restore(fault: RestoreFault) -> Status
@@ -37,7 +38,8 @@ pub(crate) fn status_of_restore(fault: RestoreFault) -> Status
     }
 }
 
-/// The command `resume`: each line is a block behind what the keeper has.
+/// The command `resume`: each line is a block behind what the keeper has. Rows of the first format
+/// are brought to the second before anything is taken.
 pub(crate) fn resume<S: Source, K: Sink, D: Keeper>(
     form: Form,
     alloc: Global,
@@ -63,9 +65,14 @@ pub(crate) fn resume<S: Source, K: Sink, D: Keeper>(
         → Rose (D.faults keeper.old) (D.faults keeper.new) }
     ensures keep_quiet { UnlessKeepFault result (D.faults keeper.new ≡ D.faults keeper.old) }
 {
-    match restore(alloc, keeper) {
-        Ok(chain) => drive(form, alloc, source, sink, keeper, Some(chain)),
-        Err(fault) => status_of_restore(fault),
+    let restored = match restore_with_changes(alloc, keeper) {
+        Ok(restored) => restored,
+        Err(fault) => return status_of_restore(fault),
+    };
+    match commit_migration(keeper, &restored.changes) {
+        Ok(()) => drive(form, alloc, source, sink, keeper, Some(restored.chain)),
+        Err(KeepFault::Failed) => Status::KeepFault,
+        Err(KeepFault::NoMemory) => Status::NoMemory,
     }
 }
 

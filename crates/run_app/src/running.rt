@@ -304,30 +304,33 @@ fn carry_out<S: Source, K: Sink, D: Keeper>(
 /// hexadecimal digits, and behind `bech32` as their spellings of BIP 173 alone, modules being written by their names.
 /// Nothing else depends on that word: what is kept has no texts of addresses, so either form goes on from a store.
 ///
-/// Of `replay` the first line of the source is a genesis, each further line a block. It begins on a keeper without rows.
-/// What a line leads to is committed, and then its text is written; at the end of the input the report is written, and the
-/// sink flushed. A keeper that keeps nothing has no rows, and there a commit does nothing; all else is as over any other.
-/// `resume` goes on from the keeper's rows, so each of its lines is a block; its lines are numbered from 1. It writes and
-/// commits what the machine does from any sound state that has these rows. `query` writes the lines of that state's report
-/// that are of its kind and belong to its address, and commits nothing; it takes nothing from the source. `tally` counts
-/// ballots, of which each line of the source is one, by the stake of that state, and writes the line of the totals once the
-/// source was read to its end; it commits nothing. `gen` writes the generated input, and `trial` the summary of it, which a
-/// chain takes block by block; neither takes anything from the source, or calls the keeper.
+/// Of `replay` the first line of the source is a genesis, each further line a block. It begins on a keeper without
+/// rows. What a line leads to is committed, and then its text is written; at the end of the input the report is
+/// written, and the sink flushed. A keeper that keeps nothing has no rows, and there a commit does nothing; all else is
+/// as over any other. `resume` goes on from the keeper's rows, so each of its lines is a block; its lines are numbered
+/// from 1. It writes and commits what the machine does from any sound state that has these rows. Where they are in the
+/// first format of rows, they are brought to the second by a commit before any line; `query` and `tally` read both
+/// formats. `query` writes the lines of that state's report that are of its kind and belong to its address, and commits
+/// nothing; it takes nothing from the source. `tally` counts ballots, of which each line of the source is one, by the
+/// stake of that state, and writes the line of the totals once the source was read to its end; it commits nothing.
+/// `gen` writes the generated input, and `trial` the summary of it, which a chain takes block by block; neither takes
+/// anything from the source, or calls the keeper.
 ///
-/// What each status leaves: at `Done` the whole output, flushed; at `Usage` nothing was read or
-/// written; at `BadInput` and `Limit` exactly the texts of the lines before the named one, and of a trial and a tally
-/// nothing; at `ReadFault` those of all lines that were taken with their end, and of a tally nothing; at `WriteFault` all
-/// texts before the one being written and a part of that, or the whole output where the flush failed; at `KeepFault` those
-/// of the lines before the one whose commit failed, and nothing where the rows were not loaded; at `NoMemory` a front of
-/// the whole output; at `WrongStore`, `BadStore` and `NotFound` nothing. What was taken and written is what the source and
-/// the sink tell, where they tell it. The keeper's rows are those of the last committed line, as they were where there is
-/// none: of the lines whose texts were written, and at `WriteFault` and `NoMemory` of one line more. A stop at a fault of
-/// the keeper may also leave the rows that were to be committed. `ReadFault`, `WriteFault` and `KeepFault` come only where
-/// the count of the source's, the sink's, the keeper's faults rose in this call, and that count rises at no other status.
+/// What each status leaves: at `Done` the whole output, flushed; at `Usage` nothing was read or written; at `BadInput`
+/// and `Limit` exactly the texts of the lines before the named one, and of a trial and a tally nothing; at `ReadFault`
+/// those of all lines that were taken with their end, and of a tally nothing; at `WriteFault` all texts before the one
+/// being written and a part of that, or the whole output where the flush failed; at `KeepFault` those of the lines
+/// before the one whose commit failed, and nothing where the rows were not loaded or not brought to the second format;
+/// at `NoMemory` a front of the whole output; at `WrongStore`, `BadStore` and `NotFound` nothing. What was taken and
+/// written is what the source and the sink tell, where they tell it. The keeper's rows are those of the last committed
+/// line, as they were where there is none (in the second format, once they were brought to it): of the lines whose texts
+/// were written, and at `WriteFault` and `NoMemory` of one line more. A stop at a fault of the keeper may also leave the
+/// rows that were to be committed. `ReadFault`, `WriteFault` and `KeepFault` come only where the count of the source's,
+/// the sink's, the keeper's faults rose in this call, and that count rises at no other status.
 ///
-/// `WrongStore(false)` comes exactly where `replay` loaded rows, and `WrongStore(true)` where `resume`, `query` or `tally`
-/// loaded none, as over a keeper that keeps nothing; `BadStore` exactly where these loaded rows that are those of no sound
-/// state; `NotFound` exactly where a query has an address of which the report has no line.
+/// `WrongStore(false)` comes exactly where `replay` loaded rows, and `WrongStore(true)` where `resume`, `query` or
+/// `tally` loaded none, as over a keeper that keeps nothing; `BadStore` exactly where these loaded rows that are those of
+/// no sound state in either format; `NotFound` exactly where a query has an address of which the report has no line.
 pub fn run<S: Source, K: Sink, D: Keeper>(
     alloc: Global,
     words: &[String],

@@ -19,7 +19,7 @@ use Rattle.base_records.proofs.MemberLemmas.{Member, Once, contained, member, on
 use Rattle.store_items.specs.Stored.{AreStored, HaveOwnKeys, rows_in}
 use Rattle.store_items.specs.Making.{AreMade, CanBeWritten, HasKeyInRange, HasRowIfPut, change_seen, item_change, item_put}
 use Rattle.rule_modules.specs.Chain.{State}
-use Rattle.store_commits.specs.Commits.{Commits, Holds, IsCommit}
+use Rattle.store_commits.specs.Commits.{Commits, Holds, IsCommit, LeadTo}
 use Rattle.store_commits.proofs.Ranges.{has_row}
 
 -- ---- items that are stored
@@ -188,6 +188,70 @@ module _ (result : Result ⊤ KeepFault) (old new : List Item) (list : List Chan
       made : (r : Result ⊤ KeepFault) → OnOk r (Makes (changed list) rows rows') → OnOk r (Makes (λ before. rows_in new) rows rows')
       made (Ok done) m = made_rows (rows_in old) (rows_in new) list rows rows' held.rows (λ some. reached (held.stored some)) m
       made (Err why) m = tt
+
+-- ---- changes of format
+
+-- what changes make of rows that are told
+led_rows : (items : List Item) (list : List Change) (rows rows' : Option (List Pair)) → LeadTo items list rows → Makes (changed list) rows rows' → Makes (λ before. rows_in items) rows rows'
+led_rows items list rows None lead m = tt
+led_rows items list rows (Some after) lead m =
+    let is : changed list m.0 ≡ rows_in items = subst (λ (o : Option (List Pair)). IfSome o (λ r. changed list r ≡ rows_in items)) m.1 lead.rows in
+    (m.0, m.1, m.2 ∙ is)
+
+led_stop : (items : List Item) (list : List Change) (rows : Option (List Pair)) (leaves leaves' : List Pair → Type 0) → LeadTo items list rows
+    → IfSome rows (λ pairs. (left : List Pair) → leaves' left → leaves left ⊎ (left ≡ changed list pairs)) → IsSome rows → (left : List Pair) → leaves' left → leaves left ⊎ ((left ≡ rows_in items) × AreStored items)
+led_stop items list None leaves leaves' lead stop some left l = absurd (true≢false (sym some))
+led_stop items list (Some pairs) leaves leaves' lead stop some left l = by (stop left l)
+  where
+    by : leaves left ⊎ (left ≡ changed list pairs) → leaves left ⊎ ((left ≡ rows_in items) × AreStored items)
+    by (inl was) = inl was
+    by (inr is) = inr (is ∙ lead.rows, lead.stored refl)
+
+pub led : (result : Result ⊤ KeepFault) (items : List Item) (list : List Change) (rows rows' : Option (List Pair)) (honest honest' : Type 0) (leaves leaves' : List Pair → Type 0) → LeadTo items list rows
+    → OnOk result (Makes (changed list) rows rows') → OnOk result (honest' → IsSome rows → IsSome rows') → OnErr result (Makes (λ pairs. pairs) rows rows') → LeavesRows leaves' rows' → (honest' → honest)
+    → (honest' → IfSome rows (λ pairs. (left : List Pair) → leaves' left → leaves left ⊎ (left ≡ changed list pairs)))
+    → Commits result items rows rows' honest honest' leaves leaves'
+led result items list rows rows' honest honest' leaves leaves' lead ok told err settled back stop = record {
+  stored = stored_ok result ok;
+  ok = made result ok;
+  told = told;
+  err = err;
+  settled = λ before. settled;
+  back = back;
+  stop = λ h some left l. led_stop items list rows leaves leaves' lead (stop h) some left l;
+}
+  where
+    stored_ok : (r : Result ⊤ KeepFault) → OnOk r (Makes (changed list) rows rows') → OnOk r (IsSome rows' → AreStored items)
+    stored_ok (Ok done) m = λ some. lead.stored (told_before (changed list) rows rows' m some)
+    stored_ok (Err why) m = tt
+
+    made : (r : Result ⊤ KeepFault) → OnOk r (Makes (changed list) rows rows') → OnOk r (Makes (λ before. rows_in items) rows rows')
+    made (Ok done) m = led_rows items list rows rows' lead m
+    made (Err why) m = tt
+
+pub no_change : (list : List Change) → length list ≡ 0 → list ≡ []
+no_change [] none = refl
+no_change (c ∷ list) none = absurd (omega (arith, none))
+
+-- no change leads to the rows that are there
+pub led_nowhere : (items : List Item) (list : List Change) (rows : Option (List Pair)) (honest : Type 0) (leaves : List Pair → Type 0) → list ≡ [] → LeadTo items list rows → Commits (Ok tt) items rows rows honest honest leaves leaves
+led_nowhere items list rows honest leaves none lead = record {
+  stored = lead.stored;
+  ok = same rows (subst (λ (l : List Change). IfSome rows (λ r. changed l r ≡ rows_in items)) none lead.rows);
+  told = λ h some. some;
+  err = tt;
+  settled = λ s. s;
+  back = λ h. h;
+  stop = λ h some left l. inl l;
+}
+  where
+    same : (o : Option (List Pair)) → IfSome o (λ r. r ≡ rows_in items) → Makes (λ before. rows_in items) o o
+    same None is = tt
+    same (Some r) is = (r, refl, is)
+
+pub taken : (list : List Change) (takes : Type 0) → (list ≡ []) ⊎ takes → 0 < length list → takes
+taken list takes (inl none) some = absurd (omega (arith, subst (λ (l : List Change). 0 < length l) none some))
+taken list takes (inr t) some = t
 
 -- ---- the changes of a chain
 

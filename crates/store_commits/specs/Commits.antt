@@ -3,7 +3,7 @@ use Rattle.std.specs.Prelude.{◌≡◌, ◌⊎◌, ⊤, List, Option, Result, I
 use Rattle.base_io.specs.declared.keeper.Change.{Change}
 use Rattle.base_io.specs.declared.keeper.KeepFault.{KeepFault}
 use Rattle.base_io.specs.Rows.{HasDistinctKeys, Makes, Pair}
-use Rattle.base_io.specs.Changes.{LeavesRows}
+use Rattle.base_io.specs.Changes.{LeavesRows, changed}
 use Rattle.base_roles.specs.declared.items.Item.{Item}
 use Rattle.store_items.specs.Stored.{AreStored, rows_in}
 use Rattle.store_items.specs.Making.{AreMade}
@@ -21,6 +21,12 @@ pub record IsCommit (old new : List Item) (list : List Change) : Type 0 where
   pub made : AreMade old new list
   pub distinct : HasDistinctKeys list
   pub stored : AreStored old → AreStored new
+
+-- These changes lead from the rows that a keeper tells to those of these items, of which each has
+-- one then.
+pub record LeadTo (items : List Item) (list : List Change) (told : Option (List Pair)) : Type 0 where
+  pub stored : IsSome told → AreStored items
+  pub rows : IfSome told (λ rows. changed list rows ≡ rows_in items)
 
 -- What a commit leaves that is to bring a keeper to these items: after Ok just their rows, of which
 -- each item has one where they are told, and after a fault the rows that it held. A stop then leaves

@@ -1,14 +1,16 @@
-//! Commits of a chain to a keeper: all of its rows at the genesis, and at each block those that changed.
+//! Commits of a chain to a keeper: all of its rows at the genesis, and at each block those that
+//! changed; and before a run that goes on from rows of another format, those that are others in the
+//! one that is written.
 
-ghost use Rattle.std.specs.Prelude.{◌≡◌, ◌≢◌, ◌≤◌, [], List, Ok, IsErrOf, IfErr, IfOk, IfSome, IsSome, OnErr, OnOk, true, false};
+ghost use Rattle.std.specs.Prelude.{◌≡◌, ◌≢◌, ◌⊎◌, ◌≤◌, [], List, Ok, IsErrOf, IfErr, IfOk, IfSome, IsSome, OnErr, OnOk, true, false};
 ghost use Rattle.base_io.specs.declared.keeper.Change.{Change};
 ghost use Rattle.base_io.specs.Keeping.{UnlessLost};
 ghost use Rattle.base_io.specs.Outside.{Rose};
 ghost use Rattle.base_io.specs.Rows.{Makes, Pair};
-ghost use Rattle.base_io.specs.Changes.{LeavesRows};
+ghost use Rattle.base_io.specs.Changes.{ChangeRows, LeavesRows};
 ghost use Rattle.base_roles.specs.declared.items.Item.{Item};
 ghost use Rattle.store_commits.specs.Held.{TakesDistinct};
-ghost use Rattle.store_commits.specs.Commits.{Commits, Holds, IsCommit};
+ghost use Rattle.store_commits.specs.Commits.{Commits, Holds, IsCommit, LeadTo};
 ghost use Rattle.rule_machine.specs.Items.{items_of};
 ghost use Rattle.chain_modules.specs.Kept.{StandsFor};
 ghost use Rattle.rule_modules.specs.Chain.{State};
@@ -189,4 +191,32 @@ pub fn commit_next<D: Keeper>(
         }
         Err(fault) => Err(fault),
     }
+}
+
+/// Commits the changes that bring the rows of a keeper to those of a chain in the format that is
+/// written. Where there are none, the rows are so, and nothing is done.
+///
+/// # Errors
+/// `Failed`, only where the count of faults rose, and `NoMemory`. The rows are as before then.
+pub fn commit_migration<D: Keeper>(keeper: &mut D, list: &[Change]) -> Result<(), KeepFault>
+    requires takes { (list.now ≡ []) ⊎ D.takes keeper.old list.now }
+    requires changing { ChangeRows list.now (D.rows keeper.old) }
+    ensures commits { (items : List Item) → LeadTo items list.now (D.rows keeper.old)
+        → Commits result items (D.rows keeper.old) (D.rows keeper.new)
+        (D.is_honest keeper.old) (D.is_honest keeper.new)
+        (D.may_leave keeper.old) (D.may_leave keeper.new) }
+    // Where nothing is to be done nothing fails.
+    ensures none { list.now ≡ [] → result ≡ Ok tt }
+    ensures honest { D.is_honest keeper.new → D.is_honest keeper.old }
+    ensures takes { (changes : List Change) → D.takes keeper.old changes
+        → D.takes keeper.new changes }
+    ensures later { D.faults keeper.old ≤ D.faults keeper.new }
+    ensures cause { IsErrOf result KeepFault.Failed
+        → Rose (D.faults keeper.old) (D.faults keeper.new) }
+    ensures quiet { UnlessLost result (D.faults keeper.new ≡ D.faults keeper.old) }
+{
+    if list.is_empty() {
+        return Ok(());
+    }
+    keeper.commit(list)
 }

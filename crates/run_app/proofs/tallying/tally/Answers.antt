@@ -1,4 +1,5 @@
 use Rattle.std.proofs.Common.{refl}
+use Rattle.store_resuming.proofs.RestoreLemmas.{same_itself}
 use Rattle.run_app.proofs.ModeLemmas.{nothing_done, quiet_at, quiet_keep, quiet_read}
 use Rattle.run_app.proofs.ResumeLemmas.{no_rows_found, unresumed_busy, unresumed_cause, unresumed_quiet, unresumed_undone, unresumed_unread, unresumed_unwritten}
 use Rattle.run_app.proofs.TallyLemmas.{not_tallied, tallied}
@@ -7,7 +8,7 @@ use Rattle.run_app.proofs.tallying.tally.Goals as goal
 pub count_ballots-requires : goal.count_ballots-requires
 count_ballots-requires g c =
     let chain = c.in-Ok.ensures.chain in
-    record { sound = (chain.first, chain.storable.sound, chain.stands chain.first chain.storable refl) }
+    record { sound = (chain.first, chain.storable.sound, chain.stands chain.first chain.storable (same_itself chain.first)) }
 
 pub returns-in-Ok-clause-ends : goal.returns-in-Ok-clause-ends
 returns-in-Ok-clause-ends g c =
