@@ -1,6 +1,9 @@
 """What `checks/stores.sh` runs: stores that the program is to refuse, and some that it is to take."""
 import contextlib, json, os, pathlib, shutil, sqlite3, subprocess, sys, tempfile
 
+sys.path.insert(0, "examples/recipes")
+from first_format import MISSED as MISSES, first_format
+
 PROGRAM = os.path.abspath(sys.argv[1])
 FAULT, BAD = (6, "stakeplay: store fault"), (8, "stakeplay: bad store")
 EMPTY, FULL = (9, "stakeplay: store is empty"), (9, "stakeplay: store is not empty")
@@ -156,6 +159,28 @@ def event_of_nobody(rows):
     rows[history(NOBODY, 0)] = bytes.fromhex(number(0, 4) + number(1, 16))
 
 
+def missed(*places):
+    """The signing record lists these places as missed."""
+    def change(rows):
+        rows[SIGNED] = rows[SIGNED][:MISSES] + b"".join(place.to_bytes(4, "big") for place in (len(places), *places))
+    return change
+
+
+def all_first(rows):
+    """All rows in the first format."""
+    for name in rows:
+        rows[name] = first_format(name, rows[name])
+
+
+def mixed(change):
+    """Rows of the first format, but for one that is changed."""
+    def both(rows):
+        second = dict(rows)
+        all_first(rows)
+        change(rows, second)
+    return both
+
+
 def slashed_by_hand(rows):
     """An entry has one unit less, which the account holds less too: sound, whatever made it."""
     add(rows, ENTRY, BALANCE, -1)
@@ -209,7 +234,7 @@ UNSOUND = {
     },
     "7 signing records": {
         "one missed more": lambda rows: add(rows, SIGNED, MISSED),
-        "a place more that is set": lambda rows: put(rows, SIGNED, (45, 1), 1),
+        "a place more that was missed": missed(0),
         "a place fewer": lambda rows: add(rows, SIGNED, PLACES, -1),
         "more counted than there are heights": lambda rows: put(rows, SIGNED, COUNTED, 5),
         "a bonded validator without a record": lambda rows: rows.pop(SIGNED),
@@ -230,11 +255,17 @@ NO_ITEMS = {
     "a key that is longer": lambda rows: rows.update({POOL + b"\0": rows.pop(POOL)}),
     "a value that is shorter": lambda rows: rows.update({PARAMS: rows[PARAMS][:-1]}),
     "a value that is longer": lambda rows: rows.update({PARAMS: rows[PARAMS] + b"\0"}),
-    "a format of 2": lambda rows: put(rows, HEAD, (0, 1), 2),
+    "a format of 1 over rows of the second": lambda rows: put(rows, HEAD, (0, 1), 1),
+    "a format of 2 over rows of the first": mixed(lambda rows, second: put(rows, HEAD, (0, 1), 2)),
+    "a signing record of the second format among rows of the first": mixed(lambda rows, second: rows.update({SIGNED: second[SIGNED]})),
+    "a format of 3": lambda rows: put(rows, HEAD, (0, 1), 3),
     "a balance of 0": lambda rows: rows.update({balance(NOBODY): bytes(16)}),
     "a truth value of 2": lambda rows: put(rows, validator(FIRST), (21, 1), 2),
     "a status of 3": lambda rows: put(rows, validator(FIRST), (20, 1), 3),
-    "a spare bit that is set": lambda rows: put(rows, SIGNED, (45, 1), 4),
+    "a missed place at the end": missed(2),
+    "a missed place twice": missed(1, 1),
+    "missed places that fall": missed(1, 0),
+    "a spare bit that is set, in the first format": mixed(lambda rows, second: put(rows, SIGNED, (45, 1), 4)),
     "a denomination of three signs": lambda rows: rows.update({key("11", "032b2b2b"): bytes(15) + b"\1"}),
     "a pool with a coin of 0": lambda rows: put(rows, POOL, FIRST_COIN, 0),
     "an operator that is a module": lambda rows: rows.update({key("42", BONDED): bytes.fromhex(SENDER)}),
@@ -292,6 +323,24 @@ def try_rows(room, good):
                 file.unlink()
 
 
+def try_first_format(room, good):
+    """A store of the first format answers as it stands, and a resume brings its rows to the second, with lines or without."""
+    wanted, rest = rows_of(good), b"".join(pathlib.Path("examples/history.jsonl").read_bytes().splitlines(keepends=True)[5:])
+    for name, given in (("no lines", b""), ("a line that is refused", b"{"), ("the lines behind it", rest)):
+        old, new = changed(good, room / "first", all_first), changed(good, room / "second", lambda rows: None)
+        before = content(old)
+        for words in (["query", "supply"], ["query", "validators"], ["tally"]):
+            ask(ran(old, words), ran(new, words), f"{' '.join(words)} on rows of the first format")
+        ask(content(old) == before, True, "whether questions leave rows of the first format byte for byte as they were")
+        ask(ran(old, ["replay"], b"".join(LINES)), (FULL, b""), "a replay on rows of the first format")
+        ask(ran(old, ["resume"], given), ran(new, ["resume"], given), f"a resume on rows of the first format with {name}")
+        ask(rows_of(old) == rows_of(new), True, f"whether a resume with {name} leaves the rows of the second format")
+        if given != rest:
+            ask(rows_of(old) == wanted, True, f"whether a resume with {name} changes nothing else")
+        for file in (*room.glob("first*"), *room.glob("second*")):
+            file.unlink()
+
+
 def try_files(room, good):
     whole = changed(good, room / "whole", lambda rows: None).read_bytes()
     files = {
@@ -335,17 +384,23 @@ def try_rights(room, good):
         store.chmod(mode)
         try_all(store, (FAULT, FAULT, FAULT), f"a file of mode {mode:03o}", **user)
     (room / "locked").mkdir(mode=0o555)
-    try_all(room / "locked" / "store", (FAULT, FAULT, FAULT), "a file in a folder that may not be written", **user)
+    try_all(room / "locked" / "store", (FAULT, EMPTY, EMPTY), "a file that is not there, in a folder that may not be written", **user)
 
 
 def try_new(room):
-    """Files that hold no rows yet: they are taken, and only a replay puts rows there."""
+    """Files that hold no rows yet: they are taken, and only a replay puts rows there. Where there is none only a replay makes one."""
     for name in ("new", "empty"):
         store = room / name
         if name == "empty":
             store.write_bytes(b"")
         for words in COMMANDS[1:]:
             ask(ran(store, words), (EMPTY, b""), f"{words} on a {name} file")
+        for words in ([], ["queries"], ["query", "account", "nobody"]):
+            ask(ran(store, words), ((1, "stakeplay: usage"), b""), f"{words} on a {name} file")
+        if name == "new":
+            for words in (["gen", "7", "3"], ["trial", "7", "3"]):
+                ask(ran(store, words), ran("-", words), f"{words} on a new file")
+            ask(list(room.glob("new*")), [], "which files are there before a replay makes one")
         ended, printed = ran(store, ["replay"], b"".join(LINES))
         ask((ended, bool(printed)), (DONE, True), f"a replay on a {name} file")
     for word in ("-x", "--help", "-store"):
@@ -490,7 +545,7 @@ def main():
         global PROGRAM
         PROGRAM = shutil.copy(PROGRAM, room / "stakeplay")
         ask(ran(good, ["replay"], b"".join(LINES))[0], DONE, "the replay that makes the store")
-        for part in (try_rows, try_files, try_rights):
+        for part in (try_rows, try_first_format, try_files, try_rights):
             part(room, good)
         try_new(room)
         try_held(room)

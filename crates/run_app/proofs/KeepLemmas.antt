@@ -1,5 +1,5 @@
 -- What a keeper holds from line to line.
-use Rattle.std.proofs.Common.{◌≡◌, ◌∙◌, ◌⊎◌, inl, inr, true, false, true≢false, ℕ, List, [], Option, Some, None, Result, Ok, Err, IfSome, refl, sym, ap, subst}
+use Rattle.std.proofs.Common.{◌≡◌, ◌∙◌, ◌⊎◌, inl, inr, true, false, true≢false, ℕ, List, [], Option, Some, None, Result, Ok, Err, IfSome, refl, sym, ap, subst, arith}
 use Rattle.std.specs.Prelude.{IsSome, ⊤}
 use Rattle.chain_whole.specs.Chained.{Chained}
 use Rattle.base_io.specs.declared.keeper.KeepFault.{KeepFault}
@@ -16,9 +16,15 @@ use Rattle.store_commits.proofs.Committing.{none_stored}
 use Rattle.run_app.specs.declared.status.LineStop.{LineStop}
 use Rattle.run_app.specs.Machine.{Answer, AnswersTo, IsSettled, Standing, StandsAt}
 use Rattle.store_rows.specs.Formats.{written}
-use Rattle.run_app.specs.Kept.{AreRowsOf, Began, BeganOnRows, Keeping, LeftIn, on_none}
+use Rattle.run_app.specs.Kept.{AreRowsOf, Began, BeganOnRows, IsLater, Keeping, LeftIn, on_none}
 use Rattle.run_app.specs.Parts.{IsFault, NotAnswered, not_kept}
 use Rattle.run_app.proofs.AnswerLemmas.{faulted, unkept}
+
+-- ---- a keeper after calls
+
+-- no call was made
+pub later_still : (honest : Type 0) (faults : ℕ) → IsLater honest honest faults faults
+later_still honest faults = record { honest = λ h. h; count = omega arith }
 
 -- ---- what a chain stands for
 

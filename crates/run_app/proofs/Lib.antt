@@ -2,6 +2,7 @@ pub mod AnswerLemmas
 pub mod AskingLemmas
 pub mod BallotLemmas
 pub mod CommandLemmas
+pub mod CountLemmas
 pub mod CutLemmas
 pub mod DriveLemmas
 pub mod KeepLemmas
@@ -10,6 +11,7 @@ pub mod ModeLemmas
 pub mod OnwardLemmas
 pub mod PartLemmas
 pub mod ReadLemmas
+pub mod RejoinLemmas
 pub mod ReportLemmas
 pub mod RestLemmas
 pub mod ResumeLemmas

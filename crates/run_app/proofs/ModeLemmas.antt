@@ -34,10 +34,17 @@ use Rattle.run_app.specs.Writes.{Adds, IsWritten, Leaves, Writes, status_of_sink
 
 -- ---- a text that is written
 
+-- there is a front that came to what was written
+front_of : (w w' : Option (List ℕ)) (whole : List ℕ) → GrowsInPart w w' whole → (front : List ℕ) × IsFront front whole × Grows w w' front
+front_of None w' whole h = ([], record { rest = whole; text_is = refl }, λ old is. absurd cc)
+front_of (Some bytes) w' whole h =
+    let p = h bytes refl in
+    (p.0, p.1, λ old is. let same : bytes ≡ old = cc in p.2 ∙ ap (λ (b : List ℕ). Some (b ++ p.0)) same)
+
 pub written_so : (r : Result ⊤ SinkFault) (w w' : Option (List ℕ)) (whole : List ℕ) → OnOk r (Grows w w' whole) → OnErr r (GrowsInPart w w' whole) → Writes whole w w' (status_of_sink r)
-written_so (Ok done) w w' whole h k old o = (whole, h old o, refl)
-written_so (Err sink.Failed) w w' whole h k old o = let p = k old o in (p.0, p.2, p.1)
-written_so (Err sink.NoMemory) w w' whole h k old o = let p = k old o in (p.0, p.2, p.1)
+written_so (Ok done) w w' whole h k = (whole, h, refl)
+written_so (Err sink.Failed) w w' whole h k = let p = front_of w w' whole k in (p.0, p.2, p.1)
+written_so (Err sink.NoMemory) w w' whole h k = let p = front_of w w' whole k in (p.0, p.2, p.1)
 
 pub busy_so : (r : Result ⊤ SinkFault) → status_of_sink r ≡ Usage → ⊥
 busy_so (Ok done) e = absurd cc
@@ -71,7 +78,7 @@ quiet_so (Err sink.NoMemory) P h = h
 
 -- nothing was written
 pub nothing : (w : Option (List ℕ)) (P : List ℕ → Type 0) → P [] → Adds w w P
-nothing w P p old o = ([], o ∙ ap Some (sym (append-nil old)), p)
+nothing w P p = ([], (λ old is. is ∙ ap Some (sym (append-nil old))), p)
 
 -- ---- a block's fault
 
@@ -271,9 +278,9 @@ never_some rows (Some now) honest' none honest m some = some.some (m.2 ∙ some_
     some_same e = cc
 
 -- nor does a replay find rows of a keeper that keeps nothing
-pub finds_none : (keeps : Bool) (rows rows' : Option (List Pair)) (honest' : Type 0) → (keeps ≡ false) ⊎ (rows ≡ Some []) → honest' → Makes (λ before. before) rows rows' → keeps ≡ true → AreSome rows rows' honest' → ⊥
-finds_none keeps rows rows' honest' (inl unkept) honest m kept some = true≢false (sym kept ∙ unkept)
-finds_none keeps rows rows' honest' (inr none) honest m kept some = never_some rows rows' honest' none honest m some
+pub finds_none : (keeps : Bool) (rows rows' : Option (List Pair)) (honest' : Type 0) → (keeps ≡ false) ⊎ (rows ≡ Some []) → honest' → Makes (λ before. before) rows rows' → (keeps ≡ false → ⊥) → AreSome rows rows' honest' → ⊥
+finds_none keeps rows rows' honest' (inl unkept) honest m never some = never unkept
+finds_none keeps rows rows' honest' (inr none) honest m never some = never_some rows rows' honest' none honest m some
 
 pub unbegun_replay : (s : Status) (some : Type 0) → IsUnbegun s some → (s ≡ WrongStore false → some → ⊥) → (s ≡ KeepFault → ⊥) → (s ≡ Done) ⊎ (s ≡ NoMemory)
 unbegun_replay Done some h n k = absurd h

@@ -21,7 +21,7 @@ use Rattle.store_resuming.specs.declared.fault.RestoreFault.{RestoreFault}
 use Rattle.store_resuming.specs.declared.fault.RestoreFault.TheVariants as fault
 use Rattle.store_commits.specs.Commits.{Commits, LeadTo}
 use Rattle.store_resuming.specs.Restored.{AreLoaded, AreOfNone, AreStateRows, HaveSameRows, IsStorable, old_rows_of, rows_of, state_rows}
-use Rattle.store_resuming.specs.Restoring.{AreBrought, AreMigrated, IsChainOf, IsRestored, IsUnrestored, UnlessFailed}
+use Rattle.store_resuming.specs.Restoring.{AreBrought, AreMigrated, IsChainOf, IsOfNothing, IsRestored, IsUnrestored, UnlessFailed}
 use Rattle.store_resuming.proofs.RestoreLemmas.{formats_same, same_itself}
 use Rattle.store_rows.specs.declared.format.Format.{Format}
 use Rattle.store_rows.specs.declared.format.Format.TheVariants.{Second}
@@ -34,6 +34,7 @@ use Rattle.run_app.specs.Kept.{AreLeft, Began, BeganOnRows, Keeping, LeftIn, Unl
 use Rattle.run_app.specs.Machine.{Standing}
 use Rattle.run_app.specs.Outcome.{RunEnds}
 use Rattle.run_app.specs.Resumes.{Answers, AsksCalmly, Asked, FitsState, GoesOn, IsAnswered, IsUnmigrated, IsUnresumed, QueryEnds, ResumeEnds, ResumesCalmly, on_rows_of, status_of_restore}
+use Rattle.run_app.specs.Unkept.{IsOfNoRows}
 use Rattle.run_app.specs.Writes.{Adds, Writes}
 use Rattle.run_app.proofs.DriveLemmas.{untroubled_run}
 use Rattle.run_app.proofs.ModeLemmas.{nothing, nothing_done, rows_left, written_to_end}
@@ -175,6 +176,9 @@ module _ (form : Form) (rows told : Option (List Pair)) (honest : Type 0) (chain
 
 -- ---- a run of which no chain comes
 
+abbrev pub failed : RestoreFault → Result Chained RestoreFault
+failed f = Err f
+
 pub unresumed : (f : RestoreFault) (rows rows' : Option (List Pair)) (honest' : Type 0) → IsUnrestored rows rows' honest' f → IsUnresumed (status_of_restore f) rows rows' honest'
 unresumed fault.Failed rows rows' honest' h = tt
 unresumed fault.NoMemory rows rows' honest' h = tt
@@ -188,6 +192,13 @@ not_resumed form f left w rows rows' honest' leaves leaves' h same stop = inr (i
 pub not_asked : (form : Form) (f : RestoreFault) (what : Query) (w : Option (List ℕ)) (rows rows' : Option (List Pair)) (honest' : Type 0) (leaves leaves' : List Pair → Type 0) → IsUnrestored rows rows' honest' f → Makes (λ before. before) rows rows' → (honest' → (l : List Pair) → leaves' l → leaves l)
     → QueryEnds form what w w rows rows' honest' leaves leaves' (status_of_restore f)
 not_asked form f what w rows rows' honest' leaves leaves' h same stop = (rows_left rows rows' honest' leaves leaves' same stop, inr (unresumed f rows rows' honest' h, nothing w _ refl))
+
+-- nor does one come of a keeper that keeps nothing, and nothing is said of its rows
+pub no_rows_found : (f : RestoreFault) → IsOfNothing (failed f) → IsOfNoRows (status_of_restore f)
+no_rows_found fault.Failed h = tt
+no_rows_found fault.NoMemory h = tt
+no_rows_found fault.Empty h = refl
+no_rows_found fault.Unsound h = absurd h
 
 -- statuses that it does not end by
 pub unresumed_busy : (f : RestoreFault) → status_of_restore f ≡ Usage → ⊥
@@ -213,9 +224,6 @@ unresumed_unwritten fault.Failed e = absurd cc
 unresumed_unwritten fault.NoMemory e = absurd cc
 unresumed_unwritten fault.Empty e = absurd cc
 unresumed_unwritten fault.Unsound e = absurd cc
-
-abbrev failed : RestoreFault → Result Chained RestoreFault
-failed f = Err f
 
 pub unresumed_cause : (f : RestoreFault) (P : Type 0) → (IsErrOf (failed f) fault.Failed → P) → status_of_restore f ≡ KeepFault → P
 unresumed_cause fault.Failed P h e = h refl
@@ -294,7 +302,7 @@ alike_of p first rows honest' faults faults' fits loaded =
     let (f, is) = fits.rows_are in
     (state_rows f p, (f, refl), at_rows rows (state_rows f p) (λ now. AreStateRows now first) is loaded)
 
-pub untroubled_resume : (form : Form) (left left' w w' : Option (List ℕ)) (rows rows' : Option (List Pair)) (honest' : Type 0) (leaves leaves' : List Pair → Type 0) (faults faults' : ℕ) (s : Status) → ResumeEnds form left left' w w' rows rows' honest' leaves leaves' s → ResumesCalmly form left w rows honest' faults faults'
+pub untroubled_resume : (form : Form) (left left' w w' : Option (List ℕ)) (rows rows' : Option (List Pair)) (honest' : Type 0) (leaves leaves' : List Pair → Type 0) (faults faults' : ℕ) (s : Status) → ResumeEnds form left left' w w' rows rows' honest' leaves leaves' s → ResumesCalmly form left rows honest' faults faults'
     → (s ≡ Usage → ⊥) → (s ≡ ReadFault → ⊥) → (s ≡ WriteFault → ⊥) → (s ≡ KeepFault → Rose faults faults') → (s ≡ Done) ⊎ (s ≡ NoMemory)
 untroubled_resume form left left' w w' rows rows' honest' leaves leaves' faults faults' s (inl goes) calm busy read write keep =
     let fits = calm.2 in
@@ -310,13 +318,13 @@ untroubled_resume form left left' w w' rows rows' honest' leaves leaves' faults 
 answered_to_end : (text written : List ℕ) (s : Status) (due : Option (List ℕ)) → due ≡ Some text → IsAnswered due s written → (s ≡ WriteFault → ⊥) → (s ≡ Done) ⊎ (s ≡ NoMemory)
 answered_to_end text written s due is h write = written_to_end text written s (subst (λ (o : Option (List ℕ)). IsAnswered o s written) is h) write
 
-pub untroubled_query : (form : Form) (what : Query) (w w' : Option (List ℕ)) (rows rows' : Option (List Pair)) (honest' : Type 0) (leaves leaves' : List Pair → Type 0) (faults faults' : ℕ) (s : Status) → QueryEnds form what w w' rows rows' honest' leaves leaves' s → AsksCalmly form what w rows honest' faults faults'
+pub untroubled_query : (form : Form) (what : Query) (w w' : Option (List ℕ)) (rows rows' : Option (List Pair)) (honest' : Type 0) (leaves leaves' : List Pair → Type 0) (faults faults' : ℕ) (s : Status) → QueryEnds form what w w' rows rows' honest' leaves leaves' s → AsksCalmly form what rows honest' faults faults'
     → (s ≡ WriteFault → ⊥) → (s ≡ KeepFault → Rose faults faults') → (s ≡ Done) ⊎ (s ≡ NoMemory)
 untroubled_query form what w w' rows rows' honest' leaves leaves' faults faults' s (left, inl answers) calm write keep =
-    let p = calm.1.0 in
-    let fits = calm.1.1 in
+    let p = calm.0 in
+    let fits = calm.1 in
     let alike = alike_of p answers.first rows honest' faults faults' fits (were_loaded rows rows' honest' (λ now. AreStateRows now answers.first) answers.loaded left.rows_are fits.honest) in
-    let e = answers.answered p fits.storable alike calm.0.0 calm.0.1 in
-    answered_to_end calm.1.2.0 e.0 s (answered_by form (report_of p) what) calm.1.2.1 e.2 write
+    let e = answers.answered p fits.storable alike in
+    answered_to_end calm.2.0 e.0 s (answered_by form (report_of p) what) calm.2.1 e.2 write
 untroubled_query form what w w' rows rows' honest' leaves leaves' faults faults' s (left, inr none) calm write keep =
-    never_unresumed calm.1.0 rows rows' honest' faults faults' calm.1.1 left.rows_are s none.0 keep
+    never_unresumed calm.0 rows rows' honest' faults faults' calm.1 left.rows_are s none.0 keep

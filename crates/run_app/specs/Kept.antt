@@ -1,5 +1,5 @@
 -- What a run keeps in its keeper, and what it leaves there.
-use Rattle.std.specs.Prelude.{◌≡◌, ◌≢◌, ◌⊎◌, Bool, true, false, List, [], Option, Some, None, IfSome, IsSome}
+use Rattle.std.specs.Prelude.{◌≡◌, ◌≢◌, ◌⊎◌, ℕ, ◌≤◌, false, List, [], Option, Some, None, IfSome, IsSome}
 use Rattle.chain_whole.specs.Chained.{Chained}
 use Rattle.base_io.specs.Rows.{Makes, Pair}
 use Rattle.base_io.specs.Changes.{LeavesRows}
@@ -8,7 +8,7 @@ use Rattle.store_commits.specs.Commits.{Holds}
 use Rattle.store_items.specs.Stored.{AreStored, rows_as}
 use Rattle.store_rows.specs.declared.format.Format.{Format}
 use Rattle.run_app.specs.declared.status.Status.{Status}
-use Rattle.run_app.specs.declared.status.Status.TheVariants.{Done, Usage, BadInput, Limit, ReadFault, WriteFault, KeepFault, NoMemory, BadStore, WrongStore, NotFound}
+use Rattle.run_app.specs.declared.status.Status.TheVariants.{KeepFault, NoMemory, WrongStore}
 use Rattle.run_app.specs.Machine.{IsSettled, Standing, StandsAt}
 
 -- how a run began: on the rows of what it was to go on from, and these rows, where they were told
@@ -30,7 +30,13 @@ pub record Keeping (b : Began) (chain : Option Chained) (told : Option (List Pai
   pub tells : honest → IsSome b.rows → IsSome told
   pub settled : LeavesRows leaves told
 
--- these are the rows of what lines have led to, in the format that is written, of which each item has one
+-- A keeper after calls: it is honest only if it was, and its count of faults has not fallen.
+pub record IsLater (honest honest' : Type 0) (faults faults' : ℕ) : Type 0 where
+  pub honest : honest' → honest
+  pub count : faults ≤ faults'
+
+-- these are the rows of what lines have led to, in the format that is written, of which each item
+-- has one
 abbrev pub AreRowsOf : List Pair → Standing → Type 0
 AreRowsOf rows s = (rows ≡ rows_at s) × AreStored (items_at s)
 
@@ -63,28 +69,12 @@ pub record AreSome (rows rows' : Option (List Pair)) (honest' : Type 0) : Type 0
 
 -- Why a replay did not begin: its rows were not loaded, memory was wanting, or there are rows.
 abbrev pub IsUnbegun : Status → Type 0 → Type 0
-IsUnbegun Done some = ⊥
-IsUnbegun Usage some = ⊥
-IsUnbegun (BadInput n fault) some = ⊥
-IsUnbegun (Limit n kind) some = ⊥
-IsUnbegun ReadFault some = ⊥
-IsUnbegun WriteFault some = ⊥
 IsUnbegun KeepFault some = Unit {0}
 IsUnbegun NoMemory some = Unit {0}
-IsUnbegun BadStore some = ⊥
 IsUnbegun (WrongStore is_empty) some = (is_empty ≡ false) × some
-IsUnbegun NotFound some = ⊥
+IsUnbegun _ some = ⊥
 
 -- the fact holds, unless the run ended by a fault of the keeper
 abbrev pub UnlessKeepFault : Status → Type 0 → Type 0
-UnlessKeepFault Done P = P
-UnlessKeepFault Usage P = P
-UnlessKeepFault (BadInput n fault) P = P
-UnlessKeepFault (Limit n kind) P = P
-UnlessKeepFault ReadFault P = P
-UnlessKeepFault WriteFault P = P
 UnlessKeepFault KeepFault P = Unit {0}
-UnlessKeepFault NoMemory P = P
-UnlessKeepFault BadStore P = P
-UnlessKeepFault (WrongStore is_empty) P = P
-UnlessKeepFault NotFound P = P
+UnlessKeepFault _ P = P

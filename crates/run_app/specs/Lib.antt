@@ -1,4 +1,5 @@
 pub mod Ballots
+pub mod Counts
 pub mod Ending
 pub mod Kept
 pub mod Laws
@@ -8,9 +9,12 @@ pub mod Machine
 pub mod Modes
 pub mod Outcome
 pub mod Parts
+pub mod Rejoined
 pub mod Resumes
 pub mod Runs
 pub mod Sizes
 pub mod Stops
 pub mod Tallies
+pub mod Told
+pub mod Unkept
 pub mod Writes

@@ -72,17 +72,17 @@ pub record FitsReplay (keeps : Bool) (rows : Option (List Pair)) (honest' : Type
   pub honest : honest'
   pub quiet : ¬ Rose faults faults'
 
--- A sink that tells, and an input free of faults: that of the source, or one whose blocks all follow; what `gen` writes needs none.
--- A replay has a keeper that fits it, and so have a run that goes on, a tally, and a question, which has an answer.
-abbrev pub IsUntroubledAt : Form → Mode → Option (List ℕ) → Option (List ℕ) → Bool → Option (List Pair) → Type 0 → ℕ → ℕ → Type 0
-IsUntroubledAt form Replay left written keeps rows honest' faults faults' = IsUntroubled form None left written × FitsReplay keeps rows honest' faults faults'
-IsUntroubledAt form Resume left written keeps rows honest' faults faults' = ResumesCalmly form left written rows honest' faults faults'
-IsUntroubledAt form (Query what) left written keeps rows honest' faults faults' = AsksCalmly form what written rows honest' faults faults'
-IsUntroubledAt form Tally left written keeps rows honest' faults faults' = TalliesCalmly form left written rows honest' faults faults'
-IsUntroubledAt form (Gen seed count) left written keeps rows honest' faults faults' = (old : List ℕ) × (written ≡ Some old)
-IsUntroubledAt form (Trial seed count) left written keeps rows honest' faults faults' = ((old : List ℕ) × (written ≡ Some old)) × ((summary : List ℕ) × (trial_of seed count ≡ Ok (Ok summary)))
+-- An input free of faults: that of the source, or one whose blocks all follow; what `gen` writes needs none. A replay has a keeper
+-- that fits it, and so have a run that goes on, a tally, and a question, which has an answer.
+abbrev pub IsUntroubledAt : Form → Mode → Option (List ℕ) → Bool → Option (List Pair) → Type 0 → ℕ → ℕ → Type 0
+IsUntroubledAt form Replay left keeps rows honest' faults faults' = IsUntroubled form None left × FitsReplay keeps rows honest' faults faults'
+IsUntroubledAt form Resume left keeps rows honest' faults faults' = ResumesCalmly form left rows honest' faults faults'
+IsUntroubledAt form (Query what) left keeps rows honest' faults faults' = AsksCalmly form what rows honest' faults faults'
+IsUntroubledAt form Tally left keeps rows honest' faults faults' = TalliesCalmly form left rows honest' faults faults'
+IsUntroubledAt form (Gen seed count) left keeps rows honest' faults faults' = Unit {0}
+IsUntroubledAt form (Trial seed count) left keeps rows honest' faults faults' = (summary : List ℕ) × (trial_of seed count ≡ Ok (Ok summary))
 
 -- the same of what words ask for, which is a command
-abbrev pub IsUntroubledBy : Option Command → Option (List ℕ) → Option (List ℕ) → Bool → Option (List Pair) → Type 0 → ℕ → ℕ → Type 0
-IsUntroubledBy None left written keeps rows honest' faults faults' = ⊥
-IsUntroubledBy (Some c) left written keeps rows honest' faults faults' = IsUntroubledAt c.form c.mode left written keeps rows honest' faults faults'
+abbrev pub IsUntroubledBy : Option Command → Option (List ℕ) → Bool → Option (List Pair) → Type 0 → ℕ → ℕ → Type 0
+IsUntroubledBy None left keeps rows honest' faults faults' = ⊥
+IsUntroubledBy (Some c) left keeps rows honest' faults faults' = IsUntroubledAt c.form c.mode left keeps rows honest' faults faults'

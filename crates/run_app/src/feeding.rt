@@ -1,9 +1,9 @@
 //! The input in pieces, as a source gives them: a piece is cut into lines, and each line that has ended is answered.
 
-ghost use Rattle.std.specs.Prelude.{◌≡◌, ◌≤◌, ◌<◌, ◌^◌, ◌+◌, ◌∷◌, ◌++◌, [], List, ℕ, IfErr, IfSome, IfNone, OnOk, OnErr, IsErrOf, length, take, drop, slice_index};
+ghost use Rattle.std.specs.Prelude.{◌≡◌, ◌≤◌, ◌<◌, ◌^◌, ◌+◌, ◌∷◌, ◌++◌, [], ℕ, IfErr, IfSome, IfNone, OnOk, OnErr, IsErrOf, length, take, drop, slice_index};
 ghost use Rattle.base_io.specs.Outside.{Rose};
 ghost use Rattle.run_app.specs.Lines.{whole_from};
-ghost use Rattle.run_app.specs.Kept.{Began, Keeping, LeftIn};
+ghost use Rattle.run_app.specs.Kept.{Began, IsLater, Keeping, LeftIn};
 ghost use Rattle.run_app.specs.Machine.{longest, Standing};
 ghost use Rattle.run_app.specs.Parts.{PartStops, Fed, lines_after, HasNoEnd, NotExtended, UnlessKeep, UnlessWrite};
 
@@ -91,8 +91,8 @@ fn end_line<K: Sink, D: Keeper>(
     ensures cause { IsErrOf result LineStop.Write
         → Rose (K.faults sink.old) (K.faults sink.new) }
     ensures quiet { UnlessWrite result (K.faults sink.new ≡ K.faults sink.old) }
-    ensures honest { D.is_honest keeper.new → D.is_honest keeper.old }
-    ensures keep_later { D.faults keeper.old ≤ D.faults keeper.new }
+    ensures keeps { IsLater (D.is_honest keeper.old) (D.is_honest keeper.new)
+        (D.faults keeper.old) (D.faults keeper.new) }
     ensures keep_cause { IsErrOf result LineStop.Keep
         → Rose (D.faults keeper.old) (D.faults keeper.new) }
     ensures keep_quiet { UnlessKeep result (D.faults keeper.new ≡ D.faults keeper.old) }
@@ -154,8 +154,8 @@ pub fn feed<K: Sink, D: Keeper>(
     ensures cause { IsErrOf result LineStop.Write
         → Rose (K.faults sink.old) (K.faults sink.new) }
     ensures quiet { UnlessWrite result (K.faults sink.new ≡ K.faults sink.old) }
-    ensures honest { D.is_honest keeper.new → D.is_honest keeper.old }
-    ensures keep_later { D.faults keeper.old ≤ D.faults keeper.new }
+    ensures keeps { IsLater (D.is_honest keeper.old) (D.is_honest keeper.new)
+        (D.faults keeper.old) (D.faults keeper.new) }
     ensures keep_cause { IsErrOf result LineStop.Keep
         → Rose (D.faults keeper.old) (D.faults keeper.new) }
     ensures keep_quiet { UnlessKeep result (D.faults keeper.new ≡ D.faults keeper.old) }

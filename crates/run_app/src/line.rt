@@ -9,7 +9,7 @@ ghost use Rattle.run_app.specs.LineStops.{IsOfLine};
 ghost use Rattle.run_app.specs.Machine.{line_answer, not_read, not_applied, IsOfGenesis, IsNotStarted, genesis_answer, block_answer, Standing, StandsAt, AnswersTo};
 ghost use Rattle.chain_modules.specs.Kept.{StandsFor};
 ghost use Rattle.rule_modules.specs.Chain.{State};
-ghost use Rattle.run_app.specs.Kept.{Began, Keeping, LeftIn};
+ghost use Rattle.run_app.specs.Kept.{Began, IsLater, Keeping, LeftIn};
 ghost use Rattle.run_app.specs.Parts.{IsFault, LongOnly, NotAnswered, PartStops, Took, UnlessKeep, UnlessWrite, not_kept};
 
 use crate::status::{InputFault, LineStop};
@@ -309,8 +309,8 @@ pub fn take_line<K: Sink, D: Keeper>(
     ensures cause { IsErrOf result LineStop.Write
         → Rose (K.faults sink.old) (K.faults sink.new) }
     ensures quiet { UnlessWrite result (K.faults sink.new ≡ K.faults sink.old) }
-    ensures honest { D.is_honest keeper.new → D.is_honest keeper.old }
-    ensures keep_later { D.faults keeper.old ≤ D.faults keeper.new }
+    ensures keeps { IsLater (D.is_honest keeper.old) (D.is_honest keeper.new)
+        (D.faults keeper.old) (D.faults keeper.new) }
     ensures keep_cause { IsErrOf result LineStop.Keep
         → Rose (D.faults keeper.old) (D.faults keeper.new) }
     ensures keep_quiet { UnlessKeep result (D.faults keeper.new ≡ D.faults keeper.old) }

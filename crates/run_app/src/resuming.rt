@@ -1,6 +1,6 @@
 //! The commands that go on from what a keeper has.
 
-ghost use Rattle.std.specs.Prelude.{◌≡◌, true};
+ghost use Rattle.std.specs.Prelude.{◌≡◌, [], true, false};
 ghost use Rattle.base_io.specs.Outside.{Rose};
 ghost use Rattle.rule_machine.specs.Report.{report_of};
 ghost use Rattle.chain_modules.specs.Kept.{StandsFor};
@@ -9,6 +9,8 @@ ghost use Rattle.rule_modules.specs.Chain.{State};
 ghost use Rattle.run_app.specs.Kept.{UnlessKeepFault};
 ghost use Rattle.run_app.specs.Outcome.{UnlessReadFault, UnlessWriteFault};
 ghost use Rattle.run_app.specs.Resumes.{Answers, QueryEnds, ResumeEnds, status_of_restore};
+ghost use Rattle.run_app.specs.Unkept.{FindsNoRows, IsOfNoRows};
+ghost use Rattle.run_app.specs.Writes.{Adds};
 
 use crate::answer::answer_text;
 use crate::generating::status_of_sink;
@@ -35,8 +37,8 @@ pub(crate) fn status_of_restore(fault: RestoreFault) -> Status
     }
 }
 
-/// The command `resume`: each line is a block behind what the keeper has. Rows of the first format are brought to the second
-/// before anything is taken.
+/// The command `resume`: each line is a block behind what the keeper has. Rows of the first format
+/// are brought to the second before anything is taken.
 pub(crate) fn resume<S: Source, K: Sink, D: Keeper>(
     form: Form,
     alloc: Global,
@@ -47,6 +49,8 @@ pub(crate) fn resume<S: Source, K: Sink, D: Keeper>(
     ensures ends { ResumeEnds form (S.left source.old) (S.left source.new)
         (K.written sink.old) (K.written sink.new) (D.rows keeper.old) (D.rows keeper.new)
         (D.is_honest keeper.new) (D.may_leave keeper.old) (D.may_leave keeper.new) result }
+    ensures unkept { D.keeps keeper.old ≡ false → FindsNoRows (S.left source.old)
+        (S.left source.new) (K.written sink.old) (K.written sink.new) result }
     ensures busy { result ≡ Status.Usage → ⊥ }
     ensures clean { result ≡ Status.Done → K.clean sink.new ≡ true }
     ensures read_cause { result ≡ Status.ReadFault
@@ -107,6 +111,8 @@ pub(crate) fn answer<K: Sink, D: Keeper>(
     ensures ends { QueryEnds form what.now (K.written sink.old) (K.written sink.new)
         (D.rows keeper.old) (D.rows keeper.new) (D.is_honest keeper.new)
         (D.may_leave keeper.old) (D.may_leave keeper.new) result }
+    ensures unkept { D.keeps keeper.old ≡ false → IsOfNoRows result
+        × Adds (K.written sink.old) (K.written sink.new) (λ text. text ≡ []) }
     ensures busy { result ≡ Status.Usage → ⊥ }
     ensures read { result ≡ Status.ReadFault → ⊥ }
     ensures clean { result ≡ Status.Done → K.clean sink.new ≡ true }

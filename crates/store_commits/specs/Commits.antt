@@ -22,7 +22,8 @@ pub record IsCommit (old new : List Item) (list : List Change) : Type 0 where
   pub ordinary : IsOrdinary list
   pub stored : AreStored old → AreStored new
 
--- These changes lead from the rows that a keeper tells to those of these items, of which each has one then.
+-- These changes lead from the rows that a keeper tells to those of these items, of which each has
+-- one then.
 pub record LeadTo (items : List Item) (list : List Change) (told : Option (List Pair)) : Type 0 where
   pub stored : IsSome told → AreStored items
   pub rows : IfSome told (λ rows. changed list rows ≡ rows_in items)

@@ -1,5 +1,6 @@
-//! Commits of a chain to a keeper: all of its rows at the genesis, and at each block those that changed; and before a run
-//! that goes on from rows of another format, those that are others in the one that is written.
+//! Commits of a chain to a keeper: all of its rows at the genesis, and at each block those that
+//! changed; and before a run that goes on from rows of another format, those that are others in the
+//! one that is written.
 
 ghost use Rattle.std.specs.Prelude.{◌≡◌, ◌≢◌, ◌⊎◌, ◌≤◌, [], List, Ok, IsErrOf, IfErr, IfOk, IfSome, IsSome, OnErr, OnOk, true, false};
 ghost use Rattle.base_io.specs.declared.keeper.Change.{Change};
@@ -182,8 +183,8 @@ pub fn commit_next<D: Keeper>(
     }
 }
 
-/// Commits the changes that bring the rows of a keeper to those of a chain in the format that is written. Where there are none,
-/// the rows are so, and nothing is done.
+/// Commits the changes that bring the rows of a keeper to those of a chain in the format that is
+/// written. Where there are none, the rows are so, and nothing is done.
 ///
 /// # Errors
 /// `Failed`, only where the count of faults rose, and `NoMemory`. The rows are as before then.

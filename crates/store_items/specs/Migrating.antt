@@ -24,7 +24,8 @@ change_between i =
 abbrev pub HaveHead : List Item → Type 0
 HaveHead items = (height time : ℕ) × Contains items (item.Head height time)
 
--- Items of a chain that has begun: each has a row of its own, and one of them is the last height and time.
+-- Items of a chain that has begun: each has a row of its own, and one of them is the last height
+-- and time.
 pub record HaveBegun (items : List Item) : Type 0 where
   pub stored : AreStored items
   pub head : HaveHead items
@@ -33,15 +34,16 @@ pub record HaveBegun (items : List Item) : Type 0 where
 abbrev pub AreOld : List Item → List Pair → Type 0
 AreOld items rows = HaveBegun items × (rows ≡ rows_as First items)
 
--- The rows as they stand are those of these items, one after the other; no key is that of two, and one is the last height and time.
+-- The rows as they stand are those of these items, one after the other; no key is that of two, and
+-- one is the last height and time.
 pub record AreListed (f : Format) (items : List Item) (rows : List Pair) : Type 0 where
   pub have_rows : All HasRow items
   pub once : IsOnce (map key_of items)
   pub head : HaveHead items
   pub same : map (row_in f) items ≡ rows
 
--- Changes of these rows: each changes them, every keeper takes all of them, and they leave the rows of the same items in the second
--- format.
+-- Changes of these rows: each changes them, every keeper takes all of them, and they leave the rows
+-- of the same items in the second format.
 pub record IsMigration (items : List Item) (list : List Change) : Type 0 where
   pub reached : changed list (rows_as First items) ≡ rows_as Second items
   pub changing : AllByRecursion (ChangesRows (rows_as First items)) list

@@ -16,8 +16,8 @@ ghost use Rattle.base_io.specs.Changes.{ChangesRows, IsOrdinary, changed};
 ghost use Rattle.store_items.specs.Stored.{AreStored, HaveOwnKeys, rows_in};
 ghost use Rattle.store_items.specs.Making.{AreMade, HasNewHead};
 
-/// Of the items of a sound state no two have one key. Each can be written: no balance and no supply is 0, and no list has
-/// 2^32 elements. A signing record has a window of at most 100,000 places.
+/// Of the items of a sound state no two have one key. Each can be written: no balance and no supply
+/// is 0, and no list has 2^32 elements. A signing record has a window of at most 100,000 places.
 pub fn items_can_be_kept()
     ensures once { (p : State) → IsSound p → IsOnce (map key_of (items_of p)) }
     ensures written { (p : State) → IsSound p

@@ -30,8 +30,9 @@ fn push_between(alloc: Global, changes: &mut Vec<Change>, row: &Row) -> Result<(
     Ok(())
 }
 
-/// The changes that bring the rows of a chain from the first format to the second: a put of the last height and time, and
-/// one of each signing record whose bytes are others in the second format.
+/// The changes that bring the rows of a chain from the first format to the second: a put of the
+/// last height and time, and one of each signing record whose bytes are others in the second
+/// format.
 ///
 /// # Errors
 /// `NoMemory` alone, where each row is that of an item; else also `BadRow`.

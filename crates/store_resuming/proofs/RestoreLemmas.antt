@@ -240,6 +240,9 @@ some_pairs (r ∷ rs) lt e = absurd cc
 
 -- ---- results
 
+pub never_empty : (list : List Row) → 0 < length list → list ≡ [] → ⊥
+never_empty list some none = absurd (omega (arith, subst (λ (l : List Row). 0 < length l) none some))
+
 -- a row of no item
 pub refused_row : {T : Type 0} (e : RowFault) (P : Type 0) → (IsErrOf {T = T} (Err e) row.BadRow → P) → e ≡ row.BadRow → P
 refused_row {T} e P h is = h (subst (λ (x : RowFault). IsErrOf {T = T} (Err x) row.BadRow) (sym is) refl)

@@ -18,8 +18,8 @@ use Rattle.store_resuming.specs.Restored.{AreLoaded, AreOfNone, AreStateRows, Ha
 
 -- ---- the chain of rows
 
--- A chain of rows: it stands for a state of which these are the rows, as far as they are told, and for each of the same rows; and it is
--- settled.
+-- A chain of rows: it stands for a state of which these are the rows, as far as they are told, and
+-- for each of the same rows; and it is settled.
 pub record IsChainOf (told : (List Pair → Type 0) → Type 0) (chain : Chained) : Type 0 where
   pub first : State
   pub storable : IsStorable first
@@ -27,12 +27,13 @@ pub record IsChainOf (told : (List Pair → Type 0) → Type 0) (chain : Chained
   pub stands : (p : State) → IsStorable p → HaveSameRows p first → StandsFor chain.kept p
   pub settled : chain.settled ≡ chain.kept
 
--- these are the rows of a state in the first format, and the changes bring them to the one that is written
+-- these are the rows of a state in the first format, and the changes bring them to the one that is
+-- written
 abbrev pub AreMigrated : State → List Change → List Pair → Type 0
 AreMigrated p list rows = (rows ≡ old_rows_of p) × IsMigration (items_of p) list
 
--- Changes for the rows of a state: there are none where they are in the format that is written; where they are in the first, the changes
--- bring them to that format, and every keeper takes them.
+-- Changes for the rows of a state: there are none where they are in the format that is written;
+-- where they are in the first, the changes bring them to that format, and every keeper takes them.
 abbrev pub AreBrought : ((List Pair → Type 0) → Type 0) → State → List Change → Type 0
 AreBrought told p list =
     (told (λ now. now ≡ rows_of p) × (list ≡ []))
@@ -87,6 +88,14 @@ UnlessFailed (Err fault.Failed) P = Unit {0}
 UnlessFailed (Err fault.NoMemory) P = P
 UnlessFailed (Err fault.Empty) P = P
 UnlessFailed (Err fault.Unsound) P = P
+
+-- what comes of a keeper that keeps nothing: no chain, and no judgement of rows, since it has none
+abbrev pub IsOfNothing : {X : Type 0} → Result X RestoreFault → Type 0
+IsOfNothing (Ok x) = ⊥
+IsOfNothing (Err fault.Failed) = Unit {0}
+IsOfNothing (Err fault.NoMemory) = Unit {0}
+IsOfNothing (Err fault.Empty) = Unit {0}
+IsOfNothing (Err fault.Unsound) = ⊥
 
 -- ---- windows that no sound state has
 

@@ -1,6 +1,6 @@
 //! Rows that are loaded, and the chain of them.
 
-ghost use Rattle.std.specs.Prelude.{◌≡◌, ◌≢◌, ◌≤◌, [], All, Contains, List, map, true, IfErr, IfOk, IfSome, IsErrOf, IsSome, OnOk};
+ghost use Rattle.std.specs.Prelude.{◌≡◌, ◌≢◌, ◌≤◌, [], All, Contains, List, map, true, false, IfErr, IfOk, IfSome, IsErrOf, IsSome, OnOk};
 ghost use Rattle.base_io.specs.declared.keeper.Change.{Change};
 ghost use Rattle.base_io.specs.Outside.{Rose};
 ghost use Rattle.base_io.specs.Rows.{Makes, Pair};
@@ -11,7 +11,7 @@ ghost use Rattle.store_rows.specs.Rows.{row_in};
 ghost use Rattle.store_rows.specs.Spelled.{HasRow};
 ghost use Rattle.store_items.specs.Migrating.{AreListed};
 ghost use Rattle.store_resuming.specs.Restored.{AreLoaded, AreOfNone};
-ghost use Rattle.store_resuming.specs.Restoring.{AreChangesFrom, AreOfNoneIn, HasLongWindow, InOrder, IsChainIn, IsChainOf, IsNoChain, IsRestored, IsUnrestored, UnlessFailed};
+ghost use Rattle.store_resuming.specs.Restoring.{AreChangesFrom, AreOfNoneIn, HasLongWindow, InOrder, IsChainIn, IsChainOf, IsNoChain, IsOfNothing, IsRestored, IsUnrestored, UnlessFailed};
 
 use crate::fault::RestoreFault;
 use crate::from_items;
@@ -34,6 +34,8 @@ fn load_rows<D: Keeper>(keeper: &mut D) -> Result<Vec<Row>, RestoreFault>
     ensures ascending { IfSome (D.rows keeper.new) Rises }
     ensures fault { IfErr result (IsUnrestored
         (D.rows keeper.old) (D.rows keeper.new) (D.is_honest keeper.new)) }
+    // One that keeps nothing has no rows.
+    ensures unkept { D.keeps keeper.old ≡ false → IsOfNothing result }
     ensures same { Makes (λ rows. rows) (D.rows keeper.old) (D.rows keeper.new) }
     ensures settled { LeavesRows (D.may_leave keeper.new) (D.rows keeper.new) }
     ensures honest { D.is_honest keeper.new → D.is_honest keeper.old }
@@ -57,7 +59,8 @@ fn load_rows<D: Keeper>(keeper: &mut D) -> Result<Vec<Row>, RestoreFault>
     Ok(rows)
 }
 
-/// The chain of rows in a format. The errors are `Unsound`, exactly where they are those of no sound state, and `NoMemory`.
+/// The chain of rows in a format. The errors are `Unsound`, exactly where they are those of no
+/// sound state, and `NoMemory`.
 fn chain_of(alloc: Global, format: Format, rows: &[Row]) -> Result<Chain, RestoreFault>
     ensures chain { IfOk result (IsChainIn format (InOrder (map pair_of rows.now))) }
     ensures listed { IfOk result
@@ -106,9 +109,9 @@ fn have_long_window(rows: &[Row]) -> bool
     false
 }
 
-/// The chain of rows in the format that they tell, and this format. What a row tells of a window takes no memory where no
-/// sound state has it. The errors are `Unsound`, exactly where they are those of no sound state in either format, and
-/// `NoMemory`.
+/// The chain of rows in the format that they tell, and this format. What a row tells of a window
+/// takes no memory where no sound state has it. The errors are `Unsound`, exactly where they are
+/// those of no sound state in either format, and `NoMemory`.
 fn chain_told(alloc: Global, rows: &[Row]) -> Result<(Chain, Format), RestoreFault>
     ensures chain { IfOk result (λ r. IsChainIn r.1 (InOrder (map pair_of rows.now)) r.0) }
     ensures listed { IfOk result
@@ -129,17 +132,18 @@ fn chain_told(alloc: Global, rows: &[Row]) -> Result<(Chain, Format), RestoreFau
     }
 }
 
-/// The chain of a keeper's rows in either format, settled: it stands for each sound state of which they are the rows. The rows
-/// are left, and what a stop may leave.
+/// The chain of a keeper's rows in either format, settled: it stands for each sound state of which
+/// they are the rows. The rows are left, and what a stop may leave.
 ///
 /// # Errors
-/// `Failed`, only where the count of faults rose; `Empty`, exactly where there are no rows; `Unsound`, exactly where they
-/// are those of no sound state in either format; and `NoMemory`.
+/// `Failed`, only where the count of faults rose; `Empty`, exactly where there are no rows;
+/// `Unsound`, exactly where they are those of no sound state in either format; and `NoMemory`.
 pub fn restore<D: Keeper>(alloc: Global, keeper: &mut D) -> Result<Chain, RestoreFault>
     ensures chain { IfOk result (IsChainOf
         (AreLoaded (D.rows keeper.old) (D.rows keeper.new) (D.is_honest keeper.new))) }
     ensures fault { IfErr result (IsUnrestored
         (D.rows keeper.old) (D.rows keeper.new) (D.is_honest keeper.new)) }
+    ensures unkept { D.keeps keeper.old ≡ false → IsOfNothing result }
     ensures same { Makes (λ rows. rows) (D.rows keeper.old) (D.rows keeper.new) }
     ensures settled { LeavesRows (D.may_leave keeper.new) (D.rows keeper.new) }
     ensures honest { D.is_honest keeper.new → D.is_honest keeper.old }
@@ -162,7 +166,8 @@ pub fn restore<D: Keeper>(alloc: Global, keeper: &mut D) -> Result<Chain, Restor
     }
 }
 
-/// A chain of rows, and the changes that bring these to the format that is written: none where they are in it.
+/// A chain of rows, and the changes that bring these to the format that is written: none where they
+/// are in it.
 #[derive(Drop)]
 pub struct Restored {
     pub chain: Chain,
@@ -179,8 +184,9 @@ fn changes_from(alloc: Global, format: Format, rows: &[Row]) -> Result<Vec<Chang
     }
 }
 
-/// The chain of a keeper's rows in either format, as [`restore`] gives it, and the changes that bring these rows to the format
-/// that is written, for a run that goes on from them. The rows are left, and what a stop may leave.
+/// The chain of a keeper's rows in either format, as [`restore`] gives it, and the changes that
+/// bring these rows to the format that is written, for a run that goes on from them. The rows are
+/// left, and what a stop may leave.
 ///
 /// # Errors
 /// Those of [`restore`].
@@ -193,6 +199,7 @@ pub fn restore_with_changes<D: Keeper>(
         r.chain r.changes.items) }
     ensures fault { IfErr result (IsUnrestored
         (D.rows keeper.old) (D.rows keeper.new) (D.is_honest keeper.new)) }
+    ensures unkept { D.keeps keeper.old ≡ false → IsOfNothing result }
     ensures same { Makes (λ rows. rows) (D.rows keeper.old) (D.rows keeper.new) }
     ensures settled { LeavesRows (D.may_leave keeper.new) (D.rows keeper.new) }
     ensures honest { D.is_honest keeper.new → D.is_honest keeper.old }

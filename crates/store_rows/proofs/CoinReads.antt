@@ -38,7 +38,7 @@ coin_reads = told coin_at coin_bytes (λ c. IsCoin c × Unit {0}) IsCoin (λ c h
 
 -- ---- the order of coins
 
-pub each_weaker : {A : Type 0} (P Q : A → Type 0) → ((x : A) → P x → Q x) → (xs : List A) → AllByRecursion P xs → AllByRecursion Q xs
+each_weaker : {A : Type 0} (P Q : A → Type 0) → ((x : A) → P x → Q x) → (xs : List A) → AllByRecursion P xs → AllByRecursion Q xs
 each_weaker P Q weaker [] h = tt
 each_weaker P Q weaker (x ∷ xs) h = (weaker x h.0, each_weaker P Q weaker xs h.1)
 

@@ -4,7 +4,8 @@ use Rattle.base_roles.specs.declared.items.Item.{Item}
 use Rattle.base_roles.specs.declared.items.Item.TheVariants as item
 use Rattle.store_rows.specs.Fields.{missed_of}
 
--- It is not the last height and time; and where it is a signing record, its window has 25 to 32 places, of which none was missed.
+-- It is not the last height and time; and where it is a signing record, its window has 25 to 32
+-- places, of which none was missed.
 abbrev pub IsAlike : Item → Type 0
 IsAlike (item.Head height time) = ⊥
 IsAlike (item.Parameters params) = Unit {0}

@@ -51,7 +51,8 @@ SigningRows =
     (row_in First signing ≡ (48 ∷ replicate 20 80, before_ring ++ 0 ∷ 0 ∷ 0 ∷ 5 ∷ 10 ∷ []))
     × (row_in Second signing ≡ (48 ∷ replicate 20 80, before_ring ++ 0 ∷ 0 ∷ 0 ∷ 5 ∷ 0 ∷ 0 ∷ 0 ∷ 2 ∷ 0 ∷ 0 ∷ 0 ∷ 1 ∷ 0 ∷ 0 ∷ 0 ∷ 3 ∷ []))
 
--- nine missed places take two bytes; and 28 signed ones take four, which in the second format tell that none was missed
+-- nine missed places take two bytes; and 28 signed ones take four, which in the second format tell
+-- that none was missed
 abbrev pub Rings : Type 0
 Rings =
     (ring_bytes First (replicate 9 true) ≡ 0 ∷ 0 ∷ 0 ∷ 9 ∷ 255 ∷ 1 ∷ [])
@@ -85,7 +86,8 @@ BadEnds =
     × IsBad (65 ∷ []) (replicate 5 0)
     × IsBad (65 ∷ []) (replicate 3 0)
 
--- a supply of 0; rewards that go to a module; a truth value of 2; no number of a format; a bit behind the last place
+-- a supply of 0; rewards that go to a module; a truth value of 2; no number of a format; a bit
+-- behind the last place
 abbrev pub BadValues : Type 0
 BadValues =
     IsBad (17 ∷ 5 ∷ uatom) (replicate 16 0)
@@ -98,7 +100,8 @@ BadValues =
 abbrev pub IsBadRing : List ℕ → Type 0
 IsBadRing ring = item_of Second (48 ∷ replicate 20 80) (before_ring ++ ring) ≡ Err BadRow
 
--- a place twice; places that don't ascend; a place at the length; a place too few; a byte behind; the same places in the first format
+-- a place twice; places that don't ascend; a place at the length; a place too few; a byte behind;
+-- the same places in the first format
 abbrev pub BadRings : Type 0
 BadRings =
     IsBadRing (0 ∷ 0 ∷ 0 ∷ 5 ∷ 0 ∷ 0 ∷ 0 ∷ 2 ∷ 0 ∷ 0 ∷ 0 ∷ 1 ∷ 0 ∷ 0 ∷ 0 ∷ 1 ∷ [])

@@ -3,8 +3,8 @@
 ghost use Rattle.std.specs.Prelude.{◌≡◌};
 ghost use Rattle.store_rows.specs.Formats.{number_of};
 
-/// A format of rows. Two things differ: the number in front of the last height, and how a signing record tells
-/// which of the last votes were missed. All other rows are the same in both.
+/// A format of rows. Two things differ: the number in front of the last height, and how a signing
+/// record tells which of the last votes were missed. All other rows are the same in both.
 #[derive(Clone, Copy, Debug, PartialEq, Eq)]
 pub enum Format {
     /// Each place of the window is told, eight in a byte.

@@ -12,9 +12,9 @@ ghost use Rattle.store_rows.specs.declared.format.Format.TheVariants.{First, Sec
 ghost use Rattle.store_rows.specs.Rows.{key_bytes, row_in, value_in};
 ghost use Rattle.store_rows.specs.Spelled.{HasRow};
 
-/// Items and their rows are one to one in each format, and so are the keys of items and those of rows. The key of a row
-/// is that of the item's key alone, so of an item that is gone. What is written is read as the item that it
-/// was. Keys of rows are in the order of their fields.
+/// Items and their rows are one to one in each format, and so are the keys of items and those of
+/// rows. The key of a row is that of the item's key alone, so of an item that is gone. What is
+/// written is read as the item that it was. Keys of rows are in the order of their fields.
 pub fn rows_are_one_to_one()
     ensures rows { (f : Format) (i j : Item) → HasRow i → HasRow j
         → row_in f i ≡ row_in f j → i ≡ j }
@@ -27,8 +27,9 @@ pub fn rows_are_one_to_one()
         → key_cmp (key_bytes i) (key_bytes j) ≡ item_cmp i j }
 {}
 
-/// The two formats have the same row of an item, but of the last height and time and of signing records; and of a
-/// signing record too, where its window has 25 to 32 places, of which none was missed.
+/// The two formats have the same row of an item, but of the last height and time and of signing
+/// records; and of a signing record too, where its window has 25 to 32 places, of which none was
+/// missed.
 pub fn formats_agree()
     ensures { (i : Item) → IsAlike i → row_in First i ≡ row_in Second i }
 {}

@@ -171,7 +171,8 @@ pub fn key_of(alloc: Global, item: &Item) -> Result<Vec<u8>, RowFault>
     Ok(key)
 }
 
-/// The row of an item in a format. Its lists have fewer than 2^32 elements, and a balance or a supply is not 0.
+/// The row of an item in a format. Its lists have fewer than 2^32 elements, and a balance or a
+/// supply is not 0.
 ///
 /// # Errors
 /// `NoMemory` alone.

@@ -36,8 +36,8 @@ fn is_head_key(key: &[u8]) -> bool
     }
 }
 
-/// The format of the rows of a chain, as the row of the last height and time tells it; none where there is no such row, or
-/// its number is that of no format.
+/// The format of the rows of a chain, as the row of the last height and time tells it; none where
+/// there is no such row, or its number is that of no format.
 pub fn format_of(rows: &[Row]) -> Option<Format>
     ensures { result ≡ format_told (map pair_of rows.now) }
 {
@@ -66,8 +66,8 @@ fn length_at(key: &[u8], value: &[u8]) -> Result<u32, RowFault>
     u32_at(&mut value)
 }
 
-/// How many places the window of a signing record has, as its row tells in either format; none where the row is that of
-/// another item. It takes no memory.
+/// How many places the window of a signing record has, as its row tells in either format; none
+/// where the row is that of another item. It takes no memory.
 pub fn window_of(row: &Row) -> Option<u32>
     ensures { (f : Format) (item : Item) → HasRow item → row_in f item ≡ pair_of row.now
         → IfSome result (λ n. window_of item ≡ Some n) }

@@ -1,4 +1,5 @@
-//! Signing records in both formats of rows: those that tell each place of a window, and those that tell the missed ones.
+//! Signing records in both formats of rows: those that tell each place of a window, and those that
+//! tell the missed ones.
 
 use crate::row_tests::{are_same, row};
 use std::process::Abort;

@@ -18,8 +18,11 @@ fn row(rt: &(impl Abort + AllocGlobal), key: &[u8], value: &[u8]) -> Row {
     }
 }
 
-/// Height 7, five seconds after the year 2024 begins.
+/// Height 7, five seconds after the year 2024 begins, in the first format.
 const HEAD: &[u8] = b"\x01\0\0\0\0\0\0\0\x07\0\0\0\0\0\0\0\0\x17\xa6\x10\x18\x2b\x6a\xf2\0";
+
+/// The same in the second format.
+const SECOND_HEAD: &[u8] = b"\x02\0\0\0\0\0\0\0\x07\0\0\0\0\0\0\0\0\x17\xa6\x10\x18\x2b\x6a\xf2\0";
 
 #[test]
 fn changes_of_items_are_changes_of_rows(rt: HostRuntime) {
@@ -35,7 +38,7 @@ fn changes_of_items_are_changes_of_rows(rt: HostRuntime) {
     match changes.as_slice() {
         [Change::Put(row), Change::Remove(key)] => {
             assert!(rt; row.key.as_slice() == b"\x01".as_slice());
-            assert!(rt; row.value.as_slice() == HEAD);
+            assert!(rt; row.value.as_slice() == SECOND_HEAD);
             assert!(rt; key.as_slice() == b"\x5033333333333333333333".as_slice());
         }
         _ => rt.panic("a put and a removal"),
@@ -61,13 +64,11 @@ fn rows_are_items(rt: HostRuntime) {
     );
 }
 
-/// The same in the second format.
-const SECOND_HEAD: &[u8] = b"\x02\0\0\0\0\0\0\0\x07\0\0\0\0\0\0\0\0\x17\xa6\x10\x18\x2b\x6a\xf2\0";
-
 /// The key of a signing record.
 const SIGNING: &[u8] = b"\x30PPPPPPPPPPPPPPPPPPPP";
 
-/// What stands in front of the ring of a signing record: start 0, counted 5, missed 2, jailed until 1970, not tombstoned.
+/// What stands in front of the ring of a signing record: start 0, counted 5, missed 2, jailed until
+/// 1970, not tombstoned.
 const BEFORE_RING: &[u8] =
     b"\0\0\0\0\0\0\0\0\0\0\0\0\0\0\0\x05\0\0\0\0\0\0\0\x02\0\0\0\0\0\0\0\0\0\0\0\0\0\0\0\0\0";
 

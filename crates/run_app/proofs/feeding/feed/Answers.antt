@@ -39,8 +39,8 @@ loop-end-preserved g c = record {
       (t.0, rw c.after-rest.ensures (fed_to_end c.args.form _ s _ _ _ _ f.0 _ _ _ t.0 _ _ _ _ f.1 c.in-Some.ensures.end t.1), t.2);
   later = omega (arith, c.end_line.ensures.later);
   quiet = c.in_default-end_line.ensures.quiet ∙ c.loop-end.invariant.quiet;
-  honest = λ h. c.loop-end.invariant.honest (c.end_line.ensures.honest h);
-  keep_later = omega (arith, c.end_line.ensures.keep_later);
+  honest = λ h. c.loop-end.invariant.honest (c.end_line.ensures.keeps.honest h);
+  keep_later = omega (arith, c.loop-end.invariant.keep_later, c.end_line.ensures.keeps.count);
   keep_quiet = c.in_default-end_line.ensures.keep_quiet ∙ c.loop-end.invariant.keep_quiet;
 }
 
@@ -55,3 +55,12 @@ returns-clause-stops g c = λ b s k.
     let f = c.loop-end.invariant.fed b s k in
     let none : HasNoEnd c.loop-end.rest.now = rw c.in_default.is at c.end_of_line.ensures.none in
     piece_stops c.args.form _ c.extend.result _ s _ _ _ _ f.0 _ _ _ f.1 (left_of b _ _ _ _ f.0 f.2) none c.extend.ensures.err
+
+pub returns-in-Err-clause-keeps : goal.returns-in-Err-clause-keeps
+returns-in-Err-clause-keeps g c = record {
+  honest = λ h. c.loop-end.invariant.honest (c.end_line.ensures.keeps.honest h);
+  count = omega (arith, c.loop-end.invariant.keep_later, c.end_line.ensures.keeps.count);
+}
+
+pub returns-clause-keeps : goal.returns-clause-keeps
+returns-clause-keeps g c = record { honest = c.loop-end.invariant.honest; count = c.loop-end.invariant.keep_later }

@@ -1,6 +1,7 @@
 use Rattle.std.proofs.Common.{inl, inr, refl}
-use Rattle.run_app.proofs.ModeLemmas.{quiet_at, quiet_read}
-use Rattle.run_app.proofs.ResumeLemmas.{all_taken, each_changes, leads_first, never_none, not_brought, not_resumed, resumed_first, unresumed_busy, unresumed_cause, unresumed_quiet, unresumed_undone, unresumed_unread, unresumed_unwritten, went_on}
+use Rattle.run_app.proofs.DriveLemmas.{begun_busy}
+use Rattle.run_app.proofs.ModeLemmas.{nothing_done, quiet_at, quiet_read}
+use Rattle.run_app.proofs.ResumeLemmas.{all_taken, each_changes, leads_first, never_none, no_rows_found, not_brought, not_resumed, resumed_first, unresumed_busy, unresumed_cause, unresumed_quiet, unresumed_undone, unresumed_unread, unresumed_unwritten, went_on}
 use Rattle.run_app.proofs.resuming.resume.Goals as goal
 
 pub commit_migration-requires-clause-ordinary : goal.commit_migration-requires-clause-ordinary
@@ -23,7 +24,7 @@ pub returns-in-Ok-commit_migration-clause-ends : goal.returns-in-Ok-commit_migra
 returns-in-Ok-commit_migration-clause-ends g c =
     let e = c.restore_with_changes.ensures in
     let commits = rw c.deref.ensures.value at c.in-Ok-commit_migration.ensures.commits in
-    inl (went_on c.args.form _ _ _ _ _ c.in-Ok.ensures.restored e.same _ _ _ _ e.settled commits _ _ _ _ _ _ _ _ c.drive.ensures.honest c.commit_migration.ensures.honest c.drive.ensures.ends)
+    inl (went_on c.args.form _ _ _ _ _ c.in-Ok.ensures.restored e.same _ _ _ _ e.settled commits _ _ _ _ _ _ _ _ c.drive.ensures.keeps.honest c.commit_migration.ensures.honest c.drive.ensures.ends)
 
 pub returns-in-Err-Failed-clause-ends : goal.returns-in-Err-Failed-clause-ends
 returns-in-Err-Failed-clause-ends g c =
@@ -67,3 +68,18 @@ returns-in-Err-clause-keep_cause g c = rw c.status_of_restore.ensures (unresumed
 
 pub returns-in-Err-clause-keep_quiet : goal.returns-in-Err-clause-keep_quiet
 returns-in-Err-clause-keep_quiet g c = rw c.status_of_restore.ensures (unresumed_quiet c.in-Err.fault _ c.in-Err.ensures.quiet)
+
+pub returns-in-Ok-commit_migration-clause-unkept : goal.returns-in-Ok-commit_migration-clause-unkept
+returns-in-Ok-commit_migration-clause-unkept g c = λ off. absurd (c.in-Ok.ensures.unkept off)
+
+pub returns-in-Err-Failed-clause-unkept : goal.returns-in-Err-Failed-clause-unkept
+returns-in-Err-Failed-clause-unkept g c = λ off. absurd (c.in-Ok.ensures.unkept off)
+
+pub returns-in-Err-NoMemory-clause-unkept : goal.returns-in-Err-NoMemory-clause-unkept
+returns-in-Err-NoMemory-clause-unkept g c = λ off. absurd (c.in-Ok.ensures.unkept off)
+
+pub returns-in-Err-clause-unkept : goal.returns-in-Err-clause-unkept
+returns-in-Err-clause-unkept g c = rw c.status_of_restore.ensures (λ off. (no_rows_found c.in-Err.fault (c.in-Err.ensures.unkept off), nothing_done _ _))
+
+pub returns-in-Ok-commit_migration-clause-busy : goal.returns-in-Ok-commit_migration-clause-busy
+returns-in-Ok-commit_migration-clause-busy g c = begun_busy c.drive.result c.drive.ensures.begun

@@ -17,3 +17,9 @@ returns-in-Err-chain_told-clause-cause g c = λ bad. absurd (never_failed c.in-E
 
 pub returns-in-Err-chain_told-clause-quiet : goal.returns-in-Err-chain_told-clause-quiet
 returns-in-Err-chain_told-clause-quiet g c = quiet_fault c.in-Err-chain_told.fault _ c.in-Ok.ensures.quiet
+
+pub returns-in-Ok-chain_told-clause-unkept : goal.returns-in-Ok-chain_told-clause-unkept
+returns-in-Ok-chain_told-clause-unkept g c = λ off. absurd (c.in-Ok.ensures.unkept off)
+
+pub returns-in-Err-chain_told-clause-unkept : goal.returns-in-Err-chain_told-clause-unkept
+returns-in-Err-chain_told-clause-unkept g c = λ off. absurd (c.in-Ok.ensures.unkept off)
