@@ -11,12 +11,15 @@ use Rattle.run_words.specs.declared.mode.Command.{Command}
 use Rattle.run_words.specs.declared.mode.Mode.{Mode}
 use Rattle.run_words.specs.declared.mode.Mode.TheVariants.{Replay, Resume, Query, Tally, Gen, Trial}
 use Rattle.run_app.specs.declared.status.Status.{Status}
-use Rattle.run_app.specs.declared.status.Status.TheVariants.{Done, Usage, BadInput, Limit, ReadFault, WriteFault, KeepFault, NoMemory, BadStore, WrongStore, NotFound}
+use Rattle.run_app.specs.declared.status.Status.TheVariants.{Done, Usage, BadInput, Limit, ReadFault, WriteFault, KeepFault, NoMemory, BadStore, WrongStore, NotFound, NoPast}
+use Rattle.run_app.specs.declared.performing.Way.{Way}
+use Rattle.run_app.specs.declared.performing.Way.TheVariants.{Plain, Kept, Past}
+use Rattle.run_app.specs.Commands.{CommandEnds, CommandUnkept, IsUntroubledBy, WayEnds, WayUnkept, way_of}
 use Rattle.run_app.specs.Counts.{IsOfWords, Moved, is_keep_fault, is_read_fault, is_write_fault}
 use Rattle.run_app.specs.Ending.{status_of_words}
 use Rattle.run_app.specs.Kept.{AreSome}
-use Rattle.run_app.specs.Modes.{CommandEnds, IsTried, IsUntroubledAt, IsUntroubledBy, ModeEnds}
-use Rattle.run_app.specs.Unkept.{CommandUnkept, ModeUnkept}
+use Rattle.run_app.specs.Modes.{IsTried, IsUntroubledAt, ModeEnds}
+use Rattle.run_app.specs.Unkept.{ModeUnkept}
 use Rattle.run_app.specs.Writes.{IsWritten}
 use Rattle.run_app.proofs.DriveLemmas.{untroubled_run}
 use Rattle.run_app.proofs.ModeLemmas.{finds_none, nothing, nothing_done, rows_left, same_rows, tried_without_memory, unbegun_replay, untouched, written_to_end}
@@ -32,9 +35,14 @@ mode_unbegun form Tally left w rows honest leaves = (rows_left rows rows honest 
 mode_unbegun form (Gen seed count) left w rows honest leaves = ((refl, nothing w _ (record { rest = generated_text form seed count; text_is = refl })), untouched rows leaves)
 mode_unbegun form (Trial seed count) left w rows honest leaves = ((refl, tried_without_memory (trial_of seed count) w), untouched rows leaves)
 
+way_unbegun : (form : Form) (way : Way) (left w : Option (List ℕ)) (rows : Option (List Pair)) (honest : Type 0) (leaves : List Pair → Type 0) → WayEnds form way left left w w rows rows honest leaves leaves NoMemory
+way_unbegun form (Plain m) left w rows honest leaves = mode_unbegun form m left w rows honest leaves
+way_unbegun form (Kept m) left w rows honest leaves = inr (tt, nothing_done left w, rows_left rows rows honest leaves leaves (same_rows rows) (λ h l x. x))
+way_unbegun form (Past height what) left w rows honest leaves = (refl, (rows_left rows rows honest leaves leaves (same_rows rows) (λ h l x. x), inr (tt, nothing w _ refl)))
+
 ends_unbegun : (o : Option Command) (left w : Option (List ℕ)) (rows : Option (List Pair)) (honest : Type 0) (leaves : List Pair → Type 0) → CommandEnds o left left w w rows rows honest leaves leaves NoMemory
 ends_unbegun None left w rows honest leaves = (nothing_done left w, untouched rows leaves)
-ends_unbegun (Some c) left w rows honest leaves = mode_unbegun c.form c.mode left w rows honest leaves
+ends_unbegun (Some c) left w rows honest leaves = way_unbegun c.form (way_of c) left w rows honest leaves
 
 -- ---- words that ask for nothing
 
@@ -72,9 +80,14 @@ mode_unkept Tally left w = (tt, nothing_done left w)
 mode_unkept (Gen seed count) left w = tt
 mode_unkept (Trial seed count) left w = tt
 
+way_unkept : (way : Way) (left w : Option (List ℕ)) → WayUnkept way left left w w NoMemory
+way_unkept (Plain m) left w = mode_unkept m left w
+way_unkept (Kept m) left w = (mode_unkept m left w, λ e. absurd cc)
+way_unkept (Past height what) left w = (tt, nothing_done left w)
+
 unkept_unbegun : (o : Option Command) (left w : Option (List ℕ)) → CommandUnkept o left left w w NoMemory
 unkept_unbegun None left w = tt
-unkept_unbegun (Some c) left w = mode_unkept c.mode left w
+unkept_unbegun (Some c) left w = way_unkept (way_of c) left w
 
 pub unkept_unasked : (f : WordsFault) (o : Option Command) (left w : Option (List ℕ)) → (f ≡ words.Usage → o ≡ None) → CommandUnkept o left left w w (status_of_words f)
 unkept_unasked words.Usage o left w none = subst (λ p. CommandUnkept p left left w w Usage) (sym (none refl)) tt
@@ -118,3 +131,4 @@ is_of_command NoMemory o c some busy = tt
 is_of_command BadStore o c some busy = never_asked o c some
 is_of_command (WrongStore is_empty) o c some busy = never_asked o c some
 is_of_command NotFound o c some busy = never_asked o c some
+is_of_command (NoPast base last) o c some busy = never_asked o c some

@@ -2,7 +2,7 @@
 use Rattle.std.proofs.Common.{◌≡◌, ℕ, refl}
 use Rattle.base_io.specs.Outside.{Rose}
 use Rattle.run_app.specs.declared.status.Status.{Status}
-use Rattle.run_app.specs.declared.status.Status.TheVariants.{Done, Usage, BadInput, Limit, ReadFault, WriteFault, KeepFault, NoMemory, BadStore, WrongStore, NotFound}
+use Rattle.run_app.specs.declared.status.Status.TheVariants.{Done, Usage, BadInput, Limit, ReadFault, WriteFault, KeepFault, NoMemory, BadStore, WrongStore, NotFound, NoPast}
 use Rattle.run_app.specs.Counts.{Moved, is_keep_fault, is_read_fault, is_write_fault}
 use Rattle.run_app.specs.Kept.{UnlessKeepFault}
 use Rattle.run_app.specs.Outcome.{UnlessReadFault, UnlessWriteFault}
@@ -19,6 +19,7 @@ moved_read NoMemory before now cause quiet = quiet
 moved_read BadStore before now cause quiet = quiet
 moved_read (WrongStore is_empty) before now cause quiet = quiet
 moved_read NotFound before now cause quiet = quiet
+moved_read (NoPast base last) before now cause quiet = quiet
 
 pub moved_write : (s : Status) (before now : ℕ) → (s ≡ WriteFault → Rose before now) → UnlessWriteFault s (now ≡ before) → Moved (is_write_fault s) before now
 moved_write Done before now cause quiet = quiet
@@ -32,6 +33,7 @@ moved_write NoMemory before now cause quiet = quiet
 moved_write BadStore before now cause quiet = quiet
 moved_write (WrongStore is_empty) before now cause quiet = quiet
 moved_write NotFound before now cause quiet = quiet
+moved_write (NoPast base last) before now cause quiet = quiet
 
 pub moved_keep : (s : Status) (before now : ℕ) → (s ≡ KeepFault → Rose before now) → UnlessKeepFault s (now ≡ before) → Moved (is_keep_fault s) before now
 moved_keep Done before now cause quiet = quiet
@@ -45,3 +47,4 @@ moved_keep NoMemory before now cause quiet = quiet
 moved_keep BadStore before now cause quiet = quiet
 moved_keep (WrongStore is_empty) before now cause quiet = quiet
 moved_keep NotFound before now cause quiet = quiet
+moved_keep (NoPast base last) before now cause quiet = quiet

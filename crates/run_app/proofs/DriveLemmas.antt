@@ -5,7 +5,7 @@ use Rattle.std.proofs.lemmas.List.{append-nil, take-append-drop, length-take-le}
 use Rattle.base_bech32.specs.declared.form.Form.{Form}
 use Rattle.base_io.specs.Calls.{Takes, Stays}
 use Rattle.run_app.specs.declared.status.Status.{Status}
-use Rattle.run_app.specs.declared.status.Status.TheVariants.{Done, Usage, BadInput, Limit, ReadFault, WriteFault, KeepFault, NoMemory, BadStore, WrongStore, NotFound}
+use Rattle.run_app.specs.declared.status.Status.TheVariants.{Done, Usage, BadInput, Limit, ReadFault, WriteFault, KeepFault, NoMemory, BadStore, WrongStore, NotFound, NoPast}
 use Rattle.run_app.specs.declared.status.LimitKind.TheVariants.{Line, Input, Ratio}
 use Rattle.run_app.specs.declared.status.LineStop.{LineStop}
 use Rattle.run_app.specs.declared.status.LineStop.TheVariants as stops
@@ -195,6 +195,7 @@ end_as form L s0 n s t line done text NoMemory most good number e (inr h) = (mos
 end_as form L s0 n s t line done text BadStore most good number e h = absurd h
 end_as form L s0 n s t line done text (WrongStore is_empty) most good number e h = absurd h
 end_as form L s0 n s t line done text NotFound most good number e h = absurd h
+end_as form L s0 n s t line done text (NoPast base last) most good number e h = absurd h
 
 -- one line, or the report, that stops the end
 line_as : (form : Form) (L : Standing → Standing → Type 0) (n : ℕ) (s : Standing) (line : List ℕ) (ls : List (List ℕ)) (text : List ℕ) (stop : LineStop) → length line ≤ longest → LongOnly stop line → PartEnds form L n s (λ (_ : ⊤). ls) ls stop text → FinishAs form L n s ls (status_of stop) text
@@ -269,6 +270,7 @@ untroubled_end form L s0 input taken rest text KeepFault e h good short u r w k 
 untroubled_end form L s0 input taken rest text BadStore e h good short u r w k = absurd h
 untroubled_end form L s0 input taken rest text (WrongStore is_empty) e h good short u r w k = absurd h
 untroubled_end form L s0 input taken rest text NotFound e h good short u r w k = absurd h
+untroubled_end form L s0 input taken rest text (NoPast base last) e h good short u r w k = absurd h
 untroubled_end form L s0 input taken rest text (BadInput n fault) e (most, inl (lines, ended, named)) good short u r w k =
     let f : (answer_from form s0 input).fault ≡ Some (stops.BadInput n fault) = rw e (ended_fault form L s0 taken rest lines text (stops.BadInput n fault) ended named) in cc
 untroubled_end form L s0 input taken rest text (BadInput n fault) e (most, inr (none, lacking)) good short u r w k =

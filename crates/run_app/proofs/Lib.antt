@@ -9,7 +9,9 @@ pub mod KeepLemmas
 pub mod LineLemmas
 pub mod ModeLemmas
 pub mod OnwardLemmas
+pub mod OpenLemmas
 pub mod PartLemmas
+pub mod PastLemmas
 pub mod ReadLemmas
 pub mod RejoinLemmas
 pub mod ReportLemmas
@@ -17,8 +19,10 @@ pub mod RestLemmas
 pub mod ResumeLemmas
 pub mod RisenLemmas
 pub mod RunLemmas
+pub mod SinceLemmas
 pub mod SizeLemmas
 pub mod SoundLemmas
 pub mod StopLemmas
 pub mod TallyLemmas
+pub mod WayLemmas
 pub mod WholeLemmas

@@ -29,7 +29,7 @@ use Rattle.store_rows.specs.Rows.{row_in}
 use Rattle.rule_modules.specs.Chain.{State}
 use Rattle.store_items.specs.Stored.{AreStored, rows_as, rows_in}
 use Rattle.run_app.specs.declared.status.Status.{Status}
-use Rattle.run_app.specs.declared.status.Status.TheVariants.{Done, Usage, BadInput, Limit, ReadFault, WriteFault, KeepFault, NoMemory, BadStore, WrongStore, NotFound}
+use Rattle.run_app.specs.declared.status.Status.TheVariants.{Done, Usage, BadInput, Limit, ReadFault, WriteFault, KeepFault, NoMemory, BadStore, WrongStore, NotFound, NoPast}
 use Rattle.run_app.specs.Kept.{AreLeft, Began, BeganOnRows, Keeping, LeftIn, UnlessKeepFault}
 use Rattle.run_app.specs.Machine.{Standing}
 use Rattle.run_app.specs.Outcome.{RunEnds}
@@ -295,6 +295,7 @@ module _ (p : State) (rows rows' : Option (List Pair)) (honest' : Type 0) (fault
       let (f, is) = fits.rows_are in
       absurd (has_rows f p (at_rows rows (state_rows f p) P is (were_loaded rows rows' honest' P h.1 same fits.honest)))
   never_unresumed NotFound h keep = absurd h
+  never_unresumed (NoPast base last) h keep = absurd h
 
 -- rows that fit a state, and are those of another, are of both
 pub alike_of : (p first : State) (rows : Option (List Pair)) (honest' : Type 0) (faults faults' : ℕ) → FitsState p rows honest' faults faults' → IfSome rows (λ now. AreStateRows now first) → HaveSameRows p first

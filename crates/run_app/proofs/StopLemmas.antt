@@ -16,7 +16,7 @@ use Rattle.run_words.specs.declared.mode.Mode.{Mode}
 use Rattle.run_words.specs.declared.mode.Mode.TheVariants.{Replay, Resume, Query, Tally, Gen, Trial}
 use Rattle.run_app.specs.declared.status.LimitKind.TheVariants.{Line, Input, Ratio}
 use Rattle.run_app.specs.declared.status.Status.{Status}
-use Rattle.run_app.specs.declared.status.Status.TheVariants.{Done, Usage, BadInput, Limit, ReadFault, WriteFault, KeepFault, NoMemory, BadStore, WrongStore, NotFound}
+use Rattle.run_app.specs.declared.status.Status.TheVariants.{Done, Usage, BadInput, Limit, ReadFault, WriteFault, KeepFault, NoMemory, BadStore, WrongStore, NotFound, NoPast}
 use Rattle.run_app.specs.declared.status.LineStop.{LineStop}
 use Rattle.run_app.specs.Kept.{AreLeft, AreRowsOf, LeftIn}
 use Rattle.run_app.specs.Lines.{lines_of, lines_from, whole_from, rest_from}
@@ -25,7 +25,11 @@ use Rattle.run_app.specs.Modes.{ModeEnds, ReplayEnds}
 use Rattle.run_app.specs.Outcome.{AreEnded, Ends, Passed, RunEnds}
 use Rattle.run_app.specs.Runs.{AreAnswered, Named, Wrote, Unkept, Held, Answered, Reported, Lacking, Finished}
 use Rattle.run_app.specs.Resumes.{ResumeEnds}
-use Rattle.run_app.specs.Stops.{AreRowsBehind, CommandStops, ModeStops, RunStops}
+use Rattle.run_app.specs.declared.performing.Way.{Way}
+use Rattle.run_app.specs.declared.performing.Way.TheVariants.{Plain, Kept, Past}
+use Rattle.run_app.specs.Commands.{CommandStops, WayEnds, WayStops, way_of}
+use Rattle.store_history.specs.Held.{ShowsLeft, shown}
+use Rattle.run_app.specs.Stops.{AreRowsBehind, ModeStops, RunStops}
 use Rattle.run_app.specs.Told.{IsToldAs}
 use Rattle.run_app.specs.Writes.{Adds}
 use Rattle.run_app.proofs.CutLemmas.{lines-append}
@@ -171,6 +175,7 @@ module _ (form : Form) (first : Standing) (input : List ℕ) (left : List Pair) 
     stopped BadStore h = absurd h
     stopped (WrongStore is_empty) h = absurd h
     stopped NotFound h = absurd h
+    stopped (NoPast base last) h = absurd h
 
 -- so of a run over a keeper that is honest to its end, whose rows were told as it began
 pub run_stops : (form : Form) (first : Standing) (left left' written written' : Option (List ℕ)) (rows told : Option (List Pair)) (honest : Type 0) (leaves leaves' : List Pair → Type 0) (status : Status) → RunEnds form first (LeftIn (record { first = first; rows = rows }) told honest leaves') left left' written written' status → RunStops form first left written written' rows honest leaves leaves'
@@ -251,6 +256,11 @@ mode_unbegun form Tally left written rows honest leaves = λ good now may. may
 mode_unbegun form (Gen seed count) left written rows honest leaves = λ good now may. may
 mode_unbegun form (Trial seed count) left written rows honest leaves = λ good now may. may
 
+way_unbegun : (form : Form) (way : Way) (left written : Option (List ℕ)) (rows : Option (List Pair)) (honest : Type 0) (leaves : List Pair → Type 0) → WayStops form way left written written rows honest leaves leaves
+way_unbegun form (Plain m) left written rows honest leaves = mode_unbegun form m left written rows honest leaves
+way_unbegun form (Kept m) left written rows honest leaves = mode_unbegun form m left written (shown rows) honest (ShowsLeft leaves)
+way_unbegun form (Past height what) left written rows honest leaves = λ good now may. may
+
 pub stops_unbegun : (o : Option Command) (left written : Option (List ℕ)) (rows : Option (List Pair)) (honest : Type 0) (leaves : List Pair → Type 0) → CommandStops o left written written rows honest leaves leaves
 stops_unbegun None left written rows honest leaves = λ good now may. may
-stops_unbegun (Some c) left written rows honest leaves = mode_unbegun c.form c.mode left written rows honest leaves
+stops_unbegun (Some c) left written rows honest leaves = way_unbegun c.form (way_of c) left written rows honest leaves

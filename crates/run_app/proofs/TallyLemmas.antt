@@ -22,7 +22,7 @@ use Rattle.store_resuming.specs.declared.fault.RestoreFault.{RestoreFault}
 use Rattle.store_resuming.specs.Restored.{AreLoaded, AreStateRows}
 use Rattle.store_resuming.specs.Restoring.{IsChainOf, IsUnrestored}
 use Rattle.run_app.specs.declared.status.Status.{Status}
-use Rattle.run_app.specs.declared.status.Status.TheVariants.{Done, Usage, BadInput, Limit, ReadFault, WriteFault, KeepFault, NoMemory, BadStore, WrongStore, NotFound}
+use Rattle.run_app.specs.declared.status.Status.TheVariants.{Done, Usage, BadInput, Limit, ReadFault, WriteFault, KeepFault, NoMemory, BadStore, WrongStore, NotFound, NoPast}
 use Rattle.run_app.specs.declared.status.LimitKind.TheVariants.{Line, Input, Ratio}
 use Rattle.run_app.specs.declared.status.LineStop.{LineStop}
 use Rattle.run_app.specs.declared.status.LineStop.TheVariants as stop
@@ -120,6 +120,7 @@ module _ (form : Form) (input taken rest : List ℕ) (cast : Cast) (good : cast_
   never_uncounted BadStore h read = absurd h
   never_uncounted (WrongStore is_empty) h read = absurd h
   never_uncounted NotFound h read = absurd h
+  never_uncounted (NoPast base last) h read = absurd h
 
 pub untroubled_tally : (form : Form) (left left' w w' : Option (List ℕ)) (rows rows' : Option (List Pair)) (honest' : Type 0) (leaves leaves' : List Pair → Type 0) (faults faults' : ℕ) (s : Status) → TallyEnds form left left' w w' rows rows' honest' leaves leaves' s → TalliesCalmly form left rows honest' faults faults'
     → (s ≡ ReadFault → ⊥) → (s ≡ WriteFault → ⊥) → (s ≡ KeepFault → Rose faults faults') → (s ≡ Done) ⊎ (s ≡ NoMemory)

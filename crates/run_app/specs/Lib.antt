@@ -1,6 +1,8 @@
 pub mod Ballots
+pub mod Commands
 pub mod Counts
 pub mod Ending
+pub mod Histories
 pub mod Kept
 pub mod Laws
 pub mod LineStops

@@ -4,7 +4,6 @@ use Rattle.base_bech32.specs.declared.form.Form.{Form}
 use Rattle.base_io.specs.Outside.{Rose}
 use Rattle.base_io.specs.Rows.{Pair}
 use Rattle.base_roles.specs.declared.refusal.Refusal.{Refusal}
-use Rattle.run_words.specs.declared.mode.Command.{Command}
 use Rattle.run_words.specs.declared.mode.Mode.{Mode}
 use Rattle.run_words.specs.declared.mode.Mode.TheVariants.{Replay, Resume, Query, Tally, Gen, Trial}
 use Rattle.run_generated.specs.Writing.{generated_text}
@@ -61,11 +60,6 @@ ModeEnds form (Gen seed count) left left' written written' rows rows' honest' le
 ModeEnds form (Trial seed count) left left' written written' rows rows' honest' leaves leaves' status =
     Leaves left left' written written' (IsTried (trial_of seed count) status) × AreUntouched rows rows' leaves leaves'
 
--- the same of what words ask for: of no command, and of one with addresses in its form
-abbrev pub CommandEnds : Option Command → Option (List ℕ) → Option (List ℕ) → Option (List ℕ) → Option (List ℕ) → Option (List Pair) → Option (List Pair) → Type 0 → (List Pair → Type 0) → (List Pair → Type 0) → Status → Type 0
-CommandEnds None left left' written written' rows rows' honest' leaves leaves' status = Leaves left left' written written' (λ text. text ≡ []) × AreUntouched rows rows' leaves leaves'
-CommandEnds (Some c) left left' written written' rows rows' honest' leaves leaves' status = ModeEnds c.form c.mode left left' written written' rows rows' honest' leaves leaves' status
-
 -- a keeper that keeps nothing, or one without rows, that is honest to the end, and of which no call fails
 pub record FitsReplay (keeps : Bool) (rows : Option (List Pair)) (honest' : Type 0) (faults faults' : ℕ) : Type 0 where
   pub none : (keeps ≡ false) ⊎ (rows ≡ Some [])
@@ -81,8 +75,3 @@ IsUntroubledAt form (Query what) left keeps rows honest' faults faults' = AsksCa
 IsUntroubledAt form Tally left keeps rows honest' faults faults' = TalliesCalmly form left rows honest' faults faults'
 IsUntroubledAt form (Gen seed count) left keeps rows honest' faults faults' = Unit {0}
 IsUntroubledAt form (Trial seed count) left keeps rows honest' faults faults' = (summary : List ℕ) × (trial_of seed count ≡ Ok (Ok summary))
-
--- the same of what words ask for, which is a command
-abbrev pub IsUntroubledBy : Option Command → Option (List ℕ) → Bool → Option (List Pair) → Type 0 → ℕ → ℕ → Type 0
-IsUntroubledBy None left keeps rows honest' faults faults' = ⊥
-IsUntroubledBy (Some c) left keeps rows honest' faults faults' = IsUntroubledAt c.form c.mode left keeps rows honest' faults faults'

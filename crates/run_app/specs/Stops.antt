@@ -6,7 +6,6 @@ use Rattle.base_io.specs.Rows.{Pair}
 use Rattle.store_resuming.specs.Restored.{IsStorable, state_rows}
 use Rattle.store_rows.specs.declared.format.Format.{Format}
 use Rattle.rule_modules.specs.Chain.{State}
-use Rattle.run_words.specs.declared.mode.Command.{Command}
 use Rattle.run_words.specs.declared.mode.Mode.{Mode}
 use Rattle.run_words.specs.declared.mode.Mode.TheVariants.{Replay, Resume, Query, Tally, Gen, Trial}
 use Rattle.run_app.specs.Kept.{AreRowsOf}
@@ -84,8 +83,3 @@ ModeStops form (Query what) left written written' rows honest' leaves leaves' = 
 ModeStops form Tally left written written' rows honest' leaves leaves' = LeavesAsBefore honest' leaves leaves'
 ModeStops form (Gen seed count) left written written' rows honest' leaves leaves' = LeavesAsBefore honest' leaves leaves'
 ModeStops form (Trial seed count) left written written' rows honest' leaves leaves' = LeavesAsBefore honest' leaves leaves'
-
--- the same of what words ask for: where they are no command, a stop leaves what it could leave before
-abbrev pub CommandStops : Option Command → Option (List ℕ) → Option (List ℕ) → Option (List ℕ) → Option (List Pair) → Type 0 → (List Pair → Type 0) → (List Pair → Type 0) → Type 0
-CommandStops None left written written' rows honest' leaves leaves' = LeavesAsBefore honest' leaves leaves'
-CommandStops (Some c) left written written' rows honest' leaves leaves' = ModeStops c.form c.mode left written written' rows honest' leaves leaves'

@@ -1,6 +1,5 @@
 -- How a run ends over a keeper that keeps nothing, and so has no rows.
 use Rattle.std.specs.Prelude.{◌≡◌, ℕ, true, false, List, [], Option, Some, None}
-use Rattle.run_words.specs.declared.mode.Command.{Command}
 use Rattle.run_words.specs.declared.mode.Mode.{Mode}
 use Rattle.run_words.specs.declared.mode.Mode.TheVariants.{Replay, Resume, Query, Tally, Gen, Trial}
 use Rattle.run_app.specs.declared.status.Status.{Status}
@@ -31,9 +30,3 @@ ModeUnkept Tally left left' written written' status =
     FindsNoRows left left' written written' status
 ModeUnkept (Gen seed count) left left' written written' status = Unit {0}
 ModeUnkept (Trial seed count) left left' written written' status = Unit {0}
-
--- the same of what words ask for
-abbrev pub CommandUnkept : Option Command → Option (List ℕ) → Option (List ℕ) → Option (List ℕ) → Option (List ℕ) → Status → Type 0
-CommandUnkept None left left' written written' status = Unit {0}
-CommandUnkept (Some c) left left' written written' status =
-    ModeUnkept c.mode left left' written written' status

@@ -9,10 +9,10 @@ ghost use Rattle.run_app.specs.Lines.{last_line};
 ghost use Rattle.run_app.specs.Kept.{Began, IsLater, Keeping, LeftIn, UnlessKeepFault};
 ghost use Rattle.run_app.specs.Machine.{longest, Standing};
 ghost use Rattle.run_words.specs.Words.{command_of};
-ghost use Rattle.run_app.specs.Modes.{CommandEnds, HasFewBlocks, IsUntroubledBy, ModeEnds, ReplayEnds};
-ghost use Rattle.store_commits.specs.Held.{TakesDistinct};
-ghost use Rattle.run_app.specs.Stops.{CommandStops};
-ghost use Rattle.run_app.specs.Unkept.{CommandUnkept, ModeUnkept};
+ghost use Rattle.run_app.specs.Commands.{CommandEnds, CommandStops, CommandUnkept, IsUntroubledBy};
+ghost use Rattle.run_app.specs.Modes.{HasFewBlocks, ModeEnds, ReplayEnds};
+ghost use Rattle.store_history.specs.Held.{TakesDistinct};
+ghost use Rattle.run_app.specs.Unkept.{ModeUnkept};
 ghost use Rattle.run_app.specs.Outcome.{HasBegun, RunEnds, most_bytes, UnlessReadFault, UnlessWriteFault};
 ghost use Rattle.run_app.specs.Parts.{FinishStatus, Stands};
 ghost use Rattle.rule_machine.specs.Promises.{AccountsHoldWhatIsOwed, AllTransactionsEnd, ClaimsAreBracketed, RunsAreSound, ShortfallsAreBounded, SuppliesFallByBurns};
@@ -28,6 +28,7 @@ use crate::feeding::{Progress, feed};
 use crate::finishing::finish;
 use crate::generating::{write_generated, write_trial};
 use crate::line::{Buffers, LONGEST};
+use crate::performing::perform;
 use crate::resuming::{answer, resume};
 use crate::status::{LimitKind, Status, status_at_end, status_of, status_of_words};
 use crate::tallying::tally;
@@ -245,6 +246,7 @@ fn replay<S: Source, K: Sink, D: Keeper>(
         → Rose (K.faults sink.old) (K.faults sink.new) }
     ensures read_quiet { UnlessReadFault result (S.faults source.new ≡ S.faults source.old) }
     ensures write_quiet { UnlessWriteFault result (K.faults sink.new ≡ K.faults sink.old) }
+    ensures honest { D.is_honest keeper.new → D.is_honest keeper.old }
     ensures keep_cause { result ≡ Status.KeepFault
         → Rose (D.faults keeper.old) (D.faults keeper.new) }
     ensures keep_quiet { UnlessKeepFault result (D.faults keeper.new ≡ D.faults keeper.old) }
@@ -257,8 +259,8 @@ fn replay<S: Source, K: Sink, D: Keeper>(
     }
 }
 
-/// Carries out a command.
-fn carry_out<S: Source, K: Sink, D: Keeper>(
+/// Carries out a command, as its own words say.
+pub(crate) fn carry_out<S: Source, K: Sink, D: Keeper>(
     form: Form,
     alloc: Global,
     mode: Mode,
@@ -280,6 +282,7 @@ fn carry_out<S: Source, K: Sink, D: Keeper>(
         → Rose (K.faults sink.old) (K.faults sink.new) }
     ensures read_quiet { UnlessReadFault result (S.faults source.new ≡ S.faults source.old) }
     ensures write_quiet { UnlessWriteFault result (K.faults sink.new ≡ K.faults sink.old) }
+    ensures honest { D.is_honest keeper.new → D.is_honest keeper.old }
     ensures keep_cause { result ≡ Status.KeepFault
         → Rose (D.faults keeper.old) (D.faults keeper.new) }
     ensures keep_quiet { UnlessKeepFault result (D.faults keeper.new ≡ D.faults keeper.old) }
@@ -295,7 +298,8 @@ fn carry_out<S: Source, K: Sink, D: Keeper>(
 }
 
 /// Runs the command of these words: `replay`, `resume`, `query` with a kind and perhaps an address, `tally`, `gen SEED
-/// COUNT` or `trial SEED COUNT`; each may stand behind the word `bech32`. Addresses are read and written as forty
+/// COUNT` or `trial SEED COUNT`; `replay` and `resume` may stand behind the word `keep`, `query` behind the words `past
+/// HEIGHT`, and each behind the word `bech32`, which stands before all others. Addresses are read and written as forty
 /// hexadecimal digits, and behind `bech32` as their spellings of BIP 173 alone, modules being written by their names.
 /// Nothing else depends on that word: what is kept has no texts of addresses, so either form goes on from a store.
 ///
@@ -311,12 +315,18 @@ fn carry_out<S: Source, K: Sink, D: Keeper>(
 /// `gen` writes the generated input, and `trial` the summary of it, which a chain takes block by block; neither takes
 /// anything from the source, or calls the keeper.
 ///
+/// Behind `keep`, each commit also keeps what its rows replaced, in rows of the keeper whose keys begin with the byte 0x60
+/// or 0x61; what is said of rows is then said of the others, which are visible. A history that stands there goes on, and else
+/// one begins; a commit that brings rows to the second format begins it anew. Behind `past HEIGHT` a question is answered from
+/// the rows that were visible after the last commit of at most this height. Without these words such rows are those of no
+/// sound state.
+///
 /// What each status leaves: at `Done` the whole output, flushed; at `Usage` nothing was read or written; at `BadInput`
 /// and `Limit` exactly the texts of the lines before the named one, and of a trial and a tally nothing; at `ReadFault`
 /// those of all lines that were taken with their end, and of a tally nothing; at `WriteFault` all texts before the one
 /// being written and a part of that, or the whole output where the flush failed; at `KeepFault` those of the lines
 /// before the one whose commit failed, and nothing where the rows were not loaded or not brought to the second format;
-/// at `NoMemory` a front of the whole output; at `WrongStore`, `BadStore` and `NotFound` nothing. What was taken and
+/// at `NoMemory` a front of the whole output; at `WrongStore`, `BadStore`, `NotFound` and `NoPast` nothing. What was taken and
 /// written is what the source and the sink tell, where they tell it. The keeper's rows are those of the last committed
 /// line, as they were where there is none (in the second format, once they were brought to it): of the lines whose texts
 /// were written, and at `WriteFault` and `NoMemory` of one line more. A stop at a fault of the keeper may also leave the
@@ -326,6 +336,10 @@ fn carry_out<S: Source, K: Sink, D: Keeper>(
 /// `WrongStore(false)` comes exactly where `replay` loaded rows, and `WrongStore(true)` where `resume`, `query` or
 /// `tally` loaded none, as over a keeper that keeps nothing; `BadStore` exactly where these loaded rows that are those of
 /// no sound state in either format; `NotFound` exactly where a query has an address of which the report has no line.
+/// Behind `keep`, `BadStore` also comes, before all of these, exactly where a history in the rows is not of its form. Behind
+/// `past HEIGHT` the order is `WrongStore(true)`; `BadStore` where a history is not of its form or no head stands; `NoPast`
+/// exactly where the height is below the base of the history or above the last height, with these; and `BadStore` where the
+/// past rows are those of no sound state.
 pub fn run<S: Source, K: Sink, D: Keeper>(
     alloc: Global,
     words: &[String],
@@ -395,7 +409,7 @@ pub fn run<S: Source, K: Sink, D: Keeper>(
     moments_of_runs_do_not_matter();
     shortfalls_are_bounded();
     match read_words(alloc, words) {
-        Ok(command) => carry_out(command.form, alloc, command.mode, source, sink, keeper),
+        Ok(command) => perform(alloc, command, source, sink, keeper),
         Err(fault) => status_of_words(fault),
     }
 }

@@ -61,6 +61,9 @@ pub enum Status {
     WrongStore(bool),
     /// No line is told of this address.
     NotFound,
+    /// The keeper's rows tell nothing of this height: it is not between these, the base of their history and the last
+    /// height.
+    NoPast(u64, u64),
 }
 
 /// Why a line, or a piece of the input, was not answered.

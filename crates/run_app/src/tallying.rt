@@ -133,6 +133,7 @@ pub(crate) fn tally<S: Source, K: Sink, D: Keeper>(
         → Rose (K.faults sink.old) (K.faults sink.new) }
     ensures read_quiet { UnlessReadFault result (S.faults source.new ≡ S.faults source.old) }
     ensures write_quiet { UnlessWriteFault result (K.faults sink.new ≡ K.faults sink.old) }
+    ensures honest { D.is_honest keeper.new → D.is_honest keeper.old }
     ensures keep_cause { result ≡ Status.KeepFault
         → Rose (D.faults keeper.old) (D.faults keeper.new) }
     ensures keep_quiet { UnlessKeepFault result (D.faults keeper.new ≡ D.faults keeper.old) }

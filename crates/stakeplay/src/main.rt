@@ -1,13 +1,14 @@
 //! `stakeplay STORE WORDS`: replays the accounting of a chain from standard input to standard
 //! output, answers questions about a store, counts ballots over one, or writes input that it generates. STORE is the path of a database file, in
 //! which the chain's rows are kept, or `-`, and then nothing is kept. WORDS is `replay`, `resume`, `query` with a kind and
-//! perhaps an address, `tally`, `gen SEED COUNT` or `trial SEED COUNT`.
+//! perhaps an address, `tally`, `gen SEED COUNT` or `trial SEED COUNT`. The word `keep` may stand before `replay` and
+//! `resume`, the words `past HEIGHT` before `query`, and the word `bech32` before all others.
 #![tactic(auto)]
 
 mod place;
 
 ghost use Rattle.std.specs.Prelude.{◌≡◌};
-ghost use Rattle.store_commits.specs.Held.{TakesDistinct};
+ghost use Rattle.store_history.specs.Held.{TakesDistinct};
 ghost use Rattle.stakeplay.specs.Statuses.{fault_number, line_number, status_number, number_of_fault};
 
 use crate::place::{Place, place_of, status_of_opening};
@@ -39,6 +40,7 @@ fn number_of(status: &Status) -> u8
         Status::BadStore => 8,
         Status::WrongStore(_) => 9,
         Status::NotFound => 10,
+        Status::NoPast(_, _) => 11,
     }
 }
 
@@ -187,6 +189,7 @@ fn main(rt: HostRuntime) -> ExitCode {
         Status::WrongStore(true) => eprintln!(rt; "stakeplay: store is empty"),
         Status::WrongStore(false) => eprintln!(rt; "stakeplay: store is not empty"),
         Status::NotFound => eprintln!(rt; "stakeplay: not found"),
+        Status::NoPast(_, _) => eprintln!(rt; "stakeplay: no past"),
     };
     ExitCode::from(number_of(&status))
 }

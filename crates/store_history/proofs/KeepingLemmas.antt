@@ -200,6 +200,10 @@ knows_still told told' base vis stayed k = record {
   seen_are = holds_still (λ rows. vis ≡ visible rows) told told' stayed k.seen_are;
 }
 
+-- what became of rows that a load left became of those before it
+pub become_before : (first mid told : Option (List Pair)) → Makes (λ rows. rows) first mid → HaveBecome mid told → HaveBecome first told
+become_before first mid told stayed h = if_some_by told _ _ (λ rows is was. (was.0, told_back first mid was.0 stayed was.1, was.2)) h
+
 -- a fault after the keeper was only asked for its rows
 pub commits_loaded : {X : Type 0} (r : Result X KeepFault) (fault : KeepFault) → r ≡ Err fault → (list : List Change) (told mid : Option (List Pair)) (honest between : Type 0) (leaves at : List Pair → Type 0) → Makes (λ rows. rows) told mid → LeavesRows at mid
     → (between → honest) → (between → (left : List Pair) → at left → leaves left) → CommitsTo r list told mid honest between leaves at

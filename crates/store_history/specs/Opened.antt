@@ -15,3 +15,10 @@ OnLoaded (Ok x) fact = fact
 OnLoaded (Err Failed) fact = Unit {0}
 OnLoaded (Err BadHistory) fact = fact
 OnLoaded (Err NoMemory) fact = Unit {0}
+
+-- The fact holds, unless the keeper failed.
+abbrev pub UnlessFailed : {X : Type 0} → Result X OpenFault → Type 0 → Type 0
+UnlessFailed (Ok x) fact = fact
+UnlessFailed (Err Failed) fact = Unit {0}
+UnlessFailed (Err BadHistory) fact = fact
+UnlessFailed (Err NoMemory) fact = fact

@@ -243,4 +243,6 @@ impl<D: Keeper, L: Loan> Keeper for HistoryKeeper<'_, D, L> {
     ghost takes_ordinary = { λ _ changes ordinary. ordinary };
 
     ghost untold = { λ k unkept. ap shown (D.untold k.inner.now unkept) };
+
+    ghost keeps_alike = { λ k other. D.keeps_alike k.inner.now other.inner.now };
 }

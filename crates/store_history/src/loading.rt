@@ -7,7 +7,7 @@ ghost use Rattle.base_io.specs.Outside.{Rose};
 ghost use Rattle.base_io.specs.Changes.{pair_of, LeavesRows, Rises};
 ghost use Rattle.base_io.specs.Rows.{Makes, Pair};
 ghost use Rattle.store_history.specs.Held.{Knows};
-ghost use Rattle.store_history.specs.Opened.{open_fault, OnLoaded};
+ghost use Rattle.store_history.specs.Opened.{open_fault, OnLoaded, UnlessFailed};
 ghost use Rattle.store_history.specs.History.{stored_base, visible, IsHistory};
 
 use crate::forms::is_visible;
@@ -139,8 +139,7 @@ pub fn read_history<D: Keeper>(alloc: Global, keeper: &mut D) -> Result<History,
     ensures later { D.faults keeper.old ≤ D.faults keeper.new }
     ensures cause { IsErrOf result OpenFault.Failed
         → Rose (D.faults keeper.old) (D.faults keeper.new) }
-    ensures quiet { (IsErrOf result OpenFault.Failed → ⊥)
-        → D.faults keeper.new ≡ D.faults keeper.old }
+    ensures quiet { UnlessFailed result (D.faults keeper.new ≡ D.faults keeper.old) }
 {
     match keeper.load() {
         Ok(rows) => read_rows(alloc, rows.as_slice()),

@@ -145,6 +145,16 @@ formats_same p q s t (rows, (f, a), (g, b)) h =
 pub same_itself : (p : State) → HaveSameRows p p
 same_itself p = (rows_of p, (Second, refl), (Second, refl))
 
+-- a chain of rows that were read in one format
+pub ordered_chain : (f : Format) (list : List Pair) (chain : Chained) → IsChainIn f (InOrder list) chain → IsChainOf (InOrder list) chain
+ordered_chain f list chain c = record {
+  first = c.first;
+  storable = c.storable;
+  rows_are = λ up. (f, c.rows_are up);
+  stands = λ p q alike. c.stands p q (formats_same p c.first q c.storable alike f);
+  settled = c.settled;
+}
+
 -- rows that tell none
 pub untold : (rows : List Pair) → format_told rows ≡ None → InOrder rows AreOfNone
 untold rows none up p q (f, same) = never (sym none ∙ told_of_state f p rows q up same)

@@ -21,5 +21,5 @@ pub use fault::RestoreFault;
 pub use laws::{
     formats_tell_the_same, records_are_all, records_are_kept, rows_decide_what_is_kept,
 };
-pub use restoring::{Restored, restore, restore_with_changes};
+pub use restoring::{Restored, chain_of_rows, restore, restore_with_changes};
 pub use resuming::from_items;

@@ -132,6 +132,18 @@ fn chain_told(alloc: Global, rows: &[Row]) -> Result<(Chain, Format), RestoreFau
     }
 }
 
+/// The chain of rows in either format, settled, in the order of their keys: it stands for each sound state of which they are
+/// the rows. The errors are `Unsound`, exactly where they are those of no sound state in either format, and `NoMemory`.
+pub fn chain_of_rows(alloc: Global, rows: &[Row]) -> Result<Chain, RestoreFault>
+    ensures chain { IfOk result (IsChainOf (InOrder (map pair_of rows.now))) }
+    ensures fault { IfErr result (IsNoChain AreOfNone (map pair_of rows.now)) }
+{
+    match chain_told(alloc, rows) {
+        Ok((chain, _)) => Ok(chain),
+        Err(fault) => Err(fault),
+    }
+}
+
 /// The chain of a keeper's rows in either format, settled: it stands for each sound state of which
 /// they are the rows. The rows are left, and what a stop may leave.
 ///

@@ -1,6 +1,6 @@
 //! Runs over a database whose files stop after some calls: what is left there, and how a run goes on from it.
 
-ghost use Rattle.store_commits.specs.Held.{TakesDistinct};
+ghost use Rattle.store_history.specs.Held.{TakesDistinct};
 
 use crate::whole::{
     Fronts, LINES, NEW, OLD, Start, WHOLE, are_behind, are_same, begun, command_behind, copied,

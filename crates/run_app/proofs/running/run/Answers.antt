@@ -1,46 +1,48 @@
 use Rattle.std.proofs.Common.{map}
 use Rattle.std.specs.Prelude.{string_bytes}
+use Rattle.run_app.specs.Commands.{way_of}
 use Rattle.run_app.proofs.ModeLemmas.{few_blocks}
-use Rattle.run_app.proofs.CommandLemmas.{complete_unasked, ends_unasked, is_of_command, is_of_no_command, kept_unasked, read_unasked, unkept_unasked, untroubled_command, write_unasked}
+use Rattle.run_app.proofs.CommandLemmas.{complete_unasked, ends_unasked, is_of_command, is_of_no_command, kept_unasked, read_unasked, unkept_unasked, write_unasked}
 use Rattle.run_app.proofs.CountLemmas.{moved_keep, moved_read, moved_write}
 use Rattle.run_app.proofs.RejoinLemmas.{runs_go_on}
 use Rattle.run_app.proofs.SoundLemmas.{lines_replayed}
-use Rattle.run_app.proofs.StopLemmas.{mode_stops, stops_unbegun}
+use Rattle.run_app.proofs.StopLemmas.{stops_unbegun}
+use Rattle.run_app.proofs.WayLemmas.{untroubled_way, way_commits, way_stops}
 use Rattle.run_app.proofs.WholeLemmas.{answers_replayed}
 use Rattle.run_app.proofs.running.run.Goals as goal
 
-pub carry_out-requires-clause-few : goal.carry_out-requires-clause-few
-carry_out-requires-clause-few g c = few_blocks (map string_bytes c.args.words.now) c.in-Ok.command c.in-Ok.ensures.command
+pub perform-requires-clause-few : goal.perform-requires-clause-few
+perform-requires-clause-few g c = few_blocks (map string_bytes c.args.words.now) c.in-Ok.command c.in-Ok.ensures.command
 
 -- ---- a command
 
 pub returns-in-Ok-clause-ends : goal.returns-in-Ok-clause-ends
-returns-in-Ok-clause-ends g c = rw c.in-Ok.ensures.command c.carry_out.ensures.ends
+returns-in-Ok-clause-ends g c = rw c.in-Ok.ensures.command c.perform.ensures.ends
 
 pub returns-in-Ok-clause-unkept : goal.returns-in-Ok-clause-unkept
-returns-in-Ok-clause-unkept g c = rw c.in-Ok.ensures.command c.carry_out.ensures.unkept
+returns-in-Ok-clause-unkept g c = rw c.in-Ok.ensures.command c.perform.ensures.unkept
 
 pub returns-in-Ok-clause-stops : goal.returns-in-Ok-clause-stops
-returns-in-Ok-clause-stops g c = rw c.in-Ok.ensures.command (mode_stops c.in-Ok.command.form c.in-Ok.command.mode _ _ _ _ _ _ _ _ _ c.carry_out.result c.carry_out.ensures.ends)
+returns-in-Ok-clause-stops g c = rw c.in-Ok.ensures.command (way_stops c.in-Ok.command.form (way_of c.in-Ok.command) _ _ _ _ _ _ _ _ _ c.perform.result c.perform.ensures.ends)
 
 pub returns-in-Ok-clause-usage : goal.returns-in-Ok-clause-usage
-returns-in-Ok-clause-usage g c = is_of_command c.carry_out.result _ c.in-Ok.command c.in-Ok.ensures.command c.carry_out.ensures.busy
+returns-in-Ok-clause-usage g c = is_of_command c.perform.result _ c.in-Ok.command c.in-Ok.ensures.command c.perform.ensures.busy
 
 pub returns-in-Ok-clause-reads : goal.returns-in-Ok-clause-reads
-returns-in-Ok-clause-reads g c = moved_read c.carry_out.result _ _ c.carry_out.ensures.read_cause c.carry_out.ensures.read_quiet
+returns-in-Ok-clause-reads g c = moved_read c.perform.result _ _ c.perform.ensures.read_cause c.perform.ensures.read_quiet
 
 pub returns-in-Ok-clause-writes : goal.returns-in-Ok-clause-writes
-returns-in-Ok-clause-writes g c = (moved_write c.carry_out.result _ _ c.carry_out.ensures.write_cause c.carry_out.ensures.write_quiet, c.carry_out.ensures.clean)
+returns-in-Ok-clause-writes g c = (moved_write c.perform.result _ _ c.perform.ensures.write_cause c.perform.ensures.write_quiet, c.perform.ensures.clean)
 
 pub returns-in-Ok-clause-keeps : goal.returns-in-Ok-clause-keeps
-returns-in-Ok-clause-keeps g c = moved_keep c.carry_out.result _ _ c.carry_out.ensures.keep_cause c.carry_out.ensures.keep_quiet
+returns-in-Ok-clause-keeps g c = moved_keep c.perform.result _ _ c.perform.ensures.keep_cause c.perform.ensures.keep_quiet
 
 pub returns-in-Ok-clause-complete : goal.returns-in-Ok-clause-complete
 returns-in-Ok-clause-complete g c =
     rw c.in-Ok.ensures.command
     (λ calm reads writes.
-    untroubled_command c.in-Ok.command.form c.in-Ok.command.mode _ _ _ _ _ _ _ _ _ _ _ _ _ c.carry_out.ensures.ends calm c.carry_out.ensures.busy
-    (λ e. reads (c.carry_out.ensures.read_cause e)) (λ e. writes (c.carry_out.ensures.write_cause e)) c.carry_out.ensures.keep_cause c.carry_out.ensures.unkept)
+    untroubled_way c.in-Ok.command.form (way_of c.in-Ok.command) (way_commits c.in-Ok.command) _ _ _ _ _ _ _ _ _ _ _ _ _ c.perform.ensures.ends calm c.perform.ensures.busy
+    (λ e. reads (c.perform.ensures.read_cause e)) (λ e. writes (c.perform.ensures.write_cause e)) c.perform.ensures.keep_cause c.perform.ensures.unkept)
 
 -- ---- no command
 

@@ -2,7 +2,7 @@ use Rattle.std.proofs.Common.{◌∙◌, List, [], Err, ap, map}
 use Rattle.base_io.specs.declared.keeper.Row.{Row}
 use Rattle.base_io.specs.Changes.{pair_of}
 use Rattle.store_history.specs.History.{IsHistory}
-use Rattle.store_history.proofs.LoadLemmas.{if_ok_both, knows_from, never_bad, not_loaded, open_cause, open_not_bad, open_quiet, told_list, told_so, were_loaded}
+use Rattle.store_history.proofs.LoadLemmas.{if_ok_both, knows_from, never_bad, not_failed, not_loaded, open_cause, open_not_bad, open_quiet, told_list, told_so, were_loaded}
 use Rattle.store_history.proofs.KeepingLemmas.{on_ok}
 use Rattle.store_history.proofs.loading.read_history.Goals as goal
 
@@ -49,3 +49,6 @@ returns-in-Err-clause-unkept g c = λ off is. absurd (open_not_bad _ c.in-Err.fa
 
 pub returns-in-Err-clause-told : goal.returns-in-Err-clause-told
 returns-in-Err-clause-told g c = not_loaded _ c.in-Err.fault _ (ap Err c.open_fault.ensures)
+
+pub returns-in-Ok-clause-quiet : goal.returns-in-Ok-clause-quiet
+returns-in-Ok-clause-quiet g c = not_failed c.read_rows.result _ c.in-Ok.ensures.quiet
