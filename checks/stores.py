@@ -538,6 +538,86 @@ def try_tally(room):
     ask(content(store) == before, True, "whether tallies leave the store byte for byte as it was")
 
 
+# ---- histories
+
+PAST = (11, "stakeplay: no past")
+QUESTIONS = (["supply"], ["pool"], ["validators"], *([what, address] for what, address in (
+    ("account", "4" * 40), ("account", "6" * 40), ("delegations", "4" * 40), ("rewards", "4" * 40), ("unbondings", "4" * 40))))
+
+
+def visible(rows):
+    return {name: body for name, body in rows.items() if name[:1] not in (b"\x60", b"\x61")}
+
+
+def ask_past(store, answers, heights, what):
+    """Each question is answered of each of these heights as it was then, and none of the heights beside them."""
+    for height in heights:
+        for question, answer in zip(QUESTIONS, answers[height]):
+            ask(ran(store, ["past", str(height), "query", *question]), answer, f"{' '.join(question)} of height {height} {what}")
+    for height in (heights[0] - 1, heights[-1] + 1):
+        if height >= 0:
+            ask(ran(store, ["past", str(height), "query", "supply"]), (PAST, b""), f"supply of height {height} {what}")
+
+
+def try_history(room):
+    """Runs that keep what they replace print what others print, leave the same visible rows, and tell what stood at each height."""
+    lines = pathlib.Path("examples/history.jsonl").read_bytes().splitlines(keepends=True)
+    plain, last, answers = room / "plain", len(lines) - 1, []
+    for height, line in enumerate(lines):
+        ran(plain, ["resume"] if height else ["replay"], line)
+        answers.append([ran(plain, ["query", *question]) for question in QUESTIONS])
+    for stop in range(last + 1):
+        kept, other = room / "kept", room / "other"
+        for words, given in ((["replay"], lines[:stop + 1]), (["resume"], lines[stop + 1:])):
+            ask(ran(kept, ["keep", *words], b"".join(given)), ran(other, words, b"".join(given)), f"keep {words[0]}, at {stop}")
+        ask(visible(rows_of(kept)) == rows_of(plain), True, f"whether the visible rows are those without a history, at {stop}")
+        ask_past(kept, answers, range(last + 1), f"of a run that was stopped at {stop}")
+        for words, end in ((["query", "pool"], BAD), (["resume"], BAD), (["tally"], BAD), (["replay"], FULL)):
+            ask(ran(kept, words), (end, b""), f"{' '.join(words)} on a history")
+        ask(ran(kept, ["keep", "replay"], b"".join(lines)), (FULL, b""), "keep replay on a history")
+        for store in ("kept", "other"):
+            for file in room.glob(f"{store}*"):
+                file.unlink()
+    # A history that begins where a run goes on.
+    ran(room / "kept", ["replay"], b"".join(lines[:3]))
+    ask_past(room / "kept", answers, range(2, 3), "without a history")
+    ran(room / "kept", ["keep", "resume"], b"".join(lines[3:]))
+    ask_past(room / "kept", answers, range(2, last + 1), "of a run that goes on from 2")
+    return room / "kept"
+
+
+def try_bad_histories(room, good):
+    """Histories out of form are refused by each command that knows them, and left byte for byte as they were."""
+    kept = [name for name in rows_of(good) if name[:1] == b"\x60"]
+    base, last = key("61"), rows_of(good)[HEAD][1:9].hex()
+    changes = {"no base": lambda rows: rows.pop(base), "a base of seven bytes": lambda rows: rows.update({base: bytes(7)}),
+               "a base of nine bytes": lambda rows: rows.update({base: bytes(9)}),
+               "a base above the last height": lambda rows: rows.update({base: b"\xff" * 8}),
+               "a base with a longer key": lambda rows: rows.update({key("6100"): bytes(8)}),
+               "no head": lambda rows: rows.pop(HEAD), "a head of eight bytes": lambda rows: rows.update({HEAD: rows[HEAD][:8]}),
+               "a height at the base": lambda rows: rows.update({b"\x60" + rows[base] + HEAD: b"\0"}),
+               "a height above the last": lambda rows: rows.update({key("60", number(int(last, 16) + 1, 8), "01"): b"\0"}),
+               "half a height": lambda rows: rows.update({key("6000000000"): b"\0"}),
+               "a row of a history that is kept": lambda rows: rows.update({key("60", last, "61"): b"\0"}),
+               "a kept value of none and a byte": lambda rows: rows.update({kept[0]: b"\0\0"}),
+               "a kept value of another first byte": lambda rows: rows.update({kept[0]: b"\x02"}),
+               "no kept value": lambda rows: rows.update({kept[0]: b""})}
+    for name, change in changes.items():
+        store = changed(good, room / "changed", change)
+        before = content(store)
+        for words in (["past", "3", "query", "supply"], ["past", "9", "query", "supply"], ["keep", "resume"], ["keep", "replay"]):
+            ask(ran(store, words, b"".join(LINES) if "replay" in words else b""), (BAD, b""), f"{' '.join(words)} on {name}")
+        ask(content(store) == before, True, f"whether a history with {name} is byte for byte as it was")
+        for file in room.glob("changed*"):
+            file.unlink()
+    # Past rows of no sound state, where those of another height and the present ones are sound.
+    supply = next(name for name in kept if name[9:10] == b"\x10" and rows_of(good)[name][:1] == b"\x01")
+    height = int.from_bytes(supply[1:9], "big")
+    store = changed(good, room / "changed", lambda rows: add(rows, supply, (1, 16)))
+    ask(ran(store, ["past", str(height - 1), "query", "supply"]), (BAD, b""), "past rows of no sound state")
+    ask(ran(store, ["past", str(height), "query", "supply"])[0], DONE, "past rows behind them")
+
+
 def main():
     with tempfile.TemporaryDirectory(prefix="stores-") as name:
         room, good = pathlib.Path(name), pathlib.Path(name) / "good"
@@ -551,6 +631,7 @@ def main():
         try_held(room)
         try_one_send(room)
         try_tally(room)
+        try_bad_histories(room, try_history(room))
     for line in bad:
         print(f"stores: {line}")
     print(f"stores: {count} answers compared, {len(bad)} differ")

@@ -1,8 +1,8 @@
 //! Runs of which one call of the source, the sink or the keeper fails: the status, the text and the rows they leave.
 
 use crate::whole::{
-    Fronts, LINES, NEW, OLD, ON, Start, WHOLE, are_behind, are_same, begun, command_behind,
-    input_behind, lines_within, make_fronts, text_of,
+    Fronts, KEPT, KEPT_ON, LINES, NEW, OLD, ON, Start, WHOLE, are_behind, are_same, begun,
+    command_behind, input_behind, lines_within, make_fronts, text_of, visible,
 };
 use base_io::{MemKeeper, MemSink, MemSource, Row};
 use run_app::{Status, run};
@@ -12,7 +12,7 @@ use std::process::Abort;
 const PIECE: usize = 2000;
 
 /// Where runs begin.
-const STARTS: [Start; 3] = [NEW, ON, OLD];
+const STARTS: [Start; 5] = [NEW, ON, OLD, KEPT, KEPT_ON];
 
 /// The object of which a call fails.
 #[derive(Clone, Copy, PartialEq, Eq)]
@@ -74,11 +74,11 @@ fn exits(
     let mut sink = MemSink::new(rt.alloc(), calls(rt, Failing::Sink, failing, call));
     let keeps = calls(rt, Failing::Keeper, failing, call);
     let mut keeper = MemKeeper::new(rt.alloc(), rows, keeps);
-    let words = command_behind(rt, start.lines);
+    let words = command_behind(rt, start.lines, start.is_kept);
     let status = run(rt.alloc(), &words, &mut source, &mut sink, &mut keeper);
     status == exit.status
         && text_of(rt, fronts, exit.text).get(before.len()..) == Some(sink.bytes())
-        && are_left(rt, fronts, start, exit.kept, keeper.rows())
+        && are_left(rt, fronts, start, exit.kept, &visible(rt, keeper.rows()))
 }
 
 /// How a run ends and what it leaves of whose calls one fails, or none where that one is not made.
@@ -135,12 +135,28 @@ fn each_failed_write_leaves_the_texts_before_it(rt: HostRuntime) {
     }
 }
 
+/// How many calls of the keeper a run makes before it commits its first line: a load; one more where it keeps what it
+/// replaces, and one more there before a genesis begins a history; a commit that brings rows of the first format to the
+/// second.
+fn calls_before(start: Start) -> u32 {
+    match (start.is_kept, start.lines) {
+        (true, 0) => 3,
+        (true, _) => 2,
+        (false, _) => {
+            if start.is_old {
+                2
+            } else {
+                1
+            }
+        }
+    }
+}
+
 #[test]
 fn each_failed_call_of_the_keeper_leaves_what_it_had(rt: HostRuntime) {
     let fronts = make_fronts(&rt);
     for start in STARTS {
-        // A load, from rows of the first format a commit that brings them to the second, and a commit for each line.
-        let before = if start.is_old { 2 } else { 1 };
+        let before = calls_before(start);
         let calls = LINES.saturating_sub(start.lines).saturating_add(before);
         for call in 0..calls.saturating_add(1) {
             let text = start.lines.saturating_add(call.saturating_sub(before));

@@ -3,8 +3,8 @@
 ghost use Rattle.store_history.specs.Held.{TakesDistinct};
 
 use crate::whole::{
-    Fronts, LINES, NEW, OLD, Start, WHOLE, are_behind, are_same, begun, command_behind, copied,
-    input_behind, make_fronts, text_of,
+    Fronts, KEPT, LINES, NEW, OLD, Start, WHOLE, are_behind, are_same, begun, command_behind,
+    copied, input_behind, make_fronts, text_of, visible,
 };
 use base_io::{Keeper, Row, SureSink, SureSource};
 use run_app::{Status, run};
@@ -68,13 +68,14 @@ fn driven<K: Keeper>(
     rt: &(impl Abort + AllocGlobal),
     fronts: &Fronts,
     first: u32,
+    is_kept: bool,
     keeper: &mut K,
 ) -> (Status, Vec<u8>)
     requires { TakesDistinct (K.takes keeper.old) }
 {
     let mut source = SureSource::new(input_behind(rt, fronts, first), 4096);
     let mut sink = SureSink::new(rt.alloc());
-    let words = command_behind(rt, first);
+    let words = command_behind(rt, first, is_kept);
     let status = run(rt.alloc(), &words, &mut source, &mut sink, keeper);
     (status, copied(rt, sink.bytes()))
 }
@@ -95,12 +96,13 @@ fn ends_whole<K: Keeper>(
     rt: &(impl Abort + AllocGlobal),
     fronts: &Fronts,
     lines: u32,
+    is_kept: bool,
     keeper: &mut K,
 ) -> bool
     requires { TakesDistinct (K.takes keeper.old) }
 {
     let before = text_of(rt, fronts, lines).len();
-    let (status, rest) = driven(rt, fronts, lines, keeper);
+    let (status, rest) = driven(rt, fronts, lines, is_kept, keeper);
     status == Status::Done && text_of(rt, fronts, WHOLE).get(before..) == Some(rest.as_slice())
 }
 
@@ -135,13 +137,13 @@ fn goes_on(
     written: &[u8],
 ) -> bool {
     let mut keeper = opened(rt, files).expect(rt, "files of a store");
-    let rows = keeper.load().expect(rt, "the rows");
+    let rows = visible(rt, &keeper.load().expect(rt, "the rows"));
     let lines = lines_left(rt, fronts, start, &rows, written).expect(rt, "rows of a front");
     let told = if lines == LINES { WHOLE } else { lines };
     let before = text_of(rt, fronts, start.lines).len();
     let text = text_of(rt, fronts, told).get(before..);
-    let is_whole = ends_whole(rt, fronts, lines, &mut keeper);
-    let rows = keeper.load().expect(rt, "the rows");
+    let is_whole = ends_whole(rt, fronts, lines, start.is_kept, &mut keeper);
+    let rows = visible(rt, &keeper.load().expect(rt, "the rows"));
     text.expect(rt, "lines from there on").starts_with(written)
         && is_whole
         && are_behind(rt, fronts, LINES, &rows)
@@ -163,7 +165,7 @@ fn stops(
         db: file_of(rt, store.db.bytes(), db_calls),
     };
     let mut keeper = opened(rt, files)?;
-    let (status, written) = driven(rt, fronts, start.lines, &mut keeper);
+    let (status, written) = driven(rt, fronts, start.lines, start.is_kept, &mut keeper);
     let mut lost = keeper.into_connection().into_store().close();
     let kept = Files {
         log: file_of(rt, lost.log.inner().bytes(), ALL),
@@ -200,14 +202,14 @@ fn loses_nothing(rt: &(impl Abort + AllocGlobal), start: Start, is_log: bool) ->
 
 #[test]
 fn a_stop_at_each_call_of_the_log_loses_nothing(rt: HostRuntime) {
-    for start in [NEW, OLD] {
+    for start in [NEW, OLD, KEPT] {
         assert!(rt; loses_nothing(&rt, start, true));
     }
 }
 
 #[test]
 fn a_stop_at_each_call_of_the_database_file_loses_nothing(rt: HostRuntime) {
-    for start in [NEW, OLD] {
+    for start in [NEW, OLD, KEPT] {
         assert!(rt; loses_nothing(&rt, start, false));
     }
 }

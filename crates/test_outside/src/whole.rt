@@ -14,30 +14,48 @@ pub(crate) const LINES: u32 = 4;
 /// The place of the whole output among the texts.
 pub(crate) const WHOLE: u32 = 5;
 
-/// Where runs begin: behind how many lines, and whether the rows are in the first format there.
-/// Where there are no lines it is a replay, else it resumes.
+/// Where runs begin: behind how many lines, and whether the rows are in the first format there; and
+/// whether they keep what they replace. Where there are no lines it is a replay, else it resumes.
 #[derive(Clone, Copy)]
 pub(crate) struct Start {
     pub(crate) lines: u32,
     pub(crate) is_old: bool,
+    pub(crate) is_kept: bool,
 }
 
 /// A replay.
 pub(crate) const NEW: Start = Start {
     lines: 0,
     is_old: false,
+    is_kept: false,
 };
 
 /// A run that goes on.
 pub(crate) const ON: Start = Start {
     lines: 2,
     is_old: false,
+    is_kept: false,
 };
 
 /// A run that goes on from rows of the first format.
 pub(crate) const OLD: Start = Start {
     lines: 2,
     is_old: true,
+    is_kept: false,
+};
+
+/// A replay that keeps what it replaces.
+pub(crate) const KEPT: Start = Start {
+    lines: 0,
+    is_old: false,
+    is_kept: true,
+};
+
+/// A run that goes on, and keeps what it replaces.
+pub(crate) const KEPT_ON: Start = Start {
+    lines: 2,
+    is_old: false,
+    is_kept: true,
 };
 
 /// A copy of bytes.
@@ -86,9 +104,40 @@ fn input(rt: &(impl Abort + AllocGlobal)) -> Vec<u8> {
     left(rt, &["gen", "7", "3"], Vec::new(rt.alloc()), Status::Done).0
 }
 
-/// The words of a run that goes on behind the first lines: a replay where there are none, else it resumes.
-pub(crate) fn command_behind(rt: &(impl Abort + AllocGlobal), lines: u32) -> Vec<String> {
-    words(rt, &[if lines == 0 { "replay" } else { "resume" }])
+/// The words of a run that goes on behind the first lines: a replay where there are none, else it
+/// resumes. It may keep what it replaces.
+pub(crate) fn command_behind(
+    rt: &(impl Abort + AllocGlobal),
+    lines: u32,
+    is_kept: bool,
+) -> Vec<String> {
+    let command = if lines == 0 { "replay" } else { "resume" };
+    if is_kept {
+        words(rt, &["keep", command])
+    } else {
+        words(rt, &[command])
+    }
+}
+
+/// Whether a key is of no row of a history.
+fn is_visible(key: &[u8]) -> bool {
+    match key {
+        [first, ..] => *first != 0x60 && *first != 0x61,
+        [] => true,
+    }
+}
+
+/// Copies of the rows that are of no history.
+pub(crate) fn visible(rt: &(impl Abort + AllocGlobal), rows: &[Row]) -> Vec<Row> {
+    let mut seen = Vec::new(rt.alloc());
+    for row in rows {
+        if is_visible(row.key.as_slice()) {
+            let key = copied(rt, row.key.as_slice());
+            let value = copied(rt, row.value.as_slice());
+            put(rt, &mut seen, Row { key, value });
+        }
+    }
+    seen
 }
 
 /// How many lines end within the first bytes of a text.
