@@ -1,5 +1,5 @@
 -- Questions of a past height: what is answered, and when none is.
-use Rattle.std.proofs.Common.{◌≡◌, ◌≢◌, ◌∙◌, ◌⊎◌, inl, inr, ℕ, ◌<◌, ◌≤◌, true, List, [], Option, Some, None, IfSome, Result, Err, refl, sym, ap, subst, arith}
+use Rattle.std.proofs.Common.{◌≡◌, ◌≢◌, ◌∙◌, ◌⊎◌, inl, inr, true≢false, ℕ, ◌<◌, ◌≤◌, true, List, [], Option, Some, None, IfSome, Result, Err, refl, sym, ap, subst, arith}
 use Rattle.std.specs.Prelude.{IsSome, Vec}
 use Rattle.std.specs.declared.alloc.Global.{Global}
 use Rattle.base_bech32.specs.declared.form.Form.{Form}
@@ -124,7 +124,7 @@ module _ (rows rows' : Option (List Pair)) (honest' : Type 0) (list : List Pair)
 -- ---- questions that come to their end
 
 told_now : (rows rows' : Option (List Pair)) (now : List Pair) (P : List Pair → Type 0) → rows ≡ Some now → Makes (λ before. before) rows rows' → IsSome rows' → IfSome rows' P → P now
-told_now rows None now P is same some h = absurd cc
+told_now rows None now P is same some h = absurd (true≢false (sym some))
 told_now rows (Some after) now P is same some h =
     let e : after ≡ now = same_now after now (sym is ∙ same.1 ∙ ap (λ (r : List Pair). Some r) (sym same.2)) in
     subst P e h

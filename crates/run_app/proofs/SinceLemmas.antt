@@ -1,5 +1,5 @@
 -- A run over rows that a load left is a run over the rows before it.
-use Rattle.std.proofs.Common.{◌≡◌, ◌⊎◌, inl, inr, ℕ, List, [], Option, Some, None, IfSome, refl, subst}
+use Rattle.std.proofs.Common.{◌≡◌, ◌⊎◌, inl, inr, true≢false, ℕ, List, [], Option, Some, None, IfSome, refl, sym, subst}
 use Rattle.std.specs.Prelude.{IsSome}
 use Rattle.base_bech32.specs.declared.form.Form.{Form}
 use Rattle.base_io.specs.Rows.{Makes, Pair}
@@ -156,6 +156,9 @@ if_so : (o : Option (List Pair)) (P Q : List Pair → Type 0) → ((now : List P
 if_so None P Q f h = tt
 if_so (Some now) P Q f h = f now h
 
+same_told : (after now : List Pair) → Some now ≡ Some after → after ≡ now
+same_told after now e = cc
+
 module _ (rows mid : Option (List Pair)) (honest' : Type 0) (same : Makes (λ before. before) rows mid) (still : honest' → IsSome rows → IsSome mid) where
   -- what is told of them while the keeper is honest
   loaded_before : (P : List Pair → Type 0) → (honest' → IfSome mid P) → honest' → IfSome rows P
@@ -163,13 +166,8 @@ module _ (rows mid : Option (List Pair)) (honest' : Type 0) (same : Makes (λ be
     where
       by : (rows mid : Option (List Pair)) → Makes (λ before. before) rows mid → (IsSome rows → IsSome mid) → IfSome mid P → IfSome rows P
       by None mid same still p = tt
-      by (Some now) None same still p = absurd (let e = still refl in cc)
-      by (Some now) (Some after) same still p =
-          let e : after ≡ now = told_here after now (told_back (Some now) (Some after) after same refl) in
-          subst P e p
-        where
-          told_here : (after now : List Pair) → Some now ≡ Some after → after ≡ now
-          told_here after now e = cc
+      by (Some now) None same still p = absurd (true≢false (sym (still refl)))
+      by (Some now) (Some after) same still p = subst P (same_told after now (told_back (Some now) (Some after) after same refl)) p
 
   still_loaded : (told' : Option (List Pair)) (P : List Pair → Type 0) → AreLoaded mid told' honest' P → AreLoaded rows told' honest' P
   still_loaded told' P l = record { are = l.are; told = λ h some. l.told h (still h some) }

@@ -1,5 +1,5 @@
 -- How runs end in each way in which words ask for a command.
-use Rattle.std.proofs.Common.{◌≡◌, ◌∙◌, ◌⊎◌, inl, inr, true≢false, ℕ, Bool, true, false, List, Option, Some, None, IfSome, refl, sym, ap, subst}
+use Rattle.std.proofs.Common.{◌≡◌, ◌⊎◌, inl, inr, true≢false, ℕ, Bool, true, false, List, Option, Some, None, IfSome, refl, sym, subst}
 use Rattle.std.specs.Prelude.{IsSome}
 use Rattle.base_bech32.specs.declared.form.Form.{Form}
 use Rattle.base_io.specs.Outside.{Rose}
@@ -59,21 +59,6 @@ in_few keep None (Query what) few = tt
 in_few keep past Tally few = tt
 in_few keep past (Gen seed count) few = few
 in_few keep past (Trial seed count) few = few
-
--- the way of a replay, and of a resume
-pub replay_way : (c : Command) (way : Way) → c.mode ≡ Replay → (c.keep ≡ true → way ≡ Kept Replay) → (c.keep ≡ false → way ≡ Plain Replay) → way ≡ way_of c
-replay_way c way is kept plain = by c.keep refl ∙ ap (way_in c.keep c.past) (sym is)
-  where
-    by : (b : Bool) → c.keep ≡ b → way ≡ way_in c.keep c.past Replay
-    by true e = kept e ∙ ap (λ (k : Bool). way_in k c.past Replay) (sym e)
-    by false e = plain e ∙ ap (λ (k : Bool). way_in k c.past Replay) (sym e)
-
-pub resume_way : (c : Command) (way : Way) → c.mode ≡ Resume → (c.keep ≡ true → way ≡ Kept Resume) → (c.keep ≡ false → way ≡ Plain Resume) → way ≡ way_of c
-resume_way c way is kept plain = by c.keep refl ∙ ap (way_in c.keep c.past) (sym is)
-  where
-    by : (b : Bool) → c.keep ≡ b → way ≡ way_in c.keep c.past Resume
-    by true e = kept e ∙ ap (λ (k : Bool). way_in k c.past Resume) (sym e)
-    by false e = plain e ∙ ap (λ (k : Bool). way_in k c.past Resume) (sym e)
 
 pub way_commits : (c : Command) → CommitsIfKept (way_of c)
 way_commits c = in_commits c.keep c.past c.mode

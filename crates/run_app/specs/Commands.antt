@@ -2,6 +2,7 @@
 use Rattle.std.specs.Prelude.{◌≡◌, ℕ, Bool, true, false, List, [], Option, Some, None, IfSome}
 use Rattle.base_bech32.specs.declared.form.Form.{Form}
 use Rattle.base_io.specs.Rows.{Pair}
+use Rattle.line_report.specs.declared.question.Query.{Query as Question}
 use Rattle.run_words.specs.declared.mode.Command.{Command}
 use Rattle.run_words.specs.declared.mode.Mode.{Mode}
 use Rattle.run_words.specs.declared.mode.Mode.TheVariants.{Replay, Resume, Query, Tally, Gen, Trial}
@@ -18,14 +19,21 @@ use Rattle.run_app.specs.Stops.{LeavesAsBefore, ModeStops}
 use Rattle.run_app.specs.Unkept.{FindsNoRows, ModeUnkept}
 use Rattle.run_app.specs.Writes.{Leaves}
 
--- A replay and a resume may keep what they replace, and a question may be of a past height.
+-- a command that commits may keep what it replaces
+abbrev pub kept_way : Bool → Mode → Way
+kept_way true m = Kept m
+kept_way false m = Plain m
+
+-- a question may be of a past height
+abbrev pub past_way : Option ℕ → Question → Way
+past_way (Some height) what = Past height what
+past_way None what = Plain (Query what)
+
+-- the way of a command, by the words before it
 abbrev pub way_in : Bool → Option ℕ → Mode → Way
-way_in true past Replay = Kept Replay
-way_in false past Replay = Plain Replay
-way_in true past Resume = Kept Resume
-way_in false past Resume = Plain Resume
-way_in keep (Some height) (Query what) = Past height what
-way_in keep None (Query what) = Plain (Query what)
+way_in keep past Replay = kept_way keep Replay
+way_in keep past Resume = kept_way keep Resume
+way_in keep past (Query what) = past_way past what
 way_in keep past Tally = Plain Tally
 way_in keep past (Gen seed count) = Plain (Gen seed count)
 way_in keep past (Trial seed count) = Plain (Trial seed count)

@@ -1,8 +1,8 @@
 //! What words ask for: a command, in the way that the words before it say.
 
-ghost use Rattle.std.specs.Prelude.{◌≡◌, Bool, false, true};
+ghost use Rattle.std.specs.Prelude.{◌≡◌, false};
 ghost use Rattle.base_io.specs.Outside.{Rose};
-ghost use Rattle.run_app.specs.Commands.{WayEnds, WayUnkept, way_in, way_of};
+ghost use Rattle.run_app.specs.Commands.{WayEnds, WayUnkept, kept_way, past_way, way_of};
 ghost use Rattle.run_app.specs.Kept.{UnlessKeepFault};
 ghost use Rattle.run_app.specs.Modes.{HasFewBlocks};
 ghost use Rattle.run_app.specs.Outcome.{UnlessReadFault, UnlessWriteFault};
@@ -29,16 +29,15 @@ pub enum Way {
 }
 
 /// A command that commits, and keeps what it replaces where it is to.
-fn kept_or_plain(keep: bool, mode: Mode) -> Way
-    ensures kept { keep ≡ true → result ≡ Way.Kept mode }
-    ensures plain { keep ≡ false → result ≡ Way.Plain mode }
+fn kept_way(keep: bool, mode: Mode) -> Way
+    ensures { result ≡ kept_way keep mode }
 {
     if keep { Way::Kept(mode) } else { Way::Plain(mode) }
 }
 
 /// A question, of a past height where there is one.
-fn past_or_plain(past: Option<u64>, what: Query) -> Way
-    ensures { (keep : Bool) → result ≡ way_in keep past (Mode.Query what) }
+fn past_way(past: Option<u64>, what: Query) -> Way
+    ensures { result ≡ past_way past what }
 {
     match past {
         Some(height) => Way::Past(height, what),
@@ -51,9 +50,9 @@ fn way_of(command: &Command) -> Way
     ensures { result ≡ way_of command.now }
 {
     match command.mode {
-        Mode::Replay => kept_or_plain(command.keep, Mode::Replay),
-        Mode::Resume => kept_or_plain(command.keep, Mode::Resume),
-        Mode::Query(what) => past_or_plain(command.past, what),
+        Mode::Replay => kept_way(command.keep, Mode::Replay),
+        Mode::Resume => kept_way(command.keep, Mode::Resume),
+        Mode::Query(what) => past_way(command.past, what),
         Mode::Tally => Way::Plain(Mode::Tally),
         Mode::Gen { seed, count } => Way::Plain(Mode::Gen { seed, count }),
         Mode::Trial { seed, count } => Way::Plain(Mode::Trial { seed, count }),
