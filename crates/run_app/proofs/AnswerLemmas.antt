@@ -185,3 +185,7 @@ module _ (form : Form) (x : Chained) (s : Standing) (text text' : List ℕ) (sto
   -- all of it was written
   pub report_written : (w w1 w' : Option (List ℕ)) → IfSome w (λ (bytes : List ℕ). w1 ≡ Some (bytes ++ text')) → Stays w1 w' → Finishes form untold 1 s [] w w'
   report_written w w1 w' wrote stays = (text, record { end = s; done = []; answered = (refl, refl); ran = ap ran_report (reported_at form x s text stood reports); left = tt }, λ old at. stays (old ++ text) (grown w w1 text text' same wrote old at))
+
+  -- all of it was written, and not handed on
+  pub report_unflushed : (w w1 w' : Option (List ℕ)) → IfSome w (λ (bytes : List ℕ). w1 ≡ Some (bytes ++ text')) → Stays w1 w' → FinishStops form untold 1 s [] w w' ends.Flush
+  report_unflushed w w1 w' wrote stays = let f = report_written w w1 w' wrote stays in (f.0, f.2, f.1)

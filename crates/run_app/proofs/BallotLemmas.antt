@@ -339,6 +339,11 @@ pub all_kept : (form : Form) (r : Result (Unit {0}) Status) (first : Option (Lis
 all_kept form (Err s) first t left left' piece kept at end took most h = tt
 all_kept form (Ok x) first t left left' piece kept at end took most h = (t, told_all first t left left' piece at end took, most, h)
 
+-- but not all of its lines are ballots
+pub all_uncounted : (form : Form) (r : Result (Unit {0}) Status) (first : Option (List ℕ)) (t : List ℕ) (left left' : Option (List ℕ)) (piece : List ℕ) → Told first t left → IfSome left (λ bytes. bytes ≡ []) → TookBytes 0 piece left left' → IfErr r (λ status. IsUncounted form status t []) → IfErr r (AreUncounted form first left')
+all_uncounted form (Ok x) first t left left' piece at end took h = tt
+all_uncounted form (Err s) first t left left' piece at end took h = (t, [], told_all first t left left' piece at end took, h)
+
 -- one byte more than an input may have
 pub over_long : (form : Form) (first : Option (List ℕ)) (t : List ℕ) (n : ℕ) (line : List ℕ) (kept : Kept) (left left' : Option (List ℕ)) (piece : List ℕ) (b : ℕ) → Told first t left → AreTaken form t n line kept → TookBytes 1 piece left left' → take 1 piece ≡ b ∷ [] → length t ≤ most_bytes → b ≢ 10 → length line ≡ longest
     → AreUncounted form first left' (Limit n Line)

@@ -119,7 +119,7 @@ fn is_absent(rt: &HostRuntime, name: &str) -> bool {
     }
     match Path::new(name).try_exists(rt) {
         Ok(false) => {}
-        _ => return false,
+        Ok(true) | Err(_) => return false,
     }
     match Path::new(name).parent() {
         Some(folder) => folder.as_str().is_empty() || folder.is_dir(rt),

@@ -31,3 +31,12 @@ returns-in-Gen-clause-unkept g c = rw c.in-Gen.is (λ off. tt)
 
 pub returns-in-Trial-clause-unkept : goal.returns-in-Trial-clause-unkept
 returns-in-Trial-clause-unkept g c = rw c.in-Trial.is (λ off. tt)
+
+pub returns-in-Replay-clause-unkept : goal.returns-in-Replay-clause-unkept
+returns-in-Replay-clause-unkept g c = rw c.in-Replay.is c.replay.ensures.unkept
+
+pub returns-in-Resume-clause-unkept : goal.returns-in-Resume-clause-unkept
+returns-in-Resume-clause-unkept g c = rw c.in-Resume.is c.resume.ensures.unkept
+
+pub returns-in-Tally-clause-unkept : goal.returns-in-Tally-clause-unkept
+returns-in-Tally-clause-unkept g c = rw c.in-Tally.is c.tally.ensures.unkept
