@@ -1,6 +1,5 @@
 -- Statements of an input, line by line.
 use Rattle.std.proofs.Common.{◌≡◌, ◌∙◌, ◌⊎◌, inl, inr, ℕ, ◌+◌, ◌<◌, ◌≤◌, Bool, le-ltb, lt-ltb, List, [], ◌∷◌, ◌++◌, append-nil, append_assoc, length, length-append, Option, Some, Result, Ok, Err, refl, sym, ap, subst, arith, add-zero}
-use Rattle.std.proofs.lemmas.List.{append_cancel_left}
 use Rattle.base_bech32.specs.declared.form.Form.{Form}
 use Rattle.base_io.specs.Calls.{Stays}
 use Rattle.base_messages.specs.declared.faults.LineFault.{LineFault}
@@ -13,14 +12,16 @@ use Rattle.mod_statement.specs.declared.statement.Statement.{Statement}
 use Rattle.mod_statement.specs.Answers.{IsAnswer, IsFaultOf}
 use Rattle.mod_statement.specs.Bounds.{bounds_of}
 use Rattle.run_app.specs.declared.status.Status.{Status}
-use Rattle.run_app.specs.declared.status.Status.TheVariants.{Done, Usage, BadInput, Limit, ReadFault, WriteFault, KeepFault, NoMemory, BadStore, WrongStore, NotFound}
+use Rattle.run_app.specs.declared.status.Status.TheVariants.{Done, Usage, BadInput, Limit, ReadFault, WriteFault, KeepFault, NoMemory, BadStore, WrongStore, NotFound, NoPast}
 use Rattle.run_app.specs.declared.status.LimitKind.TheVariants.{Line, Input, Ratio, Bound}
 use Rattle.run_app.specs.Checks.{AreChecked, CheckEnds, ChecksAll, ChecksCalmly, ChecksSo, CutsCheck, Due, HaltsCheck, IsChecked, IsUnanswered, StopsCheck, TakesCheck, WritesPart, due_at, due_of, not_bounded, with_bounds}
 use Rattle.run_app.specs.Ending.{status_of}
 use Rattle.run_app.specs.Lines.{whole_from, lines_of}
 use Rattle.run_app.specs.Machine.{longest, not_read}
 use Rattle.run_app.specs.Outcome.{AreEnded, most_bytes}
-use Rattle.run_app.specs.Taking.{Halts, IsLong, IsUntaken, Leads, MayEnd, MayStop, Pauses, TakesAll, TakesPart}
+use Rattle.run_app.specs.Taking.{Halts, IsUntaken, Leads, MayEnd, MayStop, MeetsLong, Pauses, TakesAll, TakesPart}
+use Rattle.run_generated.specs.Writing.{Grows}
+use Rattle.run_app.proofs.DriveLemmas.{told_first, told_rest}
 use Rattle.run_app.proofs.StopLemmas.{ended_first}
 
 -- ---- one line
@@ -69,6 +70,7 @@ unanswered_may form n line NoMemory h = tt
 unanswered_may form n line BadStore h = absurd h
 unanswered_may form n line (WrongStore is_empty) h = absurd h
 unanswered_may form n line NotFound h = absurd h
+unanswered_may form n line (NoPast base last) h = absurd h
 
 -- it is no fault of the sink
 pub unanswered_unwritten : (form : Form) (n : ℕ) (line : List ℕ) (status : Status) → IsUnanswered form n line status → ◌≡◌ {A = Result (Unit {0}) Status} (Err status) (Err WriteFault) → ⊥
@@ -86,12 +88,12 @@ module _ {C : Type 0} (form : Form) where
   abbrev Stops : Status → ℕ → List ℕ → C × Option (List ℕ) → C × Option (List ℕ) → Type 0
   Stops status n line x y = HaltsCheck form status n line x.1 y.1
 
-  texts_written : (n : ℕ) (lines : List (List ℕ)) (x y : C × Option (List ℕ)) (old : List ℕ) → x.1 ≡ Some old → Leads Takes n lines x y → (text : List ℕ) × AreChecked form n lines text × (y.1 ≡ Some (old ++ text))
-  texts_written n [] x y old told h = ([], refl, ap (λ (p : C × Option (List ℕ)). p.1) h ∙ told ∙ ap Some (sym (append-nil old)))
-  texts_written n (line ∷ lines) x y old told h =
+  texts_written : (n : ℕ) (lines : List (List ℕ)) (x y : C × Option (List ℕ)) → Leads Takes n lines x y → (text : List ℕ) × AreChecked form n lines text × Grows x.1 y.1 text
+  texts_written n [] x y h = ([], refl, λ old told. ap (λ (p : C × Option (List ℕ)). p.1) h ∙ told ∙ ap Some (sym (append-nil old)))
+  texts_written n (line ∷ lines) x y h =
       let first : TakesCheck form n line x.1 h.0.1 = h.1 in
-      let rest = texts_written (n + 1) lines h.0 y (old ++ first.0) (first.2 old told) h.2 in
-      (first.0 ++ rest.0, (first.0, rest.0, first.1, refl, rest.1), rest.2 ∙ ap Some (append_assoc old first.0 rest.0))
+      let rest = texts_written (n + 1) lines h.0 y h.2 in
+      (first.0 ++ rest.0, (first.0, rest.0, first.1, refl, rest.1), λ old told. rest.2 (old ++ first.0) (first.2 old told) ∙ ap Some (append_assoc old first.0 rest.0))
 
   -- the lines before one are answered, and that one is not
   record Unanswered (status : Status) (lines : List (List ℕ)) (text : List ℕ) : Type 0 where
@@ -105,22 +107,20 @@ module _ {C : Type 0} (form : Form) where
   abbrev Halted : Status → List (List ℕ) → List ℕ → Type 0
   Halted status lines text = Unanswered status lines text ⊎ (((status ≡ WriteFault) ⊎ (status ≡ NoMemory)) × CutsCheck form lines text)
 
-  halted : (status : Status) (lines : List (List ℕ)) (x y : C × Option (List ℕ)) (old : List ℕ) → x.1 ≡ Some old → Halts Takes (Stops status) lines x y → (text : List ℕ) × (y.1 ≡ Some (old ++ text)) × Halted status lines text
-  halted status lines x y old told h =
-      let front = texts_written 1 h.before x h.middle old told h.leads in
-      by front h.stop
+  halted : (status : Status) (lines : List (List ℕ)) (x y : C × Option (List ℕ)) → Halts Takes (Stops status) lines x y → (text : List ℕ) × Grows x.1 y.1 text × Halted status lines text
+  halted status lines x y h = by (texts_written 1 h.before x h.middle h.leads) h.stop
     where
-      by : (front : (text : List ℕ) × AreChecked form 1 h.before text × (h.middle.1 ≡ Some (old ++ text))) → HaltsCheck form status (1 + length h.before) h.line h.middle.1 y.1 → (text : List ℕ) × (y.1 ≡ Some (old ++ text)) × Halted status lines text
+      by : ((text : List ℕ) × AreChecked form 1 h.before text × Grows x.1 h.middle.1 text) → HaltsCheck form status (1 + length h.before) h.line h.middle.1 y.1 → (text : List ℕ) × Grows x.1 y.1 text × Halted status lines text
       by front (inl u) = (
         front.0,
-        u.1 ∙ front.2,
+        λ old told. u.1 ∙ front.2 old told,
         inl (record { before = h.before; line = h.line; after = h.after; lines_are = h.lines_are; checked = front.1; stop = u.0 }),
       )
       by front (inr w) =
           let part : WritesPart form (1 + length h.before) h.line h.middle.1 y.1 = w.1 in
-          let added = part.2 (old ++ front.0) front.2 in (
+          let added = part.2 in (
             front.0 ++ added.0,
-            added.2 ∙ ap Some (append_assoc old front.0 added.0),
+            λ old told. added.2 (old ++ front.0) (front.2 old told) ∙ ap Some (append_assoc old front.0 added.0),
             inr (w.0, record {
               before = h.before;
               line = h.line;
@@ -153,60 +153,49 @@ module _ {C : Type 0} (form : Form) where
   unanswered_ends BadStore taken rest text lines short ended u = absurd u.stop
   unanswered_ends (WrongStore is_empty) taken rest text lines short ended u = absurd u.stop
   unanswered_ends NotFound taken rest text lines short ended u = absurd u.stop
+  unanswered_ends (NoPast base last) taken rest text lines short ended u = absurd u.stop
 
   halted_ends : (status : Status) (taken rest text : List ℕ) (lines : List (List ℕ)) → length taken ≤ most_bytes → AreEnded lines taken rest → Halted status lines text → ChecksSo form status taken rest text
   halted_ends status taken rest text lines short ended (inl u) = unanswered_ends status taken rest text lines short ended u
   halted_ends status taken rest text lines short ended (inr (inl e, cuts)) = subst (λ (s : Status). ChecksSo form s taken rest text) (sym e) (short, inl (lines, ended, cuts))
   halted_ends status taken rest text lines short ended (inr (inr e, cuts)) = subst (λ (s : Status). ChecksSo form s taken rest text) (sym e) (short, lines, ended, inl cuts)
 
-  -- a line that is too long stops the run, and what was written before it does not depend on what comes behind
-  same_text : (old a b : List ℕ) (w : Option (List ℕ)) → w ≡ Some (old ++ a) → w ≡ Some (old ++ b) → a ≡ b
-  same_text old a b w h k = append_cancel_left old a b (some_same (sym h ∙ k))
-    where
-      some_same : Some (old ++ a) ≡ Some (old ++ b) → old ++ a ≡ old ++ b
-      some_same e = cc
-
-  long_stops : (n : ℕ) (lines : List (List ℕ)) (x y : C × Option (List ℕ)) (old text : List ℕ) → x.1 ≡ Some old → y.1 ≡ Some (old ++ text) → Halts Takes (IsLong n) lines x y → StopsCheck form (Limit n Line) lines text
-  long_stops n lines x y old text told written h =
-      let front = texts_written 1 h.before x h.middle old told h.leads in
-      let same : text ≡ front.0 = same_text old text front.0 y.1 written (ap (λ (p : C × Option (List ℕ)). p.1) h.stop.same ∙ front.2) in
+  -- a line that is too long stops the run
+  long_stops : (n : ℕ) (taken more : List ℕ) (x y : C × Option (List ℕ)) (h : MeetsLong Takes n taken x y) (text : List ℕ) → AreChecked form 1 h.before text → StopsCheck form (Limit n Line) (lines_of (taken ++ more)) text
+  long_stops n taken more x y h text checked =
+      let l = h.long more in
       record {
         before = h.before;
-        line = h.line;
-        after = h.after;
-        lines_are = h.lines_are;
-        checked = subst (AreChecked form 1 h.before) (sym same) front.1;
-        stop = over form (1 + length h.before) h.line h.stop.long ∙ ap (λ (m : ℕ). Err (Limit m Line)) (sym h.stop.number);
+        line = l.0;
+        after = l.1;
+        lines_are = l.2;
+        checked = checked;
+        stop = over form (1 + length h.before) l.0 l.3 ∙ ap (λ (m : ℕ). Err (Limit m Line)) (sym h.number_is);
       }
 
-  untaken_ends : (status : Status) (taken rest : List ℕ) (x y : C × Option (List ℕ)) (old : List ℕ) → x.1 ≡ Some old → IsUntaken Takes Stops status taken rest x y → (text : List ℕ) × (y.1 ≡ Some (old ++ text)) × ChecksSo form status taken rest text
-  untaken_ends status taken rest x y old told (inl h) =
-      let t = halted status h.lines x y old told h.halts in
+  untaken_ends : (status : Status) (taken rest : List ℕ) (x y : C × Option (List ℕ)) → IsUntaken Takes Stops status taken rest x y → (text : List ℕ) × Grows x.1 y.1 text × ChecksSo form status taken rest text
+  untaken_ends status taken rest x y (inl h) =
+      let t = halted status h.lines x y h.halts in
       (t.0, t.1, halted_ends status taken rest t.0 h.lines h.short h.ended t.2)
-  untaken_ends status taken rest x y old told (inr (inl h)) =
-      let one = h.halts [] in
-      let front = texts_written 1 one.before x one.middle old told one.leads in
-      let written : y.1 ≡ Some (old ++ front.0) = ap (λ (p : C × Option (List ℕ)). p.1) one.stop.same ∙ front.2 in (
-        front.0,
-        written,
-        subst (λ (s : Status). ChecksSo form s taken rest front.0) (sym h.status_is)
-            (h.short, λ more. long_stops h.number (lines_of (taken ++ more)) x y old front.0 told written (h.halts more)),
-      )
-  untaken_ends status taken rest x y old told (inr (inr (inl h))) =
-      let t = texts_written 1 (whole_from [] h.bytes) x y old told h.leads in (
+  untaken_ends status taken rest x y (inr (inl h)) =
+      let m = h.meets in
+      let t = texts_written 1 m.before x y m.leads in
+      (t.0, t.2, subst (λ (s : Status). ChecksSo form s taken rest t.0) (sym h.status_is) (h.short, λ more. long_stops h.number taken more x y m t.0 t.1))
+  untaken_ends status taken rest x y (inr (inr (inl h))) =
+      let t = texts_written 1 (whole_from [] h.bytes) x y h.leads in (
         t.0,
         t.2,
         subst (λ (s : Status). ChecksSo form s taken rest t.0) (sym h.status_is)
             (record { bytes = h.bytes; byte = h.byte; taken_is = h.taken_is; full = h.full; checked = t.1; number = h.number_is; line = h.line }),
       )
-  untaken_ends status taken rest x y old told (inr (inr (inr h))) = by h.cut
+  untaken_ends status taken rest x y (inr (inr (inr h))) = by h.cut
     where
-      by : ((status ≡ ReadFault) × Leads Takes 1 (whole_from [] taken) x y) ⊎ ((status ≡ NoMemory) × Pauses Takes (whole_from [] taken) x y) → (text : List ℕ) × (y.1 ≡ Some (old ++ text)) × ChecksSo form status taken rest text
+      by : ((status ≡ ReadFault) × Leads Takes 1 (whole_from [] taken) x y) ⊎ ((status ≡ NoMemory) × Pauses Takes (whole_from [] taken) x y) → (text : List ℕ) × Grows x.1 y.1 text × ChecksSo form status taken rest text
       by (inl (e, leads)) =
-          let t = texts_written 1 (whole_from [] taken) x y old told leads in
+          let t = texts_written 1 (whole_from [] taken) x y leads in
           (t.0, t.2, subst (λ (s : Status). ChecksSo form s taken rest t.0) (sym e) (h.short, t.1))
       by (inr (e, p)) =
-          let t = texts_written 1 p.before x y old told p.leads in (
+          let t = texts_written 1 p.before x y p.leads in (
             t.0,
             t.2,
             subst (λ (s : Status). ChecksSo form s taken rest t.0) (sym e)
@@ -216,40 +205,34 @@ module _ {C : Type 0} (form : Form) where
   -- ---- a source and a sink
 
   pub checks_all : (c c' : C) (left left' w w' : Option (List ℕ)) → TakesAll Takes left left' (c, w) (c', w') → ChecksAll form left left' w w'
-  checks_all c c' left left' w w' all = λ input old told told_w.
-      let a = all input told in
-      let t = texts_written 1 (lines_of input) (c, w) (c', w') old told_w a.2 in
-      (t.0, a.0, t.2, a.1, t.1)
+  checks_all c c' left left' w w' all =
+      let t = texts_written 1 (lines_of all.0) (c, w) (c', w') all.3 in
+      (all.0, t.0, all.1, t.2, all.2, t.1)
 
   pub checks_part : (c c' : C) (left left' w w' : Option (List ℕ)) (status : Status) → TakesPart Takes Stops status left left' (c, w) (c', w') → CheckEnds form left left' w w' status
-  checks_part c c' left left' w w' status part = λ input old told told_w.
-      let p = part input told in
-      let t = untaken_ends status p.0 p.1 (c, w) (c', w') old told_w p.4 in
-      (p.0, p.1, t.0, p.2, p.3, t.1, t.2)
+  checks_part c c' left left' w w' status part =
+      let t = untaken_ends status part.0 part.1 (c, w) (c', w') part.3 in
+      (part.0, part.1, t.0, part.2, t.1, t.2)
 
 -- all lines were answered, and the sink was flushed
 pub done_ends : (form : Form) (left left' w w' w'' : Option (List ℕ)) → ChecksAll form left left' w w' → Stays w' w'' → CheckEnds form left left' w w'' Done
-done_ends form left left' w w' w'' all same = λ input old told told_w.
-    let a = all input old told told_w in
-    (input, [], a.0, sym (append-nil input), a.1, same (old ++ a.0) a.2, (refl, a.3, a.4))
+done_ends form left left' w w' w'' all same = (all.0, [], all.1, all.2, λ old told. same (old ++ all.1) (all.3 old told), (refl, all.4, all.5))
 
 -- or it could not be
 pub unflushed_ends : (form : Form) (left left' w w' w'' : Option (List ℕ)) → ChecksAll form left left' w w' → Stays w' w'' → CheckEnds form left left' w w'' WriteFault
-unflushed_ends form left left' w w' w'' all same = λ input old told told_w.
-    let a = all input old told told_w in
-    (input, [], a.0, sym (append-nil input), a.1, same (old ++ a.0) a.2, (a.3, inr (refl, a.4)))
+unflushed_ends form left left' w w' w'' all same = (all.0, [], all.1, all.2, λ old told. same (old ++ all.1) (all.3 old told), (all.4, inr (refl, all.5)))
 
 -- before anything is taken, memory may be wanting
 pub check_unbegun : (form : Form) (left w : Option (List ℕ)) → CheckEnds form left left w w NoMemory
-check_unbegun form left w = λ input old told told_w. (
-  [],
-  input,
-  [],
-  refl,
-  told,
-  told_w ∙ ap Some (sym (append-nil old)),
-  (omega arith, [], inl refl, inr (record { before = []; after = []; lines_are = refl; checked = refl })),
-)
+check_unbegun form left w =
+    let none = told_rest left [] left (told_first left) in (
+      [],
+      none.0,
+      [],
+      none.1,
+      λ old told. told ∙ ap Some (sym (append-nil old)),
+      (omega arith, [], inl refl, inr (record { before = []; after = []; lines_are = refl; checked = refl })),
+    )
 
 -- ---- statuses
 
@@ -309,8 +292,9 @@ module _ (form : Form) (input taken rest : List ℕ) (good_text : List ℕ) (goo
   untroubled BadStore text h read write = absurd h
   untroubled (WrongStore is_empty) text h read write = absurd h
   untroubled NotFound text h read write = absurd h
+  untroubled (NoPast base last) text h read write = absurd h
 
-pub untroubled_check : (form : Form) (left left' w w' : Option (List ℕ)) (status : Status) → CheckEnds form left left' w w' status → ChecksCalmly form left w → (status ≡ ReadFault → ⊥) → (status ≡ WriteFault → ⊥) → (status ≡ Done) ⊎ (status ≡ NoMemory)
+pub untroubled_check : (form : Form) (left left' w w' : Option (List ℕ)) (status : Status) → CheckEnds form left left' w w' status → ChecksCalmly form left → (status ≡ ReadFault → ⊥) → (status ≡ WriteFault → ⊥) → (status ≡ Done) ⊎ (status ≡ NoMemory)
 untroubled_check form left left' w w' status ends calm read write =
-    let e = ends calm.input calm.old calm.left_is calm.written_is in
-    untroubled form calm.input e.0 e.1 calm.text calm.good calm.short e.3 status e.2 e.6 read write
+    let moved = ends.3 calm.input calm.left_is in
+    untroubled form calm.input ends.0 ends.1 calm.text calm.good calm.short moved.0 status ends.2 ends.5 read write

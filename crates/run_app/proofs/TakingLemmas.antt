@@ -11,10 +11,11 @@ use Rattle.run_app.specs.Lines.{whole_from, rest_from, last_line, lines_from, li
 use Rattle.run_app.specs.Machine.{longest}
 use Rattle.run_app.specs.Outcome.{most_bytes}
 use Rattle.run_app.specs.Parts.{HasNoEnd, NotExtended}
-use Rattle.run_app.specs.Taking.{Halts, IsFed, IsLong, IsUntaken, Leads, MayEnd, MayStop, Pauses, StopsSo, TakesAll, TakesPart}
-use Rattle.run_app.proofs.BallotLemmas.{Told, all_with, nothing_left, one_more, told_more}
+use Rattle.run_app.specs.Taking.{Halts, IsFed, IsUntaken, Leads, MayEnd, MayStop, MeetsLong, Pauses, StopsSo, TakesAll, TakesPart}
+use Rattle.run_app.specs.Told.{Told}
+use Rattle.run_app.proofs.BallotLemmas.{all_with, one_more}
 use Rattle.run_app.proofs.CutLemmas.{lines-append, rest-append, rest_none, rest_one, whole-append, whole_no_longer, whole_none}
-use Rattle.run_app.proofs.DriveLemmas.{TookBytes}
+use Rattle.run_app.proofs.DriveLemmas.{TookBytes, told_all, told_more, told_rest, told_still}
 use Rattle.run_app.proofs.PartLemmas.{last-none, parted}
 
 -- ---- a line that is too long
@@ -146,9 +147,7 @@ module _ {X : Type 0} (takes : ℕ → List ℕ → X → X → Type 0) where
   pub all_taken : (r : Result (Unit {0}) Status) (first : Option (List ℕ)) (t : List ℕ) (left left' : Option (List ℕ)) (piece : List ℕ) (x y : X) → Told first t left → IfSome left (λ bytes. bytes ≡ []) → TookBytes 0 piece left left' → length t ≤ most_bytes
       → OnOk r (Leads takes 1 (lines_of t) x y) → OnOk r (TakesAll takes first left' x y)
   all_taken (Err s) first t left left' piece x y at end took most h = tt
-  all_taken (Ok u) first t left left' piece x y at end took most h = λ input told.
-      let n = nothing_left first t left left' piece at end took input told in
-      (n.1, rw n.0 most, subst (λ (l : List ℕ). Leads takes 1 (lines_of l) x y) (sym n.0) h)
+  all_taken (Ok u) first t left left' piece x y at end took most h = (t, told_all first t left left' piece at end took, most, h)
 
 -- ---- stops
 
@@ -173,11 +172,18 @@ module _ {X : Type 0} (takes : ℕ → List ℕ → X → X → Type 0) (stops :
     leads = h.leads;
   }
 
+  meets_behind : (n : ℕ) (t more : List ℕ) (x y : X) → MeetsLong takes n t x y → MeetsLong takes n (t ++ more) x y
+  meets_behind n t more x y h = record {
+    before = h.before;
+    number_is = h.number_is;
+    leads = h.leads;
+    long = λ m. subst (λ (l : List ℕ). (line : List ℕ) × (after : List (List ℕ)) × (lines_of l ≡ h.before ++ line ∷ after) × (longest < length line)) (sym (append_assoc t more m)) (h.long (more ++ m));
+  }
+
   -- bytes that stop a run stop it whatever comes behind them
   stops_behind : (status : Status) (t more : List ℕ) (x y : X) → StopsSo takes stops status t x y → StopsSo takes stops status (t ++ more) x y
   stops_behind status t more x y (inl h) = inl (halts_behind (stops status) (whole_from [] t) (whole_from [] (t ++ more)) (whole_from (rest_from [] t) more) x y (whole-append t [] more) h)
-  stops_behind status t more x y (inr (inl h)) =
-      inr (inl (h.0, h.1, λ m. subst (λ (l : List ℕ). Halts takes (IsLong h.0) (lines_of l) x y) (sym (append_assoc t more m)) (h.2 (more ++ m))))
+  stops_behind status t more x y (inr (inl h)) = inr (inl (h.0, h.1, meets_behind h.0 t more x y h.2))
   stops_behind status t more x y (inr (inr h)) = inr (inr (h.0, pauses_behind (whole_from [] t) (whole_from [] (t ++ more)) (whole_from (rest_from [] t) more) x y (whole-append t [] more) h.1))
 
   -- a line that ends stops the run
@@ -192,26 +198,23 @@ module _ {X : Type 0} (takes : ℕ → List ℕ → X → X → Type 0) (stops :
     stop = subst (λ (m : ℕ). stops status m (line ++ bytes) y z) h.number_is (subst (λ (l : List ℕ). stops status n l y z) is due);
   })
 
-  long_halts : (x : X) (t : List ℕ) (n m : ℕ) (line : List ℕ) (y : X) (bytes more : List ℕ) → IsFed takes x t n line y → HasNoEnd bytes → m ≡ n → longest < length (line ++ bytes) → Halts takes (IsLong m) (lines_of (t ++ (bytes ++ more))) x y
-  long_halts x t n m line y bytes more h none number long =
-      let f = long_first more (line ++ bytes) long in
-      record {
-        before = whole_from [] t;
-        line = f.0;
-        after = f.1;
-        middle = y;
-        lines_are = cut_behind t line bytes more h.line_is none ∙ ap (λ (ls : List (List ℕ)). whole_from [] t ++ ls) f.2;
-        leads = h.leads;
-        stop = record { number = number ∙ h.number_is; long = f.3; same = refl };
-      }
+  -- a line that has become too long
+  meets_long : (x : X) (t : List ℕ) (n m : ℕ) (line : List ℕ) (y : X) (bytes behind : List ℕ) → IsFed takes x t n line y → HasNoEnd bytes → m ≡ n → longest < length (line ++ bytes) → MeetsLong takes m (t ++ (bytes ++ behind)) x y
+  meets_long x t n m line y bytes behind h none number long = record {
+    before = whole_from [] t;
+    number_is = number ∙ h.number_is;
+    leads = h.leads;
+    long = λ more.
+        let f = long_first (behind ++ more) (line ++ bytes) long in
+        let all : (t ++ (bytes ++ behind)) ++ more ≡ t ++ (bytes ++ (behind ++ more)) = append_assoc t (bytes ++ behind) more ∙ ap (λ (l : List ℕ). t ++ l) (append_assoc bytes behind more) in
+        (f.0, f.1, ap lines_of all ∙ cut_behind t line bytes (behind ++ more) h.line_is none ∙ ap (λ (ls : List (List ℕ)). whole_from [] t ++ ls) f.2, f.3);
+  }
 
   -- bytes that a line could not take
   pub extend_stops : (x : X) (t : List ℕ) (n : ℕ) (line : List ℕ) (y : X) (bytes behind : List ℕ) (why : LineStop) → IsFed takes x t n line y → HasNoEnd bytes → NotExtended why n line bytes → StopsSo takes stops (status_of why) (t ++ (bytes ++ behind)) x y
   extend_stops x t n line y bytes behind (stop.BadInput m fault) h none long = absurd long
   extend_stops x t n line y bytes behind (stop.Long m) h none long =
-      inr (inl (m, refl, λ more.
-      let all : (t ++ (bytes ++ behind)) ++ more ≡ t ++ (bytes ++ (behind ++ more)) = append_assoc t (bytes ++ behind) more ∙ ap (λ (l : List ℕ). t ++ l) (append_assoc bytes behind more) in
-      subst (λ (l : List ℕ). Halts takes (IsLong m) (lines_of l) x y) (sym all) (long_halts x t n m line y bytes (behind ++ more) h none long.0 long.1)))
+      inr (inl (m, refl, meets_long x t n m line y bytes behind h none long.0 long.1))
   extend_stops x t n line y bytes behind (stop.Ratio m over) h none long = absurd long
   extend_stops x t n line y bytes behind stop.Write h none long = absurd long
   extend_stops x t n line y bytes behind stop.Keep h none long = absurd long
@@ -259,55 +262,51 @@ module _ {X : Type 0} (takes : ℕ → List ℕ → X → X → Type 0) (stops :
   -- bytes stopped the run
   stopped_bytes : (status : Status) (t rest : List ℕ) (x y : X) → length t ≤ most_bytes → StopsSo takes stops status t x y → IsUntaken takes stops status t rest x y
   stopped_bytes status t rest x y most (inl h) = inl (record { lines = whole_from [] t; short = most; ended = inl refl; halts = h })
-  stopped_bytes status t rest x y most (inr (inl h)) = inr (inl (record { number = h.0; status_is = h.1; short = omega arith; halts = h.2 }))
+  stopped_bytes status t rest x y most (inr (inl h)) = inr (inl (record { number = h.0; status_is = h.1; short = omega arith; meets = h.2 }))
   stopped_bytes status t rest x y most (inr (inr h)) = inr (inr (inr (record { short = most; cut = inr h })))
 
   pub stopped : (status : Status) (first : Option (List ℕ)) (t : List ℕ) (left : Option (List ℕ)) (x y : X) → Told first t left → length t ≤ most_bytes → StopsSo takes stops status t x y → TakesPart takes stops status first left x y
-  stopped status first t left x y at most h = λ input told.
-      let a = at input told in
-      (t, a.0, a.1, a.2, stopped_bytes status t a.0 x y most h)
+  stopped status first t left x y at most h =
+      let r = told_rest first t left at in
+      (t, r.0, r.1, stopped_bytes status t r.0 x y most h)
 
   -- the source failed
   pub unread : (first : Option (List ℕ)) (t : List ℕ) (n : ℕ) (line : List ℕ) (left left' : Option (List ℕ)) (x y : X) → Told first t left → IsFed takes x t n line y → length t ≤ most_bytes → Stays left left' → TakesPart takes stops ReadFault first left' x y
-  unread first t n line left left' x y at h most same = λ input told.
-      let a = at input told in
-      (t, a.0, a.1, same a.0 a.2, inr (inr (inr (record { short = most; cut = inl (refl, h.leads) }))))
+  unread first t n line left left' x y at h most same =
+      let r = told_rest first t left' (told_still first t left left' at same) in
+      (t, r.0, r.1, inr (inr (inr (record { short = most; cut = inl (refl, h.leads) }))))
 
   -- the source came to its end, and its last line stopped the run
   pub part_taken : (r : Result (Unit {0}) Status) (first : Option (List ℕ)) (t : List ℕ) (left left' : Option (List ℕ)) (piece : List ℕ) (x y : X) → Told first t left → IfSome left (λ bytes. bytes ≡ []) → TookBytes 0 piece left left'
       → IfErr r (λ status. IsUntaken takes stops status t [] x y) → IfErr r (λ status. TakesPart takes stops status first left' x y)
   part_taken (Ok u) first t left left' piece x y at end took h = tt
-  part_taken (Err status) first t left left' piece x y at end took h = λ input told.
-      let n = nothing_left first t left left' piece at end took input told in
-      (t, [], n.0 ∙ sym (append-nil t), n.1, h)
+  part_taken (Err status) first t left left' piece x y at end took h = (t, [], told_all first t left left' piece at end took, h)
 
   -- one byte more than an input may have
   pub over_long : (first : Option (List ℕ)) (t : List ℕ) (n : ℕ) (line : List ℕ) (x y : X) (left left' : Option (List ℕ)) (piece : List ℕ) (b : ℕ) → Told first t left → IsFed takes x t n line y → TookBytes 1 piece left left' → take 1 piece ≡ b ∷ [] → length t ≤ most_bytes → b ≢ 10 → length line ≡ longest
       → TakesPart takes stops (Limit n Line) first left' x y
-  over_long first t n line x y left left' piece b at h took one most ne full = λ input told.
-      let a = told_more first t left left' 1 piece at took input told in
+  over_long first t n line x y left left' piece b at h took one most ne full =
       let none : HasNoEnd (b ∷ []) = (ne_eqb b 10 ne, tt) in
-      let long : longest < length (line ++ b ∷ []) = rw (length-append line (b ∷ [])) (omega arith) in (
+      let long : longest < length (line ++ b ∷ []) = rw (length-append line (b ∷ [])) (omega arith) in
+      let r = told_rest first (t ++ b ∷ []) left' (subst (λ (l : List ℕ). Told first (t ++ l) left') one (told_more first t left left' 1 piece at took)) in (
         t ++ b ∷ [],
-        a.0,
-        a.1 ∙ ap (λ (l : List ℕ). (t ++ l) ++ a.0) one,
-        a.2,
+        r.0,
+        r.1,
         inr (inl (record {
           number = n;
           status_is = refl;
           short = rw (length-append t (b ∷ [])) (omega arith);
-          halts = λ more. subst (λ (l : List ℕ). Halts takes (IsLong n) (lines_of l) x y) (sym (append_assoc t (b ∷ []) more)) (long_halts x t n n line y (b ∷ []) more h none refl long);
+          meets = meets_long x t n n line y (b ∷ []) [] h none refl long;
         })),
       )
 
   pub over_input : (first : Option (List ℕ)) (t : List ℕ) (n : ℕ) (line : List ℕ) (x y : X) (left left' : Option (List ℕ)) (piece : List ℕ) (b : ℕ) → Told first t left → IsFed takes x t n line y → TookBytes 1 piece left left' → take 1 piece ≡ b ∷ [] → length t ≡ most_bytes → (b ≡ 10) ⊎ (length line < longest)
       → TakesPart takes stops (Limit n Input) first left' x y
-  over_input first t n line x y left left' piece b at h took one full short = λ input told.
-      let a = told_more first t left left' 1 piece at took input told in (
+  over_input first t n line x y left left' piece b at h took one full short =
+      let r = told_rest first (t ++ b ∷ []) left' (subst (λ (l : List ℕ). Told first (t ++ l) left') one (told_more first t left left' 1 piece at took)) in (
         t ++ b ∷ [],
-        a.0,
-        a.1 ∙ ap (λ (l : List ℕ). (t ++ l) ++ a.0) one,
-        a.2,
+        r.0,
+        r.1,
         inr (inr (inl (record { number = n; status_is = refl; bytes = t; byte = b; taken_is = refl; full = full; leads = h.leads; number_is = h.number_is; line = rw (← h.line_is) short }))),
       )
 

@@ -1,5 +1,5 @@
 -- How a run ends that checks statements, of which each line of its input is one: of the command `check`.
-use Rattle.std.specs.Prelude.{◌≡◌, ℕ, ◌+◌, ◌≤◌, ◌<◌, ◌⊎◌, ◌↔◌, Bool, IsTrue, List, [], ◌∷◌, ◌++◌, length, nat_lt, if◌then◌else◌, Option, Some, Result, Ok, Err}
+use Rattle.std.specs.Prelude.{◌≡◌, ℕ, ◌+◌, ◌≤◌, ◌<◌, ◌⊎◌, ◌↔◌, Bool, IsTrue, List, [], ◌∷◌, ◌++◌, length, nat_lt, if◌then◌else◌, Option, Result, Ok, Err}
 use Rattle.base_bech32.specs.declared.form.Form.{Form}
 use Rattle.base_io.specs.Calls.{AddsPart}
 use Rattle.base_io.specs.Outside.{IsPart}
@@ -13,13 +13,14 @@ use Rattle.mod_statement.specs.Answers.{IsRight}
 use Rattle.mod_statement.specs.Bounds.{bounds_of}
 use Rattle.run_app.specs.declared.status.InputFault.TheVariants.{BadShape}
 use Rattle.run_app.specs.declared.status.Status.{Status}
-use Rattle.run_app.specs.declared.status.Status.TheVariants.{Done, Usage, BadInput, Limit, ReadFault, WriteFault, KeepFault, NoMemory, BadStore, WrongStore, NotFound}
-use Rattle.run_app.specs.declared.status.LimitKind.TheVariants.{Line, Input, Ratio, Bound}
+use Rattle.run_app.specs.declared.status.Status.TheVariants.{Done, BadInput, Limit, ReadFault, WriteFault, NoMemory}
+use Rattle.run_app.specs.declared.status.LimitKind.TheVariants.{Line, Input, Bound}
 use Rattle.run_app.specs.Ending.{status_of}
 use Rattle.run_app.specs.Lines.{whole_from, rest_from, lines_of}
 use Rattle.run_app.specs.Machine.{longest, not_read}
 use Rattle.run_app.specs.Outcome.{AreEnded, most_bytes}
-use Rattle.run_app.specs.Parts.{Grows}
+use Rattle.run_app.specs.Told.{TakesFrom}
+use Rattle.run_generated.specs.Writing.{Grows}
 
 -- ---- a line
 
@@ -58,20 +59,10 @@ pub record IsChecked (form : Form) (n : ℕ) (line text : List ℕ) : Type 0 whe
 
 -- why a line within its limit is not answered; memory may always be wanting
 abbrev pub IsUnanswered : Form → ℕ → List ℕ → Status → Type 0
-IsUnanswered form n line Done = ⊥
-IsUnanswered form n line Usage = ⊥
 IsUnanswered form n line (BadInput m why) = due_at form n line ≡ Err (BadInput m why)
-IsUnanswered form n line (Limit m Line) = ⊥
-IsUnanswered form n line (Limit m Input) = ⊥
-IsUnanswered form n line (Limit m (Ratio over)) = ⊥
 IsUnanswered form n line (Limit m (Bound over)) = due_at form n line ≡ Err (Limit m (Bound over))
-IsUnanswered form n line ReadFault = ⊥
-IsUnanswered form n line WriteFault = ⊥
-IsUnanswered form n line KeepFault = ⊥
 IsUnanswered form n line NoMemory = Unit {0}
-IsUnanswered form n line BadStore = ⊥
-IsUnanswered form n line (WrongStore is_empty) = ⊥
-IsUnanswered form n line NotFound = ⊥
+IsUnanswered form n line _ = ⊥
 
 -- the line is answered, and its text was written
 abbrev pub TakesCheck : Form → ℕ → List ℕ → Option (List ℕ) → Option (List ℕ) → Type 0
@@ -150,13 +141,11 @@ StopsCheckIn form status taken rest text =
 abbrev pub ChecksSo : Form → Status → List ℕ → List ℕ → List ℕ → Type 0
 ChecksSo form Done taken rest text =
     (rest ≡ []) × (length taken ≤ most_bytes) × AreChecked form 1 (lines_of taken) text
-ChecksSo form Usage taken rest text = ⊥
 ChecksSo form (BadInput n why) taken rest text = StopsCheckIn form (BadInput n why) taken rest text
 ChecksSo form (Limit n Line) taken rest text =
     (length taken ≤ most_bytes + 1)
     × ((more : List ℕ) → StopsCheck form (Limit n Line) (lines_of (taken ++ more)) text)
 ChecksSo form (Limit n Input) taken rest text = PassesCheck form n taken text
-ChecksSo form (Limit n (Ratio over)) taken rest text = ⊥
 ChecksSo form (Limit n (Bound over)) taken rest text =
     StopsCheckIn form (Limit n (Bound over)) taken rest text
 ChecksSo form ReadFault taken rest text =
@@ -165,36 +154,31 @@ ChecksSo form WriteFault taken rest text =
     (length taken ≤ most_bytes)
     × (((lines : List (List ℕ)) × AreEnded lines taken rest × CutsCheck form lines text)
     ⊎ ((rest ≡ []) × AreChecked form 1 (lines_of taken) text))
-ChecksSo form KeepFault taken rest text = ⊥
 ChecksSo form NoMemory taken rest text =
     (length taken ≤ most_bytes)
     × (lines : List (List ℕ)) × AreEnded lines taken rest
     × (CutsCheck form lines text ⊎ BeginsCheck form lines text)
-ChecksSo form BadStore taken rest text = ⊥
-ChecksSo form (WrongStore is_empty) taken rest text = ⊥
-ChecksSo form NotFound taken rest text = ⊥
+ChecksSo form _ taken rest text = ⊥
 
--- Where a source and a sink tell their bytes: all lines of the input are answered, and their text was
--- written.
+-- There are bytes and a text, as the source and the sink tell them where they do: the source was taken to
+-- its end, and this is the text of the answers to its lines.
 abbrev pub ChecksAll : Form → Option (List ℕ) → Option (List ℕ) → Option (List ℕ) → Option (List ℕ) → Type 0
 ChecksAll form left left' written written' =
-    (input old : List ℕ) → left ≡ Some input → written ≡ Some old →
-    (text : List ℕ) × (left' ≡ Some []) × (written' ≡ Some (old ++ text))
-    × (length input ≤ most_bytes) × AreChecked form 1 (lines_of input) text
+    (taken : List ℕ) × (text : List ℕ)
+    × TakesFrom left left' taken [] × Grows written written' text
+    × (length taken ≤ most_bytes) × AreChecked form 1 (lines_of taken) text
 
--- how a run ended, where a source and a sink tell their bytes
+-- There are bytes that were taken, a rest that is left, and a text that was written, as the source and
+-- the sink tell them where they do, by which a run ended so.
 abbrev pub CheckEnds : Form → Option (List ℕ) → Option (List ℕ) → Option (List ℕ) → Option (List ℕ) → Status → Type 0
 CheckEnds form left left' written written' status =
-    (input old : List ℕ) → left ≡ Some input → written ≡ Some old →
-    (taken : List ℕ) × (rest : List ℕ) × (text : List ℕ) × (input ≡ taken ++ rest)
-    × (left' ≡ Some rest) × (written' ≡ Some (old ++ text)) × ChecksSo form status taken rest text
+    (taken : List ℕ) × (rest : List ℕ) × (text : List ℕ)
+    × TakesFrom left left' taken rest × Grows written written' text × ChecksSo form status taken rest text
 
--- a source and a sink that tell, and an input within its limit, of which each line is answered
-pub record ChecksCalmly (form : Form) (left written : Option (List ℕ)) : Type 0 where
+-- a source that tells, and an input within its limit, of which each line is answered
+pub record ChecksCalmly (form : Form) (left : Option (List ℕ)) : Type 0 where
   pub input : List ℕ
-  pub old : List ℕ
   pub text : List ℕ
   pub left_is : left ≡ Some input
-  pub written_is : written ≡ Some old
   pub good : AreChecked form 1 (lines_of input) text
   pub short : length input ≤ most_bytes

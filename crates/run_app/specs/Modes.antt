@@ -4,7 +4,6 @@ use Rattle.base_bech32.specs.declared.form.Form.{Form}
 use Rattle.base_io.specs.Outside.{Rose}
 use Rattle.base_io.specs.Rows.{Pair}
 use Rattle.base_roles.specs.declared.refusal.Refusal.{Refusal}
-use Rattle.run_words.specs.declared.mode.Command.{Command}
 use Rattle.run_words.specs.declared.mode.Mode.{Mode}
 use Rattle.run_words.specs.declared.mode.Mode.TheVariants.{Replay, Resume, Query, Tally, Check, Gen, Trial}
 use Rattle.run_generated.specs.Writing.{generated_text}
@@ -65,30 +64,19 @@ ModeEnds form (Gen seed count) left left' written written' rows rows' honest' le
 ModeEnds form (Trial seed count) left left' written written' rows rows' honest' leaves leaves' status =
     Leaves left left' written written' (IsTried (trial_of seed count) status) × AreUntouched rows rows' leaves leaves'
 
--- the same of what words ask for: of no command, and of one with addresses in its form
-abbrev pub CommandEnds : Option Command → Option (List ℕ) → Option (List ℕ) → Option (List ℕ) → Option (List ℕ) → Option (List Pair) → Option (List Pair) → Type 0 → (List Pair → Type 0) → (List Pair → Type 0) → Status → Type 0
-CommandEnds None left left' written written' rows rows' honest' leaves leaves' status = Leaves left left' written written' (λ text. text ≡ []) × AreUntouched rows rows' leaves leaves'
-CommandEnds (Some c) left left' written written' rows rows' honest' leaves leaves' status = ModeEnds c.form c.mode left left' written written' rows rows' honest' leaves leaves' status
-
 -- a keeper that keeps nothing, or one without rows, that is honest to the end, and of which no call fails
 pub record FitsReplay (keeps : Bool) (rows : Option (List Pair)) (honest' : Type 0) (faults faults' : ℕ) : Type 0 where
   pub none : (keeps ≡ false) ⊎ (rows ≡ Some [])
   pub honest : honest'
   pub quiet : ¬ Rose faults faults'
 
--- A sink that tells, and an input free of faults: that of the source, of which `check` answers each line, or one whose blocks all
--- follow; what `gen` writes needs none.
--- A replay has a keeper that fits it, and so have a run that goes on, a tally, and a question, which has an answer.
-abbrev pub IsUntroubledAt : Form → Mode → Option (List ℕ) → Option (List ℕ) → Bool → Option (List Pair) → Type 0 → ℕ → ℕ → Type 0
-IsUntroubledAt form Replay left written keeps rows honest' faults faults' = IsUntroubled form None left written × FitsReplay keeps rows honest' faults faults'
-IsUntroubledAt form Resume left written keeps rows honest' faults faults' = ResumesCalmly form left written rows honest' faults faults'
-IsUntroubledAt form (Query what) left written keeps rows honest' faults faults' = AsksCalmly form what written rows honest' faults faults'
-IsUntroubledAt form Tally left written keeps rows honest' faults faults' = TalliesCalmly form left written rows honest' faults faults'
-IsUntroubledAt form Check left written keeps rows honest' faults faults' = ChecksCalmly form left written
-IsUntroubledAt form (Gen seed count) left written keeps rows honest' faults faults' = (old : List ℕ) × (written ≡ Some old)
-IsUntroubledAt form (Trial seed count) left written keeps rows honest' faults faults' = ((old : List ℕ) × (written ≡ Some old)) × ((summary : List ℕ) × (trial_of seed count ≡ Ok (Ok summary)))
-
--- the same of what words ask for, which is a command
-abbrev pub IsUntroubledBy : Option Command → Option (List ℕ) → Option (List ℕ) → Bool → Option (List Pair) → Type 0 → ℕ → ℕ → Type 0
-IsUntroubledBy None left written keeps rows honest' faults faults' = ⊥
-IsUntroubledBy (Some c) left written keeps rows honest' faults faults' = IsUntroubledAt c.form c.mode left written keeps rows honest' faults faults'
+-- An input free of faults: that of the source, of which `check` answers each line, or one whose blocks all follow; what `gen` writes
+-- needs none. A replay has a keeper that fits it, and so have a run that goes on, a tally, and a question, which has an answer.
+abbrev pub IsUntroubledAt : Form → Mode → Option (List ℕ) → Bool → Option (List Pair) → Type 0 → ℕ → ℕ → Type 0
+IsUntroubledAt form Replay left keeps rows honest' faults faults' = IsUntroubled form None left × FitsReplay keeps rows honest' faults faults'
+IsUntroubledAt form Resume left keeps rows honest' faults faults' = ResumesCalmly form left rows honest' faults faults'
+IsUntroubledAt form (Query what) left keeps rows honest' faults faults' = AsksCalmly form what rows honest' faults faults'
+IsUntroubledAt form Tally left keeps rows honest' faults faults' = TalliesCalmly form left rows honest' faults faults'
+IsUntroubledAt form Check left keeps rows honest' faults faults' = ChecksCalmly form left
+IsUntroubledAt form (Gen seed count) left keeps rows honest' faults faults' = Unit {0}
+IsUntroubledAt form (Trial seed count) left keeps rows honest' faults faults' = (summary : List ℕ) × (trial_of seed count ≡ Ok (Ok summary))

@@ -1,11 +1,12 @@
 -- Lines of an input that are taken one after another: each leads from one standing to the next, or stops the run.
-use Rattle.std.specs.Prelude.{◌≡◌, ℕ, ◌+◌, ◌≤◌, ◌<◌, ◌⊎◌, List, [], ◌∷◌, ◌++◌, length, Option, Some, Result, Ok, Err}
+use Rattle.std.specs.Prelude.{◌≡◌, ℕ, ◌+◌, ◌≤◌, ◌<◌, ◌⊎◌, List, [], ◌∷◌, ◌++◌, length, Option, Result, Ok, Err}
 use Rattle.run_app.specs.declared.status.Status.{Status}
-use Rattle.run_app.specs.declared.status.Status.TheVariants.{Done, Usage, BadInput, Limit, ReadFault, WriteFault, KeepFault, NoMemory, BadStore, WrongStore, NotFound}
+use Rattle.run_app.specs.declared.status.Status.TheVariants.{BadInput, Limit, ReadFault, WriteFault, NoMemory}
 use Rattle.run_app.specs.declared.status.LimitKind.TheVariants.{Line, Input}
 use Rattle.run_app.specs.Lines.{whole_from, rest_from, lines_of}
 use Rattle.run_app.specs.Machine.{longest}
 use Rattle.run_app.specs.Outcome.{AreEnded, UnlessWriteFault, most_bytes}
+use Rattle.run_app.specs.Told.{TakesFrom}
 
 -- ---- lines
 
@@ -34,6 +35,17 @@ module _ {X : Type 0} (takes : ℕ → List ℕ → X → X → Type 0) where
     pub lines_are : lines ≡ before ++ after
     pub leads : Leads 1 before x y
 
+  -- The first lines lead so far, and the next one, whose number is `n`, is over its limit, whatever
+  -- comes behind these bytes.
+  pub record MeetsLong (n : ℕ) (taken : List ℕ) (x y : X) : Type 0 where
+    pub before : List (List ℕ)
+    pub number_is : n ≡ 1 + length before
+    pub leads : Leads 1 before x y
+    pub long :
+        (more : List ℕ)
+        → (line : List ℕ) × (after : List (List ℕ)) × (lines_of (taken ++ more) ≡ before ++ line ∷ after)
+        × (longest < length line)
+
   -- ---- bytes
 
   -- These bytes were taken: the lines that have ended lead so far, and this has come of the next
@@ -44,21 +56,14 @@ module _ {X : Type 0} (takes : ℕ → List ℕ → X → X → Type 0) where
     pub line_is : line ≡ rest_from [] taken
     pub short : length line ≤ longest
 
--- the line of this number is over its limit, and nothing was done
-pub record IsLong {X : Type 0} (n m : ℕ) (line : List ℕ) (x y : X) : Type 0 where
-  pub number : n ≡ m
-  pub long : longest < length line
-  pub same : y ≡ x
-
-module _ {X : Type 0} (takes : ℕ → List ℕ → X → X → Type 0) where
   -- ---- an input
 
-  -- a line is too long, whatever comes behind what was taken of it
+  -- a line is too long
   pub record IsTooLong (status : Status) (taken : List ℕ) (x y : X) : Type 0 where
     pub number : ℕ
     pub status_is : status ≡ Limit number Line
     pub short : length taken ≤ most_bytes + 1
-    pub halts : (more : List ℕ) → Halts takes (IsLong number) (lines_of (taken ++ more)) x y
+    pub meets : MeetsLong number taken x y
 
   -- As many bytes were taken as an input may have, and one more came, at which the line was not too
   -- long.
@@ -69,7 +74,7 @@ module _ {X : Type 0} (takes : ℕ → List ℕ → X → X → Type 0) where
     pub byte : ℕ
     pub taken_is : taken ≡ bytes ++ byte ∷ []
     pub full : length bytes ≡ most_bytes
-    pub leads : Leads takes 1 (whole_from [] bytes) x y
+    pub leads : Leads 1 (whole_from [] bytes) x y
     pub number_is : number ≡ 1 + length (whole_from [] bytes)
     pub line : (byte ≡ 10) ⊎ (length (rest_from [] bytes) < longest)
 
@@ -77,14 +82,15 @@ module _ {X : Type 0} (takes : ℕ → List ℕ → X → X → Type 0) where
   pub record IsCut (status : Status) (taken : List ℕ) (x y : X) : Type 0 where
     pub short : length taken ≤ most_bytes
     pub cut :
-        ((status ≡ ReadFault) × Leads takes 1 (whole_from [] taken) x y)
-        ⊎ ((status ≡ NoMemory) × Pauses takes (whole_from [] taken) x y)
+        ((status ≡ ReadFault) × Leads 1 (whole_from [] taken) x y)
+        ⊎ ((status ≡ NoMemory) × Pauses (whole_from [] taken) x y)
 
-  -- Where the source tells its bytes: it was taken to its end, and its lines lead so far.
+  -- There are bytes, as the source tells them where it does: it was taken to its end, and its lines
+  -- lead so far.
   abbrev pub TakesAll : Option (List ℕ) → Option (List ℕ) → X → X → Type 0
   TakesAll left left' x y =
-      (input : List ℕ) → left ≡ Some input →
-      (left' ≡ Some []) × (length input ≤ most_bytes) × Leads takes 1 (lines_of input) x y
+      (taken : List ℕ) × TakesFrom left left' taken [] × (length taken ≤ most_bytes)
+      × Leads 1 (lines_of taken) x y
 
 module _ {X : Type 0} (takes : ℕ → List ℕ → X → X → Type 0) (stops : Status → ℕ → List ℕ → X → X → Type 0) where
   -- These bytes stop the run so, whatever comes behind them: a line in them does, or one that is too
@@ -92,7 +98,7 @@ module _ {X : Type 0} (takes : ℕ → List ℕ → X → X → Type 0) (stops :
   abbrev pub StopsSo : Status → List ℕ → X → X → Type 0
   StopsSo status taken x y =
       Halts takes (stops status) (whole_from [] taken) x y
-      ⊎ ((n : ℕ) × (status ≡ Limit n Line) × ((more : List ℕ) → Halts takes (IsLong n) (lines_of (taken ++ more)) x y))
+      ⊎ ((n : ℕ) × (status ≡ Limit n Line) × MeetsLong takes n taken x y)
       ⊎ ((status ≡ NoMemory) × Pauses takes (whole_from [] taken) x y)
 
   -- a line of an input, of which these bytes were taken and those are left, stops the run
@@ -108,28 +114,21 @@ module _ {X : Type 0} (takes : ℕ → List ℕ → X → X → Type 0) (stops :
       HaltsIn status taken rest x y ⊎ IsTooLong takes status taken x y
       ⊎ IsTooMuch takes status taken x y ⊎ IsCut takes status taken x y
 
-  -- Where the source tells its bytes: it was not taken whole.
+  -- There are bytes and a rest, as the source tells them where it does: it was not taken whole.
   abbrev pub TakesPart : Status → Option (List ℕ) → Option (List ℕ) → X → X → Type 0
   TakesPart status left left' x y =
-      (input : List ℕ) → left ≡ Some input →
-      (taken : List ℕ) × (rest : List ℕ) × (input ≡ taken ++ rest) × (left' ≡ Some rest)
+      (taken : List ℕ) × (rest : List ℕ) × TakesFrom left left' taken rest
       × IsUntaken status taken rest x y
 
 -- ---- statuses
 
 -- a line may stop a run so
 abbrev pub MayStop : Status → Type 0
-MayStop Done = ⊥
-MayStop Usage = ⊥
 MayStop (BadInput n fault) = Unit {0}
 MayStop (Limit n kind) = Unit {0}
-MayStop ReadFault = ⊥
 MayStop WriteFault = Unit {0}
-MayStop KeepFault = ⊥
 MayStop NoMemory = Unit {0}
-MayStop BadStore = ⊥
-MayStop (WrongStore is_empty) = ⊥
-MayStop NotFound = ⊥
+MayStop _ = ⊥
 
 -- an input that is not taken whole may end a run so
 abbrev pub MayEnd : Status → Type 0

@@ -5,8 +5,10 @@ ghost use Rattle.std.specs.Prelude.{◌≡◌, IfOk};
 ghost use Rattle.base_io.specs.Changes.{IsOrdinary};
 
 use crate::checked::commit;
+use crate::lending::commit_kept;
 use base_io::{Change, Keeper, MemKeeper, Row, SureKeeper};
 use std::alloc::{AllocError, Global};
+use std::marker::Brand;
 use std::process::Abort;
 use store_history::{HistoryKeeper, OpenFault, open, past, read_history};
 
@@ -52,7 +54,8 @@ fn had(rt: &(impl Abort + AllocGlobal), rows: &[Row], height: u8, value: u8) -> 
 #[test]
 fn what_commits_replace_is_told_of_past_heights(rt: HostRuntime) {
     let mut below = SureKeeper::new(rt.alloc(), Vec::new(rt.alloc()));
-    let mut keeper = open(rt.alloc(), &mut below).expect(&rt, "a history");
+    let mut keeper =
+        open::<SureKeeper, Brand>(rt.alloc(), &mut below).expect(&rt, "a history");
     assert!(rt; keeper.keeps_rows());
     assert!(rt; commit(&rt, &mut keeper, &changes_at(&rt, 0, 7)));
     assert!(rt; commit(&rt, &mut keeper, &changes_at(&rt, 1, 8)));
@@ -68,11 +71,12 @@ fn what_commits_replace_is_told_of_past_heights(rt: HostRuntime) {
 #[test]
 fn a_history_goes_on_where_it_stands(rt: HostRuntime) {
     let mut below = SureKeeper::new(rt.alloc(), Vec::new(rt.alloc()));
-    let mut first = open(rt.alloc(), &mut below).expect(&rt, "a history");
+    let mut first =
+        open::<SureKeeper, Brand>(rt.alloc(), &mut below).expect(&rt, "a history");
     assert!(rt; commit(&rt, &mut first, &changes_at(&rt, 0, 7)));
     let below = first.into_inner();
     let known = read_history(rt.alloc(), below).expect(&rt, "a history");
-    let mut second = HistoryKeeper::over(rt.alloc(), below, known);
+    let mut second = HistoryKeeper::<SureKeeper, Brand>::over(rt.alloc(), below, known);
     assert!(rt; commit(&rt, &mut second, &changes_at(&rt, 1, 8)));
     assert!(rt; had(&rt, second.into_inner().rows(), 0, 7));
 }
@@ -81,5 +85,18 @@ fn a_history_goes_on_where_it_stands(rt: HostRuntime) {
 fn a_failed_load_opens_no_history(rt: HostRuntime) {
     let failing = Vec::from_slice(rt.alloc(), &[0]).expect(&rt, "memory");
     let mut below = MemKeeper::new(rt.alloc(), Vec::new(rt.alloc()), failing);
-    assert!(rt; matches!(open(rt.alloc(), &mut below), Err(OpenFault::Failed)));
+    let opened = open::<MemKeeper, Brand>(rt.alloc(), &mut below);
+    assert!(rt; matches!(opened, Err(OpenFault::Failed)));
+}
+
+#[test]
+fn a_caller_that_knows_no_histories_keeps_one(rt: HostRuntime) {
+    let mut below = SureKeeper::new(rt.alloc(), Vec::new(rt.alloc()));
+    let known = read_history(rt.alloc(), &mut below).expect(&rt, "a history");
+    let changes = changes_at(&rt, 0, 7);
+    assert!(rt; commit_kept::<Brand, SureKeeper>(&rt, &mut below, known, &changes));
+    let known = read_history(rt.alloc(), &mut below).expect(&rt, "a history");
+    let changes = changes_at(&rt, 1, 8);
+    assert!(rt; commit_kept::<Brand, SureKeeper>(&rt, &mut below, known, &changes));
+    assert!(rt; had(&rt, below.rows(), 0, 7));
 }

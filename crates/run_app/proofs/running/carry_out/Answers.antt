@@ -31,3 +31,24 @@ returns-in-Trial-clause-keep_quiet g c = quiet_keep _ _ refl
 
 pub returns-in-Query-clause-ends : goal.returns-in-Query-clause-ends
 returns-in-Query-clause-ends g c = rw c.in-Query.is (refl, c.answer.ensures.ends)
+
+pub returns-in-Query-clause-unkept : goal.returns-in-Query-clause-unkept
+returns-in-Query-clause-unkept g c = rw c.in-Query.is (λ off. let u = c.answer.ensures.unkept off in (u.0, refl, u.1))
+
+pub returns-in-Gen-clause-unkept : goal.returns-in-Gen-clause-unkept
+returns-in-Gen-clause-unkept g c = rw c.in-Gen.is (λ off. tt)
+
+pub returns-in-Trial-clause-unkept : goal.returns-in-Trial-clause-unkept
+returns-in-Trial-clause-unkept g c = rw c.in-Trial.is (λ off. tt)
+
+pub returns-in-Replay-clause-unkept : goal.returns-in-Replay-clause-unkept
+returns-in-Replay-clause-unkept g c = rw c.in-Replay.is c.replay.ensures.unkept
+
+pub returns-in-Resume-clause-unkept : goal.returns-in-Resume-clause-unkept
+returns-in-Resume-clause-unkept g c = rw c.in-Resume.is c.resume.ensures.unkept
+
+pub returns-in-Check-clause-unkept : goal.returns-in-Check-clause-unkept
+returns-in-Check-clause-unkept g c = rw c.in-Check.is (λ off. tt)
+
+pub returns-in-Tally-clause-unkept : goal.returns-in-Tally-clause-unkept
+returns-in-Tally-clause-unkept g c = rw c.in-Tally.is c.tally.ensures.unkept
