@@ -1,5 +1,5 @@
 -- How a run ends that checks statements, of which each line of its input is one: of the command `check`.
-use Rattle.std.specs.Prelude.{◌≡◌, ℕ, ◌+◌, ◌≤◌, ◌<◌, ◌⊎◌, ◌↔◌, Bool, IsTrue, List, [], ◌∷◌, ◌++◌, length, nat_lt, if◌then◌else◌, Option, Result, Ok, Err}
+use Rattle.std.specs.Prelude.{◌≡◌, ℕ, ◌+◌, ◌≤◌, ◌<◌, ◌⊎◌, ◌↔◌, Bool, IsTrue, List, [], ◌∷◌, ◌++◌, length, nat_lt, if◌then◌else◌, Option, Some, Result, Ok, Err}
 use Rattle.base_bech32.specs.declared.form.Form.{Form}
 use Rattle.base_io.specs.Calls.{AddsPart}
 use Rattle.base_io.specs.Outside.{IsPart}
