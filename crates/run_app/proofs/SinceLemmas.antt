@@ -117,31 +117,29 @@ module _ (form : Form) (first : Standing) (L L' : Standing → Standing → Type
   ends taken rest (Limit n Input) text e = passed n taken text e
   ends taken rest (Limit n (Ratio over)) text e = (e.0, e.1, e.2, named 1 first e.1 text _ e.3)
   ends taken rest ReadFault text e = (e.0, answered 1 first _ text e.1)
-  ends taken rest WriteFault text e =
-      (
-        e.0,
-        elim e.1 [
-          | inl it ↦ inl (it.0, it.1, wrote 1 first it.0 text it.2)
-          | inr it ↦ inr (elim it [ inl r ↦ inl (r.0, reported 1 first _ text r.1) | inr f ↦ inr (f.0, finished 1 first _ text f.1) ])
-        ],
-      )
+  ends taken rest WriteFault text e = (
+    e.0,
+    elim e.1 [
+      | inl it ↦ inl (it.0, it.1, wrote 1 first it.0 text it.2)
+      | inr it ↦ inr (elim it [ inl r ↦ inl (r.0, reported 1 first _ text r.1) | inr f ↦ inr (f.0, finished 1 first _ text f.1) ])
+    ],
+  )
   ends taken rest KeepFault text e = (e.0, e.1, e.2, unkept 1 first e.1 text e.3)
-  ends taken rest NoMemory text e =
-      (
-        e.0,
-        elim e.1 [
-          | inl it ↦
-              inl (
-                it.0,
-                it.1,
-                elim it.2 [
-                  | inl w ↦ inl (wrote 1 first it.0 text w)
-                  | inr o ↦ inr (elim o [ inl h ↦ inl (held 1 first it.0 text h) | inr u ↦ inr (unkept 1 first it.0 text u) ])
-                ],
-              )
-          | inr r ↦ inr (r.0, reported 1 first _ text r.1)
-        ],
-      )
+  ends taken rest NoMemory text e = (
+    e.0,
+    elim e.1 [
+      | inl it ↦
+          inl (
+            it.0,
+            it.1,
+            elim it.2 [
+              | inl w ↦ inl (wrote 1 first it.0 text w)
+              | inr o ↦ inr (elim o [ inl h ↦ inl (held 1 first it.0 text h) | inr u ↦ inr (unkept 1 first it.0 text u) ])
+            ],
+          )
+      | inr r ↦ inr (r.0, reported 1 first _ text r.1)
+    ],
+  )
   ends taken rest BadStore text e = absurd e
   ends taken rest (WrongStore is_empty) text e = absurd e
   ends taken rest NotFound text e = absurd e
