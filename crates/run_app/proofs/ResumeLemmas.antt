@@ -88,8 +88,8 @@ module _ (form : Form) (rows told : Option (List Pair)) (honest : Type 0) (chain
       alike_too = sym (formats_same p first q r.restored.storable alike Second)
 
       by : AreBrought (AreLoaded rows told honest) first list → IfSome told (λ now. changed list now ≡ rows_in (items_of p))
-      by (inl (are, none)) = if_told told _ _ are.are (λ now is. ap (λ (l : List Change). changed l now) none ∙ is ∙ alike_too)
-      by (inr (are, ordinary)) = if_told told _ _ are.are (λ now m. ap (changed list) m.0 ∙ m.1.reached ∙ alike_too)
+      by (inl (are, none)) = if_told told (λ now. now ≡ rows_of first) (λ now. changed list now ≡ rows_in (items_of p)) are.are (λ now is. ap (λ (l : List Change). changed l now) none ∙ is ∙ alike_too)
+      by (inr (are, ordinary)) = if_told told (AreMigrated first list) (λ now. changed list now ≡ rows_in (items_of p)) are.are (λ now m. ap (changed list) m.0 ∙ m.1.reached ∙ alike_too)
 
   pub leads_first : LeadTo (items_of first) list told
   leads_first = leads first r.restored.storable (same_itself first)
@@ -169,7 +169,7 @@ module _ (form : Form) (rows told : Option (List Pair)) (honest : Type 0) (chain
       where
         old : AreBrought (AreLoaded rows told honest) first list → AreLoaded rows told honest (λ now. now ≡ old_rows_of first)
         old (inl (are, none)) = absurd (some none)
-        old (inr (are, ordinary)) = record { are = if_told told _ _ are.are (λ now m. m.0); told = are.told }
+        old (inr (are, ordinary)) = record { are = if_told told (AreMigrated first list) (λ now. now ≡ old_rows_of first) are.are (λ now m. m.0); told = are.told }
 
         by : honest → (l : List Pair) → leaves l ⊎ ((l ≡ rows_in (items_of first)) × AreStored (items_of first)) → before l ⊎ (l ≡ rows_of first)
         by h l (inl may) = inl (stop h l may)

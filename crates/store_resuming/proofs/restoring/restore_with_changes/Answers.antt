@@ -4,9 +4,10 @@ use Rattle.store_resuming.proofs.restoring.restore_with_changes.Goals as goal
 
 pub returns-in-Ok-changes_from-clause-restored : goal.returns-in-Ok-changes_from-clause-restored
 returns-in-Ok-changes_from-clause-restored g c =
-    let told = rw c.deref.ensures.value at c.in-Ok-chain_told.ensures in
+    let told = rw c.deref.ensures.value at c.in-Ok-chain_told.ensures.chain in
+    let listed = rw c.deref.ensures.value at c.in-Ok-chain_told.ensures.listed in
     let from = rw c.deref-2.ensures.value at c.in-Ok-changes_from.ensures in
-    loaded_changes _ _ _ _ c.in-Ok.ensures.rows c.load_rows.ensures.ascending c.in-Ok.ensures.told _ _ _ told.chain told.listed from
+    loaded_changes _ _ _ _ c.in-Ok.ensures.rows c.load_rows.ensures.ascending c.in-Ok.ensures.told _ _ _ told listed from
 
 pub returns-in-Err-chain_told-clause-fault : goal.returns-in-Err-chain_told-clause-fault
 returns-in-Err-chain_told-clause-fault g c =
