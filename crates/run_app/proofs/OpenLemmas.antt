@@ -20,16 +20,16 @@ use Rattle.run_app.specs.Unkept.{ModeUnkept}
 use Rattle.run_app.proofs.ModeLemmas.{nothing_done}
 
 -- how a history was not read
-abbrev unread : {X : Type 0} → OpenFault → Result X OpenFault
+abbrev unread : OpenFault → Result History OpenFault
 unread f = Err f
 
-pub is_unopened : {X : Type 0} (f : OpenFault) (rows rows' : Option (List Pair)) (honest' : Type 0) → OnLoaded (unread {X = X} f) (honest' → IsSome rows → IsSome rows') → (IsErrOf (unread {X = X} f) unopened.BadHistory → IfSome rows' (λ now. IsHistory now → ⊥))
+pub is_unopened : (f : OpenFault) (rows rows' : Option (List Pair)) (honest' : Type 0) → OnLoaded (unread f) (honest' → IsSome rows → IsSome rows') → (IsErrOf (unread f) unopened.BadHistory → IfSome rows' (λ now. IsHistory now → ⊥))
     → IsUnopened (status_of_open f) rows rows' honest'
 is_unopened unopened.Failed rows rows' honest' told bad = tt
 is_unopened unopened.BadHistory rows rows' honest' told bad = record { are = bad refl; told = told }
 is_unopened unopened.NoMemory rows rows' honest' told bad = tt
 
-pub mode_unopened : {X : Type 0} (f : OpenFault) (m : Mode) (left w : Option (List ℕ)) → IsCommitting m → (IsErrOf (unread {X = X} f) unopened.BadHistory → ⊥) → ModeUnkept m left left w w (status_of_open f) × (status_of_open f ≡ BadStore → ⊥)
+pub mode_unopened : (f : OpenFault) (m : Mode) (left w : Option (List ℕ)) → IsCommitting m → (IsErrOf (unread f) unopened.BadHistory → ⊥) → ModeUnkept m left left w w (status_of_open f) × (status_of_open f ≡ BadStore → ⊥)
 mode_unopened unopened.Failed Replay left w commits never = (λ e. absurd cc, λ e. absurd cc)
 mode_unopened unopened.Failed Resume left w commits never = ((tt, nothing_done left w), λ e. absurd cc)
 mode_unopened unopened.Failed (Query what) left w commits never = absurd commits
@@ -80,12 +80,12 @@ unopened_unwritten unopened.Failed e = cc
 unopened_unwritten unopened.BadHistory e = cc
 unopened_unwritten unopened.NoMemory e = cc
 
-pub opened_cause : {X : Type 0} (f : OpenFault) (P : Type 0) → (IsErrOf (unread {X = X} f) unopened.Failed → P) → status_of_open f ≡ KeepFault → P
+pub opened_cause : (f : OpenFault) (P : Type 0) → (IsErrOf (unread f) unopened.Failed → P) → status_of_open f ≡ KeepFault → P
 opened_cause unopened.Failed P cause e = cause refl
 opened_cause unopened.BadHistory P cause e = absurd cc
 opened_cause unopened.NoMemory P cause e = absurd cc
 
-pub opened_quiet : {X : Type 0} (f : OpenFault) (P : Type 0) → UnlessFailed (unread {X = X} f) P → UnlessKeepFault (status_of_open f) P
+pub opened_quiet : (f : OpenFault) (P : Type 0) → UnlessFailed (unread f) P → UnlessKeepFault (status_of_open f) P
 opened_quiet unopened.Failed P quiet = tt
 opened_quiet unopened.BadHistory P quiet = quiet
 opened_quiet unopened.NoMemory P quiet = quiet

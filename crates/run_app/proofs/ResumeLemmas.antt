@@ -176,7 +176,7 @@ module _ (form : Form) (rows told : Option (List Pair)) (honest : Type 0) (chain
 
 -- ---- a run of which no chain comes
 
-abbrev pub failed : RestoreFault → Result Chained RestoreFault
+abbrev pub failed : {X : Type 0} → RestoreFault → Result X RestoreFault
 failed f = Err f
 
 pub unresumed : (f : RestoreFault) (rows rows' : Option (List Pair)) (honest' : Type 0) → IsUnrestored rows rows' honest' f → IsUnresumed (status_of_restore f) rows rows' honest'
@@ -194,7 +194,7 @@ pub not_asked : (form : Form) (f : RestoreFault) (what : Query) (w : Option (Lis
 not_asked form f what w rows rows' honest' leaves leaves' h same stop = (rows_left rows rows' honest' leaves leaves' same stop, inr (unresumed f rows rows' honest' h, nothing w _ refl))
 
 -- nor does one come of a keeper that keeps nothing, and nothing is said of its rows
-pub no_rows_found : (f : RestoreFault) → IsOfNothing (failed f) → IsOfNoRows (status_of_restore f)
+pub no_rows_found : {X : Type 0} (f : RestoreFault) → IsOfNothing (failed {X = X} f) → IsOfNoRows (status_of_restore f)
 no_rows_found fault.Failed h = tt
 no_rows_found fault.NoMemory h = tt
 no_rows_found fault.Empty h = refl
@@ -225,13 +225,13 @@ unresumed_unwritten fault.NoMemory e = absurd cc
 unresumed_unwritten fault.Empty e = absurd cc
 unresumed_unwritten fault.Unsound e = absurd cc
 
-pub unresumed_cause : (f : RestoreFault) (P : Type 0) → (IsErrOf (failed f) fault.Failed → P) → status_of_restore f ≡ KeepFault → P
+pub unresumed_cause : {X : Type 0} (f : RestoreFault) (P : Type 0) → (IsErrOf (failed {X = X} f) fault.Failed → P) → status_of_restore f ≡ KeepFault → P
 unresumed_cause fault.Failed P h e = h refl
 unresumed_cause fault.NoMemory P h e = absurd cc
 unresumed_cause fault.Empty P h e = absurd cc
 unresumed_cause fault.Unsound P h e = absurd cc
 
-pub unresumed_quiet : (f : RestoreFault) (P : Type 0) → UnlessFailed (failed f) P → UnlessKeepFault (status_of_restore f) P
+pub unresumed_quiet : {X : Type 0} (f : RestoreFault) (P : Type 0) → UnlessFailed (failed {X = X} f) P → UnlessKeepFault (status_of_restore f) P
 unresumed_quiet fault.Failed P h = tt
 unresumed_quiet fault.NoMemory P h = h
 unresumed_quiet fault.Empty P h = h
