@@ -1,5 +1,5 @@
 -- Runs that were to keep a history, and do not begin.
-use Rattle.std.proofs.Common.{◌≡◌, inl, inr, ℕ, List, [], Option, Some, IfSome, Result, Err, refl, subst}
+use Rattle.std.proofs.Common.{◌≡◌, inl, inr, ℕ, List, Option, IfSome, Result, Err, refl, subst}
 use Rattle.std.specs.Prelude.{IsErrOf, IsSome}
 use Rattle.base_bech32.specs.declared.form.Form.{Form}
 use Rattle.base_io.specs.Rows.{Pair}
@@ -10,9 +10,8 @@ use Rattle.store_history.specs.declared.loading.OpenFault.{OpenFault}
 use Rattle.store_history.specs.declared.loading.OpenFault.TheVariants as unopened
 use Rattle.store_history.specs.History.{IsHistory}
 use Rattle.store_history.specs.Opened.{OnLoaded, UnlessFailed}
-use Rattle.store_resuming.specs.Restored.{AreLoaded}
 use Rattle.run_app.specs.declared.status.Status.{Status}
-use Rattle.run_app.specs.declared.status.Status.TheVariants.{Done, Usage, ReadFault, WriteFault, KeepFault, NoMemory, BadStore, WrongStore}
+use Rattle.run_app.specs.declared.status.Status.TheVariants.{Done, Usage, ReadFault, WriteFault, KeepFault, BadStore}
 use Rattle.run_app.specs.Histories.{IsCommitting, IsUnopened, status_of_open}
 use Rattle.run_app.specs.Kept.{UnlessKeepFault}
 use Rattle.run_app.specs.Modes.{ModeEnds}

@@ -1,9 +1,8 @@
 -- A run over rows that a load left is a run over the rows before it.
-use Rattle.std.proofs.Common.{◌≡◌, ◌⊎◌, inl, inr, true≢false, ℕ, List, [], Option, Some, None, IfSome, refl, sym, subst}
+use Rattle.std.proofs.Common.{◌≡◌, ◌⊎◌, inl, inr, true≢false, ℕ, List, Option, Some, None, IfSome, refl, sym, subst}
 use Rattle.std.specs.Prelude.{IsSome}
 use Rattle.base_bech32.specs.declared.form.Form.{Form}
 use Rattle.base_io.specs.Rows.{Makes, Pair}
-use Rattle.rule_modules.specs.Chain.{State}
 use Rattle.run_words.specs.declared.mode.Mode.{Mode}
 use Rattle.run_words.specs.declared.mode.Mode.TheVariants.{Replay, Resume, Query, Tally, Gen, Trial}
 use Rattle.store_history.proofs.KeepingLemmas.{makes_later, told_back}
@@ -13,7 +12,7 @@ use Rattle.run_app.specs.declared.status.Status.TheVariants.{Done, Usage, BadInp
 use Rattle.run_app.specs.declared.status.LimitKind.TheVariants.{Line, Input, Ratio}
 use Rattle.run_app.specs.declared.status.LineStop.{LineStop}
 use Rattle.run_app.specs.Histories.{IsCommitting}
-use Rattle.run_app.specs.Kept.{AreLeft, AreSome, Began, BeganOnRows, IsUnbegun, LeftIn}
+use Rattle.run_app.specs.Kept.{AreLeft, AreSome, BeganOnRows, IsUnbegun, LeftIn}
 use Rattle.run_app.specs.Machine.{Standing}
 use Rattle.run_app.specs.Modes.{ModeEnds, ReplayEnds}
 use Rattle.run_app.specs.Outcome.{Ends, Passed, RunEnds}

@@ -1,6 +1,4 @@
-use Rattle.std.proofs.Common.{◌≡◌, ◌≢◌, ◌<◌, ◌∙◌, ap, inr, length, map, refl, rules}
-use Rattle.std.specs.Prelude.{[]}
-use Rattle.base_io.specs.declared.keeper.Row.{Row}
+use Rattle.std.proofs.Common.{◌≡◌, ◌<◌, ap, inr, length, map, refl, rules}
 use Rattle.base_io.specs.Changes.{pair_of}
 use Rattle.store_resuming.proofs.RestoreLemmas.{empty_pairs, some_pairs}
 use Rattle.run_app.proofs.ModeLemmas.{nothing, rows_left}

@@ -1,4 +1,4 @@
-use Rattle.std.proofs.Common.{◌∙◌, List, [], Err, ap, map}
+use Rattle.std.proofs.Common.{◌∙◌, List, Err, ap, map}
 use Rattle.base_io.specs.declared.keeper.Row.{Row}
 use Rattle.base_io.specs.Changes.{pair_of}
 use Rattle.store_history.specs.History.{IsHistory}
