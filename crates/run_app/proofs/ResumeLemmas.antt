@@ -33,7 +33,7 @@ use Rattle.run_app.specs.declared.status.Status.TheVariants.{Done, Usage, BadInp
 use Rattle.run_app.specs.Kept.{AreLeft, Began, BeganOnRows, Keeping, LeftIn, UnlessKeepFault}
 use Rattle.run_app.specs.Machine.{Standing}
 use Rattle.run_app.specs.Outcome.{RunEnds}
-use Rattle.run_app.specs.Resumes.{Answers, AsksCalmly, Asked, FitsState, GoesOn, IsAnswered, IsUnmigrated, IsUnresumed, QueryEnds, ResumeEnds, ResumesCalmly, on_rows_of, status_of_restore}
+use Rattle.run_app.specs.Resumes.{Answers, AsksCalmly, Asked, FitsState, GoesOn, IsAnswered, IsUnresumed, QueryEnds, ResumeEnds, ResumesCalmly, on_rows_of, status_of_restore}
 use Rattle.run_app.specs.Unkept.{IsOfNoRows}
 use Rattle.run_app.specs.Writes.{Adds, Writes}
 use Rattle.run_app.proofs.DriveLemmas.{untroubled_run}
