@@ -1,5 +1,5 @@
 -- How a run of each command ends.
-use Rattle.std.proofs.Common.{◌≡◌, ◌⊎◌, inl, inr, sym, subst, refl, ℕ, Bool, true, false, List, [], Option, Some, None, Ok}
+use Rattle.std.proofs.Common.{◌≡◌, ◌⊎◌, inl, inr, sym, subst, refl, ℕ, Bool, false, List, Option, Some, None}
 use Rattle.base_bech32.specs.declared.form.Form.{Form}
 use Rattle.base_io.specs.Outside.{Rose}
 use Rattle.base_io.specs.Rows.{Pair}

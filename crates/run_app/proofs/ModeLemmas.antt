@@ -8,9 +8,8 @@ use Rattle.base_roles.specs.declared.refusal.Refusal.{Refusal}
 use Rattle.base_messages.specs.declared.faults.BlockFault.{BlockFault}
 use Rattle.base_messages.specs.declared.faults.BlockFault.TheVariants as why
 use Rattle.base_decimals.specs.Texts.{number_of}
-use Rattle.run_generated.specs.Writing.{Grows, GrowsInPart, IsFront, generated_text}
+use Rattle.run_generated.specs.Writing.{Grows, GrowsInPart, IsFront}
 use Rattle.run_trial.specs.Summary.{Stopped}
-use Rattle.run_trial.specs.Trial.{trial_of}
 use Rattle.run_trial.specs.declared.fault.TrialFault.{TrialFault}
 use Rattle.run_trial.specs.declared.fault.TrialFault.TheVariants as trial
 use Rattle.run_trial.specs.Trying.{IsTrialFault}
@@ -27,7 +26,7 @@ use Rattle.run_app.specs.declared.status.Status.TheVariants.{Done, Usage, BadInp
 use Rattle.run_app.specs.Machine.{not_applied}
 use Rattle.base_io.specs.Rows.{Makes, Pair}
 use Rattle.run_app.specs.Kept.{AreLeft, AreSome, AreUntouched, IsUnbegun, UnlessKeepFault}
-use Rattle.run_app.specs.Modes.{HasFewBlocks, IsTried, Tries}
+use Rattle.run_app.specs.Modes.{HasFewBlocks, Tries}
 use Rattle.run_app.specs.Outcome.{UnlessReadFault, UnlessWriteFault}
 use Rattle.run_app.specs.Ending.{status_of}
 use Rattle.run_app.specs.Writes.{Adds, IsWritten, Leaves, Writes, status_of_sink}

@@ -1,5 +1,5 @@
 -- Runs that were to keep a history, and do not begin.
-use Rattle.std.proofs.Common.{◌≡◌, inl, inr, ℕ, List, [], Option, Some, IfSome, Result, Err, refl, subst}
+use Rattle.std.proofs.Common.{◌≡◌, inl, inr, ℕ, List, Option, IfSome, Result, Err, refl, subst}
 use Rattle.std.specs.Prelude.{IsErrOf, IsSome}
 use Rattle.base_bech32.specs.declared.form.Form.{Form}
 use Rattle.base_io.specs.Rows.{Pair}
@@ -7,12 +7,11 @@ use Rattle.run_words.specs.declared.mode.Mode.{Mode}
 use Rattle.run_words.specs.declared.mode.Mode.TheVariants.{Replay, Resume, Query, Tally, Check, Gen, Trial}
 use Rattle.store_history.specs.declared.history.History.{History}
 use Rattle.store_history.specs.declared.loading.OpenFault.{OpenFault}
-use Rattle.store_history.specs.declared.loading.OpenFault.TheVariants as open
+use Rattle.store_history.specs.declared.loading.OpenFault.TheVariants as unopened
 use Rattle.store_history.specs.History.{IsHistory}
 use Rattle.store_history.specs.Opened.{OnLoaded, UnlessFailed}
-use Rattle.store_resuming.specs.Restored.{AreLoaded}
 use Rattle.run_app.specs.declared.status.Status.{Status}
-use Rattle.run_app.specs.declared.status.Status.TheVariants.{Done, Usage, ReadFault, WriteFault, KeepFault, NoMemory, BadStore, WrongStore}
+use Rattle.run_app.specs.declared.status.Status.TheVariants.{Done, Usage, ReadFault, WriteFault, KeepFault, BadStore}
 use Rattle.run_app.specs.Histories.{IsCommitting, IsUnopened, status_of_open}
 use Rattle.run_app.specs.Kept.{UnlessKeepFault}
 use Rattle.run_app.specs.Modes.{ModeEnds}
@@ -20,31 +19,31 @@ use Rattle.run_app.specs.Unkept.{ModeUnkept}
 use Rattle.run_app.proofs.ModeLemmas.{nothing_done}
 
 -- how a history was not read
-abbrev unread : {X : Type 0} → OpenFault → Result X OpenFault
+abbrev unread : OpenFault → Result History OpenFault
 unread f = Err f
 
-pub is_unopened : {X : Type 0} (f : OpenFault) (rows rows' : Option (List Pair)) (honest' : Type 0) → OnLoaded (unread {X = X} f) (honest' → IsSome rows → IsSome rows') → (IsErrOf (unread {X = X} f) open.BadHistory → IfSome rows' (λ now. IsHistory now → ⊥))
+pub is_unopened : (f : OpenFault) (rows rows' : Option (List Pair)) (honest' : Type 0) → OnLoaded (unread f) (honest' → IsSome rows → IsSome rows') → (IsErrOf (unread f) unopened.BadHistory → IfSome rows' (λ now. IsHistory now → ⊥))
     → IsUnopened (status_of_open f) rows rows' honest'
-is_unopened open.Failed rows rows' honest' told bad = tt
-is_unopened open.BadHistory rows rows' honest' told bad = record { are = bad refl; told = told }
-is_unopened open.NoMemory rows rows' honest' told bad = tt
+is_unopened unopened.Failed rows rows' honest' told bad = tt
+is_unopened unopened.BadHistory rows rows' honest' told bad = record { are = bad refl; told = told }
+is_unopened unopened.NoMemory rows rows' honest' told bad = tt
 
-pub mode_unopened : {X : Type 0} (f : OpenFault) (m : Mode) (left w : Option (List ℕ)) → IsCommitting m → (IsErrOf (unread {X = X} f) open.BadHistory → ⊥) → ModeUnkept m left left w w (status_of_open f) × (status_of_open f ≡ BadStore → ⊥)
-mode_unopened open.Failed Replay left w commits never = (λ e. absurd cc, λ e. absurd cc)
-mode_unopened open.Failed Resume left w commits never = ((tt, nothing_done left w), λ e. absurd cc)
-mode_unopened open.Failed (Query what) left w commits never = absurd commits
-mode_unopened open.Failed Tally left w commits never = absurd commits
-mode_unopened open.Failed Check left w commits never = absurd commits
-mode_unopened open.Failed (Gen seed count) left w commits never = absurd commits
-mode_unopened open.Failed (Trial seed count) left w commits never = absurd commits
-mode_unopened open.BadHistory m left w commits never = absurd (never refl)
-mode_unopened open.NoMemory Replay left w commits never = (λ e. absurd cc, λ e. absurd cc)
-mode_unopened open.NoMemory Resume left w commits never = ((tt, nothing_done left w), λ e. absurd cc)
-mode_unopened open.NoMemory (Query what) left w commits never = absurd commits
-mode_unopened open.NoMemory Tally left w commits never = absurd commits
-mode_unopened open.NoMemory Check left w commits never = absurd commits
-mode_unopened open.NoMemory (Gen seed count) left w commits never = absurd commits
-mode_unopened open.NoMemory (Trial seed count) left w commits never = absurd commits
+pub mode_unopened : (f : OpenFault) (m : Mode) (left w : Option (List ℕ)) → IsCommitting m → (IsErrOf (unread f) unopened.BadHistory → ⊥) → ModeUnkept m left left w w (status_of_open f) × (status_of_open f ≡ BadStore → ⊥)
+mode_unopened unopened.Failed Replay left w commits never = (λ e. absurd cc, λ e. absurd cc)
+mode_unopened unopened.Failed Resume left w commits never = ((tt, nothing_done left w), λ e. absurd cc)
+mode_unopened unopened.Failed (Query what) left w commits never = absurd commits
+mode_unopened unopened.Failed Tally left w commits never = absurd commits
+mode_unopened unopened.Failed Check left w commits never = absurd commits
+mode_unopened unopened.Failed (Gen seed count) left w commits never = absurd commits
+mode_unopened unopened.Failed (Trial seed count) left w commits never = absurd commits
+mode_unopened unopened.BadHistory m left w commits never = absurd (never refl)
+mode_unopened unopened.NoMemory Replay left w commits never = (λ e. absurd cc, λ e. absurd cc)
+mode_unopened unopened.NoMemory Resume left w commits never = ((tt, nothing_done left w), λ e. absurd cc)
+mode_unopened unopened.NoMemory (Query what) left w commits never = absurd commits
+mode_unopened unopened.NoMemory Tally left w commits never = absurd commits
+mode_unopened unopened.NoMemory Check left w commits never = absurd commits
+mode_unopened unopened.NoMemory (Gen seed count) left w commits never = absurd commits
+mode_unopened unopened.NoMemory (Trial seed count) left w commits never = absurd commits
 
 -- a run over a keeper that keeps nothing does not end on a bad store
 pub never_bad_store : (form : Form) (m : Mode) (left left' w w' : Option (List ℕ)) (rows rows' : Option (List Pair)) (honest' : Type 0) (leaves leaves' : List Pair → Type 0) (s : Status) → IsCommitting m → ModeEnds form m left left' w w' rows rows' honest' leaves leaves' s
@@ -64,31 +63,31 @@ never_bad_store form (Trial seed count) left left' w w' rows rows' honest' leave
 -- ---- by which statuses
 
 pub unopened_busy : (f : OpenFault) → status_of_open f ≡ Usage → ⊥
-unopened_busy open.Failed e = cc
-unopened_busy open.BadHistory e = cc
-unopened_busy open.NoMemory e = cc
+unopened_busy unopened.Failed e = cc
+unopened_busy unopened.BadHistory e = cc
+unopened_busy unopened.NoMemory e = cc
 
 pub unopened_undone : (f : OpenFault) → status_of_open f ≡ Done → ⊥
-unopened_undone open.Failed e = cc
-unopened_undone open.BadHistory e = cc
-unopened_undone open.NoMemory e = cc
+unopened_undone unopened.Failed e = cc
+unopened_undone unopened.BadHistory e = cc
+unopened_undone unopened.NoMemory e = cc
 
 pub unopened_unread : (f : OpenFault) → status_of_open f ≡ ReadFault → ⊥
-unopened_unread open.Failed e = cc
-unopened_unread open.BadHistory e = cc
-unopened_unread open.NoMemory e = cc
+unopened_unread unopened.Failed e = cc
+unopened_unread unopened.BadHistory e = cc
+unopened_unread unopened.NoMemory e = cc
 
 pub unopened_unwritten : (f : OpenFault) → status_of_open f ≡ WriteFault → ⊥
-unopened_unwritten open.Failed e = cc
-unopened_unwritten open.BadHistory e = cc
-unopened_unwritten open.NoMemory e = cc
+unopened_unwritten unopened.Failed e = cc
+unopened_unwritten unopened.BadHistory e = cc
+unopened_unwritten unopened.NoMemory e = cc
 
-pub opened_cause : {X : Type 0} (f : OpenFault) (P : Type 0) → (IsErrOf (unread {X = X} f) open.Failed → P) → status_of_open f ≡ KeepFault → P
-opened_cause open.Failed P cause e = cause refl
-opened_cause open.BadHistory P cause e = absurd cc
-opened_cause open.NoMemory P cause e = absurd cc
+pub opened_cause : (f : OpenFault) (P : Type 0) → (IsErrOf (unread f) unopened.Failed → P) → status_of_open f ≡ KeepFault → P
+opened_cause unopened.Failed P cause e = cause refl
+opened_cause unopened.BadHistory P cause e = absurd cc
+opened_cause unopened.NoMemory P cause e = absurd cc
 
-pub opened_quiet : {X : Type 0} (f : OpenFault) (P : Type 0) → UnlessFailed (unread {X = X} f) P → UnlessKeepFault (status_of_open f) P
-opened_quiet open.Failed P quiet = tt
-opened_quiet open.BadHistory P quiet = quiet
-opened_quiet open.NoMemory P quiet = quiet
+pub opened_quiet : (f : OpenFault) (P : Type 0) → UnlessFailed (unread f) P → UnlessKeepFault (status_of_open f) P
+opened_quiet unopened.Failed P quiet = tt
+opened_quiet unopened.BadHistory P quiet = quiet
+opened_quiet unopened.NoMemory P quiet = quiet

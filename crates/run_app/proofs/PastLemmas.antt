@@ -1,9 +1,7 @@
 -- Questions of a past height: what is answered, and when none is.
-use Rattle.std.proofs.Common.{◌≡◌, ◌≢◌, ◌∙◌, ◌⊎◌, inl, inr, true≢false, ℕ, ◌<◌, ◌≤◌, true, List, [], Option, Some, None, IfSome, Result, Err, refl, sym, ap, subst, arith}
-use Rattle.std.specs.Prelude.{IsSome, Vec}
-use Rattle.std.specs.declared.alloc.Global.{Global}
+use Rattle.std.proofs.Common.{◌≡◌, ◌≢◌, ◌∙◌, ◌⊎◌, inl, inr, true≢false, ℕ, ◌<◌, true, List, [], Option, Some, None, IfSome, Err, refl, sym, ap, subst, arith}
+use Rattle.std.specs.Prelude.{IsSome}
 use Rattle.base_bech32.specs.declared.form.Form.{Form}
-use Rattle.base_io.specs.declared.keeper.Row.{Row}
 use Rattle.base_io.specs.Changes.{Rises}
 use Rattle.base_io.specs.Rows.{Makes, Pair}
 use Rattle.chain_modules.specs.Kept.{StandsFor}
@@ -16,11 +14,10 @@ use Rattle.store_history.specs.declared.going_back.PastFault.{PastFault}
 use Rattle.store_history.specs.declared.going_back.PastFault.TheVariants as past
 use Rattle.store_history.specs.Answers.{IsOutside, IsWithin, Tells}
 use Rattle.store_history.specs.History.{ArePast, IsHistory, base_of, last_of}
-use Rattle.store_history.proofs.KeepingLemmas.{holds_still}
 use Rattle.store_history.proofs.PastLemmas.{is_one}
 use Rattle.store_resuming.specs.declared.fault.RestoreFault.{RestoreFault}
 use Rattle.store_resuming.specs.declared.fault.RestoreFault.TheVariants as fault
-use Rattle.store_resuming.specs.Restored.{AreLoaded, AreOfNone, AreStateRows, HaveSameRows, IsStorable}
+use Rattle.store_resuming.specs.Restored.{AreLoaded, AreOfNone, AreStateRows, HaveSameRows}
 use Rattle.store_resuming.specs.Restoring.{InOrder, IsChainOf, IsNoChain}
 use Rattle.run_app.specs.declared.status.Status.{Status}
 use Rattle.run_app.specs.declared.status.Status.TheVariants.{Done, Usage, BadInput, Limit, ReadFault, WriteFault, KeepFault, NoMemory, BadStore, WrongStore, NotFound, NoPast}

@@ -33,7 +33,7 @@ use Rattle.run_app.specs.declared.status.Status.TheVariants.{Done, Usage, BadInp
 use Rattle.run_app.specs.Kept.{AreLeft, Began, BeganOnRows, Keeping, LeftIn, UnlessKeepFault}
 use Rattle.run_app.specs.Machine.{Standing}
 use Rattle.run_app.specs.Outcome.{RunEnds}
-use Rattle.run_app.specs.Resumes.{Answers, AsksCalmly, Asked, FitsState, GoesOn, IsAnswered, IsUnmigrated, IsUnresumed, QueryEnds, ResumeEnds, ResumesCalmly, on_rows_of, status_of_restore}
+use Rattle.run_app.specs.Resumes.{Answers, AsksCalmly, Asked, FitsState, GoesOn, IsAnswered, IsUnresumed, QueryEnds, ResumeEnds, ResumesCalmly, on_rows_of, status_of_restore}
 use Rattle.run_app.specs.Unkept.{IsOfNoRows}
 use Rattle.run_app.specs.Writes.{Adds, Writes}
 use Rattle.run_app.proofs.DriveLemmas.{untroubled_run}
@@ -176,7 +176,7 @@ module _ (form : Form) (rows told : Option (List Pair)) (honest : Type 0) (chain
 
 -- ---- a run of which no chain comes
 
-abbrev pub failed : RestoreFault → Result Chained RestoreFault
+abbrev pub failed : {X : Type 0} → RestoreFault → Result X RestoreFault
 failed f = Err f
 
 pub unresumed : (f : RestoreFault) (rows rows' : Option (List Pair)) (honest' : Type 0) → IsUnrestored rows rows' honest' f → IsUnresumed (status_of_restore f) rows rows' honest'
@@ -194,11 +194,11 @@ pub not_asked : (form : Form) (f : RestoreFault) (what : Query) (w : Option (Lis
 not_asked form f what w rows rows' honest' leaves leaves' h same stop = (rows_left rows rows' honest' leaves leaves' same stop, inr (unresumed f rows rows' honest' h, nothing w _ refl))
 
 -- nor does one come of a keeper that keeps nothing, and nothing is said of its rows
-pub no_rows_found : (f : RestoreFault) → IsOfNothing (failed f) → IsOfNoRows (status_of_restore f)
-no_rows_found fault.Failed h = tt
-no_rows_found fault.NoMemory h = tt
-no_rows_found fault.Empty h = refl
-no_rows_found fault.Unsound h = absurd h
+pub no_rows_found : (X : Type 0) (f : RestoreFault) → IsOfNothing (failed {X = X} f) → IsOfNoRows (status_of_restore f)
+no_rows_found X fault.Failed h = tt
+no_rows_found X fault.NoMemory h = tt
+no_rows_found X fault.Empty h = refl
+no_rows_found X fault.Unsound h = absurd h
 
 -- statuses that it does not end by
 pub unresumed_busy : (f : RestoreFault) → status_of_restore f ≡ Usage → ⊥
@@ -225,17 +225,17 @@ unresumed_unwritten fault.NoMemory e = absurd cc
 unresumed_unwritten fault.Empty e = absurd cc
 unresumed_unwritten fault.Unsound e = absurd cc
 
-pub unresumed_cause : (f : RestoreFault) (P : Type 0) → (IsErrOf (failed f) fault.Failed → P) → status_of_restore f ≡ KeepFault → P
+pub unresumed_cause : {X : Type 0} (f : RestoreFault) (P : Type 0) → (IsErrOf (failed {X = X} f) fault.Failed → P) → status_of_restore f ≡ KeepFault → P
 unresumed_cause fault.Failed P h e = h refl
 unresumed_cause fault.NoMemory P h e = absurd cc
 unresumed_cause fault.Empty P h e = absurd cc
 unresumed_cause fault.Unsound P h e = absurd cc
 
-pub unresumed_quiet : (f : RestoreFault) (P : Type 0) → UnlessFailed (failed f) P → UnlessKeepFault (status_of_restore f) P
-unresumed_quiet fault.Failed P h = tt
-unresumed_quiet fault.NoMemory P h = h
-unresumed_quiet fault.Empty P h = h
-unresumed_quiet fault.Unsound P h = h
+pub unresumed_quiet : (X : Type 0) (f : RestoreFault) (P : Type 0) → UnlessFailed (failed {X = X} f) P → UnlessKeepFault (status_of_restore f) P
+unresumed_quiet X fault.Failed P h = tt
+unresumed_quiet X fault.NoMemory P h = h
+unresumed_quiet X fault.Empty P h = h
+unresumed_quiet X fault.Unsound P h = h
 
 -- ---- answers
 

@@ -1,9 +1,8 @@
 -- A run over rows that a load left is a run over the rows before it.
-use Rattle.std.proofs.Common.{◌≡◌, ◌⊎◌, inl, inr, true≢false, ℕ, List, [], Option, Some, None, IfSome, refl, sym, subst}
+use Rattle.std.proofs.Common.{◌≡◌, ◌⊎◌, inl, inr, true≢false, ℕ, List, Option, Some, None, IfSome, refl, sym, subst}
 use Rattle.std.specs.Prelude.{IsSome}
 use Rattle.base_bech32.specs.declared.form.Form.{Form}
 use Rattle.base_io.specs.Rows.{Makes, Pair}
-use Rattle.rule_modules.specs.Chain.{State}
 use Rattle.run_words.specs.declared.mode.Mode.{Mode}
 use Rattle.run_words.specs.declared.mode.Mode.TheVariants.{Replay, Resume, Query, Tally, Check, Gen, Trial}
 use Rattle.store_history.proofs.KeepingLemmas.{makes_later, told_back}
@@ -13,7 +12,7 @@ use Rattle.run_app.specs.declared.status.Status.TheVariants.{Done, Usage, BadInp
 use Rattle.run_app.specs.declared.status.LimitKind.TheVariants.{Line, Input, Ratio}
 use Rattle.run_app.specs.declared.status.LineStop.{LineStop}
 use Rattle.run_app.specs.Histories.{IsCommitting}
-use Rattle.run_app.specs.Kept.{AreLeft, AreSome, Began, BeganOnRows, IsUnbegun, LeftIn}
+use Rattle.run_app.specs.Kept.{AreLeft, AreSome, BeganOnRows, IsUnbegun, LeftIn}
 use Rattle.run_app.specs.Machine.{Standing}
 use Rattle.run_app.specs.Modes.{ModeEnds, ReplayEnds}
 use Rattle.run_app.specs.Outcome.{Ends, Passed, RunEnds}
@@ -117,31 +116,29 @@ module _ (form : Form) (first : Standing) (L L' : Standing → Standing → Type
   ends taken rest (Limit n Input) text e = passed n taken text e
   ends taken rest (Limit n (Ratio over)) text e = (e.0, e.1, e.2, named 1 first e.1 text _ e.3)
   ends taken rest ReadFault text e = (e.0, answered 1 first _ text e.1)
-  ends taken rest WriteFault text e =
-      (
-        e.0,
-        elim e.1 [
-          | inl it ↦ inl (it.0, it.1, wrote 1 first it.0 text it.2)
-          | inr it ↦ inr (elim it [ inl r ↦ inl (r.0, reported 1 first _ text r.1) | inr f ↦ inr (f.0, finished 1 first _ text f.1) ])
-        ],
-      )
+  ends taken rest WriteFault text e = (
+    e.0,
+    elim e.1 [
+      | inl it ↦ inl (it.0, it.1, wrote 1 first it.0 text it.2)
+      | inr it ↦ inr (elim it [ inl r ↦ inl (r.0, reported 1 first _ text r.1) | inr f ↦ inr (f.0, finished 1 first _ text f.1) ])
+    ],
+  )
   ends taken rest KeepFault text e = (e.0, e.1, e.2, unkept 1 first e.1 text e.3)
-  ends taken rest NoMemory text e =
-      (
-        e.0,
-        elim e.1 [
-          | inl it ↦
-              inl (
-                it.0,
-                it.1,
-                elim it.2 [
-                  | inl w ↦ inl (wrote 1 first it.0 text w)
-                  | inr o ↦ inr (elim o [ inl h ↦ inl (held 1 first it.0 text h) | inr u ↦ inr (unkept 1 first it.0 text u) ])
-                ],
-              )
-          | inr r ↦ inr (r.0, reported 1 first _ text r.1)
-        ],
-      )
+  ends taken rest NoMemory text e = (
+    e.0,
+    elim e.1 [
+      | inl it ↦
+          inl (
+            it.0,
+            it.1,
+            elim it.2 [
+              | inl w ↦ inl (wrote 1 first it.0 text w)
+              | inr o ↦ inr (elim o [ inl h ↦ inl (held 1 first it.0 text h) | inr u ↦ inr (unkept 1 first it.0 text u) ])
+            ],
+          )
+      | inr r ↦ inr (r.0, reported 1 first _ text r.1)
+    ],
+  )
   ends taken rest BadStore text e = absurd e
   ends taken rest (WrongStore is_empty) text e = absurd e
   ends taken rest NotFound text e = absurd e

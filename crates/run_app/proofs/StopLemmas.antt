@@ -1,5 +1,5 @@
 -- What a stop may leave behind a run, whatever the status by which it ended.
-use Rattle.std.proofs.Common.{inl, inr, ◌≡◌, ◌∙◌, ◌⊎◌, ℕ, ◌+◌, List, [], ◌∷◌, ◌++◌, length, Option, Some, None, Ok, Err, refl, sym, ap, subst, append_assoc}
+use Rattle.std.proofs.Common.{inl, inr, ◌≡◌, ◌∙◌, ◌⊎◌, ℕ, ◌+◌, List, [], ◌∷◌, ◌++◌, length, Option, Some, None, Ok, refl, sym, ap, subst, append_assoc}
 use Rattle.std.specs.Prelude.{IfSome, IsSome}
 use Rattle.std.proofs.lemmas.List.{append-nil}
 use Rattle.base_bech32.specs.declared.form.Form.{Form}
@@ -27,7 +27,7 @@ use Rattle.run_app.specs.Runs.{AreAnswered, Named, Wrote, Unkept, Held, Answered
 use Rattle.run_app.specs.Resumes.{ResumeEnds}
 use Rattle.run_app.specs.declared.performing.Way.{Way}
 use Rattle.run_app.specs.declared.performing.Way.TheVariants.{Plain, Kept, Past}
-use Rattle.run_app.specs.Commands.{CommandStops, WayEnds, WayStops, way_of}
+use Rattle.run_app.specs.Commands.{CommandStops, WayStops, way_of}
 use Rattle.store_history.specs.Held.{ShowsLeft, shown}
 use Rattle.run_app.specs.Stops.{AreRowsBehind, ModeStops, RunStops}
 use Rattle.run_app.specs.Told.{IsToldAs}

@@ -15,12 +15,11 @@ use Rattle.run_app.specs.declared.performing.Way.TheVariants.{Plain, Kept, Past}
 use Rattle.run_app.specs.declared.status.Status.{Status}
 use Rattle.run_app.specs.declared.status.Status.TheVariants.{Done, Usage, BadInput, Limit, ReadFault, WriteFault, KeepFault, NoMemory, BadStore, WrongStore, NotFound, NoPast}
 use Rattle.run_app.specs.Commands.{WayEnds, WayIsUntroubled, WayStops, WayUnkept, way_in, way_of}
-use Rattle.run_app.specs.Histories.{IsCommitting, IsUnopened, KeepEnds}
+use Rattle.run_app.specs.Histories.{IsCommitting, IsUnopened}
 use Rattle.run_app.specs.Kept.{AreLeft}
 use Rattle.run_app.specs.Modes.{HasFewBlocks, IsUntroubledAt, ModeEnds}
 use Rattle.run_app.specs.Stops.{ModeStops}
-use Rattle.run_app.specs.Unkept.{ModeUnkept}
-use Rattle.run_app.specs.Writes.{Adds, Leaves}
+use Rattle.run_app.specs.Writes.{Adds}
 use Rattle.run_app.proofs.CommandLemmas.{untroubled_command}
 use Rattle.run_app.proofs.PastLemmas.{past_ends}
 use Rattle.run_app.proofs.SinceLemmas.{mode_before}

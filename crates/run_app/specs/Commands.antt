@@ -14,7 +14,7 @@ use Rattle.run_app.specs.declared.status.Status.{Status}
 use Rattle.run_app.specs.declared.status.Status.TheVariants.{BadStore}
 use Rattle.run_app.specs.Histories.{FitsPast, KeepEnds, PastEnds}
 use Rattle.run_app.specs.Kept.{AreUntouched}
-use Rattle.run_app.specs.Modes.{HasFewBlocks, IsUntroubledAt, ModeEnds}
+use Rattle.run_app.specs.Modes.{IsUntroubledAt, ModeEnds}
 use Rattle.run_app.specs.Stops.{LeavesAsBefore, ModeStops}
 use Rattle.run_app.specs.Unkept.{FindsNoRows, ModeUnkept}
 use Rattle.run_app.specs.Writes.{Leaves}

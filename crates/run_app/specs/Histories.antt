@@ -1,5 +1,5 @@
 -- How runs end that keep what their commits replace, and questions that are asked of a past height.
-use Rattle.std.specs.Prelude.{◌≡◌, ◌≢◌, ◌⊎◌, ℕ, Bool, true, List, [], Option, Some, None, IfSome}
+use Rattle.std.specs.Prelude.{◌≡◌, ◌≢◌, ◌⊎◌, ℕ, true, List, [], Option, Some, None, IfSome}
 use Rattle.base_bech32.specs.declared.form.Form.{Form}
 use Rattle.base_io.specs.Outside.{Rose}
 use Rattle.base_io.specs.Rows.{Pair}
@@ -10,7 +10,7 @@ use Rattle.rule_modules.specs.Chain.{State}
 use Rattle.run_words.specs.declared.mode.Mode.{Mode}
 use Rattle.run_words.specs.declared.mode.Mode.TheVariants.{Replay, Resume}
 use Rattle.store_history.specs.declared.loading.OpenFault.{OpenFault}
-use Rattle.store_history.specs.declared.loading.OpenFault.TheVariants as open
+use Rattle.store_history.specs.declared.loading.OpenFault.TheVariants as unopened
 use Rattle.store_history.specs.declared.going_back.PastFault.{PastFault}
 use Rattle.store_history.specs.declared.going_back.PastFault.TheVariants as past
 use Rattle.store_history.specs.Answers.{IsOutside, IsWithin}
@@ -34,9 +34,9 @@ IsCommitting _ = ⊥
 
 -- how a run ends that was to keep a history, and does not begin
 abbrev pub status_of_open : OpenFault → Status
-status_of_open open.Failed = KeepFault
-status_of_open open.BadHistory = BadStore
-status_of_open open.NoMemory = NoMemory
+status_of_open unopened.Failed = KeepFault
+status_of_open unopened.BadHistory = BadStore
+status_of_open unopened.NoMemory = NoMemory
 
 -- Why it does not begin: its rows were not loaded, memory was wanting, or a history in them is not of its form.
 abbrev pub IsUnopened : Status → Option (List Pair) → Option (List Pair) → Type 0 → Type 0

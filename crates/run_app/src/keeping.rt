@@ -43,7 +43,7 @@ fn carry_out_kept<L: Loan, S: Source, K: Sink, D: Keeper>(
     history: History,
 ) -> Status
     requires few { HasFewBlocks mode }
-    requires lent { keeper.entry.ghost_name ≡ L.name }
+    requires lent { keeper.ghost_name ≡ L.name }
     requires rows { D.rows keeper.old ≡ L.rows }
     requires takes { TakesDistinct (D.takes keeper.old) }
     requires settled { LeavesRows (D.may_leave keeper.old) (D.rows keeper.old) }

@@ -32,7 +32,11 @@ pub enum Way {
 fn kept_way(keep: bool, mode: Mode) -> Way
     ensures { result ≡ kept_way keep mode }
 {
-    if keep { Way::Kept(mode) } else { Way::Plain(mode) }
+    if keep {
+        Way::Kept(mode)
+    } else {
+        Way::Plain(mode)
+    }
 }
 
 /// A question, of a past height where there is one.
@@ -90,8 +94,6 @@ pub(crate) fn perform<S: Source, K: Sink, D: Keeper>(
     match way_of(&command) {
         Way::Plain(mode) => carry_out(command.form, alloc, mode, source, sink, keeper),
         Way::Kept(mode) => keep(command.form, alloc, mode, source, sink, keeper),
-        Way::Past(height, what) => {
-            answer_past(command.form, alloc, sink, keeper, height, &what)
-        }
+        Way::Past(height, what) => { answer_past(command.form, alloc, sink, keeper, height, &what) }
     }
 }

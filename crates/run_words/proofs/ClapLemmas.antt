@@ -81,8 +81,7 @@ passes_on w next word rest is passes more = rw (passes, is) more
 
 goes_on : (place : ℕ) (held : Held) (word : List ℕ) (rest : List (List ℕ)) (end : Walk) → IsPlain word → step_passes shape place held value ≡ true → Reaches (next place held word) rest end → Reaches (at place held) (word ∷ rest) end
 goes_on place held word rest end p passes more =
-    let is = step place held word p in
-    (
+    let is = step place held word p in (
       ap (λ (w : Walk). fold (walked rules []) w rest) is ∙ more.0,
       passes_on (at place held) (next place held word) word rest is (turn place held word p passes) more.1,
     )

@@ -6,6 +6,7 @@ use Rattle.base_io.specs.declared.keeper.KeepFault.TheVariants as keep
 use Rattle.base_io.specs.Keeping.{UnlessLost}
 use Rattle.base_io.specs.Rows.{Pair}
 use Rattle.base_io.specs.Changes.{Rises}
+use Rattle.store_history.specs.declared.history.History.{History}
 use Rattle.store_history.specs.declared.loading.OpenFault.{OpenFault}
 use Rattle.store_history.specs.declared.loading.OpenFault.TheVariants.{BadHistory, Failed, NoMemory}
 use Rattle.store_history.specs.Held.{Knows}
@@ -31,13 +32,17 @@ pub told_so : (told : Option (List Pair)) (list : List Pair) (P : List Pair → 
 told_so None list P same up found = tt
 told_so (Some rows) list P same up found = subst P same (found (subst (λ (ps : List Pair). Rises ps) (sym same) up))
 
+-- how a history was not read
+abbrev pub unread : OpenFault → Result History OpenFault
+unread why = Err why
+
 pub open_cause : {X Y : Type 0} (r : Result X KeepFault) (s : Result Y OpenFault) (fault : KeepFault) (R : Type 0) → r ≡ Err fault → s ≡ Err (open_fault fault) → (IsErrOf r keep.Failed → R) → IsErrOf s Failed → R
 open_cause r s keep.Failed R e f cause is = cause e
 open_cause r s keep.NoMemory R e f cause is = absurd cc
 
-pub open_quiet : {X Y : Type 0} (r : Result X KeepFault) (s : Result Y OpenFault) (fault : KeepFault) (R : Type 0) → r ≡ Err fault → s ≡ Err (open_fault fault) → UnlessLost r R → UnlessFailed s R
-open_quiet {Y = Y} r s keep.Failed R e f quiet = subst (λ (s : Result Y OpenFault). UnlessFailed s R) (sym f) tt
-open_quiet {X = X} {Y = Y} r s keep.NoMemory R e f quiet = subst (λ (s : Result Y OpenFault). UnlessFailed s R) (sym f) (subst (λ (r : Result X KeepFault). UnlessLost r R) e quiet)
+pub open_quiet : {X : Type 0} (r : Result X KeepFault) (why : OpenFault) (fault : KeepFault) (R : Type 0) → r ≡ Err fault → why ≡ open_fault fault → UnlessLost r R → UnlessFailed (unread why) R
+open_quiet r why keep.Failed R e f quiet = subst (λ (w : OpenFault). UnlessFailed (unread w) R) (sym f) tt
+open_quiet {X = X} r why keep.NoMemory R e f quiet = subst (λ (w : OpenFault). UnlessFailed (unread w) R) (sym f) (subst (λ (r : Result X KeepFault). UnlessLost r R) e quiet)
 
 pub not_failed : {Y : Type 0} (s : Result Y OpenFault) (P : Type 0) → P → UnlessFailed s P
 not_failed (Ok y) P p = p
@@ -50,9 +55,9 @@ open_not_bad s keep.Failed f is = cc
 open_not_bad s keep.NoMemory f is = cc
 
 -- where the keeper failed, or memory was wanting, nothing is said
-pub not_loaded : {Y : Type 0} (s : Result Y OpenFault) (fault : KeepFault) (P : Type 0) → s ≡ Err (open_fault fault) → OnLoaded s P
-not_loaded {Y = Y} s keep.Failed P f = subst (λ (s : Result Y OpenFault). OnLoaded s P) (sym f) tt
-not_loaded {Y = Y} s keep.NoMemory P f = subst (λ (s : Result Y OpenFault). OnLoaded s P) (sym f) tt
+pub not_loaded : (why : OpenFault) (fault : KeepFault) (P : Type 0) → why ≡ open_fault fault → OnLoaded (unread why) P
+not_loaded why keep.Failed P f = subst (λ (w : OpenFault). OnLoaded (unread w) P) (sym f) tt
+not_loaded why keep.NoMemory P f = subst (λ (w : OpenFault). OnLoaded (unread w) P) (sym f) tt
 
 pub were_loaded : {Y : Type 0} (s : Result Y OpenFault) (P : Type 0) → P → OnLoaded s P
 were_loaded (Ok y) P p = p

@@ -76,7 +76,7 @@ impl<'a, D: Keeper, L: Loan> HistoryKeeper<'a, D, L> {
         requires history { IfSome (D.rows inner.old) IsHistory }
         requires knows { Knows (D.rows inner.old) history.base history.visible }
         // It is the one of the loan, and its rows are those of the loan, or what commits made of them.
-        requires lent { inner.entry.ghost_name ≡ L.name }
+        requires lent { inner.ghost_name ≡ L.name }
         requires became { HaveBecome L.rows (D.rows inner.old) }
         ensures same_reference { result.inner.ghost_name ≡ inner.entry.ghost_name }
         ensures same { result.inner.now ≡ inner.old }
@@ -123,7 +123,7 @@ pub fn open<'a, D: Keeper, L: Loan>(
     inner: &'a mut D,
 ) -> Result<HistoryKeeper<'a, D, L>, OpenFault>
     requires takes { TakesDistinct (D.takes inner.old) }
-    requires lent { inner.entry.ghost_name ≡ L.name }
+    requires lent { inner.ghost_name ≡ L.name }
     requires rows { D.rows inner.old ≡ L.rows }
     ensures same_reference { IfOk result (λ k. k.inner.ghost_name ≡ inner.entry.ghost_name) }
     ensures same { IfOk result

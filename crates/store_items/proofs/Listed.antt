@@ -1,5 +1,5 @@
 -- Rows in the order of their keys, and the items of which they are the rows in a format.
-use Rattle.std.proofs.Common.{◌≡◌, ◌∙◌, ◌⊎◌, inl, inr, ℕ, suc, ◌<◌, List, [], ◌∷◌, length, map, All, refl, sym, ap, ap₂, subst, arith, Ordering, Less, Equal, Greater}
+use Rattle.std.proofs.Common.{◌≡◌, ◌∙◌, ◌⊎◌, inl, inr, ℕ, suc, ◌<◌, List, [], ◌∷◌, length, map, All, refl, sym, ap, subst, arith, Ordering, Less, Equal, Greater}
 use Rattle.std.specs.Prelude.{Contains, slice_get, Some}
 use Rattle.std.specs.List.{AllByRecursion}
 use Rattle.std.specs.List.Sorted.{IsPermutation}
@@ -12,7 +12,7 @@ use Rattle.sqlite_rules.proofs.ListLemmas.{all_from, all_has}
 use Rattle.base_io.specs.Rows.{Pair, key_cmp, put}
 use Rattle.base_io.specs.Changes.{Rises}
 use Rattle.base_roles.specs.declared.items.Item.{Item}
-use Rattle.base_roles.specs.Items.{IsOnce, key_of}
+use Rattle.base_roles.specs.Items.{IsOnce}
 use Rattle.store_rows.specs.declared.format.Format.{Format}
 use Rattle.store_rows.specs.Rows.{key_bytes, row_in}
 use Rattle.store_rows.specs.Spelled.{HasRow}
@@ -20,7 +20,7 @@ use Rattle.store_rows.proofs.KeyLemmas.{keys_one_to_one}
 use Rattle.store_rows.proofs.WholeLemmas.{key_alone, one_to_one}
 use Rattle.store_sqlite.proofs.Maps.{same_members, total}
 use Rattle.store_items.specs.Stored.{AreStored, rows_as}
-use Rattle.store_items.proofs.Members.{AreOnce, has_map, has_of, item_there, map_has, place_of, row_there, rows_rise, tied}
+use Rattle.store_items.proofs.Members.{AreOnce, has_map, has_of, item_there, map_has, place_of, row_there, rows_rise}
 
 -- ---- lists without repeats, of the same elements
 

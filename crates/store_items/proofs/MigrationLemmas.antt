@@ -1,6 +1,6 @@
 -- What the changes from the first format to the second make of rows.
-use Rattle.std.proofs.Common.{◌≡◌, ◌≢◌, ◌∙◌, ◌⊎◌, inl, inr, ℕ, ◌+◌, ◌<◌, ◌≤◌, Bool, true, false, not, cond, List, [], ◌∷◌, ◌++◌, length, get_or, take, map, All, Option, Some, Result, Err, refl, sym, ap, ap₂, subst, arith, Ordering, Less, Equal, Greater}
-use Rattle.std.specs.Prelude.{Contains, IsErrOf}
+use Rattle.std.proofs.Common.{◌≡◌, ◌≢◌, ◌∙◌, ◌⊎◌, inl, inr, ℕ, ◌+◌, ◌<◌, ◌≤◌, Bool, true, false, not, cond, List, [], ◌∷◌, ◌++◌, length, get_or, take, map, All, Option, Some, Err, refl, sym, ap, ap₂, subst, arith, Ordering, Less, Equal, Greater}
+use Rattle.std.specs.Prelude.{IsErrOf}
 use Rattle.std.specs.Ordering.{is_eq, match_ordering}
 use Rattle.std.specs.List.{AllByRecursion, flat_map}
 use Rattle.std.proofs.lemmas.Cmp.{tied_itself}

@@ -1,5 +1,5 @@
 -- A commit of which the last height is a new one is taken by every keeper.
-use Rattle.std.proofs.Common.{◌≡◌, ◌∙◌, Bool, true, List, map, Some, sym, ap, subst}
+use Rattle.std.proofs.Common.{◌≡◌, ◌∙◌, Bool, true, List, sym, ap, subst}
 use Rattle.std.specs.Prelude.{Contains}
 use Rattle.std.specs.List.{AllByRecursion}
 use Rattle.sqlite_rules.specs.Lists.{Has}
@@ -11,7 +11,6 @@ use Rattle.base_io.specs.Changes.{IsOrdinary, IsPutOfHead, IsReserved}
 use Rattle.base_roles.specs.declared.items.Item.{Item}
 use Rattle.base_roles.specs.declared.items.Item.TheVariants as item
 use Rattle.store_rows.specs.Formats.{written}
-use Rattle.store_rows.specs.Rows.{key_bytes}
 use Rattle.store_items.specs.Making.{AreMade, HasNewHead, change_seen, item_change}
 use Rattle.store_items.specs.Stored.{HaveOwnKeys}
 use Rattle.store_items.proofs.Members.{has_map, has_of, map_has, place_of}

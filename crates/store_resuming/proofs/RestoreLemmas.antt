@@ -219,6 +219,7 @@ module _ (list : List Pair) (rows rows' : Option (List Pair)) (honest' : Type 0)
 
   -- and the changes for them
   pub loaded_changes : (f : Format) (chain : Chained) (changes : List Change) → IsChainIn f (InOrder list) chain → ((items : List Item) × AreListed f items list) → AreChangesFrom f list changes → IsRestored (AreLoaded rows rows' honest') chain changes
+  unfolding loaded_chain
   loaded_changes First chain changes c (items, listed) from = record {
     restored = loaded_chain First chain c;
     brought = inr (
@@ -271,11 +272,11 @@ never_failed fault.NoMemory OfNone list h e = absurd cc
 never_failed fault.Empty OfNone list h e = absurd cc
 never_failed fault.Unsound OfNone list h e = absurd cc
 
-pub quiet_fault : {X : Type 0} (e : RestoreFault) (P : Type 0) → P → UnlessFailed (failed {X = X} e) P
-quiet_fault fault.Failed P p = tt
-quiet_fault fault.NoMemory P p = p
-quiet_fault fault.Empty P p = p
-quiet_fault fault.Unsound P p = p
+pub quiet_fault : (X : Type 0) (e : RestoreFault) (P : Type 0) → P → UnlessFailed (failed {X = X} e) P
+quiet_fault X fault.Failed P p = tt
+quiet_fault X fault.NoMemory P p = p
+quiet_fault X fault.Empty P p = p
+quiet_fault X fault.Unsound P p = p
 
 -- ---- changes
 

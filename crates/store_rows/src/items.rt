@@ -165,12 +165,7 @@ fn redelegation_of(alloc: Global, key: &[u8], value: &[u8]) -> Result<Item, RowF
 }
 
 #[tactic(auto, unfolding(crate::specs::Reading::signing_of))]
-fn signing_of(
-    alloc: Global,
-    format: Format,
-    key: &[u8],
-    value: &[u8],
-) -> Result<Item, RowFault>
+fn signing_of(alloc: Global, format: Format, key: &[u8], value: &[u8]) -> Result<Item, RowFault>
     ensures { Gives (λ i. i) result (signing_of format key.now value.now) }
 {
     let mut key = Unread { left: key };

@@ -125,11 +125,7 @@ fn push_if_missed(out: &mut Vec<u8>, place: usize, missed: bool) -> Result<(), A
     ensures { OnOk result (out.new.items
         ≡ out.old.items ++ flat_map four_bytes (missed_from place (missed ∷ []))) }
 {
-    if missed {
-        push_len(out, place)
-    } else {
-        Ok(())
-    }
+    if missed { push_len(out, place) } else { Ok(()) }
 }
 
 /// Appends the number of each missed place.

@@ -190,12 +190,7 @@ pub fn encode(alloc: Global, format: Format, item: &Item) -> Result<Row, RowFaul
 }
 
 #[tactic(auto, unfolding(crate::specs::Reading::item_of))]
-fn item_of(
-    alloc: Global,
-    format: Format,
-    key: &[u8],
-    value: &[u8],
-) -> Result<Item, RowFault>
+fn item_of(alloc: Global, format: Format, key: &[u8], value: &[u8]) -> Result<Item, RowFault>
     ensures { Gives (λ i. i) result (item_of format key.now value.now) }
 {
     let mut key = Unread { left: key };
@@ -207,12 +202,7 @@ fn item_of(
 }
 
 /// The item of these bytes, and what is known of it.
-fn item_found(
-    alloc: Global,
-    format: Format,
-    key: &[u8],
-    value: &[u8],
-) -> Result<Item, RowFault>
+fn item_found(alloc: Global, format: Format, key: &[u8], value: &[u8]) -> Result<Item, RowFault>
     ensures found { IfOk result
         (λ item. HasRow item × (row_in format item ≡ (key.now, value.now))) }
     ensures alone { IfOk result (λ item. (other : Item) → HasRow other

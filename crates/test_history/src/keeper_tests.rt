@@ -54,8 +54,7 @@ fn had(rt: &(impl Abort + AllocGlobal), rows: &[Row], height: u8, value: u8) -> 
 #[test]
 fn what_commits_replace_is_told_of_past_heights(rt: HostRuntime) {
     let mut below = SureKeeper::new(rt.alloc(), Vec::new(rt.alloc()));
-    let mut keeper =
-        open::<SureKeeper, Brand>(rt.alloc(), &mut below).expect(&rt, "a history");
+    let mut keeper = open::<SureKeeper, Brand>(rt.alloc(), &mut below).expect(&rt, "a history");
     assert!(rt; keeper.keeps_rows());
     assert!(rt; commit(&rt, &mut keeper, &changes_at(&rt, 0, 7)));
     assert!(rt; commit(&rt, &mut keeper, &changes_at(&rt, 1, 8)));
@@ -71,8 +70,7 @@ fn what_commits_replace_is_told_of_past_heights(rt: HostRuntime) {
 #[test]
 fn a_history_goes_on_where_it_stands(rt: HostRuntime) {
     let mut below = SureKeeper::new(rt.alloc(), Vec::new(rt.alloc()));
-    let mut first =
-        open::<SureKeeper, Brand>(rt.alloc(), &mut below).expect(&rt, "a history");
+    let mut first = open::<SureKeeper, Brand>(rt.alloc(), &mut below).expect(&rt, "a history");
     assert!(rt; commit(&rt, &mut first, &changes_at(&rt, 0, 7)));
     let below = first.into_inner();
     let known = read_history(rt.alloc(), below).expect(&rt, "a history");

@@ -18,7 +18,7 @@ pub(crate) fn commit_kept<L: Loan, D: Keeper>(
     history: History,
     changes: &[Change],
 ) -> bool
-    requires lent { keeper.entry.ghost_name ≡ L.name }
+    requires lent { keeper.ghost_name ≡ L.name }
     requires rows { D.rows keeper.old ≡ L.rows }
     requires takes { TakesDistinct (D.takes keeper.old) }
     requires settled { LeavesRows (D.may_leave keeper.old) (D.rows keeper.old) }

@@ -142,13 +142,7 @@ fn calls_before(start: Start) -> u32 {
     match (start.is_kept, start.lines) {
         (true, 0) => 3,
         (true, _) => 2,
-        (false, _) => {
-            if start.is_old {
-                2
-            } else {
-                1
-            }
-        }
+        (false, _) => { if start.is_old { 2 } else { 1 } }
     }
 }
 

@@ -167,11 +167,7 @@ fn part(rt: &(impl Abort + AllocGlobal), text: &[u8], lines: u32, is_behind: boo
 }
 
 /// What is written of the first lines of an input, and the rows behind them: a replay of them, up to a line which is cut.
-fn behind(
-    rt: &(impl Abort + AllocGlobal),
-    input: &[u8],
-    lines: u32,
-) -> (Vec<u8>, Vec<Row>)
+fn behind(rt: &(impl Abort + AllocGlobal), input: &[u8], lines: u32) -> (Vec<u8>, Vec<Row>)
     ensures { Rises (map pair_of result.1.items) }
 {
     let mut cut = part(rt, input, lines, false);

@@ -148,11 +148,7 @@ fn commands_keep_and_ask_of_the_past(rt: HostRuntime) -> Result<(), Fail> {
         read(
             alloc,
             "past 9223372036854775807 query account 0000000000000000000000000000000000000004"
-        ) == past(
-            Form::Hex,
-            9_223_372_036_854_775_807,
-            Query::Account(pool())
-        )
+        ) == past(Form::Hex, 9_223_372_036_854_775_807, Query::Account(pool()))
     );
     assert!(rt;
         read(

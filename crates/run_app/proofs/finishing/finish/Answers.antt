@@ -49,6 +49,6 @@ pub returns-in-Err-clause-cause : goal.returns-in-Err-clause-cause
 returns-in-Err-clause-cause g c = cause_of_line c.in-Err.stop _ c.in-Err.ensures.cause
 
 pub returns-clause-cause : goal.returns-clause-cause
-returns-clause-cause g c = 
+returns-clause-cause g c =
     cause_of_report c.report-2.result _ c.report-2.ensures.no_line (λ e. rose_since _ _ _ c.in_default.ensures.quiet (c.report-2.ensures.report_cause e))
     (λ e. rose_since _ _ _ c.in_default.ensures.quiet (c.report-2.ensures.flush_cause e))

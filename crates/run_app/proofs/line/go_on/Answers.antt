@@ -1,4 +1,3 @@
-use Rattle.std.proofs.Common.{Some}
 use Rattle.run_app.proofs.KeepLemmas.{answer_kept, answer_unkept, fault_kept, settled_for, stands_some}
 use Rattle.run_app.proofs.LineLemmas.{no_keep, not_kept_stops}
 use Rattle.run_app.proofs.RisenLemmas.{block_rises}

@@ -12,14 +12,17 @@ invariant_of-self g c =
     let both = told_parts Rises IsHistory told' (
     both_now c.commit_known.result c.args.changes.now c.commit_known.ensures.is_commit (g.D.Keeper.rows c.self.inside.inner.now) told' (g.D.Keeper.is_honest c.self.inside.inner.now) (g.D.Keeper.is_honest c.commit_known.new.keeper)
     (g.D.Keeper.may_leave c.self.inside.inner.now) (g.D.Keeper.may_leave c.commit_known.new.keeper) c.self.invariant.0.rises c.self.invariant.0.history c.commit_known.ensures.commits
-    ) in
-    (record {
-      takes_all = λ changes distinct. c.commit_known.ensures.takes changes (c.self.invariant.0.takes_all changes distinct);
-      settled = c.commit_known.ensures.commits.settled;
-      rises = both.0;
-      history = both.1;
-      knows = c.commit_known.ensures.knows;
-    }, c.self.invariant.1, become_after c.commit_known.result c.args.changes.now c.commit_known.ensures.is_commit _ (g.D.Keeper.rows c.self.inside.inner.now) told' c.commit_known.ensures.commits.ok c.commit_known.ensures.commits.err c.self.invariant.2)
+    ) in (
+      record {
+        takes_all = λ changes distinct. c.commit_known.ensures.takes changes (c.self.invariant.0.takes_all changes distinct);
+        settled = c.commit_known.ensures.commits.settled;
+        rises = both.0;
+        history = both.1;
+        knows = c.commit_known.ensures.knows;
+      },
+      c.self.invariant.1,
+      become_after c.commit_known.result c.args.changes.now c.commit_known.ensures.is_commit _ (g.D.Keeper.rows c.self.inside.inner.now) told' c.commit_known.ensures.commits.ok c.commit_known.ensures.commits.err c.self.invariant.2,
+    )
 
 pub returns-clause-ok : goal.returns-clause-ok
 returns-clause-ok g c =

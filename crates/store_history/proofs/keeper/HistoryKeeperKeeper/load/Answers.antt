@@ -7,14 +7,17 @@ use Rattle.store_history.proofs.keeper.HistoryKeeperKeeper.load.Goals as goal
 pub invariant_of-self : goal.invariant_of-self
 invariant_of-self g c =
     let told = g.D.Keeper.rows c.self.inside.inner.now in
-    let told' = g.D.Keeper.rows c.load_visible.new.keeper in
-    (record {
-      takes_all = λ changes distinct. c.load_visible.ensures.takes changes (c.self.invariant.0.takes_all changes distinct);
-      settled = c.load_visible.ensures.settled;
-      rises = c.load_visible.ensures.ascending;
-      history = holds_still IsHistory told told' c.load_visible.ensures.same c.self.invariant.0.history;
-      knows = λ k. knows_still told told' c.self.inside.history.base c.self.inside.history.visible c.load_visible.ensures.same (c.self.invariant.0.knows k);
-    }, c.self.invariant.1, become_still _ told told' c.load_visible.ensures.same c.self.invariant.2)
+    let told' = g.D.Keeper.rows c.load_visible.new.keeper in (
+      record {
+        takes_all = λ changes distinct. c.load_visible.ensures.takes changes (c.self.invariant.0.takes_all changes distinct);
+        settled = c.load_visible.ensures.settled;
+        rises = c.load_visible.ensures.ascending;
+        history = holds_still IsHistory told told' c.load_visible.ensures.same c.self.invariant.0.history;
+        knows = λ k. knows_still told told' c.self.inside.history.base c.self.inside.history.visible c.load_visible.ensures.same (c.self.invariant.0.knows k);
+      },
+      c.self.invariant.1,
+      become_still _ told told' c.load_visible.ensures.same c.self.invariant.2,
+    )
 
 pub returns-clause-rows : goal.returns-clause-rows
 returns-clause-rows g c =
