@@ -1,8 +1,8 @@
 -- The line of a statement is read as the statement.
-use Rattle.std.proofs.Common.{◌≡◌, ◌∙◌, ap, sym, refl, ℕ, ◌^◌, ◌<◌, lt-ltb, true, false, List, [], ◌∷◌, ◌++◌, map, decimal, Some, Result, Ok, codes, arith, rules}
+use Rattle.std.proofs.Common.{◌≡◌, ◌∙◌, ap, sym, refl, ℕ, ◌^◌, ◌<◌, lt-ltb, true, false, List, [], ◌∷◌, ◌++◌, map, decimal, Some, Result, Ok, codes, arith}
 use Rattle.std.specs.Prelude.{All}
 use Rattle.std.specs.List.{flat_map}
-use Rattle.std.proofs.lemmas.List.Elements.{All-cons, All-head, All-tail}
+use Rattle.std.proofs.lemmas.List.Elements.{All-cons, All-head, All-nil, All-tail}
 use Rattle.std.proofs.lemmas.Map.Keys.{IsDistinct-from_sorted}
 use Rattle.json.proofs.Printed.Utf8.{IsUtf8-are_ascii, are_ascii}
 use Rattle.serde_json.specs.Data.{string}
@@ -211,5 +211,5 @@ first_same s t e = cc
 
 pub statements_differ : StatementsDiffer
 statements_differ f s t hs ht e =
-    let one : (r : Statement) → IsStated r → All IsStated (r ∷ []) = λ r hr. All-cons IsStated r [] hr (search rules) in
+    let one : (r : Statement) → IsStated r → All IsStated (r ∷ []) = λ r hr. All-cons IsStated r [] hr (All-nil IsStated) in
     first_same s t (sym (texts_are_read f (s ∷ []) (one s hs)) ∙ ap (λ text. statements_in f (text ++ [])) e ∙ texts_are_read f (t ∷ []) (one t ht))
