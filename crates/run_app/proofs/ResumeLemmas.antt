@@ -215,16 +215,16 @@ unresumed_unwritten fault.NoMemory e = absurd cc
 unresumed_unwritten fault.Empty e = absurd cc
 unresumed_unwritten fault.Unsound e = absurd cc
 
-abbrev failed : RestoreFault → Result Chained RestoreFault
+abbrev failed : {X : Type 0} → RestoreFault → Result X RestoreFault
 failed f = Err f
 
-pub unresumed_cause : (f : RestoreFault) (P : Type 0) → (IsErrOf (failed f) fault.Failed → P) → status_of_restore f ≡ KeepFault → P
+pub unresumed_cause : {X : Type 0} (f : RestoreFault) (P : Type 0) → (IsErrOf (failed {X = X} f) fault.Failed → P) → status_of_restore f ≡ KeepFault → P
 unresumed_cause fault.Failed P h e = h refl
 unresumed_cause fault.NoMemory P h e = absurd cc
 unresumed_cause fault.Empty P h e = absurd cc
 unresumed_cause fault.Unsound P h e = absurd cc
 
-pub unresumed_quiet : (f : RestoreFault) (P : Type 0) → UnlessFailed (failed f) P → UnlessKeepFault (status_of_restore f) P
+pub unresumed_quiet : (f : RestoreFault) (P : Type 0) → UnlessFailed (failed {X = ⊤} f) P → UnlessKeepFault (status_of_restore f) P
 unresumed_quiet fault.Failed P h = tt
 unresumed_quiet fault.NoMemory P h = h
 unresumed_quiet fault.Empty P h = h
