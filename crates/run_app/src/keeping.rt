@@ -32,16 +32,16 @@ fn status_of_open(fault: OpenFault) -> Status
 }
 
 /// Carries out a command over a keeper that is lent, of whose rows this is known. What of them is visible is left as without
-/// a history.
-fn carry_out_kept<L: Loan, S: Source, K: Sink, D: Keeper>(
+/// a history. It gives the keeper back.
+fn carry_out_kept<'a, L: Loan, S: Source, K: Sink, D: Keeper>(
     form: Form,
     alloc: Global,
     mode: Mode,
     source: &mut S,
     sink: &mut K,
-    keeper: &mut D,
+    keeper: &'a mut D,
     history: History,
-) -> Status
+) -> (Status, &'a mut D)
     requires few { HasFewBlocks mode }
     requires lent { keeper.ghost_name ≡ L.name }
     requires rows { D.rows keeper.old ≡ L.rows }
@@ -50,31 +50,31 @@ fn carry_out_kept<L: Loan, S: Source, K: Sink, D: Keeper>(
     requires rises { IfSome (D.rows keeper.old) Rises }
     requires history { IfSome (D.rows keeper.old) IsHistory }
     requires knows { Knows (D.rows keeper.old) history.base history.visible }
+    ensures same_reference { result.1.ghost_name ≡ keeper.entry.ghost_name }
     ensures ends { ModeEnds form mode (S.left source.old) (S.left source.new)
         (K.written sink.old) (K.written sink.new)
-        (shown (D.rows keeper.old)) (shown (D.rows keeper.new)) (D.is_honest keeper.new)
-        (ShowsLeft (D.may_leave keeper.old)) (ShowsLeft (D.may_leave keeper.new)) result }
-    ensures became { HaveBecome (D.rows keeper.old) (D.rows keeper.new) }
-    ensures history { IfSome (D.rows keeper.new) IsHistory }
-    ensures busy { result ≡ Status.Usage → ⊥ }
+        (shown (D.rows keeper.old)) (shown (D.rows result.1.now)) (D.is_honest result.1.now)
+        (ShowsLeft (D.may_leave keeper.old)) (ShowsLeft (D.may_leave result.1.now)) result.0 }
+    ensures became { HaveBecome (D.rows keeper.old) (D.rows result.1.now) }
+    ensures history { IfSome (D.rows result.1.now) IsHistory }
+    ensures busy { result.0 ≡ Status.Usage → ⊥ }
     ensures unkept { D.keeps keeper.old ≡ false → ModeUnkept mode (S.left source.old)
-        (S.left source.new) (K.written sink.old) (K.written sink.new) result }
-    ensures clean { result ≡ Status.Done → K.clean sink.new ≡ true }
-    ensures read_cause { result ≡ Status.ReadFault
+        (S.left source.new) (K.written sink.old) (K.written sink.new) result.0 }
+    ensures clean { result.0 ≡ Status.Done → K.clean sink.new ≡ true }
+    ensures read_cause { result.0 ≡ Status.ReadFault
         → Rose (S.faults source.old) (S.faults source.new) }
-    ensures write_cause { result ≡ Status.WriteFault
+    ensures write_cause { result.0 ≡ Status.WriteFault
         → Rose (K.faults sink.old) (K.faults sink.new) }
-    ensures read_quiet { UnlessReadFault result (S.faults source.new ≡ S.faults source.old) }
-    ensures write_quiet { UnlessWriteFault result (K.faults sink.new ≡ K.faults sink.old) }
-    ensures honest { D.is_honest keeper.new → D.is_honest keeper.old }
-    ensures keep_cause { result ≡ Status.KeepFault
-        → Rose (D.faults keeper.old) (D.faults keeper.new) }
-    ensures keep_quiet { UnlessKeepFault result (D.faults keeper.new ≡ D.faults keeper.old) }
+    ensures read_quiet { UnlessReadFault result.0 (S.faults source.new ≡ S.faults source.old) }
+    ensures write_quiet { UnlessWriteFault result.0 (K.faults sink.new ≡ K.faults sink.old) }
+    ensures honest { D.is_honest result.1.now → D.is_honest keeper.old }
+    ensures keep_cause { result.0 ≡ Status.KeepFault
+        → Rose (D.faults keeper.old) (D.faults result.1.now) }
+    ensures keep_quiet { UnlessKeepFault result.0 (D.faults result.1.now ≡ D.faults keeper.old) }
 {
     let mut over = HistoryKeeper::<D, L>::over(alloc, keeper, history);
     let status = carry_out(form, alloc, mode, source, sink, &mut over);
-    over.into_inner();
-    status
+    (status, over.into_inner())
 }
 
 /// Carries out a command that commits, and keeps what it replaces.
@@ -108,7 +108,7 @@ pub(crate) fn keep<S: Source, K: Sink, D: Keeper>(
 {
     match read_history(alloc, keeper) {
         Ok(history) => {
-            carry_out_kept::<Brand, S, K, D>(form, alloc, mode, source, sink, keeper, history)
+            carry_out_kept::<Brand, S, K, D>(form, alloc, mode, source, sink, keeper, history).0
         }
         Err(fault) => status_of_open(fault),
     }

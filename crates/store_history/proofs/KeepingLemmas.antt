@@ -64,7 +64,7 @@ become_after (Err e) list it first told told' ok err h = become_still first told
 -- nothing became yet of rows that are told as they were
 pub become_none : (told : Option (List Pair)) → HaveBecome told told
 become_none None = tt
-become_none (Some rows) = (rows, refl, [], tt, refl)
+become_none (Some rows) = (rows, refl, ([], tt, refl))
 
 -- ---- what is shown
 

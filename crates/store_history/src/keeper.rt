@@ -19,8 +19,8 @@ use std::marker::{Brand, Model, PhantomData};
 
 /// What proofs remember of a keeper that is lent: the name of the reference, and the rows that it told then.
 ///
-/// It has no values. Code that lends a keeper to a [`HistoryKeeper`] is generic over it, and is called with
-/// [`Brand`] in its place, of which the call's proof says what it stands for.
+/// It has no values. Code that lends a keeper to a [`HistoryKeeper`] is generic over it and gives the keeper
+/// back, and is called with [`Brand`] in its place, of which the call's proof says what it stands for.
 pub trait Loan {
     ghost name: { ℕ };
 

@@ -10,14 +10,15 @@ use base_io::{Change, Keeper};
 use std::process::Abort;
 use store_history::{History, HistoryKeeper, Loan};
 
-/// Commits the changes, where each of them changes the rows, and keeps what they replace. `commit` is generic over keepers and
-/// says nothing of the keeper below: that it is still the one that was lent, and what became of its rows, is known all the same.
-pub(crate) fn commit_kept<L: Loan, D: Keeper>(
+/// Commits the changes, where each of them changes the rows, and keeps what they replace. It gives the keeper below back.
+/// `commit` is generic over keepers and says nothing of that one: that it is still the one that was lent, and what became of
+/// its rows, is known all the same.
+pub(crate) fn commit_kept<'a, L: Loan, D: Keeper>(
     rt: &(impl Abort + AllocGlobal),
-    keeper: &mut D,
+    keeper: &'a mut D,
     history: History,
     changes: &[Change],
-) -> bool
+) -> (bool, &'a mut D)
     requires lent { keeper.ghost_name ≡ L.name }
     requires rows { D.rows keeper.old ≡ L.rows }
     requires takes { TakesDistinct (D.takes keeper.old) }
@@ -26,11 +27,11 @@ pub(crate) fn commit_kept<L: Loan, D: Keeper>(
     requires history { IfSome (D.rows keeper.old) IsHistory }
     requires knows { Knows (D.rows keeper.old) history.base history.visible }
     requires ordinary { IsOrdinary changes.now }
-    ensures became { HaveBecome (D.rows keeper.old) (D.rows keeper.new) }
-    ensures history { IfSome (D.rows keeper.new) IsHistory }
+    ensures same_reference { result.1.ghost_name ≡ keeper.entry.ghost_name }
+    ensures became { HaveBecome (D.rows keeper.old) (D.rows result.1.now) }
+    ensures history { IfSome (D.rows result.1.now) IsHistory }
 {
     let mut over = HistoryKeeper::<D, L>::over(rt.alloc(), keeper, history);
     let done = commit(rt, &mut over, changes);
-    over.into_inner();
-    done
+    (done, over.into_inner())
 }

@@ -23,7 +23,7 @@ returns-in-Ok-clause-ends g c =
 pub returns-in-Ok-clause-unkept : goal.returns-in-Ok-clause-unkept
 returns-in-Ok-clause-unkept g c = λ off.
     let unkept = c.carry_out_kept.ensures.unkept (g.met.D.Keeper.keeps_alike c.read_history.new.keeper c.args.keeper.now ∙ off) in
-    (unkept, never_bad_store c.args.form c.args.mode _ _ _ _ _ _ _ _ _ c.carry_out_kept.result c.requires.commits c.carry_out_kept.ensures.ends unkept)
+    (unkept, never_bad_store c.args.form c.args.mode _ _ _ _ _ _ _ _ _ c.carry_out_kept.result.0 c.requires.commits c.carry_out_kept.ensures.ends unkept)
 
 pub returns-in-Err-clause-ends : goal.returns-in-Err-clause-ends
 returns-in-Err-clause-ends g c =

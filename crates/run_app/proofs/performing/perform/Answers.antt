@@ -24,4 +24,4 @@ pub returns-in-Past-clause-ends : goal.returns-in-Past-clause-ends
 returns-in-Past-clause-ends g c = rw (← c.way_of.ensures, c.in-Past.is) (refl, c.answer_past.ensures.ends)
 
 pub returns-in-Past-clause-unkept : goal.returns-in-Past-clause-unkept
-returns-in-Past-clause-unkept g c = rw (← c.way_of.ensures, c.in-Past.is) (λ off. let u = c.answer_past.ensures.unkept off in (u.0, refl, u.1))
+returns-in-Past-clause-unkept g c = rw (← c.way_of.ensures, c.in-Past.is) (λ off. let u = c.answer_past.ensures.unkept off in (u.0, (refl, u.1)))
