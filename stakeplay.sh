@@ -23,6 +23,8 @@ STORE is a file that keeps the state, made where there is none, or - for none. C
                             ./stakeplay.sh chain.db query supply
   tally                   reads ballots, a line each, and counts them by the stake of what STORE has
                             ./stakeplay.sh chain.db tally < ballots.jsonl
+  check                   reads reward statements, a line each, and says of each whether it is right
+                            ./stakeplay.sh - check < examples/recipes/statements.jsonl
   gen SEED COUNT          writes a generated input with COUNT blocks
                             ./stakeplay.sh - gen 7 100 | ./stakeplay.sh - replay
   trial SEED COUNT        replays that input and writes a summary of one line

@@ -16,6 +16,7 @@ long_checks=" base_types base_coins base_roles line_json "
 wrong_bodies="invents_overflow|rounds_exact_quotient|cuts_slash_fraction|starts_after_removal|skips_slash_at_start|drops_slash_reference"
 wrong_bodies="$wrong_bodies|keeps_dead_records|drops_the_dust|burns_from_bonded|hides_a_burn|keeps_refused_reward|writes_before_commit"
 wrong_bodies="$wrong_bodies|sorts_all_validators|invents_(read|write|store)_fault|invents_not_found|restarts_from_genesis"
+wrong_bodies="$wrong_bodies|restarts_where_nothing_is_kept|tells_(no_command|bad_rows)_as_want_of_memory|answers_that_all_are_right"
 say() { echo "repository: $*"; bad=1; }
 [ "$(cat HANDLES)" = "Handles allowed: none." ] || say "HANDLES is not the one line"
 lines="$(wc -l <README.md)"

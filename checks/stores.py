@@ -1,6 +1,9 @@
 """What `checks/stores.sh` runs: stores that the program is to refuse, and some that it is to take."""
 import contextlib, json, os, pathlib, shutil, sqlite3, subprocess, sys, tempfile
 
+sys.path.insert(0, "examples/recipes")
+from first_format import MISSED as MISSES, first_format
+
 PROGRAM = os.path.abspath(sys.argv[1])
 FAULT, BAD = (6, "stakeplay: store fault"), (8, "stakeplay: bad store")
 EMPTY, FULL = (9, "stakeplay: store is empty"), (9, "stakeplay: store is not empty")
@@ -156,6 +159,28 @@ def event_of_nobody(rows):
     rows[history(NOBODY, 0)] = bytes.fromhex(number(0, 4) + number(1, 16))
 
 
+def missed(*places):
+    """The signing record lists these places as missed."""
+    def change(rows):
+        rows[SIGNED] = rows[SIGNED][:MISSES] + b"".join(place.to_bytes(4, "big") for place in (len(places), *places))
+    return change
+
+
+def all_first(rows):
+    """All rows in the first format."""
+    for name in rows:
+        rows[name] = first_format(name, rows[name])
+
+
+def mixed(change):
+    """Rows of the first format, but for one that is changed."""
+    def both(rows):
+        second = dict(rows)
+        all_first(rows)
+        change(rows, second)
+    return both
+
+
 def slashed_by_hand(rows):
     """An entry has one unit less, which the account holds less too: sound, whatever made it."""
     add(rows, ENTRY, BALANCE, -1)
@@ -209,7 +234,7 @@ UNSOUND = {
     },
     "7 signing records": {
         "one missed more": lambda rows: add(rows, SIGNED, MISSED),
-        "a place more that is set": lambda rows: put(rows, SIGNED, (45, 1), 1),
+        "a place more that was missed": missed(0),
         "a place fewer": lambda rows: add(rows, SIGNED, PLACES, -1),
         "more counted than there are heights": lambda rows: put(rows, SIGNED, COUNTED, 5),
         "a bonded validator without a record": lambda rows: rows.pop(SIGNED),
@@ -230,11 +255,17 @@ NO_ITEMS = {
     "a key that is longer": lambda rows: rows.update({POOL + b"\0": rows.pop(POOL)}),
     "a value that is shorter": lambda rows: rows.update({PARAMS: rows[PARAMS][:-1]}),
     "a value that is longer": lambda rows: rows.update({PARAMS: rows[PARAMS] + b"\0"}),
-    "a format of 2": lambda rows: put(rows, HEAD, (0, 1), 2),
+    "a format of 1 over rows of the second": lambda rows: put(rows, HEAD, (0, 1), 1),
+    "a format of 2 over rows of the first": mixed(lambda rows, second: put(rows, HEAD, (0, 1), 2)),
+    "a signing record of the second format among rows of the first": mixed(lambda rows, second: rows.update({SIGNED: second[SIGNED]})),
+    "a format of 3": lambda rows: put(rows, HEAD, (0, 1), 3),
     "a balance of 0": lambda rows: rows.update({balance(NOBODY): bytes(16)}),
     "a truth value of 2": lambda rows: put(rows, validator(FIRST), (21, 1), 2),
     "a status of 3": lambda rows: put(rows, validator(FIRST), (20, 1), 3),
-    "a spare bit that is set": lambda rows: put(rows, SIGNED, (45, 1), 4),
+    "a missed place at the end": missed(2),
+    "a missed place twice": missed(1, 1),
+    "missed places that fall": missed(1, 0),
+    "a spare bit that is set, in the first format": mixed(lambda rows, second: put(rows, SIGNED, (45, 1), 4)),
     "a denomination of three signs": lambda rows: rows.update({key("11", "032b2b2b"): bytes(15) + b"\1"}),
     "a pool with a coin of 0": lambda rows: put(rows, POOL, FIRST_COIN, 0),
     "an operator that is a module": lambda rows: rows.update({key("42", BONDED): bytes.fromhex(SENDER)}),
@@ -292,6 +323,24 @@ def try_rows(room, good):
                 file.unlink()
 
 
+def try_first_format(room, good):
+    """A store of the first format answers as it stands, and a resume brings its rows to the second, with lines or without."""
+    wanted, rest = rows_of(good), b"".join(pathlib.Path("examples/history.jsonl").read_bytes().splitlines(keepends=True)[5:])
+    for name, given in (("no lines", b""), ("a line that is refused", b"{"), ("the lines behind it", rest)):
+        old, new = changed(good, room / "first", all_first), changed(good, room / "second", lambda rows: None)
+        before = content(old)
+        for words in (["query", "supply"], ["query", "validators"], ["tally"]):
+            ask(ran(old, words), ran(new, words), f"{' '.join(words)} on rows of the first format")
+        ask(content(old) == before, True, "whether questions leave rows of the first format byte for byte as they were")
+        ask(ran(old, ["replay"], b"".join(LINES)), (FULL, b""), "a replay on rows of the first format")
+        ask(ran(old, ["resume"], given), ran(new, ["resume"], given), f"a resume on rows of the first format with {name}")
+        ask(rows_of(old) == rows_of(new), True, f"whether a resume with {name} leaves the rows of the second format")
+        if given != rest:
+            ask(rows_of(old) == wanted, True, f"whether a resume with {name} changes nothing else")
+        for file in (*room.glob("first*"), *room.glob("second*")):
+            file.unlink()
+
+
 def try_files(room, good):
     whole = changed(good, room / "whole", lambda rows: None).read_bytes()
     files = {
@@ -335,17 +384,23 @@ def try_rights(room, good):
         store.chmod(mode)
         try_all(store, (FAULT, FAULT, FAULT), f"a file of mode {mode:03o}", **user)
     (room / "locked").mkdir(mode=0o555)
-    try_all(room / "locked" / "store", (FAULT, FAULT, FAULT), "a file in a folder that may not be written", **user)
+    try_all(room / "locked" / "store", (FAULT, EMPTY, EMPTY), "a file that is not there, in a folder that may not be written", **user)
 
 
 def try_new(room):
-    """Files that hold no rows yet: they are taken, and only a replay puts rows there."""
+    """Files that hold no rows yet: they are taken, and only a replay puts rows there. Where there is none only a replay makes one."""
     for name in ("new", "empty"):
         store = room / name
         if name == "empty":
             store.write_bytes(b"")
         for words in COMMANDS[1:]:
             ask(ran(store, words), (EMPTY, b""), f"{words} on a {name} file")
+        for words in ([], ["queries"], ["query", "account", "nobody"]):
+            ask(ran(store, words), ((1, "stakeplay: usage"), b""), f"{words} on a {name} file")
+        if name == "new":
+            for words in (["gen", "7", "3"], ["trial", "7", "3"]):
+                ask(ran(store, words), ran("-", words), f"{words} on a new file")
+            ask(list(room.glob("new*")), [], "which files are there before a replay makes one")
         ended, printed = ran(store, ["replay"], b"".join(LINES))
         ask((ended, bool(printed)), (DONE, True), f"a replay on a {name} file")
     for word in ("-x", "--help", "-store"):
@@ -483,6 +538,86 @@ def try_tally(room):
     ask(content(store) == before, True, "whether tallies leave the store byte for byte as it was")
 
 
+# ---- histories
+
+PAST = (11, "stakeplay: no past")
+QUESTIONS = (["supply"], ["pool"], ["validators"], *([what, address] for what, address in (
+    ("account", "4" * 40), ("account", "6" * 40), ("delegations", "4" * 40), ("rewards", "4" * 40), ("unbondings", "4" * 40))))
+
+
+def visible(rows):
+    return {name: body for name, body in rows.items() if name[:1] not in (b"\x60", b"\x61")}
+
+
+def ask_past(store, answers, heights, what):
+    """Each question is answered of each of these heights as it was then, and none of the heights beside them."""
+    for height in heights:
+        for question, answer in zip(QUESTIONS, answers[height]):
+            ask(ran(store, ["past", str(height), "query", *question]), answer, f"{' '.join(question)} of height {height} {what}")
+    for height in (heights[0] - 1, heights[-1] + 1):
+        if height >= 0:
+            ask(ran(store, ["past", str(height), "query", "supply"]), (PAST, b""), f"supply of height {height} {what}")
+
+
+def try_history(room):
+    """Runs that keep what they replace print what others print, leave the same visible rows, and tell what stood at each height."""
+    lines = pathlib.Path("examples/history.jsonl").read_bytes().splitlines(keepends=True)
+    plain, last, answers = room / "plain", len(lines) - 1, []
+    for height, line in enumerate(lines):
+        ran(plain, ["resume"] if height else ["replay"], line)
+        answers.append([ran(plain, ["query", *question]) for question in QUESTIONS])
+    for stop in range(last + 1):
+        kept, other = room / "kept", room / "other"
+        for words, given in ((["replay"], lines[:stop + 1]), (["resume"], lines[stop + 1:])):
+            ask(ran(kept, ["keep", *words], b"".join(given)), ran(other, words, b"".join(given)), f"keep {words[0]}, at {stop}")
+        ask(visible(rows_of(kept)) == rows_of(plain), True, f"whether the visible rows are those without a history, at {stop}")
+        ask_past(kept, answers, range(last + 1), f"of a run that was stopped at {stop}")
+        for words, end in ((["query", "pool"], BAD), (["resume"], BAD), (["tally"], BAD), (["replay"], FULL)):
+            ask(ran(kept, words), (end, b""), f"{' '.join(words)} on a history")
+        ask(ran(kept, ["keep", "replay"], b"".join(lines)), (FULL, b""), "keep replay on a history")
+        for store in ("kept", "other"):
+            for file in room.glob(f"{store}*"):
+                file.unlink()
+    # A history that begins where a run goes on.
+    ran(room / "kept", ["replay"], b"".join(lines[:3]))
+    ask_past(room / "kept", answers, range(2, 3), "without a history")
+    ran(room / "kept", ["keep", "resume"], b"".join(lines[3:]))
+    ask_past(room / "kept", answers, range(2, last + 1), "of a run that goes on from 2")
+    return room / "kept"
+
+
+def try_bad_histories(room, good):
+    """Histories out of form are refused by each command that knows them, and left byte for byte as they were."""
+    kept = [name for name in rows_of(good) if name[:1] == b"\x60"]
+    base, last = key("61"), rows_of(good)[HEAD][1:9].hex()
+    changes = {"no base": lambda rows: rows.pop(base), "a base of seven bytes": lambda rows: rows.update({base: bytes(7)}),
+               "a base of nine bytes": lambda rows: rows.update({base: bytes(9)}),
+               "a base above the last height": lambda rows: rows.update({base: b"\xff" * 8}),
+               "a base with a longer key": lambda rows: rows.update({key("6100"): bytes(8)}),
+               "no head": lambda rows: rows.pop(HEAD), "a head of eight bytes": lambda rows: rows.update({HEAD: rows[HEAD][:8]}),
+               "a height at the base": lambda rows: rows.update({b"\x60" + rows[base] + HEAD: b"\0"}),
+               "a height above the last": lambda rows: rows.update({key("60", number(int(last, 16) + 1, 8), "01"): b"\0"}),
+               "half a height": lambda rows: rows.update({key("6000000000"): b"\0"}),
+               "a row of a history that is kept": lambda rows: rows.update({key("60", last, "61"): b"\0"}),
+               "a kept value of none and a byte": lambda rows: rows.update({kept[0]: b"\0\0"}),
+               "a kept value of another first byte": lambda rows: rows.update({kept[0]: b"\x02"}),
+               "no kept value": lambda rows: rows.update({kept[0]: b""})}
+    for name, change in changes.items():
+        store = changed(good, room / "changed", change)
+        before = content(store)
+        for words in (["past", "3", "query", "supply"], ["past", "9", "query", "supply"], ["keep", "resume"], ["keep", "replay"]):
+            ask(ran(store, words, b"".join(LINES) if "replay" in words else b""), (BAD, b""), f"{' '.join(words)} on {name}")
+        ask(content(store) == before, True, f"whether a history with {name} is byte for byte as it was")
+        for file in room.glob("changed*"):
+            file.unlink()
+    # Past rows of no sound state, where those of another height and the present ones are sound.
+    supply = next(name for name in kept if name[9:10] == b"\x10" and rows_of(good)[name][:1] == b"\x01")
+    height = int.from_bytes(supply[1:9], "big")
+    store = changed(good, room / "changed", lambda rows: add(rows, supply, (1, 16)))
+    ask(ran(store, ["past", str(height - 1), "query", "supply"]), (BAD, b""), "past rows of no sound state")
+    ask(ran(store, ["past", str(height), "query", "supply"])[0], DONE, "past rows behind them")
+
+
 def main():
     with tempfile.TemporaryDirectory(prefix="stores-") as name:
         room, good = pathlib.Path(name), pathlib.Path(name) / "good"
@@ -490,12 +625,13 @@ def main():
         global PROGRAM
         PROGRAM = shutil.copy(PROGRAM, room / "stakeplay")
         ask(ran(good, ["replay"], b"".join(LINES))[0], DONE, "the replay that makes the store")
-        for part in (try_rows, try_files, try_rights):
+        for part in (try_rows, try_first_format, try_files, try_rights):
             part(room, good)
         try_new(room)
         try_held(room)
         try_one_send(room)
         try_tally(room)
+        try_bad_histories(room, try_history(room))
     for line in bad:
         print(f"stores: {line}")
     print(f"stores: {count} answers compared, {len(bad)} differ")

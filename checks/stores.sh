@@ -3,7 +3,8 @@
 # it is to refuse: files that are no database, or one of another schema, cut files, folders, files without rights, files that
 # another program holds; and stores of which a row was changed by hand, by one unit against each of the points that make a
 # state sound, or to something that is no row. Each ends by its status and its line, and leaves the file byte for byte as it
-# was. Stores that were changed and are sound are taken. The rows are read and changed by Python's sqlite3. Needs the program.
+# was. Stores that were changed and are sound are taken. One of the first format of rows answers as it stands, and a resume
+# brings it to the second. The rows are read and changed by Python's sqlite3. Needs the program.
 set -u
 cd "$(dirname "$0")/.."
 . checks/program.bash

@@ -8,6 +8,10 @@
   reads     `stakeplay FILE resume` without lines, and `stakeplay FILE query supply`, over a store of 4,000 validators
             and 50,000 delegations, beside a C program that reads the same rows in their order into memory
 
+  history   `stakeplay FILE keep replay` of 10,000 blocks into a new store beside `replay`, by the clock and by processor time
+            (aim: at most 1.6), and `past 0 query supply` beside `past 10000 query supply` over what it left, and beside
+            `query supply` over the store without a history (aim: at most 1.5); and the bytes of the history a block
+
 What a line changes is found out before: a replay is given each line once it has answered the one before, and in between
 the rows are read by Python's sqlite3. At the end the C program's rows have to be those of the store.
 
@@ -163,6 +167,15 @@ def tell(part, mine, other, aim=""):
     )
 
 
+def tell_ratio(part, mine, name, other, aim=""):
+    ratios = [a / b for a, b in zip(mine, other)]
+    print(
+        f"{part}: {mine[0]:.3f} s by the clock ({mine[1]:.3f} of a processor), {name} {other[0]:.3f} s ({other[1]:.3f}): "
+        f"{ratios[0]:.2f} ({ratios[1]:.2f}){aim}",
+        flush=True,
+    )
+
+
 def sized(blob):
     return struct.pack("=I", len(blob)) + blob
 
@@ -231,16 +244,42 @@ def reads(work, stock, given):
     tell("query supply", best["query"], best["stock"])
 
 
+def history(work, stock, given):
+    blocks = max(given.blocks, 10000) if given.scale == 1 else given.blocks
+    lines = generated(7, blocks)
+    (work / "lines").write_bytes(b"".join(lines))
+    tries = {
+        "keep": lambda: ([PROGRAM, renewed(work / "kept"), "keep", "replay"], work / "lines"),
+        "plain": lambda: ([PROGRAM, renewed(work / "plain"), "replay"], work / "lines"),
+    }
+    best = least(given.runs, tries)
+    kept, plain = dict(rows_of(work / "kept")), dict(rows_of(work / "plain"))
+    past = {name: body for name, body in kept.items() if name[:1] in (b"\x60", b"\x61")}
+    if {name: body for name, body in kept.items() if name not in past} != plain:
+        sys.exit("history: the visible rows are not those of a run without one")
+    size = sum(len(name) + len(body) for name, body in past.items())
+    print(f"history: {len(past)} rows, {size / blocks:.0f} bytes of names and bodies a block", flush=True)
+    tell_ratio(f"keep replay of {blocks} blocks", best["keep"], "replay", best["plain"], " (aim: at most 1.6)")
+    tries = {
+        "oldest": lambda: ([PROGRAM, work / "kept", "past", "0", "query", "supply"],),
+        "last": lambda: ([PROGRAM, work / "kept", "past", str(blocks), "query", "supply"],),
+        "present": lambda: ([PROGRAM, work / "plain", "query", "supply"],),
+    }
+    best = least(given.runs, tries)
+    tell_ratio("a question of the oldest height", best["oldest"], "of the last", best["last"], " (aim: at most 1.5)")
+    tell_ratio("a question of the oldest height", best["oldest"], "without a history", best["present"])
+
+
 def main():
     words = argparse.ArgumentParser()
     for name, number in (("runs", 5), ("blocks", 2000), ("scale", 1)):
         words.add_argument(f"--{name}", type=int, default=number)
-    words.add_argument("parts", nargs="*", choices=[[], "commits", "reads"])
+    words.add_argument("parts", nargs="*", choices=[[], "commits", "reads", "history"])
     given = words.parse_args()
-    for part in given.parts or ("commits", "reads"):
+    for part in given.parts or ("commits", "reads", "history"):
         with tempfile.TemporaryDirectory(prefix="store-") as name:
             work = pathlib.Path(name)
-            (commits if part == "commits" else reads)(work, build_stock(work), given)
+            {"commits": commits, "reads": reads, "history": history}[part](work, build_stock(work), given)
 
 
 if __name__ == "__main__":

@@ -22,12 +22,13 @@ Short = int               # 8 bytes: a height, a period, a number that is counte
 Wide = int                # 16 bytes: an amount, the units of a decimal, a count of references
 Moment = int              # 16 bytes: nanoseconds since 1970
 Status = int              # 1 byte: the place in STATUSES
-Ring = list[bool]         # a length, and eight places in a byte
+Ring = list[bool]         # a length, and a list of the missed places
 Row = tuple[bytes, bytes]
 
 STATUSES = "BOND_STATUS_BONDED", "BOND_STATUS_UNBONDING", "BOND_STATUS_UNBONDED"
 BONDED_STATUS, UNBONDING_STATUS, UNBONDED_STATUS = range(3)
-ROW_FORM = 1              # the first byte of the head's row
+ROW_FORMS = (1, 2)        # the first byte of the head's row: the format of all rows; the last is written
+MOST_PLACES = 100_000     # of the ring of a sound state
 END_OF_TIME = 253_402_300_800 * SECOND     # the year 10000
 
 
@@ -183,10 +184,10 @@ class BadRow(ValueError):
 
 
 class Bytes:
-    """The bytes of a key or value, which are taken from the front."""
+    """The bytes of a key or value of rows in a format, which are taken from the front."""
 
-    def __init__(self, data: bytes):
-        self.data, self.place = data, 0
+    def __init__(self, data: bytes, form: int = ROW_FORMS[-1]):
+        self.data, self.place, self.form = data, 0, form
 
     def take(self, count: int) -> bytes:
         """The next bytes."""
@@ -247,14 +248,22 @@ def _read_coins(data: Bytes) -> Coins:
 
 
 def _write_ring(ring: list[bool]) -> bytes:
-    places = sum(1 << place for place, missed in enumerate(ring) if missed)
-    return len(ring).to_bytes(4, "big") + places.to_bytes(-(-len(ring) // 8), "little")
+    places = [place.to_bytes(4, "big") for place, missed in enumerate(ring) if missed]
+    return len(ring).to_bytes(4, "big") + _write_list(places)
 
 
 def _read_ring(data: Bytes) -> list[bool]:
+    """In the first format each place is a bit, the first the lowest of its byte; in the second the missed ones are listed."""
     count = data.number(4)
-    places = int.from_bytes(data.take(-(-count // 8)), "little")
-    return [bool(places >> place & 1) for place in range(count)]
+    if count > MOST_PLACES:
+        raise BadRow
+    if data.form == 1:
+        places = int.from_bytes(data.take(-(-count // 8)), "little")
+        return [bool(places >> place & 1) for place in range(count)]
+    missed = {data.number(4) for _ in range(data.number(4))}
+    if any(place >= count for place in missed):
+        raise BadRow
+    return [place in missed for place in range(count)]
 
 
 SPELLINGS: dict[str, tuple[Callable[[Any], bytes], Callable[[Bytes], Any]]] = {
@@ -287,7 +296,7 @@ def _read_body(form: Any, data: Bytes) -> Any:
 
 def rows_of(state: State) -> Iterator[Row]:
     """The rows of a state, not in their order."""
-    yield bytes([HEAD]), _write_body(Head, Head(ROW_FORM, state.height, state.time))
+    yield bytes([HEAD]), _write_body(Head, Head(ROW_FORMS[-1], state.height, state.time))
     yield bytes([PARAMS]), _write_body(Params, state.params)
     yield bytes([POOL]), _write_coins(state.pool)
     for first, (table, key_forms, form) in TABLES.items():
@@ -304,12 +313,12 @@ def state_of(rows: dict[bytes, bytes]) -> State:
         data = Bytes(rows.get(bytes([first]), b"\0\0\0\0" if first == POOL else b""))
         single[first] = _read_body(form, data)
         data.end()
-    if single[HEAD].form != ROW_FORM or not single[PARAMS].power_reduction:
+    if single[HEAD].form not in ROW_FORMS or not single[PARAMS].power_reduction:
         raise BadRow
     state = State(single[HEAD].height, single[HEAD].time, single[PARAMS], single[POOL])
     for name, body in rows.items():
         if name[:1] not in (b"\x01", b"\x02", b"\x41"):
-            _take_row(state, Bytes(name), Bytes(body))
+            _take_row(state, Bytes(name), Bytes(body, single[HEAD].form))
     return state
 
 

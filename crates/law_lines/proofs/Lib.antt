@@ -3,5 +3,7 @@ mod EndLemmas
 mod FactLemmas
 mod OtherLemmas
 mod ReportLemmas
+mod StatementLemmas
+mod TextLemmas
 mod ValueLemmas
 mod WrittenLemmas

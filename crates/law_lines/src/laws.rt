@@ -1,6 +1,7 @@
 //! What written lines tell, as functions that do nothing: their contracts are the laws.
 
 ghost use Rattle.law_lines.specs.Laws.{BlocksAreRead, FactsAreRead, GenesesTellNoFact, ReportsAreRead, SuppliesFallByWrittenBurns};
+ghost use Rattle.law_lines.specs.Statements.{StatementsAreRead, StatementsDiffer, StatementsInTextsAreRead};
 ghost use Rattle.law_lines.specs.Worked.{LinesTell, LinesTellNothing};
 
 /// The line of a fact is read as the fact, at the height of its block.
@@ -27,6 +28,13 @@ pub fn geneses_tell_no_fact()
 /// there at the genesis.
 pub fn supplies_fall_by_written_burns()
     ensures { SuppliesFallByWrittenBurns }
+{}
+
+/// The line of a statement is read as the statement, also in a text of several, and no two statements have the same line.
+pub fn statements_are_read()
+    ensures read { StatementsAreRead }
+    ensures texts { StatementsInTextsAreRead }
+    ensures differ { StatementsDiffer }
 {}
 
 /// Worked lines, computed from the definitions.

@@ -33,6 +33,7 @@ mod written;
 
 pub use addresses::{account_of_text, cons_of_text, operator_asked};
 pub use block_reading::read_block;
+pub use coin_reading::dec_coins_at;
 pub use genesis_reading::read_genesis;
 pub use lines::{push_line_of_genesis, push_lines_of_block};
 pub use members::{
@@ -44,5 +45,5 @@ pub use reading_example::lines_read_by_example;
 pub use spelled_example::lines_spelled_by_example;
 pub use told::Told;
 pub use tree::Tree;
-pub use writing::{push_line, push_told};
+pub use writing::{push_line, push_object, push_told};
 pub use written::lines_written_by_example;

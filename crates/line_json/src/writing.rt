@@ -240,8 +240,8 @@ pub fn push_told(alloc: Global, writer: &mut Writer, told: &Told<'_>) -> Result<
     Ok(())
 }
 
-/// The object of members.
-fn push_object(
+/// Writes the object of these members, in the order in which they stand, as one value. The only error is `NoMemory`.
+pub fn push_object(
     alloc: Global,
     writer: &mut Writer,
     members: &[(&str, Told<'_>)],

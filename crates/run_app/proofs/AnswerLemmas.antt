@@ -1,6 +1,5 @@
 -- Answers of a chain to lines, from the states for which it stands.
 use Rattle.std.proofs.Common.{◌≡◌, ◌∙◌, inl, inr, ℕ, ◌≤◌, false, nat_lt, List, [], ◌++◌, length, Option, Some, None, Result, Ok, Err, OnOk, IfErr, IfSome, refl, sym, ap, subst, arith}
-use Rattle.std.proofs.lemmas.List.{append-nil}
 use Rattle.base_bech32.specs.declared.form.Form.{Form}
 use Rattle.base_io.specs.Outside.{IsPart}
 use Rattle.base_io.specs.Calls.{AddsPart, Stays}
@@ -36,6 +35,7 @@ use Rattle.base_io.specs.declared.keeper.KeepFault.{KeepFault}
 use Rattle.base_io.specs.declared.keeper.KeepFault.TheVariants as keep
 use Rattle.run_app.specs.Parts.{IsFault, NotAnswered, Grows, Took, Finishes, FinishStops, not_kept}
 use Rattle.run_app.proofs.PartLemmas.{untold}
+use Rattle.run_app.proofs.RunLemmas.{no_growth}
 
 -- an answer of this text, after which this state stands
 abbrev answer_of : List ℕ → State → Result Answer LineStop
@@ -134,7 +134,7 @@ faults_on form n line b p k block.NoMemory read h = tt
 -- ---- what is written
 
 -- a text that was written is the growth
-grown : (w w' : Option (List ℕ)) (text text' : List ℕ) → text' ≡ text → IfSome w (λ (bytes : List ℕ). w' ≡ Some (bytes ++ text')) → Grows w w' text
+pub grown : (w w' : Option (List ℕ)) (text text' : List ℕ) → text' ≡ text → IfSome w (λ (bytes : List ℕ). w' ≡ Some (bytes ++ text')) → Grows w w' text
 grown w w' text text' same wrote = λ old held.
     let h : w' ≡ Some (old ++ text') = subst (λ (o : Option (List ℕ)). IfSome o (λ (bytes : List ℕ). w' ≡ Some (bytes ++ text'))) held wrote in
     h ∙ ap (λ (t : List ℕ). Some (old ++ t)) same
@@ -154,7 +154,7 @@ none_yet (Some x) s h stood = absurd (h x refl)
 -- before the genesis there is none
 pub lacking : (form : Form) (s : Standing) (w : Option (List ℕ)) → StandsAt None s → FinishStops form untold 1 s [] w w (ends.Lacking 1 input.Missing)
 unfolding report_of
-lacking form s w none = λ old held. ([], held ∙ ap Some (sym (append-nil old)), record { end = s; answered = (refl, refl); fault_is = ap (report_of form) none; left = tt })
+lacking form s w none = ([], no_growth w, record { end = s; answered = (refl, refl); fault_is = ap (report_of form) none; left = tt })
 
 -- the report of a chain is that of the state for which it stands
 reported_at : (form : Form) (x : Chained) (s : Standing) (text : List ℕ) → StandsAt (Some x) s → ((p : State) → StandsFor x.kept p → report_of form (Some p) ≡ Ok text) → report_of form s ≡ Ok text
@@ -177,11 +177,15 @@ module _ (form : Form) (x : Chained) (s : Standing) (text text' : List ℕ) (sto
 
   -- a part of it was written
   pub report_failed : (w w' : Option (List ℕ)) → AddsPart w w' text' → FinishStops form untold 1 s [] w w' ends.Report
-  report_failed w w' adds = λ old at. let a = adds old at in (a.0, a.2, part a.0 a.1)
+  report_failed w w' adds = (adds.0, adds.2, part adds.0 adds.1)
 
   pub report_full : (w w' : Option (List ℕ)) → AddsPart w w' text' → FinishStops form untold 1 s [] w w' ends.NoMemory
-  report_full w w' adds = λ old at. let a = adds old at in (a.0, a.2, inl (part a.0 a.1))
+  report_full w w' adds = (adds.0, adds.2, inl (part adds.0 adds.1))
 
   -- all of it was written
   pub report_written : (w w1 w' : Option (List ℕ)) → IfSome w (λ (bytes : List ℕ). w1 ≡ Some (bytes ++ text')) → Stays w1 w' → Finishes form untold 1 s [] w w'
   report_written w w1 w' wrote stays = (text, record { end = s; done = []; answered = (refl, refl); ran = ap ran_report (reported_at form x s text stood reports); left = tt }, λ old at. stays (old ++ text) (grown w w1 text text' same wrote old at))
+
+  -- all of it was written, and not handed on
+  pub report_unflushed : (w w1 w' : Option (List ℕ)) → IfSome w (λ (bytes : List ℕ). w1 ≡ Some (bytes ++ text')) → Stays w1 w' → FinishStops form untold 1 s [] w w' ends.Flush
+  report_unflushed w w1 w' wrote stays = let f = report_written w w1 w' wrote stays in (f.0, f.2, f.1)

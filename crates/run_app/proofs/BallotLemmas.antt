@@ -1,10 +1,9 @@
 -- The ballots of an input, line by line.
 use Rattle.std.proofs.Common.{◌≡◌, ◌≢◌, ◌∙◌, ◌⊎◌, inl, inr, ℕ, suc, ◌+◌, ◌<◌, ◌≤◌, Bool, true, false, cond, ◌==◌, le-ltb, lt-ltb, List, [], ◌∷◌, ◌++◌, append-nil, append_assoc, length, length-append, take, drop, Option, Some, None, Result, Ok, Err, OnOk, IfErr, IfSome, refl, sym, ap, subst, arith, add-zero, ne_eqb}
 use Rattle.std.specs.Option.{option_or}
-use Rattle.std.proofs.lemmas.List.{take-append-drop}
 use Rattle.base_bech32.specs.declared.form.Form.{Form}
 use Rattle.base_coins.specs.Steps.{◌>>=◌}
-use Rattle.base_io.specs.Calls.{Takes, Stays}
+use Rattle.base_io.specs.Calls.{Stays}
 use Rattle.base_messages.specs.declared.faults.LineFault.{LineFault}
 use Rattle.base_messages.specs.declared.faults.LineFault.TheVariants as why
 use Rattle.base_roles.specs.Entries.{at, with}
@@ -27,7 +26,8 @@ use Rattle.run_app.specs.Lines.{whole_from, rest_from, last_line, lines_from, li
 use Rattle.run_app.specs.Machine.{longest, not_read}
 use Rattle.run_app.specs.Outcome.{most_bytes}
 use Rattle.run_app.specs.Parts.{HasNoEnd, NotExtended}
-use Rattle.run_app.proofs.DriveLemmas.{TookBytes}
+use Rattle.run_app.specs.Told.{Told}
+use Rattle.run_app.proofs.DriveLemmas.{TookBytes, told_all, told_more, told_rest, told_still}
 use Rattle.run_app.proofs.PartLemmas.{last-some, parted}
 use Rattle.run_app.proofs.CutLemmas.{lines-append, rest-append, rest_none, rest_one, whole-append, whole_no_longer, whole_none, whole_one}
 
@@ -160,7 +160,7 @@ taken_more form t n line kept bytes line' h none is short =
     }
 
 -- the lines that have ended, with bytes that end one more
-one_more : (t : List ℕ) (line bytes : List ℕ) → line ≡ rest_from [] t → HasNoEnd bytes → whole_from [] (t ++ (bytes ++ 10 ∷ [])) ≡ whole_from [] t ++ (line ++ bytes) ∷ []
+pub one_more : (t : List ℕ) (line bytes : List ℕ) → line ≡ rest_from [] t → HasNoEnd bytes → whole_from [] (t ++ (bytes ++ 10 ∷ [])) ≡ whole_from [] t ++ (line ++ bytes) ∷ []
 one_more t line bytes is none =
     whole-append t [] (bytes ++ 10 ∷ [])
     ∙ ap (λ (ls : List (List ℕ)). whole_from [] t ++ ls) (whole_one bytes (rest_from [] t) none ∙ ap (λ (l : List ℕ). (l ++ bytes) ∷ []) (sym is))
@@ -291,7 +291,7 @@ fed_end_stops form (Err why) t piece rest n line kept f none h =
 
 -- ---- the end of the input
 
-all_with : (t line : List ℕ) → line ≡ rest_from [] t → 0 < length line → lines_of t ≡ whole_from [] t ++ line ∷ []
+pub all_with : (t line : List ℕ) → line ≡ rest_from [] t → 0 < length line → lines_of t ≡ whole_from [] t ++ line ∷ []
 all_with t line is some = ap (λ (l : List ℕ). whole_from [] t ++ last_line l) (sym is) ∙ ap (λ (ls : List (List ℕ)). whole_from [] t ++ ls) (last-some line some)
 
 pub ended_some : (form : Form) (t : List ℕ) (n : ℕ) (line : List ℕ) (kept kept' : Kept) → AreTaken form t n line kept → 0 < length line → IsCast (ballot_at form n line) kept kept' → AreKept form (lines_of t) kept'
@@ -314,25 +314,11 @@ ended_stops form t n line kept stop.NoMemory most h some due = most
 
 -- ---- a source
 
--- where a source tells its bytes, these were taken of them
-abbrev pub Told : Option (List ℕ) → List ℕ → Option (List ℕ) → Type 0
-Told first t left = (input : List ℕ) → first ≡ Some input → (rest : List ℕ) × (input ≡ t ++ rest) × (left ≡ Some rest)
-
-pub told_first : (first : Option (List ℕ)) → Told first [] first
-told_first first = λ input told. (input, refl, told)
-
-pub told_more : (first : Option (List ℕ)) (t : List ℕ) (left left' : Option (List ℕ)) (m : ℕ) (piece : List ℕ) → Told first t left → TookBytes m piece left left' → Told first (t ++ take m piece) left'
-told_more first t left left' m piece at took = λ input told.
-    let a = at input told in
-    let moves : Takes m a.0 piece left' = rw a.2 at took in
-    let whole : take m piece ++ drop m a.0 ≡ a.0 = ap (λ (l : List ℕ). l ++ drop m a.0) moves.piece ∙ take-append-drop m a.0 in
-    (drop m a.0, a.1 ∙ ap (λ (r : List ℕ). t ++ r) (sym whole) ∙ sym (append_assoc t (take m piece) (drop m a.0)), moves.rest)
-
 -- the source failed
 pub unread : (form : Form) (first : Option (List ℕ)) (t : List ℕ) (n : ℕ) (line : List ℕ) (kept : Kept) (left left' : Option (List ℕ)) → Told first t left → AreTaken form t n line kept → length t ≤ most_bytes → Stays left left' → AreUncounted form first left' ReadFault
-unread form first t n line kept left left' at h most same = λ input told.
-    let a = at input told in
-    (t, a.0, a.1, same a.0 a.2, (most, h.kept_are.cast, h.kept_are.read))
+unread form first t n line kept left left' at h most same =
+    let r = told_rest first t left' (told_still first t left left' at same) in
+    (t, r.0, r.1, (most, h.kept_are.cast, h.kept_are.read))
 
 -- bytes stopped the run
 stops_uncounted : (form : Form) (why : LineStop) (t rest : List ℕ) → length t ≤ most_bytes → StopsIn form why t → IsUncounted form (status_of why) t rest
@@ -344,46 +330,40 @@ stops_uncounted form stop.Keep t rest most h = absurd h
 stops_uncounted form stop.NoMemory t rest most h = most
 
 pub stopped : (form : Form) (first : Option (List ℕ)) (t : List ℕ) (left : Option (List ℕ)) (why : LineStop) → Told first t left → length t ≤ most_bytes → StopsIn form why t → AreUncounted form first left (status_of why)
-stopped form first t left why at most h = λ input told.
-    let a = at input told in
-    (t, a.0, a.1, a.2, stops_uncounted form why t a.0 most h)
+stopped form first t left why at most h =
+    let r = told_rest first t left at in
+    (t, r.0, r.1, stops_uncounted form why t r.0 most h)
 
 -- the source came to its end
-nothing_left : (first : Option (List ℕ)) (t : List ℕ) (left left' : Option (List ℕ)) (piece : List ℕ) → Told first t left → IfSome left (λ bytes. bytes ≡ []) → TookBytes 0 piece left left' → (input : List ℕ) → first ≡ Some input → (input ≡ t) × (left' ≡ Some [])
-nothing_left first t left left' piece at end took input told =
-    let a = at input told in
-    let none : a.0 ≡ [] = rw a.2 at end in
-    let moves : Takes 0 a.0 piece left' = rw a.2 at took in
-    (a.1 ∙ ap (λ (r : List ℕ). t ++ r) none ∙ append-nil t, moves.rest ∙ ap Some none)
-
 pub all_kept : (form : Form) (r : Result (Unit {0}) Status) (first : Option (List ℕ)) (t : List ℕ) (left left' : Option (List ℕ)) (piece : List ℕ) (kept : Kept) → Told first t left → IfSome left (λ bytes. bytes ≡ []) → TookBytes 0 piece left left' → length t ≤ most_bytes → OnOk r (AreKept form (lines_of t) kept) → OnOk r (AllAreKept form first left' kept)
 all_kept form (Err s) first t left left' piece kept at end took most h = tt
-all_kept form (Ok x) first t left left' piece kept at end took most h = λ input told.
-    let n = nothing_left first t left left' piece at end took input told in
-    (n.1, rw n.0 most, subst (λ (l : List ℕ). AreKept form (lines_of l) kept) (sym n.0) h)
+all_kept form (Ok x) first t left left' piece kept at end took most h = (t, told_all first t left left' piece at end took, most, h)
+
+-- but not all of its lines are ballots
+pub all_uncounted : (form : Form) (r : Result (Unit {0}) Status) (first : Option (List ℕ)) (t : List ℕ) (left left' : Option (List ℕ)) (piece : List ℕ) → Told first t left → IfSome left (λ bytes. bytes ≡ []) → TookBytes 0 piece left left' → IfErr r (λ status. IsUncounted form status t []) → IfErr r (AreUncounted form first left')
+all_uncounted form (Ok x) first t left left' piece at end took h = tt
+all_uncounted form (Err s) first t left left' piece at end took h = (t, [], told_all first t left left' piece at end took, h)
 
 -- one byte more than an input may have
 pub over_long : (form : Form) (first : Option (List ℕ)) (t : List ℕ) (n : ℕ) (line : List ℕ) (kept : Kept) (left left' : Option (List ℕ)) (piece : List ℕ) (b : ℕ) → Told first t left → AreTaken form t n line kept → TookBytes 1 piece left left' → take 1 piece ≡ b ∷ [] → length t ≤ most_bytes → b ≢ 10 → length line ≡ longest
     → AreUncounted form first left' (Limit n Line)
-over_long form first t n line kept left left' piece b at h took one most ne full = λ input told.
-    let a = told_more first t left left' 1 piece at took input told in
+over_long form first t n line kept left left' piece b at h took one most ne full =
     let none : HasNoEnd (b ∷ []) = (ne_eqb b 10 ne, tt) in
-    let long : longest < length (line ++ b ∷ []) = rw (length-append line (b ∷ [])) (omega arith) in (
+    let long : longest < length (line ++ b ∷ []) = rw (length-append line (b ∷ [])) (omega arith) in
+    let r = told_rest first (t ++ b ∷ []) left' (subst (λ (x : List ℕ). Told first (t ++ x) left') one (told_more first t left left' 1 piece at took)) in (
       t ++ b ∷ [],
-      a.0,
-      a.1 ∙ ap (λ (l : List ℕ). (t ++ l) ++ a.0) one,
-      a.2,
+      r.0,
+      r.1,
       (rw (length-append t (b ∷ [])) (omega arith), λ more. ap (cast_in form) (append_assoc t (b ∷ []) more) ∙ long_in form t n line kept (b ∷ []) more h none long),
     )
 
 pub over_input : (form : Form) (first : Option (List ℕ)) (t : List ℕ) (n : ℕ) (line : List ℕ) (kept : Kept) (left left' : Option (List ℕ)) (piece : List ℕ) (b : ℕ) → Told first t left → AreTaken form t n line kept → TookBytes 1 piece left left' → take 1 piece ≡ b ∷ [] → length t ≡ most_bytes → (b ≡ 10) ⊎ (length line < longest)
     → AreUncounted form first left' (Limit n Input)
-over_input form first t n line kept left left' piece b at h took one full short = λ input told.
-    let a = told_more first t left left' 1 piece at took input told in (
+over_input form first t n line kept left left' piece b at h took one full short =
+    let r = told_rest first (t ++ b ∷ []) left' (subst (λ (x : List ℕ). Told first (t ++ x) left') one (told_more first t left left' 1 piece at took)) in (
       t ++ b ∷ [],
-      a.0,
-      a.1 ∙ ap (λ (l : List ℕ). (t ++ l) ++ a.0) one,
-      a.2,
+      r.0,
+      r.1,
       record { bytes = t; byte = b; cast = h.kept_are.cast; taken_is = refl; full = full; read = h.kept_are.read; number = h.number_is; line = rw (← h.line_is) short },
     )
 

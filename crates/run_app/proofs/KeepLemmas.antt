@@ -1,5 +1,5 @@
 -- What a keeper holds from line to line.
-use Rattle.std.proofs.Common.{◌≡◌, ◌∙◌, ◌⊎◌, inl, inr, true, false, true≢false, ℕ, List, [], Option, Some, None, Result, Ok, Err, IfSome, refl, sym, ap, subst}
+use Rattle.std.proofs.Common.{◌≡◌, ◌∙◌, ◌⊎◌, inl, inr, true, false, true≢false, ℕ, List, [], Option, Some, None, Result, Ok, Err, IfSome, refl, sym, ap, subst, arith}
 use Rattle.std.specs.Prelude.{IsSome, ⊤}
 use Rattle.chain_whole.specs.Chained.{Chained}
 use Rattle.base_io.specs.declared.keeper.KeepFault.{KeepFault}
@@ -15,9 +15,16 @@ use Rattle.store_items.specs.Stored.{AreStored, rows_in}
 use Rattle.store_commits.proofs.Committing.{none_stored}
 use Rattle.run_app.specs.declared.status.LineStop.{LineStop}
 use Rattle.run_app.specs.Machine.{Answer, AnswersTo, IsSettled, Standing, StandsAt}
-use Rattle.run_app.specs.Kept.{AreRowsOf, Began, Keeping, LeftIn}
+use Rattle.store_rows.specs.Formats.{written}
+use Rattle.run_app.specs.Kept.{AreRowsOf, Began, BeganOnRows, IsLater, Keeping, LeftIn, on_none}
 use Rattle.run_app.specs.Parts.{IsFault, NotAnswered, not_kept}
 use Rattle.run_app.proofs.AnswerLemmas.{faulted, unkept}
+
+-- ---- a keeper after calls
+
+-- no call was made
+pub later_still : (honest : Type 0) (faults : ℕ) → IsLater honest honest faults faults
+later_still honest faults = record { honest = λ h. h; count = omega arith }
 
 -- ---- what a chain stands for
 
@@ -40,7 +47,7 @@ module _ (b : Began) (chain : Option Chained) (told : Option (List Pair)) (hones
   -- between lines just the rows are left
   pub left_of : LeftIn b told honest leaves s s
   left_of = record {
-    rows = rows_of_told (b.rows ≡ Some (rows_at b.first)) told s k.began k.held.rows k.held.stored;
+    rows = rows_of_told (BeganOnRows b) told s k.began k.held.rows k.held.stored;
     stop = λ h some left l. inl (told_left (rows_at s) told leaves k.held.rows k.settled (k.tells h some) left l, k.held.stored (k.tells h some));
   }
 
@@ -52,10 +59,10 @@ module _ (b : Began) (chain : Option Chained) (told : Option (List Pair)) (hones
     after_failure : (f : KeepFault) (items : List Item) → Commits (Err f) items told told' honest honest' leaves leaves' → (t : Standing) → items_at t ≡ items → LeftIn b told' honest' leaves' s t
     after_failure f items c t is = record { rows = rows told' c.err; stop = stop }
       where
-        rows : (o : Option (List Pair)) → Makes (λ before. before) told o → IfSome o (λ now. (b.rows ≡ Some (rows_at b.first)) × AreRowsOf now s)
+        rows : (o : Option (List Pair)) → Makes (λ before. before) told o → IfSome o (λ now. BeganOnRows b × AreRowsOf now s)
         rows None m = tt
         rows (Some after) m =
-            let was = subst (λ (o : Option (List Pair)). IfSome o (λ now. b.rows ≡ Some (rows_at b.first))) m.1 k.began in
+            let was = subst (λ (o : Option (List Pair)). IfSome o (λ now. BeganOnRows b)) m.1 k.began in
             let held = subst (λ (o : Option (List Pair)). IfSome o (λ now. now ≡ rows_at s)) m.1 k.held.rows in
             let told : IsSome told = subst (λ (o : Option (List Pair)). IsSome o) (sym m.1) refl in
             (was, (m.2 ∙ held, k.held.stored told))
@@ -81,9 +88,9 @@ module _ (b : Began) (chain : Option Chained) (told : Option (List Pair)) (hones
         rows None m = tt
         rows (Some after) m = m.2
 
-        began : (o : Option (List Pair)) → Makes (λ before. rows_in (items_of q)) told o → IfSome o (λ now. b.rows ≡ Some (rows_at b.first))
+        began : (o : Option (List Pair)) → Makes (λ before. rows_in (items_of q)) told o → IfSome o (λ now. BeganOnRows b)
         began None m = tt
-        began (Some after) m = subst (λ (o : Option (List Pair)). IfSome o (λ now. b.rows ≡ Some (rows_at b.first))) m.1 k.began
+        began (Some after) m = subst (λ (o : Option (List Pair)). IfSome o (λ now. BeganOnRows b)) m.1 k.began
 
     -- a line that was answered, and committed
     pub answer_kept : (due : Result Answer LineStop) (text : List ℕ) (x y : Chained) → AnswersTo due text (StandsAt (Some x)) → y.kept ≡ x.kept → y.settled ≡ x.kept
@@ -130,6 +137,6 @@ begins_on_none rows told honest leaves none same telling settled = record {
   settled = settled;
 }
   where
-    began : (o : Option (List Pair)) → IfSome o (λ now. now ≡ []) → Makes (λ before. before) rows o → IfSome o (λ now. rows ≡ Some [])
+    began : (o : Option (List Pair)) → IfSome o (λ now. now ≡ []) → Makes (λ before. before) rows o → IfSome o (λ now. BeganOnRows (on_none rows))
     began None n m = tt
-    began (Some now) n m = m.1 ∙ ap Some (sym m.2 ∙ n)
+    began (Some now) n m = (written, m.1 ∙ ap Some (sym m.2 ∙ n))

@@ -8,9 +8,8 @@ use Rattle.base_roles.specs.declared.refusal.Refusal.{Refusal}
 use Rattle.base_messages.specs.declared.faults.BlockFault.{BlockFault}
 use Rattle.base_messages.specs.declared.faults.BlockFault.TheVariants as why
 use Rattle.base_decimals.specs.Texts.{number_of}
-use Rattle.run_generated.specs.Writing.{Grows, GrowsInPart, IsFront, generated_text}
+use Rattle.run_generated.specs.Writing.{Grows, GrowsInPart, IsFront}
 use Rattle.run_trial.specs.Summary.{Stopped}
-use Rattle.run_trial.specs.Trial.{trial_of}
 use Rattle.run_trial.specs.declared.fault.TrialFault.{TrialFault}
 use Rattle.run_trial.specs.declared.fault.TrialFault.TheVariants as trial
 use Rattle.run_trial.specs.Trying.{IsTrialFault}
@@ -18,26 +17,33 @@ use Rattle.base_bech32.specs.declared.form.Form.{Form}
 use Rattle.base_bech32.specs.declared.form.Form.TheVariants.{Hex, Bech32}
 use Rattle.run_words.specs.declared.mode.Command.{Command}
 use Rattle.run_words.specs.declared.mode.Mode.{Mode}
-use Rattle.run_words.specs.declared.mode.Mode.TheVariants.{Replay, Resume, Query, Tally, Gen, Trial}
+use Rattle.run_words.specs.declared.mode.Mode.TheVariants.{Replay, Resume, Query, Tally, Check, Gen, Trial}
 use Rattle.line_report.specs.declared.question.Query.{Query as Question}
 use Rattle.run_words.specs.Questions.{address_asked, kind_asked}
-use Rattle.run_words.specs.Words.{alone, begins_with_zero, command_of, count_of, generating, in_form, is_bech32, mode_of, seed_of, with_input, with_word, with_words}
+use Rattle.run_words.specs.Words.{alone, asking, at_height, begins_with_zero, behind_form, command_of, committing, count_of, generating, height_of, is_bech32, is_keep, is_past, keeping, kept_mode, mode_of, past_of, plain, seed_of, with_input, with_word, with_words}
 use Rattle.run_app.specs.declared.status.Status.{Status}
-use Rattle.run_app.specs.declared.status.Status.TheVariants.{Done, Usage, BadInput, Limit, ReadFault, WriteFault, KeepFault, NoMemory, BadStore, WrongStore, NotFound}
+use Rattle.run_app.specs.declared.status.Status.TheVariants.{Done, Usage, BadInput, Limit, ReadFault, WriteFault, KeepFault, NoMemory, BadStore, WrongStore, NotFound, NoPast}
 use Rattle.run_app.specs.Machine.{not_applied}
 use Rattle.base_io.specs.Rows.{Makes, Pair}
 use Rattle.run_app.specs.Kept.{AreLeft, AreSome, AreUntouched, IsUnbegun, UnlessKeepFault}
-use Rattle.run_app.specs.Modes.{HasFewBlocks, IsTried, Tries}
+use Rattle.run_app.specs.Modes.{HasFewBlocks, Tries}
 use Rattle.run_app.specs.Outcome.{UnlessReadFault, UnlessWriteFault}
 use Rattle.run_app.specs.Ending.{status_of}
 use Rattle.run_app.specs.Writes.{Adds, IsWritten, Leaves, Writes, status_of_sink}
 
 -- ---- a text that is written
 
+-- there is a front that came to what was written
+front_of : (w w' : Option (List ℕ)) (whole : List ℕ) → GrowsInPart w w' whole → (front : List ℕ) × IsFront front whole × Grows w w' front
+front_of None w' whole h = ([], record { rest = whole; text_is = refl }, λ old is. absurd cc)
+front_of (Some bytes) w' whole h =
+    let p = h bytes refl in
+    (p.0, p.1, λ old is. let same : bytes ≡ old = cc in p.2 ∙ ap (λ (b : List ℕ). Some (b ++ p.0)) same)
+
 pub written_so : (r : Result ⊤ SinkFault) (w w' : Option (List ℕ)) (whole : List ℕ) → OnOk r (Grows w w' whole) → OnErr r (GrowsInPart w w' whole) → Writes whole w w' (status_of_sink r)
-written_so (Ok done) w w' whole h k old o = (whole, h old o, refl)
-written_so (Err sink.Failed) w w' whole h k old o = let p = k old o in (p.0, p.2, p.1)
-written_so (Err sink.NoMemory) w w' whole h k old o = let p = k old o in (p.0, p.2, p.1)
+written_so (Ok done) w w' whole h k = (whole, h, refl)
+written_so (Err sink.Failed) w w' whole h k = let p = front_of w w' whole k in (p.0, p.2, p.1)
+written_so (Err sink.NoMemory) w w' whole h k = let p = front_of w w' whole k in (p.0, p.2, p.1)
 
 pub busy_so : (r : Result ⊤ SinkFault) → status_of_sink r ≡ Usage → ⊥
 busy_so (Ok done) e = absurd cc
@@ -71,7 +77,7 @@ quiet_so (Err sink.NoMemory) P h = h
 
 -- nothing was written
 pub nothing : (w : Option (List ℕ)) (P : List ℕ → Type 0) → P [] → Adds w w P
-nothing w P p old o = ([], o ∙ ap Some (sym (append-nil old)), p)
+nothing w P p = ([], (λ old is. is ∙ ap Some (sym (append-nil old))), p)
 
 -- ---- a block's fault
 
@@ -88,6 +94,7 @@ IsOfBlock NoMemory = Unit {0}
 IsOfBlock BadStore = ⊥
 IsOfBlock (WrongStore is_empty) = ⊥
 IsOfBlock NotFound = ⊥
+IsOfBlock (NoPast base last) = ⊥
 
 pub quiet_at : (s : Status) (P : Type 0) → P → UnlessWriteFault s P
 quiet_at Done P p = p
@@ -101,6 +108,7 @@ quiet_at NoMemory P p = p
 quiet_at BadStore P p = p
 quiet_at (WrongStore is_empty) P p = p
 quiet_at NotFound P p = p
+quiet_at (NoPast base last) P p = p
 
 -- the same of a run that did not call its source
 pub quiet_read : (s : Status) (P : Type 0) → P → UnlessReadFault s P
@@ -115,6 +123,7 @@ quiet_read NoMemory P p = p
 quiet_read BadStore P p = p
 quiet_read (WrongStore is_empty) P p = p
 quiet_read NotFound P p = p
+quiet_read (NoPast base last) P p = p
 
 -- the same of a run that did not call its keeper
 pub quiet_keep : (s : Status) (P : Type 0) → P → UnlessKeepFault s P
@@ -129,6 +138,7 @@ quiet_keep NoMemory P p = p
 quiet_keep BadStore P p = p
 quiet_keep (WrongStore is_empty) P p = p
 quiet_keep NotFound P p = p
+quiet_keep (NoPast base last) P p = p
 
 -- ---- a trial
 
@@ -173,14 +183,21 @@ input_is_few form h (Some s) (Some n) m few e = subst FewIn e (h s n (few n refl
 input_is_few form h (Some s) None m few e = absurd cc
 input_is_few form h None c m few e = absurd cc
 
-few_alone : (name : List ℕ) (m : Mode) → alone name ≡ Some m → HasFewBlocks m
-few_alone name m e = by (bytes_eq name (codes "replay")) (bytes_eq name (codes "resume")) (bytes_eq name (codes "tally")) e
+few_committing : (name : List ℕ) (m : Mode) → committing name ≡ Some m → HasFewBlocks m
+few_committing name m e = by (bytes_eq name (codes "replay")) (bytes_eq name (codes "resume")) e
   where
-    by : (b c d : Bool) → (if b then Some Replay else (if c then Some Resume else (if d then Some Tally else None))) ≡ Some m → HasFewBlocks m
-    by true c d f = subst FewIn f tt
-    by false true d f = subst FewIn f tt
-    by false false true f = subst FewIn f tt
-    by false false false f = absurd cc
+    by : (b c : Bool) → (if b then Some Replay else (if c then Some Resume else None)) ≡ Some m → HasFewBlocks m
+    by true c f = subst FewIn f tt
+    by false true f = subst FewIn f tt
+    by false false f = absurd cc
+
+few_alone : (name : List ℕ) (m : Mode) → alone name ≡ Some m → HasFewBlocks m
+few_alone name m e = by (bytes_eq name (codes "tally")) (bytes_eq name (codes "check")) e
+  where
+    by : (b c : Bool) → (if b then Some Tally else (if c then Some Check else committing name)) ≡ Some m → HasFewBlocks m
+    by true c f = subst FewIn f tt
+    by false true f = subst FewIn f tt
+    by false false f = few_committing name m f
 
 few_asked : (o : Option Question) (m : Mode) → option_map Query o ≡ Some m → HasFewBlocks m
 few_asked (Some what) m e = subst FewIn e tt
@@ -191,6 +208,13 @@ few_with_word name what m e = by (bytes_eq name (codes "query")) e
   where
     by : (b : Bool) → (if b then option_map Query (kind_asked what) else None) ≡ Some m → HasFewBlocks m
     by true f = few_asked (kind_asked what) m f
+    by false f = absurd cc
+
+few_asking : (form : Form) (name first second : List ℕ) (m : Mode) → asking form name first second ≡ Some m → HasFewBlocks m
+few_asking form name first second m e = by (bytes_eq name (codes "query")) e
+  where
+    by : (b : Bool) → (if b then option_map Query (address_asked form first second) else None) ≡ Some m → HasFewBlocks m
+    by true f = few_asked (address_asked form first second) m f
     by false f = absurd cc
 
 few_generated : (name seed count : List ℕ) (m : Mode) → generating name seed count ≡ Some m → HasFewBlocks m
@@ -219,17 +243,48 @@ abbrev FewOf : Option Command → Type 0
 FewOf None = Unit {0}
 FewOf (Some c) = HasFewBlocks c.mode
 
-few_in_form : (form : Form) (o : Option Mode) (c : Command) → ((m : Mode) → o ≡ Some m → HasFewBlocks m) → in_form form o ≡ Some c → HasFewBlocks c.mode
-few_in_form form (Some m) c few e = subst FewOf e (few m refl)
-few_in_form form None c few e = absurd cc
+few_plain : (form : Form) (o : Option Mode) (c : Command) → ((m : Mode) → o ≡ Some m → HasFewBlocks m) → plain form o ≡ Some c → HasFewBlocks c.mode
+few_plain form (Some m) c few e = subst FewOf e (few m refl)
+few_plain form None c few e = absurd cc
+
+few_keeping : (form : Form) (o : Option Mode) (c : Command) → ((m : Mode) → o ≡ Some m → HasFewBlocks m) → keeping form o ≡ Some c → HasFewBlocks c.mode
+few_keeping form (Some m) c few e = subst FewOf e (few m refl)
+few_keeping form None c few e = absurd cc
+
+few_at_height : (form : Form) (height : Option ℕ) (o : Option Mode) (c : Command) → ((m : Mode) → o ≡ Some m → HasFewBlocks m) → at_height form height o ≡ Some c → HasFewBlocks c.mode
+few_at_height form (Some height) (Some m) c few e = subst FewOf e (few m refl)
+few_at_height form (Some height) None c few e = absurd cc
+few_at_height form None o c few e = absurd cc
+
+few_kept : (words : List (List ℕ)) (m : Mode) → kept_mode words ≡ Some m → HasFewBlocks m
+few_kept [] m e = absurd cc
+few_kept (name ∷ []) m e = few_committing name m e
+few_kept (name ∷ other ∷ others) m e = absurd cc
+
+few_past : (form : Form) (words : List (List ℕ)) (c : Command) → past_of form words ≡ Some c → HasFewBlocks c.mode
+few_past form [] c e = absurd cc
+few_past form (height ∷ []) c e = absurd cc
+few_past form (height ∷ name ∷ []) c e = absurd cc
+few_past form (height ∷ name ∷ what ∷ []) c e = few_at_height form (height_of height) (with_word name what) c (few_with_word name what) e
+few_past form (height ∷ name ∷ what ∷ text ∷ []) c e = few_at_height form (height_of height) (asking form name what text) c (few_asking form name what text) e
+few_past form (height ∷ name ∷ what ∷ text ∷ other ∷ others) c e = absurd cc
+
+few_behind : (form : Form) (words : List (List ℕ)) (c : Command) → behind_form form words ≡ Some c → HasFewBlocks c.mode
+few_behind form [] c e = absurd cc
+few_behind form (word ∷ words) c e = by (is_keep word) (is_past word) e
+  where
+    by : (b d : Bool) → (if b then keeping form (kept_mode words) else (if d then past_of form words else plain form (mode_of form (word ∷ words)))) ≡ Some c → HasFewBlocks c.mode
+    by true d f = few_keeping form (kept_mode words) c (few_kept words) f
+    by false true f = few_past form words c f
+    by false false f = few_plain form (mode_of form (word ∷ words)) c (few_of_mode form (word ∷ words)) f
 
 pub few_blocks : (words : List (List ℕ)) (c : Command) → command_of words ≡ Some c → HasFewBlocks c.mode
 few_blocks [] c e = absurd cc
 few_blocks (word ∷ words) c e = by (is_bech32 word) e
   where
-    by : (b : Bool) → (if b then in_form Bech32 (mode_of Bech32 words) else in_form Hex (mode_of Hex (word ∷ words))) ≡ Some c → HasFewBlocks c.mode
-    by true f = few_in_form Bech32 (mode_of Bech32 words) c (few_of_mode Bech32 words) f
-    by false f = few_in_form Hex (mode_of Hex (word ∷ words)) c (few_of_mode Hex (word ∷ words)) f
+    by : (b : Bool) → (if b then behind_form Bech32 words else behind_form Hex (word ∷ words)) ≡ Some c → HasFewBlocks c.mode
+    by true f = few_behind Bech32 words c f
+    by false f = few_behind Hex (word ∷ words) c f
 
 -- ---- runs that do not begin
 
@@ -261,6 +316,7 @@ written_to_end whole text NoMemory h w = inr refl
 written_to_end whole text BadStore h w = absurd h
 written_to_end whole text (WrongStore is_empty) h w = absurd h
 written_to_end whole text NotFound h w = absurd h
+written_to_end whole text (NoPast base last) h w = absurd h
 
 -- a keeper without rows has none after a call either
 never_some : (rows rows' : Option (List Pair)) (honest' : Type 0) → rows ≡ Some [] → honest' → Makes (λ before. before) rows rows' → AreSome rows rows' honest' → ⊥
@@ -271,9 +327,9 @@ never_some rows (Some now) honest' none honest m some = some.some (m.2 ∙ some_
     some_same e = cc
 
 -- nor does a replay find rows of a keeper that keeps nothing
-pub finds_none : (keeps : Bool) (rows rows' : Option (List Pair)) (honest' : Type 0) → (keeps ≡ false) ⊎ (rows ≡ Some []) → honest' → Makes (λ before. before) rows rows' → keeps ≡ true → AreSome rows rows' honest' → ⊥
-finds_none keeps rows rows' honest' (inl unkept) honest m kept some = true≢false (sym kept ∙ unkept)
-finds_none keeps rows rows' honest' (inr none) honest m kept some = never_some rows rows' honest' none honest m some
+pub finds_none : (keeps : Bool) (rows rows' : Option (List Pair)) (honest' : Type 0) → (keeps ≡ false) ⊎ (rows ≡ Some []) → honest' → Makes (λ before. before) rows rows' → (keeps ≡ false → ⊥) → AreSome rows rows' honest' → ⊥
+finds_none keeps rows rows' honest' (inl unkept) honest m never some = never unkept
+finds_none keeps rows rows' honest' (inr none) honest m never some = never_some rows rows' honest' none honest m some
 
 pub unbegun_replay : (s : Status) (some : Type 0) → IsUnbegun s some → (s ≡ WrongStore false → some → ⊥) → (s ≡ KeepFault → ⊥) → (s ≡ Done) ⊎ (s ≡ NoMemory)
 unbegun_replay Done some h n k = absurd h
@@ -287,3 +343,4 @@ unbegun_replay NoMemory some h n k = inr refl
 unbegun_replay BadStore some h n k = absurd h
 unbegun_replay (WrongStore is_empty) some h n k = absurd (n (ap WrongStore h.0) h.1)
 unbegun_replay NotFound some h n k = absurd h
+unbegun_replay (NoPast base last) some h n k = absurd h

@@ -4,7 +4,7 @@ use Rattle.std.specs.Prelude.{⊤}
 use Rattle.std.proofs.lemmas.List.{append-nil, take-append-drop}
 use Rattle.memchr.specs.Find.{IsFirstByte, is_byte}
 use Rattle.base_bech32.specs.declared.form.Form.{Form}
-use Rattle.base_io.specs.Outside.{IsPart}
+use Rattle.base_io.specs.Outside.{IsPart, Rose}
 use Rattle.base_io.specs.Calls.{AddsPart}
 use Rattle.line_json.specs.Genesis.{genesis_of}
 use Rattle.run_app.specs.declared.status.LineStop.{LineStop}
@@ -14,9 +14,9 @@ use Rattle.run_app.specs.declared.status.EndStop.TheVariants as ends
 use Rattle.run_app.specs.Lines.{whole_from, rest_from, last_line, lines_from}
 use Rattle.run_app.specs.Machine.{Standing, Answer, longest, line_answer, genesis_answer}
 use Rattle.run_app.specs.Runs.{before, ran_from, AreAnswered, Named, Wrote, Unkept, Held, Reported, Finished}
-use Rattle.run_app.specs.Parts.{PartEnds, PartStops, Fed, Grows, Took, HasNoEnd, NotAnswered, NotExtended, lines_after, FinishEnds, FinishStops, Finishes, IsOfReport}
+use Rattle.run_app.specs.Parts.{PartEnds, PartStops, Fed, Grows, Took, HasNoEnd, NotAnswered, NotExtended, lines_after, FinishEnds, FinishStops, Finishes, IsOfReport, WhereWriteAtEnd}
 use Rattle.run_app.proofs.CutLemmas.{whole_none, rest_none, whole_one, rest_one, no_end_before, lines-append}
-use Rattle.run_app.proofs.RunLemmas.{ran-append, answered-append, stops_along, fed-append, fed_stops, fed_number, no_growth}
+use Rattle.run_app.proofs.RunLemmas.{ran-append, answered-append, stops_along, fed-append, fed_stops, fed_number, grows_on, no_growth}
 
 -- ---- the first end of a line
 
@@ -49,22 +49,22 @@ first_unkept : (form : Form) (L : Standing → Standing → Type 0) (n : ℕ) (s
 first_unkept form L n s line a h left = record { before = []; line = line; after = []; middle = s; answer = a; lines_are = refl; answered = (refl, refl); answer_is = rw (add-zero n) h; left = left }
 
 pub answer_stops : (form : Form) (L : Standing → Standing → Type 0) (n : ℕ) (s : Standing) (line : List ℕ) (w : Option (List ℕ)) (stop : LineStop) → NotAnswered L stop s (line_answer form n s line) → PartStops form L n s (λ (more : List (List ℕ)). line ∷ more) (line ∷ []) w w stop
-answer_stops form L n s line w (BadInput m fault) h = λ old told. ([], no_growth w old told, first_named form L n s line [] (BadInput m fault) h.0 h.1)
-answer_stops form L n s line w (Long m) h = λ old told. ([], no_growth w old told, λ more. first_named form L n s line more (Long m) h.0 h.1)
-answer_stops form L n s line w (Ratio m over) h = λ old told. ([], no_growth w old told, first_named form L n s line [] (Ratio m over) h.0 h.1)
+answer_stops form L n s line w (BadInput m fault) h = ([], no_growth w, first_named form L n s line [] (BadInput m fault) h.0 h.1)
+answer_stops form L n s line w (Long m) h = ([], no_growth w, λ more. first_named form L n s line more (Long m) h.0 h.1)
+answer_stops form L n s line w (Ratio m over) h = ([], no_growth w, first_named form L n s line [] (Ratio m over) h.0 h.1)
 answer_stops form L n s line w Write h = absurd h
-answer_stops form L n s line w Keep h = λ old told. ([], no_growth w old told, first_unkept form L n s line h.0 h.1 h.2)
-answer_stops form L n s line w NoMemory (inl h) = λ old told. ([], no_growth w old told, inr (inl (none_held form L n s (line ∷ []) h)))
-answer_stops form L n s line w NoMemory (inr h) = λ old told. ([], no_growth w old told, inr (inr (first_unkept form L n s line h.0 h.1 h.2)))
+answer_stops form L n s line w Keep h = ([], no_growth w, first_unkept form L n s line h.0 h.1 h.2)
+answer_stops form L n s line w NoMemory (inl h) = ([], no_growth w, inr (inl (none_held form L n s (line ∷ []) h)))
+answer_stops form L n s line w NoMemory (inr h) = ([], no_growth w, inr (inr (first_unkept form L n s line h.0 h.1 h.2)))
 
 wrote_first : (form : Form) (L : Standing → Standing → Type 0) (n : ℕ) (s : Standing) (line : List ℕ) (a : Answer) (front : List ℕ) → line_answer form n s line ≡ Ok a → L a.standing a.standing → IsPart front a.text → Wrote form L n s (line ∷ []) front
 wrote_first form L n s line a front h left part = record { before = []; line = line; after = []; middle = s; done = []; answer = a; front = front; lines_are = refl; answered = (refl, refl); answer_is = rw (add-zero n) h; part = part; text_is = refl; left = left }
 
 pub write_stops : (form : Form) (L : Standing → Standing → Type 0) (n : ℕ) (s : Standing) (line : List ℕ) (a : Answer) (w w' : Option (List ℕ)) → line_answer form n s line ≡ Ok a → L a.standing a.standing → AddsPart w w' a.text → PartStops form L n s (λ (more : List (List ℕ)). line ∷ more) (line ∷ []) w w' Write
-write_stops form L n s line a w w' h left adds = λ old told. let x = adds old told in (x.0, x.2, wrote_first form L n s line a x.0 h left x.1)
+write_stops form L n s line a w w' h left adds = (adds.0, adds.2, wrote_first form L n s line a adds.0 h left adds.1)
 
 pub full_stops : (form : Form) (L : Standing → Standing → Type 0) (n : ℕ) (s : Standing) (line : List ℕ) (a : Answer) (w w' : Option (List ℕ)) → line_answer form n s line ≡ Ok a → L a.standing a.standing → AddsPart w w' a.text → PartStops form L n s (λ (more : List (List ℕ)). line ∷ more) (line ∷ []) w w' NoMemory
-full_stops form L n s line a w w' h left adds = λ old told. let x = adds old told in (x.0, x.2, inl (wrote_first form L n s line a x.0 h left x.1))
+full_stops form L n s line a w w' h left adds = (adds.0, adds.2, inl (wrote_first form L n s line a adds.0 h left adds.1))
 
 -- ---- a line that is too long
 
@@ -85,15 +85,15 @@ too_long form L (b ∷ more) line n s left h = long_step form L (b == 10) s line
 -- bytes that make the line too long, whatever comes behind them
 pub extend_stops : (form : Form) (L : Standing → Standing → Type 0) (n : ℕ) (s : Standing) (line bytes behind : List ℕ) (w : Option (List ℕ)) (stop : LineStop) → L s s → HasNoEnd bytes → NotExtended stop n line bytes → PartStops form L n s (lines_after line (bytes ++ behind)) (whole_from line (bytes ++ behind)) w w stop
 extend_stops form L n s line bytes behind w (BadInput m fault) left none h = absurd h
-extend_stops form L n s line bytes behind w (Long m) left none h = λ old told. (
+extend_stops form L n s line bytes behind w (Long m) left none h = (
   [],
-  no_growth w old told,
+  no_growth w,
   λ more. rw h.0 (rw (append_assoc bytes behind more, lines-append bytes line (behind ++ more), whole_none bytes line none, rest_none bytes line none) (too_long form L (behind ++ more) (line ++ bytes) n s left h.1)),
 )
 extend_stops form L n s line bytes behind w (Ratio m over) left none h = absurd h
 extend_stops form L n s line bytes behind w Write left none h = absurd h
 extend_stops form L n s line bytes behind w Keep left none h = absurd h
-extend_stops form L n s line bytes behind w NoMemory left none h = λ old told. ([], no_growth w old told, inr (inl (none_held form L n s (whole_from line (bytes ++ behind)) left)))
+extend_stops form L n s line bytes behind w NoMemory left none h = ([], no_growth w, inr (inl (none_held form L n s (whole_from line (bytes ++ behind)) left)))
 
 -- ---- the end of a line
 
@@ -178,12 +178,10 @@ module _ (form : Form) (L : Standing → Standing → Type 0) (n : ℕ) (s s' : 
   report_ends ends.NoMemory text of (inr h) = inr (record { end = h.end; answered = answered_all form n 1 s s' lines text' text h.end good h.answered; left = same_end text h.end h.answered })
 
   pub report_stops : (w w1 w' : Option (List ℕ)) (stop : EndStop) → Grows w w1 text' → IsOfReport stop → FinishStops form untold 1 s' [] w1 w' stop → FinishStops form L n s lines w w' stop
-  report_stops w w1 w' stop grows of stops = λ old told.
-      let t = stops _ (grows old told) in
-      (text' ++ t.0, t.1 ∙ ap Some (append_assoc old text' t.0), report_ends stop t.0 of t.2)
+  report_stops w w1 w' stop grows of stops = (text' ++ stops.0, grows_on w w1 w' text' stops.0 grows stops.1, report_ends stop stops.0 of stops.2)
 
   pub report_done : (w w1 w' : Option (List ℕ)) → Grows w w1 text' → Finishes form untold 1 s' [] w1 w' → Finishes form L n s lines w w'
-  report_done w w1 w' grows done = (text' ++ done.0, finished done.0 done.1, λ old told. done.2 _ (grows old told) ∙ ap Some (append_assoc old text' done.0))
+  report_done w w1 w' grows done = (text' ++ done.0, finished done.0 done.1, grows_on w w1 w' text' done.0 grows done.2)
 
 -- the last line alone
 one_answered : (form : Form) (n : ℕ) (s s' : Standing) (line text : List ℕ) → line_answer form n s line ≡ Ok (record { text = text; standing = s' }) → AreAnswered form n s (line ∷ []) text s'
@@ -206,7 +204,7 @@ last_ends form L n s line text Keep h = h
 last_ends form L n s line text NoMemory h = h
 
 pub last_stops : (form : Form) (L : Standing → Standing → Type 0) (n : ℕ) (s : Standing) (line : List ℕ) (w w' : Option (List ℕ)) (stop : LineStop) → 0 < length line → PartStops form L n s (λ (more : List (List ℕ)). line ∷ more) (line ∷ []) w w' stop → FinishStops form L n s (last_line line) w w' (ends.Line stop)
-last_stops form L n s line w w' stop some stops = rw (last-some line some) (λ old told. let o = stops old told in (o.0, o.1, last_ends form L n s line o.0 stop o.2))
+last_stops form L n s line w w' stop some stops = rw (last-some line some) (stops.0, stops.1, last_ends form L n s line stops.0 stop stops.2)
 
 -- no line is left
 pub last-none : (line : List ℕ) → length line ≡ 0 → last_line line ≡ []
@@ -296,4 +294,26 @@ piece_stops form L (Err stop) n s line piece rest n1 s1 line1 w w1 f left none h
 
 -- nothing was written of the report, and memory was wanting
 pub nothing_reported : (form : Form) (s : Standing) (written : Option (List ℕ)) → FinishStops form untold 1 s [] written written ends.NoMemory
-nothing_reported form s written old e = ([], e ∙ ap Some (sym (append-nil old)), inr (record { end = s; answered = (refl, refl); left = tt }))
+nothing_reported form s written = ([], no_growth written, inr (record { end = s; answered = (refl, refl); left = tt }))
+
+-- ---- causes at the end
+
+pub cause_of_line : (why : LineStop) (P : Type 0) → (◌≡◌ {A = Result (Unit {0}) LineStop} (Err why) (Err Write) → P) → WhereWriteAtEnd {X = Unit {0}} (Err (ends.Line why)) P
+cause_of_line (BadInput n fault) P h = tt
+cause_of_line (Long n) P h = tt
+cause_of_line (Ratio n over) P h = tt
+cause_of_line Write P h = h refl
+cause_of_line Keep P h = tt
+cause_of_line NoMemory P h = tt
+
+pub cause_of_report : (r : Result (Unit {0}) EndStop) (P : Type 0) → IfErr r IsOfReport → (r ≡ Err ends.Report → P) → (r ≡ Err ends.Flush → P) → WhereWriteAtEnd r P
+cause_of_report (Ok x) P of h k = tt
+cause_of_report (Err (ends.Line why)) P of h k = absurd of
+cause_of_report (Err (ends.Lacking n fault)) P of h k = tt
+cause_of_report (Err ends.Report) P of h k = h refl
+cause_of_report (Err ends.Flush) P of h k = k refl
+cause_of_report (Err ends.NoMemory) P of h k = tt
+
+-- a count that stood still before rose all in all
+pub rose_since : (a b c : ℕ) → b ≡ a → Rose b c → Rose a c
+rose_since a b c still rose = subst (λ (n : ℕ). Rose n c) still rose

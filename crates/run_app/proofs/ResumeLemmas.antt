@@ -1,13 +1,16 @@
 -- Runs that go on from the rows of their keeper.
 use Rattle.std.proofs.Common.{◌≡◌, ◌≢◌, ◌∙◌, ◌⊎◌, inl, inr, ℕ, Bool, true, false, true≢false, List, [], ◌∷◌, ◌++◌, Option, Some, None, Result, Ok, Err, IfSome, refl, sym, ap, subst, Ordering, Less, Equal, Greater}
-use Rattle.std.specs.Prelude.{IsErrOf, IsSome}
+use Rattle.std.specs.Prelude.{IsErrOf, IsSome, ⊤}
+use Rattle.std.specs.List.{AllByRecursion}
 use Rattle.std.specs.Ordering.{match_ordering}
 use Rattle.base_bech32.specs.declared.form.Form.{Form}
 use Rattle.chain_whole.specs.Chained.{Chained}
 use Rattle.run_generated.specs.Writing.{IsFront}
+use Rattle.base_io.specs.declared.keeper.Change.{Change}
+use Rattle.base_io.specs.declared.keeper.KeepFault.{KeepFault as Unkept}
 use Rattle.base_io.specs.Outside.{Rose}
 use Rattle.base_io.specs.Rows.{Makes, Pair, key_cmp, put}
-use Rattle.base_io.specs.Changes.{LeavesRows}
+use Rattle.base_io.specs.Changes.{ChangeRows, ChangesRows, IsOrdinary, LeavesRows, changed}
 use Rattle.base_roles.specs.declared.items.Item.{Item}
 use Rattle.rule_machine.specs.Items.{items_of}
 use Rattle.rule_machine.specs.Report.{report_of}
@@ -16,17 +19,22 @@ use Rattle.line_report.specs.declared.question.Query.{Query}
 use Rattle.line_report.specs.Asking.{answered_by}
 use Rattle.store_resuming.specs.declared.fault.RestoreFault.{RestoreFault}
 use Rattle.store_resuming.specs.declared.fault.RestoreFault.TheVariants as fault
-use Rattle.store_resuming.specs.Restored.{AreLoaded, AreOfNone, HaveSameRows, IsStorable, rows_of}
-use Rattle.store_resuming.specs.Restoring.{IsChainOf, IsUnrestored, UnlessFailed}
-use Rattle.store_rows.specs.Rows.{row_of}
+use Rattle.store_commits.specs.Commits.{Commits, LeadTo}
+use Rattle.store_resuming.specs.Restored.{AreLoaded, AreOfNone, AreStateRows, HaveSameRows, IsStorable, old_rows_of, rows_of, state_rows}
+use Rattle.store_resuming.specs.Restoring.{AreBrought, AreMigrated, IsChainOf, IsOfNothing, IsRestored, IsUnrestored, UnlessFailed}
+use Rattle.store_resuming.proofs.RestoreLemmas.{formats_same, same_itself}
+use Rattle.store_rows.specs.declared.format.Format.{Format}
+use Rattle.store_rows.specs.declared.format.Format.TheVariants.{Second}
+use Rattle.store_rows.specs.Rows.{row_in}
 use Rattle.rule_modules.specs.Chain.{State}
-use Rattle.store_items.specs.Stored.{rows_in}
+use Rattle.store_items.specs.Stored.{AreStored, rows_as, rows_in}
 use Rattle.run_app.specs.declared.status.Status.{Status}
-use Rattle.run_app.specs.declared.status.Status.TheVariants.{Done, Usage, BadInput, Limit, ReadFault, WriteFault, KeepFault, NoMemory, BadStore, WrongStore, NotFound}
-use Rattle.run_app.specs.Kept.{AreLeft, Began, Keeping, LeftIn, UnlessKeepFault}
+use Rattle.run_app.specs.declared.status.Status.TheVariants.{Done, Usage, BadInput, Limit, ReadFault, WriteFault, KeepFault, NoMemory, BadStore, WrongStore, NotFound, NoPast}
+use Rattle.run_app.specs.Kept.{AreLeft, Began, BeganOnRows, Keeping, LeftIn, UnlessKeepFault}
 use Rattle.run_app.specs.Machine.{Standing}
 use Rattle.run_app.specs.Outcome.{RunEnds}
 use Rattle.run_app.specs.Resumes.{Answers, AsksCalmly, Asked, FitsState, GoesOn, IsAnswered, IsUnresumed, QueryEnds, ResumeEnds, ResumesCalmly, on_rows_of, status_of_restore}
+use Rattle.run_app.specs.Unkept.{IsOfNoRows}
 use Rattle.run_app.specs.Writes.{Adds, Writes}
 use Rattle.run_app.proofs.DriveLemmas.{untroubled_run}
 use Rattle.run_app.proofs.ModeLemmas.{nothing, nothing_done, rows_left, written_to_end}
@@ -49,40 +57,127 @@ at_rows rows now P is h = subst (λ (o : Option (List Pair)). IfSome o P) is h
 
 -- ---- a run that goes on
 
-module _ (form : Form) (rows told : Option (List Pair)) (honest : Type 0) (leaves : List Pair → Type 0) (chain : Chained) (c : IsChainOf (AreLoaded rows told honest) chain) (same : Makes (λ before. before) rows told) (settled : LeavesRows leaves told) where
-  pub resumed : (p : State) → IsStorable p → HaveSameRows p c.first → Keeping (on_rows_of p rows) (Some chain) told honest leaves (Some p)
-  resumed p q alike = record {
-    stands = c.stands p q alike;
-    same = c.settled;
-    held = record { stored = λ some. q.stored; rows = held told c.rows_are.are };
-    began = began told c.rows_are.are same;
-    tells = λ h some. c.rows_are.told h some;
-    settled = settled;
-  }
+-- rows that one call left, and then another
+left_twice : (rows told told' : Option (List Pair)) → Makes (λ before. before) rows told → Makes (λ before. before) told told' → Makes (λ before. before) rows told'
+left_twice rows told None a b = tt
+left_twice rows told (Some now) a b =
+    let m = subst (λ (o : Option (List Pair)). Makes (λ before. before) rows o) b.1 a in
+    (m.0, m.1, b.2 ∙ m.2)
+
+if_told : (o : Option (List Pair)) (P Q : List Pair → Type 0) → IfSome o P → ((now : List Pair) → P now → Q now) → IfSome o Q
+if_told None P Q h f = tt
+if_told (Some now) P Q h f = f now h
+
+abbrev unmade : Unkept → Result ⊤ Unkept
+unmade why = Err why
+
+-- where a commit fails there are changes
+pub never_none : (list : List Change) (why : Unkept) → (list ≡ [] → unmade why ≡ Ok tt) → list ≡ [] → ⊥
+never_none list why h none = let e : unmade why ≡ Ok tt = h none in cc
+
+module _ (form : Form) (rows told : Option (List Pair)) (honest : Type 0) (chain : Chained) (list : List Change) (r : IsRestored (AreLoaded rows told honest) chain list) (same : Makes (λ before. before) rows told) where
+  abbrev first : State
+  first = r.restored.first
+
+  -- the changes lead to the rows of each state that the chain stands for
+  leads : (p : State) → IsStorable p → HaveSameRows p first → LeadTo (items_of p) list told
+  leads p q alike = record { stored = λ some. q.stored; rows = by r.brought }
     where
-      held : (o : Option (List Pair)) → IfSome o (λ now. now ≡ rows_of c.first) → IfSome o (λ now. now ≡ rows_of p)
-      held None h = tt
-      held (Some now) h = h ∙ sym alike
+      alike_too : rows_of first ≡ rows_in (items_of p)
+      alike_too = sym (formats_same p first q r.restored.storable alike Second)
 
-      began : (o : Option (List Pair)) → IfSome o (λ now. now ≡ rows_of c.first) → Makes (λ before. before) rows o → IfSome o (λ now. rows ≡ Some (rows_of p))
-      began None h m = tt
-      began (Some now) h m = m.1 ∙ ap Some (sym m.2 ∙ h ∙ sym alike)
+      by : AreBrought (AreLoaded rows told honest) first list → IfSome told (λ now. changed list now ≡ rows_in (items_of p))
+      by (inl (are, none)) = if_told told (λ now. now ≡ rows_of first) (λ now. changed list now ≡ rows_in (items_of p)) are.are (λ now is. ap (λ (l : List Change). changed l now) none ∙ is ∙ alike_too)
+      by (inr (are, ordinary)) = if_told told (AreMigrated first list) (λ now. changed list now ≡ rows_in (items_of p)) are.are (λ now m. ap (changed list) m.0 ∙ m.1.reached ∙ alike_too)
 
-  pub resumed_first : Keeping (on_rows_of c.first rows) (Some chain) told honest leaves (Some c.first)
-  resumed_first = resumed c.first c.storable refl
+  pub leads_first : LeadTo (items_of first) list told
+  leads_first = leads first r.restored.storable (same_itself first)
 
-  module _ (left left' w w' : Option (List ℕ)) (rows' : Option (List Pair)) (honest' : Type 0) (leaves' : List Pair → Type 0) (s : Status) where
-    pub went_on : (honest' → honest)
-        → ((b : Began) (first : Standing) → Keeping b (Some chain) told honest leaves first → RunEnds form first (LeftIn b rows' honest' leaves') left left' w w' s)
-        → GoesOn form left left' w w' rows rows' honest' leaves' s
-    went_on back ends = record {
-      first = c.first;
-      storable = c.storable;
-      loaded = λ h. were_loaded rows told honest (λ now. now ≡ rows_of c.first) c.rows_are same (back h);
-      ends = λ p q alike. ends (on_rows_of p rows) (Some p) (resumed p q alike);
-    }
+  -- each change changes the rows, and every keeper takes them
+  pub each_changes : ChangeRows list told
+  each_changes now is = by r.brought
+    where
+      by : AreBrought (AreLoaded rows told honest) first list → AllByRecursion (ChangesRows now) list
+      by (inl (are, none)) = subst (AllByRecursion (ChangesRows now)) (sym none) tt
+      by (inr (are, ordinary)) =
+          let m : AreMigrated first list now = subst (λ (o : Option (List Pair)). IfSome o (AreMigrated first list)) is are.are in
+          subst (λ (ps : List Pair). AllByRecursion (ChangesRows ps) list) (sym m.0) m.1.changing
+
+  pub all_taken : (list ≡ []) ⊎ IsOrdinary list
+  all_taken = by r.brought
+    where
+      by : AreBrought (AreLoaded rows told honest) first list → (list ≡ []) ⊎ IsOrdinary list
+      by (inl (are, none)) = inl none
+      by (inr (are, ordinary)) = inr ordinary
+
+  module _ (told' : Option (List Pair)) (honest' : Type 0) (leaves leaves' : List Pair → Type 0) where
+    -- rows that were brought to the format that is written
+    module _ (settled : LeavesRows leaves told) (commits : (items : List Item) → LeadTo items list told → Commits (Ok tt) items told told' honest honest' leaves leaves') where
+      pub resumed : (p : State) → IsStorable p → HaveSameRows p first → Keeping (on_rows_of p rows) (Some chain) told' honest' leaves' (Some p)
+      resumed p q alike = record {
+        stands = r.restored.stands p q alike;
+        same = r.restored.settled;
+        held = record { stored = k.stored; rows = held told' k.ok };
+        began = began told' k.ok;
+        tells = λ h some. k.told h (r.restored.rows_are.told (k.back h) some);
+        settled = k.settled settled;
+      }
+        where
+          k : Commits (Ok tt) (items_of p) told told' honest honest' leaves leaves'
+          k = commits (items_of p) (leads p q alike)
+
+          held : (o : Option (List Pair)) → Makes (λ before. rows_in (items_of p)) told o → IfSome o (λ now. now ≡ rows_in (items_of p))
+          held None m = tt
+          held (Some now) m = m.2
+
+          began : (o : Option (List Pair)) → Makes (λ before. rows_in (items_of p)) told o → IfSome o (λ now. BeganOnRows (on_rows_of p rows))
+          began None m = tt
+          began (Some now) m =
+              let (f, are) = subst (λ (o : Option (List Pair)). IfSome o (λ now. AreStateRows now first)) m.1 r.restored.rows_are.are in
+              let was = subst (λ (o : Option (List Pair)). Makes (λ before. before) rows o) m.1 same in
+              (f, was.1 ∙ ap Some (sym was.2 ∙ are ∙ sym (formats_same p first q r.restored.storable alike f)))
+
+      pub resumed_first : Keeping (on_rows_of first rows) (Some chain) told' honest' leaves' (Some first)
+      resumed_first = resumed first r.restored.storable (same_itself first)
+
+      module _ (left left' w w' : Option (List ℕ)) (rows' : Option (List Pair)) (honest'' : Type 0) (leaves'' : List Pair → Type 0) (s : Status) where
+        pub went_on : (honest'' → honest') → (honest' → honest)
+            → ((b : Began) (start : Standing) → Keeping b (Some chain) told' honest' leaves' start → RunEnds form start (LeftIn b rows' honest'' leaves'') left left' w w' s)
+            → GoesOn form left left' w w' rows rows' honest'' leaves'' s
+        went_on later back ends = record {
+          first = first;
+          storable = r.restored.storable;
+          loaded = λ h. were_loaded rows told honest (λ now. AreStateRows now first) r.restored.rows_are same (back (later h));
+          ends = λ p q alike. ends (on_rows_of p rows) (Some p) (resumed p q alike);
+        }
+
+    -- or were not
+    pub not_brought : (before : List Pair → Type 0) (why : Unkept) (left w : Option (List ℕ)) (s : Status) → (s ≡ KeepFault) ⊎ (s ≡ NoMemory) → (list ≡ [] → ⊥) → Commits (Err why) (items_of first) told told' honest honest' leaves leaves' → (honest → (l : List Pair) → leaves l → before l)
+        → ResumeEnds form left left w w rows told' honest' before leaves' s
+    not_brought before why left w s is some k stop = inr (inr (
+      record {
+        first = first;
+        storable = r.restored.storable;
+        why = is;
+        loaded = λ h. were_loaded rows told honest (λ now. now ≡ old_rows_of first) (old r.brought) same (k.back h);
+        rows_are = left_twice rows told told' same k.err;
+        stop = λ h told_first l may. by (k.back h) l (k.stop h (r.restored.rows_are.told (k.back h) told_first) l may);
+      },
+      nothing_done left w,
+    ))
+      where
+        old : AreBrought (AreLoaded rows told honest) first list → AreLoaded rows told honest (λ now. now ≡ old_rows_of first)
+        old (inl (are, none)) = absurd (some none)
+        old (inr (are, ordinary)) = record { are = if_told told (AreMigrated first list) (λ now. now ≡ old_rows_of first) are.are (λ now m. m.0); told = are.told }
+
+        by : honest → (l : List Pair) → leaves l ⊎ ((l ≡ rows_in (items_of first)) × AreStored (items_of first)) → before l ⊎ (l ≡ rows_of first)
+        by h l (inl may) = inl (stop h l may)
+        by h l (inr new) = inr new.0
 
 -- ---- a run of which no chain comes
+
+abbrev pub failed : {X : Type 0} → RestoreFault → Result X RestoreFault
+failed f = Err f
 
 pub unresumed : (f : RestoreFault) (rows rows' : Option (List Pair)) (honest' : Type 0) → IsUnrestored rows rows' honest' f → IsUnresumed (status_of_restore f) rows rows' honest'
 unresumed fault.Failed rows rows' honest' h = tt
@@ -92,11 +187,18 @@ unresumed fault.Unsound rows rows' honest' h = h
 
 pub not_resumed : (form : Form) (f : RestoreFault) (left w : Option (List ℕ)) (rows rows' : Option (List Pair)) (honest' : Type 0) (leaves leaves' : List Pair → Type 0) → IsUnrestored rows rows' honest' f → Makes (λ before. before) rows rows' → (honest' → (l : List Pair) → leaves' l → leaves l)
     → ResumeEnds form left left w w rows rows' honest' leaves leaves' (status_of_restore f)
-not_resumed form f left w rows rows' honest' leaves leaves' h same stop = inr (unresumed f rows rows' honest' h, nothing_done left w, rows_left rows rows' honest' leaves leaves' same stop)
+not_resumed form f left w rows rows' honest' leaves leaves' h same stop = inr (inl (unresumed f rows rows' honest' h, nothing_done left w, rows_left rows rows' honest' leaves leaves' same stop))
 
 pub not_asked : (form : Form) (f : RestoreFault) (what : Query) (w : Option (List ℕ)) (rows rows' : Option (List Pair)) (honest' : Type 0) (leaves leaves' : List Pair → Type 0) → IsUnrestored rows rows' honest' f → Makes (λ before. before) rows rows' → (honest' → (l : List Pair) → leaves' l → leaves l)
     → QueryEnds form what w w rows rows' honest' leaves leaves' (status_of_restore f)
 not_asked form f what w rows rows' honest' leaves leaves' h same stop = (rows_left rows rows' honest' leaves leaves' same stop, inr (unresumed f rows rows' honest' h, nothing w _ refl))
+
+-- nor does one come of a keeper that keeps nothing, and nothing is said of its rows
+pub no_rows_found : (f : RestoreFault) → IsOfNothing (failed {X = ⊤} f) → IsOfNoRows (status_of_restore f)
+no_rows_found fault.Failed h = tt
+no_rows_found fault.NoMemory h = tt
+no_rows_found fault.Empty h = refl
+no_rows_found fault.Unsound h = absurd h
 
 -- statuses that it does not end by
 pub unresumed_busy : (f : RestoreFault) → status_of_restore f ≡ Usage → ⊥
@@ -123,16 +225,13 @@ unresumed_unwritten fault.NoMemory e = absurd cc
 unresumed_unwritten fault.Empty e = absurd cc
 unresumed_unwritten fault.Unsound e = absurd cc
 
-abbrev failed : RestoreFault → Result Chained RestoreFault
-failed f = Err f
-
-pub unresumed_cause : (f : RestoreFault) (P : Type 0) → (IsErrOf (failed f) fault.Failed → P) → status_of_restore f ≡ KeepFault → P
+pub unresumed_cause : {X : Type 0} (f : RestoreFault) (P : Type 0) → (IsErrOf (failed {X = X} f) fault.Failed → P) → status_of_restore f ≡ KeepFault → P
 unresumed_cause fault.Failed P h e = h refl
 unresumed_cause fault.NoMemory P h e = absurd cc
 unresumed_cause fault.Empty P h e = absurd cc
 unresumed_cause fault.Unsound P h e = absurd cc
 
-pub unresumed_quiet : (f : RestoreFault) (P : Type 0) → UnlessFailed (failed f) P → UnlessKeepFault (status_of_restore f) P
+pub unresumed_quiet : (f : RestoreFault) (P : Type 0) → UnlessFailed (failed {X = ⊤} f) P → UnlessKeepFault (status_of_restore f) P
 unresumed_quiet fault.Failed P h = tt
 unresumed_quiet fault.NoMemory P h = h
 unresumed_quiet fault.Empty P h = h
@@ -169,12 +268,12 @@ put_some new (p ∷ ps) e = by (key_cmp p.0 new.0) e
     by Equal f = absurd cc
     by Greater f = absurd cc
 
-no_items : (items : List Item) → rows_in items ≡ [] → items ≡ []
-no_items [] e = refl
-no_items (i ∷ items) e = absurd (put_some (row_of i) (rows_in items) e)
+no_items : (f : Format) (items : List Item) → rows_as f items ≡ [] → items ≡ []
+no_items f [] e = refl
+no_items f (i ∷ items) e = absurd (put_some (row_in f i) (rows_as f items) e)
 
-has_rows : (p : State) → rows_of p ≢ []
-has_rows p e = let none : items_of p ≡ [] = no_items (items_of p) e in absurd cc
+has_rows : (f : Format) (p : State) → state_rows f p ≢ []
+has_rows f p e = let none : items_of p ≡ [] = no_items f (items_of p) e in absurd cc
 
 module _ (p : State) (rows rows' : Option (List Pair)) (honest' : Type 0) (faults faults' : ℕ) (fits : FitsState p rows honest' faults faults') (same : Makes (λ before. before) rows rows') where
   -- the rows of a state are not refused
@@ -189,32 +288,44 @@ module _ (p : State) (rows rows' : Option (List Pair)) (honest' : Type 0) (fault
   never_unresumed NoMemory h keep = inr refl
   never_unresumed BadStore h keep =
       let P : List Pair → Type 0 = λ now. (now ≢ []) × AreOfNone now in
-      absurd ((at_rows rows (rows_of p) P fits.rows_are (were_loaded rows rows' honest' P h same fits.honest)).1 p fits.storable refl)
+      let (f, is) = fits.rows_are in
+      absurd ((at_rows rows (state_rows f p) P is (were_loaded rows rows' honest' P h same fits.honest)).1 p fits.storable (f, refl))
   never_unresumed (WrongStore is_empty) h keep =
       let P : List Pair → Type 0 = λ now. now ≡ [] in
-      absurd (has_rows p (at_rows rows (rows_of p) P fits.rows_are (were_loaded rows rows' honest' P h.1 same fits.honest)))
+      let (f, is) = fits.rows_are in
+      absurd (has_rows f p (at_rows rows (state_rows f p) P is (were_loaded rows rows' honest' P h.1 same fits.honest)))
   never_unresumed NotFound h keep = absurd h
+  never_unresumed (NoPast base last) h keep = absurd h
 
-pub untroubled_resume : (form : Form) (left left' w w' : Option (List ℕ)) (rows rows' : Option (List Pair)) (honest' : Type 0) (leaves leaves' : List Pair → Type 0) (faults faults' : ℕ) (s : Status) → ResumeEnds form left left' w w' rows rows' honest' leaves leaves' s → ResumesCalmly form left w rows honest' faults faults'
+-- rows that fit a state, and are those of another, are of both
+pub alike_of : (p first : State) (rows : Option (List Pair)) (honest' : Type 0) (faults faults' : ℕ) → FitsState p rows honest' faults faults' → IfSome rows (λ now. AreStateRows now first) → HaveSameRows p first
+alike_of p first rows honest' faults faults' fits loaded =
+    let (f, is) = fits.rows_are in
+    (state_rows f p, (f, refl), at_rows rows (state_rows f p) (λ now. AreStateRows now first) is loaded)
+
+pub untroubled_resume : (form : Form) (left left' w w' : Option (List ℕ)) (rows rows' : Option (List Pair)) (honest' : Type 0) (leaves leaves' : List Pair → Type 0) (faults faults' : ℕ) (s : Status) → ResumeEnds form left left' w w' rows rows' honest' leaves leaves' s → ResumesCalmly form left rows honest' faults faults'
     → (s ≡ Usage → ⊥) → (s ≡ ReadFault → ⊥) → (s ≡ WriteFault → ⊥) → (s ≡ KeepFault → Rose faults faults') → (s ≡ Done) ⊎ (s ≡ NoMemory)
 untroubled_resume form left left' w w' rows rows' honest' leaves leaves' faults faults' s (inl goes) calm busy read write keep =
     let fits = calm.2 in
-    let alike : rows_of calm.0 ≡ rows_of goes.first = at_rows rows (rows_of calm.0) (λ now. now ≡ rows_of goes.first) fits.rows_are (goes.loaded fits.honest) in
+    let alike = alike_of calm.0 goes.first rows honest' faults faults' fits (goes.loaded fits.honest) in
     untroubled_run form _ (Some calm.0) left left' w w' s (goes.ends calm.0 fits.storable alike) calm.1 busy read write (λ e. fits.quiet (keep e))
-untroubled_resume form left left' w w' rows rows' honest' leaves leaves' faults faults' s (inr ends) calm busy read write keep =
+untroubled_resume form left left' w w' rows rows' honest' leaves leaves' faults faults' s (inr (inl ends)) calm busy read write keep =
     never_unresumed calm.0 rows rows' honest' faults faults' calm.2 ends.2.rows_are s ends.0 keep
+untroubled_resume form left left' w w' rows rows' honest' leaves leaves' faults faults' s (inr (inr ends)) calm busy read write keep = elim ends.0.why [
+  | inl failed ↦ absurd (calm.2.quiet (keep failed))
+  | inr wanting ↦ inr wanting
+]
 
 answered_to_end : (text written : List ℕ) (s : Status) (due : Option (List ℕ)) → due ≡ Some text → IsAnswered due s written → (s ≡ WriteFault → ⊥) → (s ≡ Done) ⊎ (s ≡ NoMemory)
 answered_to_end text written s due is h write = written_to_end text written s (subst (λ (o : Option (List ℕ)). IsAnswered o s written) is h) write
 
-pub untroubled_query : (form : Form) (what : Query) (w w' : Option (List ℕ)) (rows rows' : Option (List Pair)) (honest' : Type 0) (leaves leaves' : List Pair → Type 0) (faults faults' : ℕ) (s : Status) → QueryEnds form what w w' rows rows' honest' leaves leaves' s → AsksCalmly form what w rows honest' faults faults'
+pub untroubled_query : (form : Form) (what : Query) (w w' : Option (List ℕ)) (rows rows' : Option (List Pair)) (honest' : Type 0) (leaves leaves' : List Pair → Type 0) (faults faults' : ℕ) (s : Status) → QueryEnds form what w w' rows rows' honest' leaves leaves' s → AsksCalmly form what rows honest' faults faults'
     → (s ≡ WriteFault → ⊥) → (s ≡ KeepFault → Rose faults faults') → (s ≡ Done) ⊎ (s ≡ NoMemory)
 untroubled_query form what w w' rows rows' honest' leaves leaves' faults faults' s (left, inl answers) calm write keep =
-    let p = calm.1.0 in
-    let fits = calm.1.1 in
-    let P : List Pair → Type 0 = λ now. now ≡ rows_of answers.first in
-    let alike : rows_of p ≡ rows_of answers.first = at_rows rows (rows_of p) P fits.rows_are (were_loaded rows rows' honest' P answers.loaded left.rows_are fits.honest) in
-    let e = answers.answered p fits.storable alike calm.0.0 calm.0.1 in
-    answered_to_end calm.1.2.0 e.0 s (answered_by form (report_of p) what) calm.1.2.1 e.2 write
+    let p = calm.0 in
+    let fits = calm.1 in
+    let alike = alike_of p answers.first rows honest' faults faults' fits (were_loaded rows rows' honest' (λ now. AreStateRows now answers.first) answers.loaded left.rows_are fits.honest) in
+    let e = answers.answered p fits.storable alike in
+    answered_to_end calm.2.0 e.0 s (answered_by form (report_of p) what) calm.2.1 e.2 write
 untroubled_query form what w w' rows rows' honest' leaves leaves' faults faults' s (left, inr none) calm write keep =
-    never_unresumed calm.1.0 rows rows' honest' faults faults' calm.1.1 left.rows_are s none.0 keep
+    never_unresumed calm.0 rows rows' honest' faults faults' calm.1 left.rows_are s none.0 keep

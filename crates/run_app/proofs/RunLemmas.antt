@@ -47,6 +47,9 @@ fed-append form n s line a n1 s1 line1 b n2 s2 line2 w w1 w2 f g =
 pub no_growth : (w : Option (List ℕ)) → Grows w w []
 no_growth w = λ old told. told ∙ ap Some (sym (append-nil old))
 
+pub grows_on : (w w1 w' : Option (List ℕ)) (text text' : List ℕ) → Grows w w1 text → Grows w1 w' text' → Grows w w' (text ++ text')
+grows_on w w1 w' text text' h k = λ old told. k _ (h old told) ∙ ap Some (append_assoc old text text')
+
 pub fed_number : (form : Form) (n : ℕ) (s : Standing) (line piece : List ℕ) (n2 : ℕ) (s2 : Standing) (line2 : List ℕ) (w w' : Option (List ℕ)) → Fed form n s line piece n2 s2 line2 w w' → n2 ≤ n + length piece
 fed_number form n s line piece n2 s2 line2 w w' fed =
     let e : n2 ≡ n + length (whole_from line piece) = fed.number in
@@ -126,9 +129,8 @@ ends_along form L n s done text' s' lines lines' f ended more ended' text NoMemo
 
 pub stops_along : (form : Form) (L : Standing → Standing → Type 0) {X Y : Type 0} (n n' : ℕ) (s : Standing) (done : List (List ℕ)) (text' : List ℕ) (s' : Standing) (lines : X → List (List ℕ)) (lines' : Y → List (List ℕ)) (f : Y → X) (ended more ended' : List (List ℕ)) (w w1 w' : Option (List ℕ)) (stop : LineStop) → AreAnswered form n s done text' s' → n' ≡ n + length done
     → ((y : Y) → lines' y ≡ done ++ lines (f y)) → ended' ≡ done ++ (ended ++ more) → Grows w w1 text' → PartStops form L n' s' lines ended w1 w' stop → PartStops form L n s lines' ended' w w' stop
-stops_along form L n n' s done text' s' lines lines' f ended more ended' w w1 w' stop good e same e2 grows stops = λ old told.
-    let t = stops _ (grows old told) in
-    (text' ++ t.0, t.1 ∙ ap Some (append_assoc old text' t.0), ends_along form L n s done text' s' lines lines' f ended more ended' t.0 stop good same e2 (rw e at t.2))
+stops_along form L n n' s done text' s' lines lines' f ended more ended' w w1 w' stop good e same e2 grows stops =
+    (text' ++ stops.0, grows_on w w1 w' text' stops.0 grows stops.1, ends_along form L n s done text' s' lines lines' f ended more ended' stops.0 stop good same e2 (rw e at stops.2))
 
 -- the same, from a place in the bytes to the next
 pub fed_stops : (form : Form) (L : Standing → Standing → Type 0) (n : ℕ) (s : Standing) (line a : List ℕ) (n1 : ℕ) (s1 : Standing) (line1 b c : List ℕ) (all : List ℕ) (w w1 w' : Option (List ℕ)) (stop : LineStop) → Fed form n s line a n1 s1 line1 w w1 → all ≡ a ++ (b ++ c)

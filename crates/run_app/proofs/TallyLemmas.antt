@@ -1,5 +1,5 @@
 -- Ballots that are counted over the rows of a keeper.
-use Rattle.std.proofs.Common.{◌≡◌, ◌∙◌, ◌⊎◌, inl, inr, ℕ, ◌+◌, ◌<◌, ◌≤◌, List, [], ◌∷◌, ◌++◌, append-nil, length, length-append, Option, Some, Result, Ok, Err, refl, sym, ap, subst, arith}
+use Rattle.std.proofs.Common.{◌≡◌, ◌∙◌, ◌⊎◌, inl, inr, ℕ, ◌+◌, ◌≤◌, List, [], ◌∷◌, ◌++◌, length, length-append, Option, Result, Ok, Err, refl, ap, subst, arith}
 use Rattle.base_bech32.specs.declared.form.Form.{Form}
 use Rattle.base_io.specs.Outside.{Rose}
 use Rattle.base_io.specs.Rows.{Makes, Pair}
@@ -19,11 +19,11 @@ use Rattle.rule_machine.specs.Items.{items_of}
 use Rattle.rule_modules.specs.Chain.{State}
 use Rattle.rule_modules.specs.Sound.{IsSound}
 use Rattle.store_resuming.specs.declared.fault.RestoreFault.{RestoreFault}
-use Rattle.store_resuming.specs.Restored.{AreLoaded, rows_of}
+use Rattle.store_resuming.specs.Restored.{AreLoaded, AreStateRows}
 use Rattle.store_resuming.specs.Restoring.{IsChainOf, IsUnrestored}
 use Rattle.run_app.specs.declared.status.Status.{Status}
-use Rattle.run_app.specs.declared.status.Status.TheVariants.{Done, Usage, BadInput, Limit, ReadFault, WriteFault, KeepFault, NoMemory, BadStore, WrongStore, NotFound}
-use Rattle.run_app.specs.declared.status.LimitKind.TheVariants.{Line, Input, Ratio}
+use Rattle.run_app.specs.declared.status.Status.TheVariants.{Done, Usage, BadInput, Limit, ReadFault, WriteFault, KeepFault, NoMemory, BadStore, WrongStore, NotFound, NoPast}
+use Rattle.run_app.specs.declared.status.LimitKind.TheVariants.{Line, Input, Ratio, Bound}
 use Rattle.run_app.specs.declared.status.LineStop.{LineStop}
 use Rattle.run_app.specs.declared.status.LineStop.TheVariants as stop
 use Rattle.run_app.specs.Ballots.{AllAreKept, AreUncounted, IsOfBallots, IsUncounted, Kept, cast_from, cast_in}
@@ -34,7 +34,8 @@ use Rattle.run_app.specs.Tallies.{Counts, TalliesCalmly, TallyEnds, text_of_cast
 use Rattle.run_app.specs.Writes.{IsWritten, Writes}
 use Rattle.run_app.proofs.BallotLemmas.{stopped_front}
 use Rattle.run_app.proofs.ModeLemmas.{nothing, nothing_done, rows_left, written_to_end}
-use Rattle.run_app.proofs.ResumeLemmas.{at_rows, never_unresumed, unresumed, were_loaded}
+use Rattle.run_app.proofs.ResumeLemmas.{alike_of, never_unresumed, unresumed, were_loaded}
+use Rattle.run_app.proofs.RunLemmas.{no_growth}
 use Rattle.run_app.proofs.StopLemmas.{ended_first}
 
 -- ---- the line of a tally
@@ -60,16 +61,12 @@ unwritten whole w = nothing w _ (record { rest = whole; text_is = refl })
 -- ---- an input that was counted, or not
 
 pub counted_all : (form : Form) (s : Staked) (left left' w w' : Option (List ℕ)) (kept : Kept) (status : Status) → AllAreKept form left left' kept → Writes (text_of_tally (tally_of s (at addr_cmp kept))) w w' status → Counts form s left left' w w' status
-counted_all form s left left' w w' kept status all writes = λ input old told told_w.
-    let a = all input told in
-    let e = writes old told_w in
-    let written : IsWritten (text_of_cast s a.2.cast) status e.0 = subst (λ (whole : List ℕ). IsWritten whole status e.0) (text_of_kept s a.2.cast kept a.2.last) e.2 in
-    (input, [], e.0, sym (append-nil input), a.0, e.1, inl (record { cast = a.2.cast; end = refl; short = a.1; read = a.2.read; written = written }))
+counted_all form s left left' w w' kept status a e =
+    let written : IsWritten (text_of_cast s a.3.cast) status e.0 = subst (λ (whole : List ℕ). IsWritten whole status e.0) (text_of_kept s a.3.cast kept a.3.last) e.2 in
+    (a.0, [], e.0, a.1, e.1, inl (record { cast = a.3.cast; end = refl; short = a.2; read = a.3.read; written = written }))
 
 pub counted_none : (form : Form) (s : Staked) (left left' w : Option (List ℕ)) (status : Status) → AreUncounted form left left' status → Counts form s left left' w w status
-counted_none form s left left' w status none = λ input old told told_w.
-    let u = none input told in
-    (u.0, u.1, [], u.2, u.3, told_w ∙ ap Some (sym (append-nil old)), inr (u.4, refl))
+counted_none form s left left' w status u = (u.0, u.1, [], u.2, no_growth w, inr (u.3, refl))
 
 -- statuses that an input that was not counted does not end by
 pub uncounted_busy : (s : Status) → IsOfBallots s → s ≡ Usage → ⊥
@@ -116,6 +113,7 @@ module _ (form : Form) (input taken rest : List ℕ) (cast : Cast) (good : cast_
       let all : length input ≡ length taken + length rest = ap length is ∙ length-append taken rest in
       absurd (omega arith)
   never_uncounted (Limit n (Ratio over)) h read = absurd h
+  never_uncounted (Limit n (Bound over)) h read = absurd h
   never_uncounted ReadFault h read = absurd (read refl)
   never_uncounted WriteFault h read = absurd h
   never_uncounted KeepFault h read = absurd h
@@ -123,19 +121,20 @@ module _ (form : Form) (input taken rest : List ℕ) (cast : Cast) (good : cast_
   never_uncounted BadStore h read = absurd h
   never_uncounted (WrongStore is_empty) h read = absurd h
   never_uncounted NotFound h read = absurd h
+  never_uncounted (NoPast base last) h read = absurd h
 
-pub untroubled_tally : (form : Form) (left left' w w' : Option (List ℕ)) (rows rows' : Option (List Pair)) (honest' : Type 0) (leaves leaves' : List Pair → Type 0) (faults faults' : ℕ) (s : Status) → TallyEnds form left left' w w' rows rows' honest' leaves leaves' s → TalliesCalmly form left w rows honest' faults faults'
+pub untroubled_tally : (form : Form) (left left' w w' : Option (List ℕ)) (rows rows' : Option (List Pair)) (honest' : Type 0) (leaves leaves' : List Pair → Type 0) (faults faults' : ℕ) (s : Status) → TallyEnds form left left' w w' rows rows' honest' leaves leaves' s → TalliesCalmly form left rows honest' faults faults'
     → (s ≡ ReadFault → ⊥) → (s ≡ WriteFault → ⊥) → (s ≡ KeepFault → Rose faults faults') → (s ≡ Done) ⊎ (s ≡ NoMemory)
 untroubled_tally form left left' w w' rows rows' honest' leaves leaves' faults faults' s (kept, inl tally) calm read write keep =
     let b = calm.0 in
     let p = calm.1.0 in
     let fits = calm.1.1 in
-    let P : List Pair → Type 0 = λ now. now ≡ rows_of tally.first in
-    let alike : rows_of p ≡ rows_of tally.first = at_rows rows (rows_of p) P fits.rows_are (were_loaded rows rows' honest' P tally.loaded kept.rows_are fits.honest) in
-    let e = tally.counts p fits.storable alike b.input b.old b.left_is b.written_is in
-    elim e.6 [
+    let alike = alike_of p tally.first rows honest' faults faults' fits (were_loaded rows rows' honest' (λ now. AreStateRows now tally.first) tally.loaded kept.rows_are fits.honest) in
+    let e = tally.counts p fits.storable alike in
+    let told = e.3 b.input b.left_is in
+    elim e.5 [
       | inl c ↦ written_to_end _ e.2 s c.written write
-      | inr u ↦ never_uncounted form b.input e.0 e.1 b.cast b.good b.short e.3 s u.0 read
+      | inr u ↦ never_uncounted form b.input e.0 e.1 b.cast b.good b.short told.0 s u.0 read
     ]
 untroubled_tally form left left' w w' rows rows' honest' leaves leaves' faults faults' s (kept, inr none) calm read write keep =
     never_unresumed calm.1.0 rows rows' honest' faults faults' calm.1.1 kept.rows_are s none.0 keep

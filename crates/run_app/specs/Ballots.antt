@@ -1,5 +1,5 @@
 -- The ballots of an input: each line is one, and a line that is none stops the run.
-use Rattle.std.specs.Prelude.{◌≡◌, ℕ, ◌+◌, ◌≤◌, ◌<◌, ◌⊎◌, List, [], ◌∷◌, ◌++◌, length, nat_lt, if◌then◌else◌, Option, Some, Result, Ok, Err}
+use Rattle.std.specs.Prelude.{◌≡◌, ℕ, ◌+◌, ◌≤◌, ◌<◌, ◌⊎◌, List, [], ◌∷◌, ◌++◌, length, nat_lt, if◌then◌else◌, Option, Result, Ok, Err}
 use Rattle.base_bech32.specs.declared.form.Form.{Form}
 use Rattle.base_coins.specs.Steps.{◌>>=◌}
 use Rattle.base_messages.specs.declared.faults.LineFault.{LineFault}
@@ -10,13 +10,14 @@ use Rattle.line_ballots.specs.Ballots.{ballot_of}
 use Rattle.mod_tally.specs.declared.choice.Choice.{Choice}
 use Rattle.mod_tally.specs.Ballots.{Cast, chosen_in}
 use Rattle.run_app.specs.declared.status.Status.{Status}
-use Rattle.run_app.specs.declared.status.Status.TheVariants.{Done, Usage, BadInput, Limit, ReadFault, WriteFault, KeepFault, NoMemory, BadStore, WrongStore, NotFound}
-use Rattle.run_app.specs.declared.status.LimitKind.TheVariants.{Line, Input, Ratio}
+use Rattle.run_app.specs.declared.status.Status.TheVariants.{BadInput, Limit, ReadFault, NoMemory}
+use Rattle.run_app.specs.declared.status.LimitKind.TheVariants.{Line, Input}
 use Rattle.run_app.specs.declared.status.LineStop.{LineStop}
 use Rattle.run_app.specs.declared.status.LineStop.TheVariants as stop
 use Rattle.run_app.specs.Lines.{whole_from, rest_from, lines_of}
 use Rattle.run_app.specs.Machine.{longest, not_read}
 use Rattle.run_app.specs.Outcome.{AreEnded, UnlessReadFault, most_bytes}
+use Rattle.run_app.specs.Told.{TakesFrom}
 
 -- ---- lines
 
@@ -102,8 +103,6 @@ pub record PassesBallots (form : Form) (n : ℕ) (taken : List ℕ) : Type 0 whe
 -- Why an input of which these bytes were taken and those are left was not read to its end, or not
 -- all of its lines are ballots.
 abbrev pub IsUncounted : Form → Status → List ℕ → List ℕ → Type 0
-IsUncounted form Done taken rest = ⊥
-IsUncounted form Usage taken rest = ⊥
 IsUncounted form (BadInput n fault) taken rest =
     (length taken ≤ most_bytes)
     × (lines : List (List ℕ)) × AreEnded lines taken rest
@@ -112,43 +111,30 @@ IsUncounted form (Limit n Line) taken rest =
     (length taken ≤ most_bytes + 1)
     × ((more : List ℕ) → cast_in form (taken ++ more) ≡ Err (stop.Long n))
 IsUncounted form (Limit n Input) taken rest = PassesBallots form n taken
-IsUncounted form (Limit n (Ratio over)) taken rest = ⊥
 IsUncounted form ReadFault taken rest =
     (length taken ≤ most_bytes)
     × (cast : Cast) × (cast_from form 1 (whole_from [] taken) ≡ Ok cast)
-IsUncounted form WriteFault taken rest = ⊥
-IsUncounted form KeepFault taken rest = ⊥
 IsUncounted form NoMemory taken rest = length taken ≤ most_bytes
-IsUncounted form BadStore taken rest = ⊥
-IsUncounted form (WrongStore is_empty) taken rest = ⊥
-IsUncounted form NotFound taken rest = ⊥
+IsUncounted form _ taken rest = ⊥
 
--- Where the source tells its bytes: it was read to its end, and these are kept of its ballots.
+-- There are bytes, as the source tells them where it does: it was read to its end, and these are
+-- kept of its ballots.
 abbrev pub AllAreKept : Form → Option (List ℕ) → Option (List ℕ) → Kept → Type 0
 AllAreKept form left left' kept =
-    (input : List ℕ) → left ≡ Some input →
-    (left' ≡ Some []) × (length input ≤ most_bytes) × AreKept form (lines_of input) kept
+    (taken : List ℕ) × TakesFrom left left' taken [] × (length taken ≤ most_bytes) × AreKept form (lines_of taken) kept
 
 -- Or it was not, or not all of its lines are ballots.
 abbrev pub AreUncounted : Form → Option (List ℕ) → Option (List ℕ) → Status → Type 0
 AreUncounted form left left' status =
-    (input : List ℕ) → left ≡ Some input →
-    (taken : List ℕ) × (rest : List ℕ) × (input ≡ taken ++ rest) × (left' ≡ Some rest)
-    × IsUncounted form status taken rest
+    (taken : List ℕ) × (rest : List ℕ) × TakesFrom left left' taken rest × IsUncounted form status taken rest
 
 -- a run may end so at an input that was not counted
 abbrev pub IsOfBallots : Status → Type 0
-IsOfBallots Done = ⊥
-IsOfBallots Usage = ⊥
 IsOfBallots (BadInput n fault) = Unit {0}
 IsOfBallots (Limit n kind) = Unit {0}
 IsOfBallots ReadFault = Unit {0}
-IsOfBallots WriteFault = ⊥
-IsOfBallots KeepFault = ⊥
 IsOfBallots NoMemory = Unit {0}
-IsOfBallots BadStore = ⊥
-IsOfBallots (WrongStore is_empty) = ⊥
-IsOfBallots NotFound = ⊥
+IsOfBallots _ = ⊥
 
 -- the fact holds, unless the source failed
 abbrev pub UnlessUnread : {X : Type 0} → Result X Status → Type 0 → Type 0

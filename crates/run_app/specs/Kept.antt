@@ -1,13 +1,14 @@
 -- What a run keeps in its keeper, and what it leaves there.
-use Rattle.std.specs.Prelude.{◌≡◌, ◌≢◌, ◌⊎◌, Bool, true, false, List, [], Option, Some, None, IfSome, IsSome}
+use Rattle.std.specs.Prelude.{◌≡◌, ◌≢◌, ◌⊎◌, ℕ, ◌≤◌, false, List, [], Option, Some, None, IfSome, IsSome}
 use Rattle.chain_whole.specs.Chained.{Chained}
 use Rattle.base_io.specs.Rows.{Makes, Pair}
 use Rattle.base_io.specs.Changes.{LeavesRows}
 use Rattle.store_commits.specs.Held.{items_at, rows_at}
 use Rattle.store_commits.specs.Commits.{Holds}
-use Rattle.store_items.specs.Stored.{AreStored}
+use Rattle.store_items.specs.Stored.{AreStored, rows_as}
+use Rattle.store_rows.specs.declared.format.Format.{Format}
 use Rattle.run_app.specs.declared.status.Status.{Status}
-use Rattle.run_app.specs.declared.status.Status.TheVariants.{Done, Usage, BadInput, Limit, ReadFault, WriteFault, KeepFault, NoMemory, BadStore, WrongStore, NotFound}
+use Rattle.run_app.specs.declared.status.Status.TheVariants.{KeepFault, NoMemory, WrongStore}
 use Rattle.run_app.specs.Machine.{IsSettled, Standing, StandsAt}
 
 -- how a run began: on the rows of what it was to go on from, and these rows, where they were told
@@ -15,24 +16,34 @@ pub record Began : Type 0 where
   pub first : Standing
   pub rows : Option (List Pair)
 
+-- the rows were told, and are those of what it was to go on from, in one format or the other
+abbrev pub BeganOnRows : Began → Type 0
+BeganOnRows b = (f : Format) × (b.rows ≡ Some (rows_as f (items_at b.first)))
+
 -- Between two lines: the chain stands for what they have led to, and is settled; the keeper holds its items. While the keeper is
 -- honest, it still tells its rows, and a stop leaves just these.
 pub record Keeping (b : Began) (chain : Option Chained) (told : Option (List Pair)) (honest : Type 0) (leaves : List Pair → Type 0) (s : Standing) : Type 0 where
   pub stands : StandsAt chain s
   pub same : IsSettled chain
   pub held : Holds (items_at s) told
-  pub began : IfSome told (λ now. b.rows ≡ Some (rows_at b.first))
+  pub began : IfSome told (λ now. BeganOnRows b)
   pub tells : honest → IsSome b.rows → IsSome told
   pub settled : LeavesRows leaves told
 
--- these are the rows of what lines have led to, of which each item has one
+-- A keeper after calls: it is honest only if it was, and its count of faults has not fallen.
+pub record IsLater (honest honest' : Type 0) (faults faults' : ℕ) : Type 0 where
+  pub honest : honest' → honest
+  pub count : faults ≤ faults'
+
+-- these are the rows of what lines have led to, in the format that is written, of which each item
+-- has one
 abbrev pub AreRowsOf : List Pair → Standing → Type 0
 AreRowsOf rows s = (rows ≡ rows_at s) × AreStored (items_at s)
 
 -- What a run leaves that began so, whose last committed lines led to `s`, and that was to commit what leads to `t`: where the
 -- rows are told, they are those of `s`. While the keeper is honest, a stop leaves those of `s` or those of `t`.
 pub record LeftIn (b : Began) (told : Option (List Pair)) (honest : Type 0) (leaves : List Pair → Type 0) (s t : Standing) : Type 0 where
-  pub rows : IfSome told (λ now. (b.rows ≡ Some (rows_at b.first)) × AreRowsOf now s)
+  pub rows : IfSome told (λ now. BeganOnRows b × AreRowsOf now s)
   pub stop : honest → IsSome b.rows → (left : List Pair) → leaves left → AreRowsOf left s ⊎ AreRowsOf left t
 
 -- a run that began on no rows
@@ -58,28 +69,12 @@ pub record AreSome (rows rows' : Option (List Pair)) (honest' : Type 0) : Type 0
 
 -- Why a replay did not begin: its rows were not loaded, memory was wanting, or there are rows.
 abbrev pub IsUnbegun : Status → Type 0 → Type 0
-IsUnbegun Done some = ⊥
-IsUnbegun Usage some = ⊥
-IsUnbegun (BadInput n fault) some = ⊥
-IsUnbegun (Limit n kind) some = ⊥
-IsUnbegun ReadFault some = ⊥
-IsUnbegun WriteFault some = ⊥
 IsUnbegun KeepFault some = Unit {0}
 IsUnbegun NoMemory some = Unit {0}
-IsUnbegun BadStore some = ⊥
 IsUnbegun (WrongStore is_empty) some = (is_empty ≡ false) × some
-IsUnbegun NotFound some = ⊥
+IsUnbegun _ some = ⊥
 
 -- the fact holds, unless the run ended by a fault of the keeper
 abbrev pub UnlessKeepFault : Status → Type 0 → Type 0
-UnlessKeepFault Done P = P
-UnlessKeepFault Usage P = P
-UnlessKeepFault (BadInput n fault) P = P
-UnlessKeepFault (Limit n kind) P = P
-UnlessKeepFault ReadFault P = P
-UnlessKeepFault WriteFault P = P
 UnlessKeepFault KeepFault P = Unit {0}
-UnlessKeepFault NoMemory P = P
-UnlessKeepFault BadStore P = P
-UnlessKeepFault (WrongStore is_empty) P = P
-UnlessKeepFault NotFound P = P
+UnlessKeepFault _ P = P

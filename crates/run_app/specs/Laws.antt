@@ -1,5 +1,5 @@
 -- What lines that are answered lead to: a replay, of which all that the machine keeps is said.
-use Rattle.std.specs.Prelude.{◌≡◌, ◌↔◌, ℕ, List, [], ◌∷◌, ◌++◌, Some, None, Ok}
+use Rattle.std.specs.Prelude.{◌≡◌, ℕ, ◌+◌, List, [], ◌∷◌, ◌++◌, length, Some, None, option_map, Ok}
 use Rattle.base_bech32.specs.declared.form.Form.{Form}
 use Rattle.base_messages.specs.declared.block.Block.{Block}
 use Rattle.base_messages.specs.declared.report.BlockReport.{BlockReport}
@@ -11,6 +11,8 @@ use Rattle.rule_modules.specs.Sound.{IsSound}
 use Rattle.rule_machine.specs.Promises.{Replayed, run_in}
 use Rattle.rule_machine.specs.Report as machine
 use Rattle.line_report.specs.Lines as report
+use Rattle.run_app.specs.declared.status.LineStop.{LineStop}
+use Rattle.run_app.specs.declared.status.LineStop.TheVariants as stop
 use Rattle.run_app.specs.Lines.{lines_of}
 use Rattle.run_app.specs.Outcome.{answer_to}
 use Rattle.run_app.specs.Machine.{Standing}
@@ -59,16 +61,26 @@ pub record IsReplayed (form : Form) (input text : List ℕ) : Type 0 where
 abbrev pub AnswersAreReplays : Form → Type 0
 AnswersAreReplays form = (input text : List ℕ) → answer_to form input ≡ record { text = text; fault = None } → IsReplayed form input text
 
+-- the fault of a line, with so many lines more before it
+abbrev pub moved : ℕ → LineStop → LineStop
+moved count (stop.BadInput n fault) = stop.BadInput (count + n) fault
+moved count (stop.Long n) = stop.Long (count + n)
+moved count (stop.Ratio n over) = stop.Ratio (count + n) over
+moved count stop.Write = stop.Write
+moved count stop.Keep = stop.Keep
+moved count stop.NoMemory = stop.NoMemory
+
 -- What a run writes from where lines led is the rest of what one run writes for these lines and those behind them: so a stopped and
--- resumed run prints what one run does. Only the number of a line at fault differs, since a run that goes on counts its own lines.
-pub record IsRest (text : List ℕ) (whole rest : Ran) : Type 0 where
+-- resumed run prints what one run does. Both have the same fault, or none; only the number of its line differs, by the lines before,
+-- since a run that goes on counts its own.
+pub record IsRest (count : ℕ) (text : List ℕ) (whole rest : Ran) : Type 0 where
   pub text_is : whole.text ≡ text ++ rest.text
-  pub good : (whole.fault ≡ None) ↔ (rest.fault ≡ None)
+  pub fault_is : whole.fault ≡ option_map (moved count) rest.fault
 
 abbrev pub ResumesAreTheRest : Form → Type 0
 ResumesAreTheRest form =
     (first middle : Standing) (lines more : List (List ℕ)) (text : List ℕ) → AreAnswered form 1 first lines text middle
-    → IsRest text (ran_from form 1 first (lines ++ more)) (ran_from form 1 middle more)
+    → IsRest (length lines) text (ran_from form 1 first (lines ++ more)) (ran_from form 1 middle more)
 
 -- A run may go on from here: from before the genesis, or from a sound state without facts of what led to it.
 abbrev pub MayGoOn : Standing → Type 0

@@ -1,5 +1,9 @@
 pub mod Ballots
+pub mod Checks
+pub mod Commands
+pub mod Counts
 pub mod Ending
+pub mod Histories
 pub mod Kept
 pub mod Laws
 pub mod LineStops
@@ -8,9 +12,13 @@ pub mod Machine
 pub mod Modes
 pub mod Outcome
 pub mod Parts
+pub mod Rejoined
 pub mod Resumes
 pub mod Runs
 pub mod Sizes
 pub mod Stops
+pub mod Taking
 pub mod Tallies
+pub mod Told
+pub mod Unkept
 pub mod Writes

@@ -4,14 +4,14 @@ use Rattle.base_bech32.specs.declared.form.Form.{Form}
 use Rattle.base_io.specs.Outside.{Rose}
 use Rattle.base_io.specs.Rows.{Pair}
 use Rattle.base_roles.specs.declared.refusal.Refusal.{Refusal}
-use Rattle.run_words.specs.declared.mode.Command.{Command}
 use Rattle.run_words.specs.declared.mode.Mode.{Mode}
-use Rattle.run_words.specs.declared.mode.Mode.TheVariants.{Replay, Resume, Query, Tally, Gen, Trial}
+use Rattle.run_words.specs.declared.mode.Mode.TheVariants.{Replay, Resume, Query, Tally, Check, Gen, Trial}
 use Rattle.run_generated.specs.Writing.{generated_text}
 use Rattle.run_trial.specs.Summary.{Stopped}
 use Rattle.run_trial.specs.Trial.{trial_of}
 use Rattle.run_app.specs.declared.status.Status.{Status}
 use Rattle.run_app.specs.declared.status.Status.TheVariants.{NoMemory}
+use Rattle.run_app.specs.Checks.{CheckEnds, ChecksCalmly}
 use Rattle.run_app.specs.Kept.{AreLeft, AreSome, AreUntouched, IsUnbegun, LeftIn, on_none}
 use Rattle.run_app.specs.Machine.{not_applied}
 use Rattle.run_app.specs.Outcome.{IsUntroubled, RunEnds}
@@ -40,6 +40,7 @@ HasFewBlocks Replay = Unit {0}
 HasFewBlocks Resume = Unit {0}
 HasFewBlocks (Query what) = Unit {0}
 HasFewBlocks Tally = Unit {0}
+HasFewBlocks Check = Unit {0}
 HasFewBlocks (Gen seed count) = count ≤ 100000
 HasFewBlocks (Trial seed count) = count ≤ 100000
 
@@ -50,21 +51,18 @@ ReplayEnds form left left' written written' rows rows' honest' leaves leaves' st
     ⊎ (IsUnbegun status (AreSome rows rows' honest') × Leaves left left' written written' (λ text. text ≡ []) × AreLeft rows rows' honest' leaves leaves')
 
 -- What was taken, written and kept at the end of a run: of a replay, of a run that goes on, of a question, of a
--- tally, of the generated input, of a trial.
+-- tally, of statements that are checked, of the generated input, of a trial.
 abbrev pub ModeEnds : Form → Mode → Option (List ℕ) → Option (List ℕ) → Option (List ℕ) → Option (List ℕ) → Option (List Pair) → Option (List Pair) → Type 0 → (List Pair → Type 0) → (List Pair → Type 0) → Status → Type 0
 ModeEnds form Replay left left' written written' rows rows' honest' leaves leaves' status = ReplayEnds form left left' written written' rows rows' honest' leaves leaves' status
 ModeEnds form Resume left left' written written' rows rows' honest' leaves leaves' status = ResumeEnds form left left' written written' rows rows' honest' leaves leaves' status
 ModeEnds form (Query what) left left' written written' rows rows' honest' leaves leaves' status = (left' ≡ left) × QueryEnds form what written written' rows rows' honest' leaves leaves' status
 ModeEnds form Tally left left' written written' rows rows' honest' leaves leaves' status = TallyEnds form left left' written written' rows rows' honest' leaves leaves' status
+ModeEnds form Check left left' written written' rows rows' honest' leaves leaves' status =
+    CheckEnds form left left' written written' status × AreUntouched rows rows' leaves leaves'
 ModeEnds form (Gen seed count) left left' written written' rows rows' honest' leaves leaves' status =
     Leaves left left' written written' (IsWritten (generated_text form seed count) status) × AreUntouched rows rows' leaves leaves'
 ModeEnds form (Trial seed count) left left' written written' rows rows' honest' leaves leaves' status =
     Leaves left left' written written' (IsTried (trial_of seed count) status) × AreUntouched rows rows' leaves leaves'
-
--- the same of what words ask for: of no command, and of one with addresses in its form
-abbrev pub CommandEnds : Option Command → Option (List ℕ) → Option (List ℕ) → Option (List ℕ) → Option (List ℕ) → Option (List Pair) → Option (List Pair) → Type 0 → (List Pair → Type 0) → (List Pair → Type 0) → Status → Type 0
-CommandEnds None left left' written written' rows rows' honest' leaves leaves' status = Leaves left left' written written' (λ text. text ≡ []) × AreUntouched rows rows' leaves leaves'
-CommandEnds (Some c) left left' written written' rows rows' honest' leaves leaves' status = ModeEnds c.form c.mode left left' written written' rows rows' honest' leaves leaves' status
 
 -- a keeper that keeps nothing, or one without rows, that is honest to the end, and of which no call fails
 pub record FitsReplay (keeps : Bool) (rows : Option (List Pair)) (honest' : Type 0) (faults faults' : ℕ) : Type 0 where
@@ -72,17 +70,13 @@ pub record FitsReplay (keeps : Bool) (rows : Option (List Pair)) (honest' : Type
   pub honest : honest'
   pub quiet : ¬ Rose faults faults'
 
--- A sink that tells, and an input free of faults: that of the source, or one whose blocks all follow; what `gen` writes needs none.
--- A replay has a keeper that fits it, and so have a run that goes on, a tally, and a question, which has an answer.
-abbrev pub IsUntroubledAt : Form → Mode → Option (List ℕ) → Option (List ℕ) → Bool → Option (List Pair) → Type 0 → ℕ → ℕ → Type 0
-IsUntroubledAt form Replay left written keeps rows honest' faults faults' = IsUntroubled form None left written × FitsReplay keeps rows honest' faults faults'
-IsUntroubledAt form Resume left written keeps rows honest' faults faults' = ResumesCalmly form left written rows honest' faults faults'
-IsUntroubledAt form (Query what) left written keeps rows honest' faults faults' = AsksCalmly form what written rows honest' faults faults'
-IsUntroubledAt form Tally left written keeps rows honest' faults faults' = TalliesCalmly form left written rows honest' faults faults'
-IsUntroubledAt form (Gen seed count) left written keeps rows honest' faults faults' = (old : List ℕ) × (written ≡ Some old)
-IsUntroubledAt form (Trial seed count) left written keeps rows honest' faults faults' = ((old : List ℕ) × (written ≡ Some old)) × ((summary : List ℕ) × (trial_of seed count ≡ Ok (Ok summary)))
-
--- the same of what words ask for, which is a command
-abbrev pub IsUntroubledBy : Option Command → Option (List ℕ) → Option (List ℕ) → Bool → Option (List Pair) → Type 0 → ℕ → ℕ → Type 0
-IsUntroubledBy None left written keeps rows honest' faults faults' = ⊥
-IsUntroubledBy (Some c) left written keeps rows honest' faults faults' = IsUntroubledAt c.form c.mode left written keeps rows honest' faults faults'
+-- An input free of faults: that of the source, of which `check` answers each line, or one whose blocks all follow; what `gen` writes
+-- needs none. A replay has a keeper that fits it, and so have a run that goes on, a tally, and a question, which has an answer.
+abbrev pub IsUntroubledAt : Form → Mode → Option (List ℕ) → Bool → Option (List Pair) → Type 0 → ℕ → ℕ → Type 0
+IsUntroubledAt form Replay left keeps rows honest' faults faults' = IsUntroubled form None left × FitsReplay keeps rows honest' faults faults'
+IsUntroubledAt form Resume left keeps rows honest' faults faults' = ResumesCalmly form left rows honest' faults faults'
+IsUntroubledAt form (Query what) left keeps rows honest' faults faults' = AsksCalmly form what rows honest' faults faults'
+IsUntroubledAt form Tally left keeps rows honest' faults faults' = TalliesCalmly form left rows honest' faults faults'
+IsUntroubledAt form Check left keeps rows honest' faults faults' = ChecksCalmly form left
+IsUntroubledAt form (Gen seed count) left keeps rows honest' faults faults' = Unit {0}
+IsUntroubledAt form (Trial seed count) left keeps rows honest' faults faults' = (summary : List ℕ) × (trial_of seed count ≡ Ok (Ok summary))

@@ -2,12 +2,14 @@
 use Rattle.std.specs.Prelude.{◌≡◌, ℕ, ◌+◌, ◌^◌, ◌≤◌, ◌⊎◌, ◌<◌, List, [], ◌∷◌, ◌++◌, length, Option, Some, None}
 use Rattle.base_bech32.specs.declared.form.Form.{Form}
 use Rattle.run_app.specs.declared.status.Status.{Status}
-use Rattle.run_app.specs.declared.status.Status.TheVariants.{Done, Usage, BadInput, Limit, ReadFault, WriteFault, KeepFault, NoMemory, BadStore, WrongStore, NotFound}
+use Rattle.run_app.specs.declared.status.Status.TheVariants.{Done, Usage, BadInput, Limit, ReadFault, WriteFault, KeepFault, NoMemory, BadStore, WrongStore, NotFound, NoPast}
 use Rattle.run_app.specs.declared.status.LimitKind.TheVariants.{Line, Input, Ratio}
 use Rattle.run_app.specs.declared.status.LineStop.TheVariants as stop
 use Rattle.run_app.specs.Lines.{whole_from, rest_from, lines_of}
 use Rattle.run_app.specs.Machine.{longest, Standing}
 use Rattle.run_app.specs.Runs.{Ran, ran_from, Named, Wrote, Unkept, Held, Answered, Reported, Lacking, Finished}
+use Rattle.run_app.specs.Told.{TakesFrom}
+use Rattle.run_generated.specs.Writing.{Grows}
 
 -- What the machine answers to an input, from where a run begins: the whole output, or the output up to the first fault and that
 -- fault.
@@ -40,7 +42,6 @@ pub record Passed (form : Form) (first : Standing) (Left : Standing → Standing
 -- so. What it left in its keeper is told by `L`.
 abbrev pub Ends : Form → Standing → (Standing → Standing → Type 0) → List ℕ → List ℕ → Status → List ℕ → Type 0
 Ends form first L taken rest Done text = (rest ≡ []) × (length taken ≤ most_bytes) × Finished form L 1 first (lines_of taken) text
-Ends form first L taken rest Usage text = ⊥
 Ends form first L taken rest (BadInput n fault) text = (length taken ≤ most_bytes)
     × (((lines : List (List ℕ)) × AreEnded lines taken rest × Named form L 1 first lines text (stop.BadInput n fault))
     ⊎ ((rest ≡ []) × Lacking form L 1 first (lines_of taken) text (stop.BadInput n fault)))
@@ -56,49 +57,37 @@ Ends form first L taken rest KeepFault text = (length taken ≤ most_bytes) × (
 Ends form first L taken rest NoMemory text = (length taken ≤ most_bytes)
     × (((lines : List (List ℕ)) × AreEnded lines taken rest × (Wrote form L 1 first lines text ⊎ Held form L 1 first lines text ⊎ Unkept form L 1 first lines text))
     ⊎ ((rest ≡ []) × Reported form L 1 first (lines_of taken) text))
-Ends form first L taken rest BadStore text = ⊥
-Ends form first L taken rest (WrongStore is_empty) text = ⊥
-Ends form first L taken rest NotFound text = ⊥
+Ends form first L taken rest _ text = ⊥
 
--- the same of a run over a source and a sink, where these tell their bytes
+-- There are bytes that were taken, a rest that is left, and a text that was written, as the source and the sink tell them where they
+-- do, by which a run ended so.
 abbrev pub RunEnds : Form → Standing → (Standing → Standing → Type 0) → Option (List ℕ) → Option (List ℕ) → Option (List ℕ) → Option (List ℕ) → Status → Type 0
 RunEnds form first L left left' written written' status =
-    (input old : List ℕ) → left ≡ Some input → written ≡ Some old →
-    (taken : List ℕ) × (rest : List ℕ) × (text : List ℕ) × (input ≡ taken ++ rest) × (left' ≡ Some rest) × (written' ≡ Some (old ++ text)) × Ends form first L taken rest status text
+    (taken : List ℕ) × (rest : List ℕ) × (text : List ℕ)
+    × TakesFrom left left' taken rest × Grows written written' text × Ends form first L taken rest status text
 
--- a source and a sink that tell, and an input of the form, within its limits, from where a run begins
-pub record IsUntroubled (form : Form) (first : Standing) (left written : Option (List ℕ)) : Type 0 where
+-- a source that tells, and an input of the form, within its limits, from where a run begins
+pub record IsUntroubled (form : Form) (first : Standing) (left : Option (List ℕ)) : Type 0 where
   pub input : List ℕ
-  pub old : List ℕ
   pub left_is : left ≡ Some input
-  pub written_is : written ≡ Some old
   pub good : (answer_from form first input).fault ≡ None
   pub short : length input ≤ most_bytes
 
+-- a run that has begun ends by no status of one that did not
+abbrev pub HasBegun : Status → Type 0
+HasBegun Usage = ⊥
+HasBegun BadStore = ⊥
+HasBegun (WrongStore is_empty) = ⊥
+HasBegun NotFound = ⊥
+HasBegun (NoPast base last) = ⊥
+HasBegun _ = Unit {0}
+
 -- the fact holds, unless the run ended by a fault of the source
 abbrev pub UnlessReadFault : Status → Type 0 → Type 0
-UnlessReadFault Done P = P
-UnlessReadFault Usage P = P
-UnlessReadFault (BadInput n fault) P = P
-UnlessReadFault (Limit n kind) P = P
 UnlessReadFault ReadFault P = Unit {0}
-UnlessReadFault WriteFault P = P
-UnlessReadFault KeepFault P = P
-UnlessReadFault NoMemory P = P
-UnlessReadFault BadStore P = P
-UnlessReadFault (WrongStore is_empty) P = P
-UnlessReadFault NotFound P = P
+UnlessReadFault _ P = P
 
 -- the fact holds, unless the run ended by a fault of the sink
 abbrev pub UnlessWriteFault : Status → Type 0 → Type 0
-UnlessWriteFault Done P = P
-UnlessWriteFault Usage P = P
-UnlessWriteFault (BadInput n fault) P = P
-UnlessWriteFault (Limit n kind) P = P
-UnlessWriteFault ReadFault P = P
 UnlessWriteFault WriteFault P = Unit {0}
-UnlessWriteFault KeepFault P = P
-UnlessWriteFault NoMemory P = P
-UnlessWriteFault BadStore P = P
-UnlessWriteFault (WrongStore is_empty) P = P
-UnlessWriteFault NotFound P = P
+UnlessWriteFault _ P = P

@@ -4,8 +4,8 @@ use Rattle.base_bech32.specs.declared.form.Form.{Form}
 use Rattle.base_io.specs.declared.keeper.KeepFault.{KeepFault as KeeperFault}
 use Rattle.base_io.specs.declared.keeper.KeepFault.TheVariants as keep
 use Rattle.run_app.specs.declared.status.Status.{Status}
-use Rattle.run_app.specs.declared.status.Status.TheVariants.{Done, Usage, BadInput, Limit, ReadFault, WriteFault, KeepFault, NoMemory, BadStore, WrongStore, NotFound}
-use Rattle.run_app.specs.declared.status.LimitKind.TheVariants.{Line, Input, Ratio}
+use Rattle.run_app.specs.declared.status.Status.TheVariants.{Done, BadInput, Limit, WriteFault, KeepFault, NoMemory}
+use Rattle.run_app.specs.declared.status.LimitKind.TheVariants.{Ratio}
 use Rattle.run_app.specs.declared.status.LineStop.{LineStop}
 use Rattle.run_app.specs.declared.status.LineStop.TheVariants as stop
 use Rattle.run_app.specs.declared.status.EndStop.{EndStop}
@@ -14,6 +14,7 @@ use Rattle.run_app.specs.Lines.{whole_from, rest_from, lines_from}
 use Rattle.run_app.specs.Machine.{Standing, Answer, longest, line_answer}
 use Rattle.run_app.specs.Runs.{AreAnswered, Named, Wrote, Unkept, Held, Answered, Reported, Lacking, Finished}
 use Rattle.run_app.specs.Ending.{status_of}
+use Rattle.run_app.specs.Told.{Told}
 
 abbrev pub status_at_end : EndStop → Status
 status_at_end (end.Line stop) = status_of stop
@@ -57,7 +58,7 @@ PartEnds form L n s lines ended stop.Keep text = Unkept form L n s ended text
 PartEnds form L n s lines ended stop.NoMemory text = Wrote form L n s ended text ⊎ Held form L n s ended text ⊎ Unkept form L n s ended text
 
 abbrev pub PartStops : Form → {X : Type 0} → (Standing → Standing → Type 0) → ℕ → Standing → (X → List (List ℕ)) → List (List ℕ) → Option (List ℕ) → Option (List ℕ) → LineStop → Type 0
-PartStops form L n s lines ended written written' stop = (old : List ℕ) → written ≡ Some old → (text : List ℕ) × (written' ≡ Some (old ++ text)) × PartEnds form L n s lines ended stop text
+PartStops form L n s lines ended written written' stop = (text : List ℕ) × Grows written written' text × PartEnds form L n s lines ended stop text
 
 -- a line was answered, and its text written
 abbrev pub Took : Form → ℕ → Standing → List ℕ → Standing → Option (List ℕ) → Option (List ℕ) → Type 0
@@ -84,7 +85,7 @@ FinishEnds form L n s lines end.Flush text = Finished form L n s lines text
 FinishEnds form L n s lines end.NoMemory text = Reported form L n s lines text ⊎ Answered form L n s lines text
 
 abbrev pub FinishStops : Form → (Standing → Standing → Type 0) → ℕ → Standing → List (List ℕ) → Option (List ℕ) → Option (List ℕ) → EndStop → Type 0
-FinishStops form L n s lines written written' stop = (old : List ℕ) → written ≡ Some old → (text : List ℕ) × (written' ≡ Some (old ++ text)) × FinishEnds form L n s lines stop text
+FinishStops form L n s lines written written' stop = (text : List ℕ) × Grows written written' text × FinishEnds form L n s lines stop text
 
 -- the report and the flush stop by these
 abbrev pub IsOfReport : EndStop → Type 0
@@ -98,37 +99,25 @@ IsOfReport end.NoMemory = Unit {0}
 abbrev pub Finishes : Form → (Standing → Standing → Type 0) → ℕ → Standing → List (List ℕ) → Option (List ℕ) → Option (List ℕ) → Type 0
 Finishes form L n s lines written written' = (text : List ℕ) × Finished form L n s lines text × Grows written written' text
 
--- Where a run stands that began at the first standing: these bytes were taken, and this rest is left.
-pub record At (form : Form) (first : Standing) (input : List ℕ) (count n : ℕ) (s : Standing) (line : List ℕ) (left written written' : Option (List ℕ)) : Type 0 where
+-- Where a run stands that began at the first standing, and has taken so many bytes.
+pub record Stands (form : Form) (first : Standing) (from : Option (List ℕ)) (count n : ℕ) (s : Standing) (line : List ℕ) (left written written' : Option (List ℕ)) : Type 0 where
   pub taken : List ℕ
-  pub rest : List ℕ
-  pub input_is : input ≡ taken ++ rest
-  pub left_is : left ≡ Some rest
+  pub told : Told from taken left
   pub count_is : count ≡ length taken
   pub fed : Fed form 1 first [] taken n s line written written'
-
--- the facts that a loop keeps of a source that tells
-abbrev pub Stands : Form → Standing → Option (List ℕ) → ℕ → ℕ → Standing → List ℕ → Option (List ℕ) → Option (List ℕ) → Option (List ℕ) → Type 0
-Stands form first from count n s line left w w' = (input : List ℕ) → from ≡ Some input → At form first input count n s line left w w'
 
 -- at the end of the input, with these lines left
 abbrev pub FinishAs : Form → (Standing → Standing → Type 0) → ℕ → Standing → List (List ℕ) → Status → List ℕ → Type 0
 FinishAs form L n s lines Done text = Finished form L n s lines text
-FinishAs form L n s lines Usage text = ⊥
 FinishAs form L n s lines (BadInput m fault) text = Named form L n s lines text (stop.BadInput m fault) ⊎ Lacking form L n s lines text (stop.BadInput m fault)
-FinishAs form L n s lines (Limit m Line) text = ⊥
-FinishAs form L n s lines (Limit m Input) text = ⊥
 FinishAs form L n s lines (Limit m (Ratio over)) text = Named form L n s lines text (stop.Ratio m over)
-FinishAs form L n s lines ReadFault text = ⊥
 FinishAs form L n s lines WriteFault text = Wrote form L n s lines text ⊎ Reported form L n s lines text ⊎ Finished form L n s lines text
 FinishAs form L n s lines KeepFault text = Unkept form L n s lines text
 FinishAs form L n s lines NoMemory text = (Wrote form L n s lines text ⊎ Held form L n s lines text ⊎ Unkept form L n s lines text) ⊎ Reported form L n s lines text
-FinishAs form L n s lines BadStore text = ⊥
-FinishAs form L n s lines (WrongStore is_empty) text = ⊥
-FinishAs form L n s lines NotFound text = ⊥
+FinishAs form L n s lines _ text = ⊥
 
 abbrev pub FinishStatus : Form → (Standing → Standing → Type 0) → ℕ → Standing → List (List ℕ) → Option (List ℕ) → Option (List ℕ) → Status → Type 0
-FinishStatus form L n s lines written written' status = (old : List ℕ) → written ≡ Some old → (text : List ℕ) × (written' ≡ Some (old ++ text)) × FinishAs form L n s lines status text
+FinishStatus form L n s lines written written' status = (text : List ℕ) × Grows written written' text × FinishAs form L n s lines status text
 
 -- no end of a line is among the bytes
 abbrev pub HasNoEnd : List ℕ → Type 0
@@ -163,6 +152,16 @@ UnlessWrite (Err (stop.Ratio n over)) P = P
 UnlessWrite (Err stop.Write) P = Unit {0}
 UnlessWrite (Err stop.Keep) P = P
 UnlessWrite (Err stop.NoMemory) P = P
+
+-- the fact holds, where the sink failed at the end
+abbrev pub WhereWriteAtEnd : {X : Type 0} → Result X EndStop → Type 0 → Type 0
+WhereWriteAtEnd (Ok x) P = Unit {0}
+WhereWriteAtEnd (Err (end.Line stop.Write)) P = P
+WhereWriteAtEnd (Err (end.Line _)) P = Unit {0}
+WhereWriteAtEnd (Err (end.Lacking n fault)) P = Unit {0}
+WhereWriteAtEnd (Err end.Report) P = P
+WhereWriteAtEnd (Err end.Flush) P = P
+WhereWriteAtEnd (Err end.NoMemory) P = Unit {0}
 
 abbrev pub UnlessWriteAtEnd : {X : Type 0} → Result X EndStop → Type 0 → Type 0
 UnlessWriteAtEnd (Ok x) P = P

@@ -1,17 +1,18 @@
 -- How runs end that go on from the rows of their keeper: of the commands `resume` and `query`.
-use Rattle.std.specs.Prelude.{◌≡◌, ◌≢◌, ◌⊎◌, ℕ, Bool, true, List, [], Option, Some, None, IfSome}
+use Rattle.std.specs.Prelude.{◌≡◌, ◌≢◌, ◌⊎◌, ℕ, Bool, true, List, [], Option, Some, None, IfSome, IsSome}
 use Rattle.base_bech32.specs.declared.form.Form.{Form}
 use Rattle.base_io.specs.Outside.{Rose}
-use Rattle.base_io.specs.Rows.{Pair}
+use Rattle.base_io.specs.Rows.{Makes, Pair}
 use Rattle.rule_machine.specs.Report.{report_of}
 use Rattle.line_report.specs.declared.question.Query.{Query}
 use Rattle.line_report.specs.Asking.{answered_by}
 use Rattle.store_resuming.specs.declared.fault.RestoreFault.{RestoreFault}
 use Rattle.store_resuming.specs.declared.fault.RestoreFault.TheVariants as fault
-use Rattle.store_resuming.specs.Restored.{AreLoaded, AreOfNone, HaveSameRows, IsStorable, rows_of}
+use Rattle.store_resuming.specs.Restored.{AreLoaded, AreOfNone, AreStateRows, HaveSameRows, IsStorable, old_rows_of, rows_of, state_rows}
+use Rattle.store_rows.specs.declared.format.Format.{Format}
 use Rattle.rule_modules.specs.Chain.{State}
 use Rattle.run_app.specs.declared.status.Status.{Status}
-use Rattle.run_app.specs.declared.status.Status.TheVariants.{Done, Usage, BadInput, Limit, ReadFault, WriteFault, KeepFault, NoMemory, BadStore, WrongStore, NotFound}
+use Rattle.run_app.specs.declared.status.Status.TheVariants.{KeepFault, NoMemory, BadStore, WrongStore, NotFound}
 use Rattle.run_app.specs.Kept.{AreLeft, Began, LeftIn}
 use Rattle.run_app.specs.Outcome.{IsUntroubled, RunEnds}
 use Rattle.run_app.specs.Writes.{Adds, IsWritten, Leaves}
@@ -28,17 +29,11 @@ status_of_restore fault.Unsound = BadStore
 -- Why a run did not go on from the rows of its keeper: they were not loaded, memory was wanting, there are none, or they are those of
 -- no sound state.
 abbrev pub IsUnresumed : Status → Option (List Pair) → Option (List Pair) → Type 0 → Type 0
-IsUnresumed Done rows rows' honest' = ⊥
-IsUnresumed Usage rows rows' honest' = ⊥
-IsUnresumed (BadInput n fault) rows rows' honest' = ⊥
-IsUnresumed (Limit n kind) rows rows' honest' = ⊥
-IsUnresumed ReadFault rows rows' honest' = ⊥
-IsUnresumed WriteFault rows rows' honest' = ⊥
 IsUnresumed KeepFault rows rows' honest' = Unit {0}
 IsUnresumed NoMemory rows rows' honest' = Unit {0}
 IsUnresumed BadStore rows rows' honest' = AreLoaded rows rows' honest' (λ now. (now ≢ []) × AreOfNone now)
 IsUnresumed (WrongStore is_empty) rows rows' honest' = (is_empty ≡ true) × AreLoaded rows rows' honest' (λ now. now ≡ [])
-IsUnresumed NotFound rows rows' honest' = ⊥
+IsUnresumed _ rows rows' honest' = ⊥
 
 -- ---- resume
 
@@ -46,19 +41,35 @@ IsUnresumed NotFound rows rows' honest' = ⊥
 abbrev pub on_rows_of : State → Option (List Pair) → Began
 on_rows_of p rows = record { first = Some p; rows = rows }
 
--- A run went on from the rows of its keeper: they are those of a state, where the keeper was honest; and from each state of the same
--- rows it ended as the machine says from there, with its lines numbered from 1.
+-- A run went on from the rows of its keeper: they are those of a state in one format or the other,
+-- where the keeper was honest; and from each state of the same rows it ended as the machine says
+-- from there, with its lines numbered from 1. Rows of the first format were brought to the second
+-- before any line.
 pub record GoesOn (form : Form) (left left' written written' : Option (List ℕ)) (rows rows' : Option (List Pair)) (honest' : Type 0) (leaves' : List Pair → Type 0) (status : Status) : Type 0 where
   pub first : State
   pub storable : IsStorable first
-  pub loaded : honest' → IfSome rows (λ now. now ≡ rows_of first)
+  pub loaded : honest' → IfSome rows (λ now. AreStateRows now first)
   pub ends : (p : State) → IsStorable p → HaveSameRows p first → RunEnds form (Some p) (LeftIn (on_rows_of p rows) rows' honest' leaves') left left' written written' status
 
--- A resume goes on from the rows of its keeper; or no chain comes of them, it takes and writes nothing, and leaves all rows.
+-- Rows of the first format were not brought to the second: their commit failed, or memory was
+-- wanting for it. They are as before. A stop leaves what it could leave before, or the rows of the
+-- same state in the second format.
+pub record IsUnmigrated (status : Status) (rows rows' : Option (List Pair)) (honest' : Type 0) (leaves leaves' : List Pair → Type 0) : Type 0 where
+  pub first : State
+  pub storable : IsStorable first
+  pub why : (status ≡ KeepFault) ⊎ (status ≡ NoMemory)
+  pub loaded : honest' → IfSome rows (λ now. now ≡ old_rows_of first)
+  pub rows_are : Makes (λ before. before) rows rows'
+  pub stop : honest' → IsSome rows → (left : List Pair) → leaves' left → leaves left ⊎ (left ≡ rows_of first)
+
+-- A resume goes on from the rows of its keeper; or no chain comes of them, it takes and writes
+-- nothing, and leaves all rows; or these were not brought to the format that is written, and it
+-- takes and writes nothing.
 abbrev pub ResumeEnds : Form → Option (List ℕ) → Option (List ℕ) → Option (List ℕ) → Option (List ℕ) → Option (List Pair) → Option (List Pair) → Type 0 → (List Pair → Type 0) → (List Pair → Type 0) → Status → Type 0
 ResumeEnds form left left' written written' rows rows' honest' leaves leaves' status =
     GoesOn form left left' written written' rows rows' honest' leaves' status
     ⊎ (IsUnresumed status rows rows' honest' × Leaves left left' written written' (λ text. text ≡ []) × AreLeft rows rows' honest' leaves leaves')
+    ⊎ (IsUnmigrated status rows rows' honest' leaves leaves' × Leaves left left' written written' (λ text. text ≡ []))
 
 -- ---- query
 
@@ -70,12 +81,13 @@ IsAnswered None status text = ((status ≡ NotFound) ⊎ (status ≡ NoMemory)) 
 abbrev pub Answers : Option (List ℕ) → Option (List ℕ) → Option (List ℕ) → Status → Type 0
 Answers due written written' status = Adds written written' (IsAnswered due status)
 
--- A run asked the chain of its keeper's rows: they are those of a state, and for each state of the same rows the lines of its report
--- that answer the question were written.
+-- A run asked the chain of its keeper's rows: they are those of a state in one format or the other,
+-- and for each state of the same rows the lines of its report that answer the question were
+-- written.
 pub record Asked (form : Form) (what : Query) (written written' : Option (List ℕ)) (rows rows' : Option (List Pair)) (honest' : Type 0) (status : Status) : Type 0 where
   pub first : State
   pub storable : IsStorable first
-  pub loaded : AreLoaded rows rows' honest' (λ now. now ≡ rows_of first)
+  pub loaded : AreLoaded rows rows' honest' (λ now. AreStateRows now first)
   pub answered : (p : State) → IsStorable p → HaveSameRows p first → Answers (answered_by form (report_of p) what) written written' status
 
 -- A query leaves all rows. It answers from them; or no chain comes of them, and it writes nothing.
@@ -86,18 +98,19 @@ QueryEnds form what written written' rows rows' honest' leaves leaves' status =
 
 -- ---- runs that nothing keeps from their end
 
--- a keeper with the rows of this state that is honest to the end, and of which no call fails
+-- a keeper with the rows of this state, in one format or the other, that is honest to the end, and
+-- of which no call fails
 pub record FitsState (p : State) (rows : Option (List Pair)) (honest' : Type 0) (faults faults' : ℕ) : Type 0 where
   pub storable : IsStorable p
-  pub rows_are : rows ≡ Some (rows_of p)
+  pub rows_are : (f : Format) × (rows ≡ Some (state_rows f p))
   pub honest : honest'
   pub quiet : ¬ Rose faults faults'
 
 -- the rows are those of a state from which the input is free of faults
-abbrev pub ResumesCalmly : Form → Option (List ℕ) → Option (List ℕ) → Option (List Pair) → Type 0 → ℕ → ℕ → Type 0
-ResumesCalmly form left written rows honest' faults faults' = (p : State) × IsUntroubled form (Some p) left written × FitsState p rows honest' faults faults'
+abbrev pub ResumesCalmly : Form → Option (List ℕ) → Option (List Pair) → Type 0 → ℕ → ℕ → Type 0
+ResumesCalmly form left rows honest' faults faults' = (p : State) × IsUntroubled form (Some p) left × FitsState p rows honest' faults faults'
 
 -- the rows are those of a state whose report answers the question
-abbrev pub AsksCalmly : Form → Query → Option (List ℕ) → Option (List Pair) → Type 0 → ℕ → ℕ → Type 0
-AsksCalmly form what written rows honest' faults faults' =
-    ((old : List ℕ) × (written ≡ Some old)) × ((p : State) × FitsState p rows honest' faults faults' × ((text : List ℕ) × (answered_by form (report_of p) what ≡ Some text)))
+abbrev pub AsksCalmly : Form → Query → Option (List Pair) → Type 0 → ℕ → ℕ → Type 0
+AsksCalmly form what rows honest' faults faults' =
+    (p : State) × FitsState p rows honest' faults faults' × ((text : List ℕ) × (answered_by form (report_of p) what ≡ Some text))

@@ -1,5 +1,5 @@
 -- How a run ends that counts ballots over the rows of its keeper: of the command `tally`.
-use Rattle.std.specs.Prelude.{◌≡◌, ℕ, ◌≤◌, ◌⊎◌, List, [], ◌++◌, length, Option, Some, Ok}
+use Rattle.std.specs.Prelude.{◌≡◌, ℕ, ◌≤◌, ◌⊎◌, List, [], length, Option, Some, Ok}
 use Rattle.base_bech32.specs.declared.form.Form.{Form}
 use Rattle.base_io.specs.Rows.{Pair}
 use Rattle.base_roles.specs.Staked.{Staked}
@@ -7,13 +7,15 @@ use Rattle.line_ballots.specs.Ballots.{text_of_tally}
 use Rattle.mod_tally.specs.Ballots.{Cast, chosen_in}
 use Rattle.mod_tally.specs.Tally.{tally_of}
 use Rattle.rule_modules.specs.Chain.{State}
-use Rattle.store_resuming.specs.Restored.{AreLoaded, HaveSameRows, IsStorable, rows_of}
+use Rattle.store_resuming.specs.Restored.{AreLoaded, AreStateRows, HaveSameRows, IsStorable}
 use Rattle.run_app.specs.declared.status.Status.{Status}
 use Rattle.run_app.specs.Ballots.{IsUncounted, cast_in}
 use Rattle.run_app.specs.Kept.{AreLeft}
 use Rattle.run_app.specs.Outcome.{most_bytes}
 use Rattle.run_app.specs.Resumes.{FitsState, IsUnresumed}
+use Rattle.run_app.specs.Told.{TakesFrom}
 use Rattle.run_app.specs.Writes.{IsWritten, Leaves}
+use Rattle.run_generated.specs.Writing.{Grows}
 
 -- what is written of ballots over validators and delegations: the line of their tally
 abbrev pub text_of_cast : Staked → Cast → List ℕ
@@ -33,19 +35,19 @@ abbrev pub CountEnds : Form → Staked → List ℕ → List ℕ → Status → 
 CountEnds form s taken rest status text =
     IsCounted form s taken rest status text ⊎ (IsUncounted form status taken rest × (text ≡ []))
 
--- the same of a source and a sink, where these tell their bytes
+-- There are bytes that were taken, a rest that is left, and a text that was written, as the source
+-- and the sink tell them where they do, by which ballots were counted so.
 abbrev pub Counts : Form → Staked → Option (List ℕ) → Option (List ℕ) → Option (List ℕ) → Option (List ℕ) → Status → Type 0
 Counts form s left left' written written' status =
-    (input old : List ℕ) → left ≡ Some input → written ≡ Some old →
-    (taken : List ℕ) × (rest : List ℕ) × (text : List ℕ) × (input ≡ taken ++ rest)
-    × (left' ≡ Some rest) × (written' ≡ Some (old ++ text)) × CountEnds form s taken rest status text
+    (taken : List ℕ) × (rest : List ℕ) × (text : List ℕ)
+    × TakesFrom left left' taken rest × Grows written written' text × CountEnds form s taken rest status text
 
--- A run counted over the rows of its keeper: they are those of a state, and of each state of the
--- same rows the validators and delegations are counted over.
+-- A run counted over the rows of its keeper: they are those of a state in one format or the other,
+-- and of each state of the same rows the validators and delegations are counted over.
 pub record Tallied (form : Form) (left left' written written' : Option (List ℕ)) (rows rows' : Option (List Pair)) (honest' : Type 0) (status : Status) : Type 0 where
   pub first : State
   pub storable : IsStorable first
-  pub loaded : AreLoaded rows rows' honest' (λ now. now ≡ rows_of first)
+  pub loaded : AreLoaded rows rows' honest' (λ now. AreStateRows now first)
   pub counts :
       (p : State) → IsStorable p → HaveSameRows p first
       → Counts form p.mine.staked left left' written written' status
@@ -58,17 +60,15 @@ TallyEnds form left left' written written' rows rows' honest' leaves leaves' sta
     × (Tallied form left left' written written' rows rows' honest' status
     ⊎ (IsUnresumed status rows rows' honest' × Leaves left left' written written' (λ text. text ≡ [])))
 
--- a source and a sink that tell, and an input within its limit, of which each line is a ballot
-pub record AreBallots (form : Form) (left written : Option (List ℕ)) : Type 0 where
+-- a source that tells, and an input within its limit, of which each line is a ballot
+pub record AreBallots (form : Form) (left : Option (List ℕ)) : Type 0 where
   pub input : List ℕ
-  pub old : List ℕ
   pub cast : Cast
   pub left_is : left ≡ Some input
-  pub written_is : written ≡ Some old
   pub good : cast_in form input ≡ Ok cast
   pub short : length input ≤ most_bytes
 
 -- and the rows are those of a state
-abbrev pub TalliesCalmly : Form → Option (List ℕ) → Option (List ℕ) → Option (List Pair) → Type 0 → ℕ → ℕ → Type 0
-TalliesCalmly form left written rows honest' faults faults' =
-    AreBallots form left written × ((p : State) × FitsState p rows honest' faults faults')
+abbrev pub TalliesCalmly : Form → Option (List ℕ) → Option (List Pair) → Type 0 → ℕ → ℕ → Type 0
+TalliesCalmly form left rows honest' faults faults' =
+    AreBallots form left × ((p : State) × FitsState p rows honest' faults faults')

@@ -1,10 +1,10 @@
 -- What a run writes that has one text to write.
-use Rattle.std.specs.Prelude.{◌≡◌, ℕ, List, [], ◌++◌, Option, Some, None, Result, Ok, Err, ⊤}
+use Rattle.std.specs.Prelude.{◌≡◌, ℕ, List, Option, Result, Ok, Err, ⊤}
 use Rattle.base_io.specs.declared.outside.SinkFault.{SinkFault}
 use Rattle.base_io.specs.declared.outside.SinkFault.TheVariants as sink
-use Rattle.run_generated.specs.Writing.{IsFront}
+use Rattle.run_generated.specs.Writing.{Grows, IsFront}
 use Rattle.run_app.specs.declared.status.Status.{Status}
-use Rattle.run_app.specs.declared.status.Status.TheVariants.{Done, Usage, BadInput, Limit, ReadFault, WriteFault, KeepFault, NoMemory, BadStore, WrongStore, NotFound}
+use Rattle.run_app.specs.declared.status.Status.TheVariants.{Done, WriteFault, NoMemory}
 
 -- how a run ends that has written its text, or could not
 abbrev pub status_of_sink : Result ⊤ SinkFault → Status
@@ -16,20 +16,13 @@ status_of_sink (Err sink.NoMemory) = NoMemory
 -- wanting. At a fault the front is all of it where the flush failed.
 abbrev pub IsWritten : List ℕ → Status → List ℕ → Type 0
 IsWritten whole Done text = text ≡ whole
-IsWritten whole Usage text = ⊥
-IsWritten whole (BadInput n fault) text = ⊥
-IsWritten whole (Limit n kind) text = ⊥
-IsWritten whole ReadFault text = ⊥
 IsWritten whole WriteFault text = IsFront text whole
-IsWritten whole KeepFault text = ⊥
 IsWritten whole NoMemory text = IsFront text whole
-IsWritten whole BadStore text = ⊥
-IsWritten whole (WrongStore is_empty) text = ⊥
-IsWritten whole NotFound text = ⊥
+IsWritten whole _ text = ⊥
 
--- what came to the sink is so, where it is told
+-- There is a text that came to the sink, as the sink tells it where it does, and it is so.
 abbrev pub Adds : Option (List ℕ) → Option (List ℕ) → (List ℕ → Type 0) → Type 0
-Adds written written' P = (old : List ℕ) → written ≡ Some old → (text : List ℕ) × (written' ≡ Some (old ++ text)) × P text
+Adds written written' P = (text : List ℕ) × Grows written written' text × P text
 
 abbrev pub Writes : List ℕ → Option (List ℕ) → Option (List ℕ) → Status → Type 0
 Writes whole written written' status = Adds written written' (IsWritten whole status)

@@ -1,13 +1,11 @@
 //! The input in pieces, as a source gives them: a piece is cut into lines, and each line that has ended is answered.
 
-ghost use Rattle.std.specs.Prelude.{◌≡◌, ◌≤◌, ◌<◌, ◌^◌, ◌+◌, ◌∷◌, ◌++◌, [], List, ℕ, IfErr, IfSome, IfNone, OnOk, OnErr, IsErrOf, length, take, drop, slice_index};
+ghost use Rattle.std.specs.Prelude.{◌≡◌, ◌≤◌, ◌<◌, ◌^◌, ◌+◌, ◌∷◌, ◌++◌, [], ℕ, IfErr, IfSome, IfNone, OnOk, OnErr, IsErrOf, length, take, drop, slice_index};
 ghost use Rattle.base_io.specs.Outside.{Rose};
 ghost use Rattle.run_app.specs.Lines.{whole_from};
-ghost use Rattle.run_app.specs.Kept.{Began, Keeping, LeftIn};
+ghost use Rattle.run_app.specs.Kept.{Began, IsLater, Keeping, LeftIn};
 ghost use Rattle.run_app.specs.Machine.{longest, Standing};
 ghost use Rattle.run_app.specs.Parts.{PartStops, Fed, lines_after, HasNoEnd, NotExtended, UnlessKeep, UnlessWrite};
-ghost use Rattle.base_io.specs.declared.keeper.Change.{Change};
-ghost use Rattle.store_commits.specs.Held.{TakesDistinct};
 
 use crate::line::{Buffers, LONGEST, take_line};
 use crate::status::LineStop;
@@ -73,7 +71,6 @@ fn end_line<K: Sink, D: Keeper>(
     requires number { progress.old.number < 2 ^ 63 }
     requires short { length progress.old.line.items ≤ longest }
     requires before { HasNoEnd bytes.now }
-    requires takes { TakesDistinct (D.takes keeper.old) }
     requires kept { (b : Began) × (s : Standing) × Keeping b progress.old.chain
         (D.rows keeper.old) (D.is_honest keeper.old) (D.may_leave keeper.old) s }
     ensures fed { (b : Began) → (s : Standing) → Keeping b progress.old.chain
@@ -94,10 +91,8 @@ fn end_line<K: Sink, D: Keeper>(
     ensures cause { IsErrOf result LineStop.Write
         → Rose (K.faults sink.old) (K.faults sink.new) }
     ensures quiet { UnlessWrite result (K.faults sink.new ≡ K.faults sink.old) }
-    ensures honest { D.is_honest keeper.new → D.is_honest keeper.old }
-    ensures takes { (changes : List Change) → D.takes keeper.old changes
-        → D.takes keeper.new changes }
-    ensures keep_later { D.faults keeper.old ≤ D.faults keeper.new }
+    ensures keeps { IsLater (D.is_honest keeper.old) (D.is_honest keeper.new)
+        (D.faults keeper.old) (D.faults keeper.new) }
     ensures keep_cause { IsErrOf result LineStop.Keep
         → Rose (D.faults keeper.old) (D.faults keeper.new) }
     ensures keep_quiet { UnlessKeep result (D.faults keeper.new ≡ D.faults keeper.old) }
@@ -140,7 +135,6 @@ pub fn feed<K: Sink, D: Keeper>(
 ) -> Result<(), LineStop>
     requires number { progress.old.number + length piece.now < 2 ^ 63 }
     requires short { length progress.old.line.items ≤ longest }
-    requires takes { TakesDistinct (D.takes keeper.old) }
     requires kept { (b : Began) × (s : Standing) × Keeping b progress.old.chain
         (D.rows keeper.old) (D.is_honest keeper.old) (D.may_leave keeper.old) s }
     ensures fed { (b : Began) → (s : Standing) → Keeping b progress.old.chain
@@ -160,10 +154,8 @@ pub fn feed<K: Sink, D: Keeper>(
     ensures cause { IsErrOf result LineStop.Write
         → Rose (K.faults sink.old) (K.faults sink.new) }
     ensures quiet { UnlessWrite result (K.faults sink.new ≡ K.faults sink.old) }
-    ensures honest { D.is_honest keeper.new → D.is_honest keeper.old }
-    ensures takes { (changes : List Change) → D.takes keeper.old changes
-        → D.takes keeper.new changes }
-    ensures keep_later { D.faults keeper.old ≤ D.faults keeper.new }
+    ensures keeps { IsLater (D.is_honest keeper.old) (D.is_honest keeper.new)
+        (D.faults keeper.old) (D.faults keeper.new) }
     ensures keep_cause { IsErrOf result LineStop.Keep
         → Rose (D.faults keeper.old) (D.faults keeper.new) }
     ensures keep_quiet { UnlessKeep result (D.faults keeper.new ≡ D.faults keeper.old) }

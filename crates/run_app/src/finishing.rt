@@ -3,10 +3,9 @@
 ghost use Rattle.std.specs.Prelude.{◌≡◌, ◌≤◌, ◌⊎◌, true, IfErr, OnOk, IsErrOf, []};
 ghost use Rattle.base_io.specs.Outside.{Rose};
 ghost use Rattle.run_app.specs.Lines.{last_line};
-ghost use Rattle.run_app.specs.Kept.{Began, Keeping, LeftIn};
+ghost use Rattle.run_app.specs.Kept.{Began, IsLater, Keeping, LeftIn};
 ghost use Rattle.run_app.specs.Machine.{Standing, StandsAt};
-ghost use Rattle.store_commits.specs.Held.{TakesDistinct};
-ghost use Rattle.run_app.specs.Parts.{EndLongOnly, IsOfReport, FinishStops, Finishes, UnlessKeepAtEnd, UnlessWriteAtEnd};
+ghost use Rattle.run_app.specs.Parts.{EndLongOnly, IsOfReport, FinishStops, Finishes, UnlessKeepAtEnd, UnlessWriteAtEnd, WhereWriteAtEnd};
 
 use crate::line::{Buffers, take_line};
 use crate::report::report_text;
@@ -71,7 +70,6 @@ pub fn finish<K: Sink, D: Keeper>(
     chain: &mut Option<Chain>,
     line: &[u8],
 ) -> Result<(), EndStop>
-    requires takes { TakesDistinct (D.takes keeper.old) }
     requires kept { (b : Began) × (s : Standing) × Keeping b chain.old
         (D.rows keeper.old) (D.is_honest keeper.old) (D.may_leave keeper.old) s }
     ensures clean { OnOk result (K.clean sink.new ≡ true) }
@@ -87,15 +85,10 @@ pub fn finish<K: Sink, D: Keeper>(
         number s (last_line line.now) (K.written sink.old) (K.written sink.new)) }
     ensures long { IfErr result (λ stop. EndLongOnly stop line.now) }
     ensures later { K.faults sink.old ≤ K.faults sink.new }
-    ensures report_cause { IsErrOf result EndStop.Report
-        → Rose (K.faults sink.old) (K.faults sink.new) }
-    ensures flush_cause { IsErrOf result EndStop.Flush
-        → Rose (K.faults sink.old) (K.faults sink.new) }
+    ensures cause { WhereWriteAtEnd result (Rose (K.faults sink.old) (K.faults sink.new)) }
     ensures quiet { UnlessWriteAtEnd result (K.faults sink.new ≡ K.faults sink.old) }
-    ensures line_cause { IsErrOf result (EndStop.Line LineStop.Write)
-        → Rose (K.faults sink.old) (K.faults sink.new) }
-    ensures honest { D.is_honest keeper.new → D.is_honest keeper.old }
-    ensures keep_later { D.faults keeper.old ≤ D.faults keeper.new }
+    ensures keeps { IsLater (D.is_honest keeper.old) (D.is_honest keeper.new)
+        (D.faults keeper.old) (D.faults keeper.new) }
     ensures keep_cause { IsErrOf result (EndStop.Line LineStop.Keep)
         → Rose (D.faults keeper.old) (D.faults keeper.new) }
     ensures keep_quiet { UnlessKeepAtEnd result (D.faults keeper.new ≡ D.faults keeper.old) }

@@ -4,14 +4,19 @@
 
 mod answer;
 mod balloting;
+mod checking;
 mod feeding;
 mod finishing;
 mod generating;
+mod keeping;
 mod line;
+mod performing;
+mod recalling;
 mod report;
 mod resuming;
 mod running;
 mod status;
+mod taking;
 mod tallying;
 
 pub use running::run;

@@ -9,10 +9,8 @@ ghost use Rattle.run_app.specs.LineStops.{IsOfLine};
 ghost use Rattle.run_app.specs.Machine.{line_answer, not_read, not_applied, IsOfGenesis, IsNotStarted, genesis_answer, block_answer, Standing, StandsAt, AnswersTo};
 ghost use Rattle.chain_modules.specs.Kept.{StandsFor};
 ghost use Rattle.rule_modules.specs.Chain.{State};
-ghost use Rattle.run_app.specs.Kept.{Began, Keeping, LeftIn};
+ghost use Rattle.run_app.specs.Kept.{Began, IsLater, Keeping, LeftIn};
 ghost use Rattle.run_app.specs.Parts.{IsFault, LongOnly, NotAnswered, PartStops, Took, UnlessKeep, UnlessWrite, not_kept};
-ghost use Rattle.base_io.specs.declared.keeper.Change.{Change};
-ghost use Rattle.store_commits.specs.Held.{TakesDistinct};
 
 use crate::status::{InputFault, LineStop};
 use base_bech32::Form;
@@ -160,7 +158,6 @@ fn start<D: Keeper>(
     line: &[u8],
 ) -> Result<Chain, LineStop>
     requires text { text.old.items ≡ [] }
-    requires takes { TakesDistinct (D.takes keeper.old) }
     requires kept { (b : Began) × Keeping b None
         (D.rows keeper.old) (D.is_honest keeper.old) (D.may_leave keeper.old) None }
     ensures ok { (b : Began) → Keeping b None
@@ -174,8 +171,6 @@ fn start<D: Keeper>(
         (LeftIn b (D.rows keeper.new) (D.is_honest keeper.new) (D.may_leave keeper.new))
         stop None (genesis_answer number (genesis_of form line.now))) }
     ensures honest { D.is_honest keeper.new → D.is_honest keeper.old }
-    ensures takes { (changes : List Change) → D.takes keeper.old changes
-        → D.takes keeper.new changes }
     ensures later { D.faults keeper.old ≤ D.faults keeper.new }
     ensures cause { IsErrOf result LineStop.Keep
         → Rose (D.faults keeper.old) (D.faults keeper.new) }
@@ -202,7 +197,6 @@ fn go_on<D: Keeper>(
     line: &[u8],
 ) -> Result<(), LineStop>
     requires text { buffers.old.text.items ≡ [] }
-    requires takes { TakesDistinct (D.takes keeper.old) }
     requires kept { (b : Began) × (p : State) × Keeping b (Some chain.old)
         (D.rows keeper.old) (D.is_honest keeper.old) (D.may_leave keeper.old) (Some p) }
     ensures ok { (b : Began) → (p : State) → Keeping b (Some chain.old)
@@ -217,8 +211,6 @@ fn go_on<D: Keeper>(
         stop (Some p) (block_answer form number p (block_of form line.now))) }
     ensures of_line { IfErr result (λ stop. IsOfLine stop line.now) }
     ensures honest { D.is_honest keeper.new → D.is_honest keeper.old }
-    ensures takes { (changes : List Change) → D.takes keeper.old changes
-        → D.takes keeper.new changes }
     ensures later { D.faults keeper.old ≤ D.faults keeper.new }
     ensures cause { IsErrOf result LineStop.Keep
         → Rose (D.faults keeper.old) (D.faults keeper.new) }
@@ -245,7 +237,6 @@ fn answer<D: Keeper>(
     chain: &mut Option<Chain>,
     line: &[u8],
 ) -> Result<(), LineStop>
-    requires takes { TakesDistinct (D.takes keeper.old) }
     requires kept { (b : Began) × (s : Standing) × Keeping b chain.old
         (D.rows keeper.old) (D.is_honest keeper.old) (D.may_leave keeper.old) s }
     ensures ok { (b : Began) → (s : Standing) → Keeping b chain.old
@@ -260,8 +251,6 @@ fn answer<D: Keeper>(
         stop s (line_answer form number s line.now)) }
     ensures of_line { IfErr result (λ stop. IsOfLine stop line.now) }
     ensures honest { D.is_honest keeper.new → D.is_honest keeper.old }
-    ensures takes { (changes : List Change) → D.takes keeper.old changes
-        → D.takes keeper.new changes }
     ensures later { D.faults keeper.old ≤ D.faults keeper.new }
     ensures cause { IsErrOf result LineStop.Keep
         → Rose (D.faults keeper.old) (D.faults keeper.new) }
@@ -301,7 +290,6 @@ pub fn take_line<K: Sink, D: Keeper>(
     chain: &mut Option<Chain>,
     line: &[u8],
 ) -> Result<(), LineStop>
-    requires takes { TakesDistinct (D.takes keeper.old) }
     requires kept { (b : Began) × (s : Standing) × Keeping b chain.old
         (D.rows keeper.old) (D.is_honest keeper.old) (D.may_leave keeper.old) s }
     ensures took { (b : Began) → (s : Standing) → Keeping b chain.old
@@ -321,10 +309,8 @@ pub fn take_line<K: Sink, D: Keeper>(
     ensures cause { IsErrOf result LineStop.Write
         → Rose (K.faults sink.old) (K.faults sink.new) }
     ensures quiet { UnlessWrite result (K.faults sink.new ≡ K.faults sink.old) }
-    ensures honest { D.is_honest keeper.new → D.is_honest keeper.old }
-    ensures takes { (changes : List Change) → D.takes keeper.old changes
-        → D.takes keeper.new changes }
-    ensures keep_later { D.faults keeper.old ≤ D.faults keeper.new }
+    ensures keeps { IsLater (D.is_honest keeper.old) (D.is_honest keeper.new)
+        (D.faults keeper.old) (D.faults keeper.new) }
     ensures keep_cause { IsErrOf result LineStop.Keep
         → Rose (D.faults keeper.old) (D.faults keeper.new) }
     ensures keep_quiet { UnlessKeep result (D.faults keeper.new ≡ D.faults keeper.old) }

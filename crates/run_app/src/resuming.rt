@@ -1,8 +1,7 @@
 //! The commands that go on from what a keeper has.
 
-ghost use Rattle.std.specs.Prelude.{◌≡◌, true};
+ghost use Rattle.std.specs.Prelude.{◌≡◌, [], true, false};
 ghost use Rattle.base_io.specs.Outside.{Rose};
-ghost use Rattle.store_commits.specs.Held.{TakesDistinct};
 ghost use Rattle.rule_machine.specs.Report.{report_of};
 ghost use Rattle.chain_modules.specs.Kept.{StandsFor};
 ghost use Rattle.line_report.specs.Asking.{answered_by};
@@ -10,18 +9,21 @@ ghost use Rattle.rule_modules.specs.Chain.{State};
 ghost use Rattle.run_app.specs.Kept.{UnlessKeepFault};
 ghost use Rattle.run_app.specs.Outcome.{UnlessReadFault, UnlessWriteFault};
 ghost use Rattle.run_app.specs.Resumes.{Answers, QueryEnds, ResumeEnds, status_of_restore};
+ghost use Rattle.run_app.specs.Unkept.{FindsNoRows, IsOfNoRows};
+ghost use Rattle.run_app.specs.Writes.{Adds};
 
 use crate::answer::answer_text;
 use crate::generating::status_of_sink;
 use crate::running::drive;
 use crate::status::Status;
 use base_bech32::Form;
-use base_io::{Keeper, Sink, Source};
+use base_io::{KeepFault, Keeper, Sink, Source};
 use chain_whole::Chain;
 use line_report::Query;
 use run_generated::write_text;
 use std::alloc::Global;
-use store_resuming::{RestoreFault, restore};
+use store_commits::commit_migration;
+use store_resuming::{RestoreFault, restore, restore_with_changes};
 
 /// How a run ends where no chain comes of its keeper.
 pub(crate) fn status_of_restore(fault: RestoreFault) -> Status
@@ -35,7 +37,8 @@ pub(crate) fn status_of_restore(fault: RestoreFault) -> Status
     }
 }
 
-/// The command `resume`: each line is a block behind what the keeper has.
+/// The command `resume`: each line is a block behind what the keeper has. Rows of the first format
+/// are brought to the second before anything is taken.
 pub(crate) fn resume<S: Source, K: Sink, D: Keeper>(
     form: Form,
     alloc: Global,
@@ -43,10 +46,11 @@ pub(crate) fn resume<S: Source, K: Sink, D: Keeper>(
     sink: &mut K,
     keeper: &mut D,
 ) -> Status
-    requires takes { TakesDistinct (D.takes keeper.old) }
     ensures ends { ResumeEnds form (S.left source.old) (S.left source.new)
         (K.written sink.old) (K.written sink.new) (D.rows keeper.old) (D.rows keeper.new)
         (D.is_honest keeper.new) (D.may_leave keeper.old) (D.may_leave keeper.new) result }
+    ensures unkept { D.keeps keeper.old ≡ false → FindsNoRows (S.left source.old)
+        (S.left source.new) (K.written sink.old) (K.written sink.new) result }
     ensures busy { result ≡ Status.Usage → ⊥ }
     ensures clean { result ≡ Status.Done → K.clean sink.new ≡ true }
     ensures read_cause { result ≡ Status.ReadFault
@@ -55,18 +59,24 @@ pub(crate) fn resume<S: Source, K: Sink, D: Keeper>(
         → Rose (K.faults sink.old) (K.faults sink.new) }
     ensures read_quiet { UnlessReadFault result (S.faults source.new ≡ S.faults source.old) }
     ensures write_quiet { UnlessWriteFault result (K.faults sink.new ≡ K.faults sink.old) }
+    ensures honest { D.is_honest keeper.new → D.is_honest keeper.old }
     ensures keep_cause { result ≡ Status.KeepFault
         → Rose (D.faults keeper.old) (D.faults keeper.new) }
     ensures keep_quiet { UnlessKeepFault result (D.faults keeper.new ≡ D.faults keeper.old) }
 {
-    match restore(alloc, keeper) {
-        Ok(chain) => drive(form, alloc, source, sink, keeper, Some(chain)),
-        Err(fault) => status_of_restore(fault),
+    let restored = match restore_with_changes(alloc, keeper) {
+        Ok(restored) => restored,
+        Err(fault) => return status_of_restore(fault),
+    };
+    match commit_migration(keeper, &restored.changes) {
+        Ok(()) => drive(form, alloc, source, sink, keeper, Some(restored.chain)),
+        Err(KeepFault::Failed) => Status::KeepFault,
+        Err(KeepFault::NoMemory) => Status::NoMemory,
     }
 }
 
 /// Writes the report's lines of a chain that answer the question.
-fn write_answer<K: Sink>(
+pub(crate) fn write_answer<K: Sink>(
     form: Form,
     alloc: Global,
     sink: &mut K,
@@ -102,12 +112,15 @@ pub(crate) fn answer<K: Sink, D: Keeper>(
     ensures ends { QueryEnds form what.now (K.written sink.old) (K.written sink.new)
         (D.rows keeper.old) (D.rows keeper.new) (D.is_honest keeper.new)
         (D.may_leave keeper.old) (D.may_leave keeper.new) result }
+    ensures unkept { D.keeps keeper.old ≡ false → IsOfNoRows result
+        × Adds (K.written sink.old) (K.written sink.new) (λ text. text ≡ []) }
     ensures busy { result ≡ Status.Usage → ⊥ }
     ensures read { result ≡ Status.ReadFault → ⊥ }
     ensures clean { result ≡ Status.Done → K.clean sink.new ≡ true }
     ensures write_cause { result ≡ Status.WriteFault
         → Rose (K.faults sink.old) (K.faults sink.new) }
     ensures write_quiet { UnlessWriteFault result (K.faults sink.new ≡ K.faults sink.old) }
+    ensures honest { D.is_honest keeper.new → D.is_honest keeper.old }
     ensures keep_cause { result ≡ Status.KeepFault
         → Rose (D.faults keeper.old) (D.faults keeper.new) }
     ensures keep_quiet { UnlessKeepFault result (D.faults keeper.new ≡ D.faults keeper.old) }

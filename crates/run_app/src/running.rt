@@ -4,14 +4,16 @@
 ghost use Rattle.std.specs.Prelude.{◌≡◌, ◌≤◌, ◌<◌, ◌^◌, ◌+◌, ◌⊎◌, [], ◌∷◌, List, ℕ, Some, None, length, map, string_bytes, true, false, IfErr, OnOk, IfOk, IfSome};
 ghost use Rattle.base_bech32.specs.declared.form.Form.{Form};
 ghost use Rattle.base_io.specs.Outside.{Rose};
+ghost use Rattle.run_app.specs.Counts.{IsOfWords, Moved, is_keep_fault, is_read_fault, is_write_fault};
 ghost use Rattle.run_app.specs.Lines.{last_line};
-ghost use Rattle.run_app.specs.Kept.{Began, Keeping, LeftIn, UnlessKeepFault};
+ghost use Rattle.run_app.specs.Kept.{Began, IsLater, Keeping, LeftIn, UnlessKeepFault};
 ghost use Rattle.run_app.specs.Machine.{longest, Standing};
 ghost use Rattle.run_words.specs.Words.{command_of};
-ghost use Rattle.run_app.specs.Modes.{CommandEnds, HasFewBlocks, IsUntroubledBy, ModeEnds, ReplayEnds};
-ghost use Rattle.store_commits.specs.Held.{TakesDistinct};
-ghost use Rattle.run_app.specs.Stops.{CommandStops};
-ghost use Rattle.run_app.specs.Outcome.{RunEnds, most_bytes, UnlessReadFault, UnlessWriteFault};
+ghost use Rattle.run_app.specs.Commands.{CommandEnds, CommandStops, CommandUnkept, IsUntroubledBy};
+ghost use Rattle.run_app.specs.Modes.{HasFewBlocks, ModeEnds, ReplayEnds};
+ghost use Rattle.store_history.specs.Held.{TakesDistinct};
+ghost use Rattle.run_app.specs.Unkept.{ModeUnkept};
+ghost use Rattle.run_app.specs.Outcome.{HasBegun, RunEnds, most_bytes, UnlessReadFault, UnlessWriteFault};
 ghost use Rattle.run_app.specs.Parts.{FinishStatus, Stands};
 ghost use Rattle.rule_machine.specs.Promises.{AccountsHoldWhatIsOwed, AllTransactionsEnd, ClaimsAreBracketed, RunsAreSound, ShortfallsAreBounded, SuppliesFallByBurns};
 ghost use Rattle.law_soundness.specs.Kept.{RefusalsAreNamed, RunsAreAnswered};
@@ -19,14 +21,17 @@ ghost use Rattle.law_runs.specs.Going.{RunsGoFairly};
 ghost use Rattle.law_runs.specs.Moments.{MomentsOfRunsDoNotMatter};
 ghost use Rattle.law_runs.specs.Payees.{PayeesAreOfTheMoment};
 ghost use Rattle.law_runs.specs.Readers.{RunsTellFairly};
-ghost use Rattle.run_app.specs.Laws.{AnswersAreReplays, AnswersJoin, LinesAreReplayed, ResumesAreTheRest, RunsMayGoOn};
+ghost use Rattle.run_app.specs.Rejoined.{RunsGoOn};
+ghost use Rattle.run_app.specs.Laws.{AnswersAreReplays, LinesAreReplayed};
 
+use crate::checking::check_all;
 use crate::feeding::{Progress, feed};
 use crate::finishing::finish;
 use crate::generating::{write_generated, write_trial};
 use crate::line::{Buffers, LONGEST};
+use crate::performing::perform;
 use crate::resuming::{answer, resume};
-use crate::status::{LimitKind, Status, status_at_end, status_of};
+use crate::status::{LimitKind, Status, status_at_end, status_of, status_of_words};
 use crate::tallying::tally;
 use base_bech32::Form;
 use base_io::{KeepFault, Keeper, Sink, Source, read_at_most};
@@ -41,7 +46,7 @@ use law_soundness::runs::{
     supplies_fall_by_burns,
 };
 use rule_machine::all_transactions_end;
-use run_words::{Mode, WordsFault, read_words};
+use run_words::{Mode, read_words};
 use std::alloc::Global;
 use store_commits::has_rows;
 
@@ -75,7 +80,6 @@ fn end<K: Sink, D: Keeper>(
     progress: &mut Progress,
 ) -> Status
     requires short { length progress.old.line.items ≤ longest }
-    requires takes { TakesDistinct (D.takes keeper.old) }
     requires kept { (b : Began) × (s : Standing) × Keeping b progress.old.chain
         (D.rows keeper.old) (D.is_honest keeper.old) (D.may_leave keeper.old) s }
     ensures status { (b : Began) → (s : Standing) → Keeping b progress.old.chain
@@ -84,15 +88,14 @@ fn end<K: Sink, D: Keeper>(
         (LeftIn b (D.rows keeper.new) (D.is_honest keeper.new) (D.may_leave keeper.new))
         progress.old.number s (last_line progress.old.line.items)
         (K.written sink.old) (K.written sink.new) result }
-    ensures busy { result ≡ Status.Usage → ⊥ }
-    ensures begun { result ≡ Status.WrongStore false → ⊥ }
+    ensures begun { HasBegun result }
     ensures clean { result ≡ Status.Done → K.clean sink.new ≡ true }
     ensures read { result ≡ Status.ReadFault → ⊥ }
     ensures later { K.faults sink.old ≤ K.faults sink.new }
     ensures cause { result ≡ Status.WriteFault → Rose (K.faults sink.old) (K.faults sink.new) }
     ensures quiet { UnlessWriteFault result (K.faults sink.new ≡ K.faults sink.old) }
-    ensures honest { D.is_honest keeper.new → D.is_honest keeper.old }
-    ensures keep_later { D.faults keeper.old ≤ D.faults keeper.new }
+    ensures keeps { IsLater (D.is_honest keeper.old) (D.is_honest keeper.new)
+        (D.faults keeper.old) (D.faults keeper.new) }
     ensures keep_cause { result ≡ Status.KeepFault
         → Rose (D.faults keeper.old) (D.faults keeper.new) }
     ensures keep_quiet { UnlessKeepFault result (D.faults keeper.new ≡ D.faults keeper.old) }
@@ -125,7 +128,6 @@ fn take_all<S: Source, K: Sink, D: Keeper>(
 ) -> Status
     requires number { progress.old.number ≡ 1 }
     requires line { progress.old.line.items ≡ [] }
-    requires takes { TakesDistinct (D.takes keeper.old) }
     requires kept { (b : Began) × (s : Standing) × Keeping b progress.old.chain
         (D.rows keeper.old) (D.is_honest keeper.old) (D.may_leave keeper.old) s }
     ensures ends { (b : Began) → (s : Standing) → Keeping b progress.old.chain
@@ -133,8 +135,7 @@ fn take_all<S: Source, K: Sink, D: Keeper>(
         → RunEnds form s
         (LeftIn b (D.rows keeper.new) (D.is_honest keeper.new) (D.may_leave keeper.new))
         (S.left source.old) (S.left source.new) (K.written sink.old) (K.written sink.new) result }
-    ensures busy { result ≡ Status.Usage → ⊥ }
-    ensures begun { result ≡ Status.WrongStore false → ⊥ }
+    ensures begun { HasBegun result }
     ensures clean { result ≡ Status.Done → K.clean sink.new ≡ true }
     ensures read_cause { result ≡ Status.ReadFault
         → Rose (S.faults source.old) (S.faults source.new) }
@@ -142,8 +143,8 @@ fn take_all<S: Source, K: Sink, D: Keeper>(
         → Rose (K.faults sink.old) (K.faults sink.new) }
     ensures read_quiet { UnlessReadFault result (S.faults source.new ≡ S.faults source.old) }
     ensures write_quiet { UnlessWriteFault result (K.faults sink.new ≡ K.faults sink.old) }
-    ensures honest { D.is_honest keeper.new → D.is_honest keeper.old }
-    ensures keep_later { D.faults keeper.old ≤ D.faults keeper.new }
+    ensures keeps { IsLater (D.is_honest keeper.old) (D.is_honest keeper.new)
+        (D.faults keeper.old) (D.faults keeper.new) }
     ensures keep_cause { result ≡ Status.KeepFault
         → Rose (D.faults keeper.old) (D.faults keeper.new) }
     ensures keep_quiet { UnlessKeepFault result (D.faults keeper.new ≡ D.faults keeper.old) }
@@ -184,7 +185,6 @@ pub(crate) fn drive<S: Source, K: Sink, D: Keeper>(
     keeper: &mut D,
     chain: Option<Chain>,
 ) -> Status
-    requires takes { TakesDistinct (D.takes keeper.old) }
     requires kept { (b : Began) × (s : Standing) × Keeping b chain
         (D.rows keeper.old) (D.is_honest keeper.old) (D.may_leave keeper.old) s }
     ensures ends { (b : Began) → (s : Standing) → Keeping b chain
@@ -192,8 +192,7 @@ pub(crate) fn drive<S: Source, K: Sink, D: Keeper>(
         → RunEnds form s
         (LeftIn b (D.rows keeper.new) (D.is_honest keeper.new) (D.may_leave keeper.new))
         (S.left source.old) (S.left source.new) (K.written sink.old) (K.written sink.new) result }
-    ensures busy { result ≡ Status.Usage → ⊥ }
-    ensures begun { result ≡ Status.WrongStore false → ⊥ }
+    ensures begun { HasBegun result }
     ensures clean { result ≡ Status.Done → K.clean sink.new ≡ true }
     ensures read_cause { result ≡ Status.ReadFault
         → Rose (S.faults source.old) (S.faults source.new) }
@@ -201,8 +200,8 @@ pub(crate) fn drive<S: Source, K: Sink, D: Keeper>(
         → Rose (K.faults sink.old) (K.faults sink.new) }
     ensures read_quiet { UnlessReadFault result (S.faults source.new ≡ S.faults source.old) }
     ensures write_quiet { UnlessWriteFault result (K.faults sink.new ≡ K.faults sink.old) }
-    ensures honest { D.is_honest keeper.new → D.is_honest keeper.old }
-    ensures keep_later { D.faults keeper.old ≤ D.faults keeper.new }
+    ensures keeps { IsLater (D.is_honest keeper.old) (D.is_honest keeper.new)
+        (D.faults keeper.old) (D.faults keeper.new) }
     ensures keep_cause { result ≡ Status.KeepFault
         → Rose (D.faults keeper.old) (D.faults keeper.new) }
     ensures keep_quiet { UnlessKeepFault result (D.faults keeper.new ≡ D.faults keeper.old) }
@@ -235,13 +234,12 @@ fn replay<S: Source, K: Sink, D: Keeper>(
     sink: &mut K,
     keeper: &mut D,
 ) -> Status
-    requires takes { TakesDistinct (D.takes keeper.old) }
     ensures ends { ReplayEnds form (S.left source.old) (S.left source.new)
         (K.written sink.old) (K.written sink.new) (D.rows keeper.old) (D.rows keeper.new)
         (D.is_honest keeper.new) (D.may_leave keeper.old) (D.may_leave keeper.new) result }
     ensures busy { result ≡ Status.Usage → ⊥ }
     // A keeper that keeps nothing is never refused.
-    ensures kept { result ≡ Status.WrongStore false → D.keeps keeper.old ≡ true }
+    ensures unkept { D.keeps keeper.old ≡ false → result ≡ Status.WrongStore false → ⊥ }
     ensures clean { result ≡ Status.Done → K.clean sink.new ≡ true }
     ensures read_cause { result ≡ Status.ReadFault
         → Rose (S.faults source.old) (S.faults source.new) }
@@ -249,6 +247,7 @@ fn replay<S: Source, K: Sink, D: Keeper>(
         → Rose (K.faults sink.old) (K.faults sink.new) }
     ensures read_quiet { UnlessReadFault result (S.faults source.new ≡ S.faults source.old) }
     ensures write_quiet { UnlessWriteFault result (K.faults sink.new ≡ K.faults sink.old) }
+    ensures honest { D.is_honest keeper.new → D.is_honest keeper.old }
     ensures keep_cause { result ≡ Status.KeepFault
         → Rose (D.faults keeper.old) (D.faults keeper.new) }
     ensures keep_quiet { UnlessKeepFault result (D.faults keeper.new ≡ D.faults keeper.old) }
@@ -261,8 +260,8 @@ fn replay<S: Source, K: Sink, D: Keeper>(
     }
 }
 
-/// Carries out a command.
-fn carry_out<S: Source, K: Sink, D: Keeper>(
+/// Carries out a command, as its own words say.
+pub(crate) fn carry_out<S: Source, K: Sink, D: Keeper>(
     form: Form,
     alloc: Global,
     mode: Mode,
@@ -271,14 +270,12 @@ fn carry_out<S: Source, K: Sink, D: Keeper>(
     keeper: &mut D,
 ) -> Status
     requires few { HasFewBlocks mode }
-    requires takes { TakesDistinct (D.takes keeper.old) }
     ensures ends { ModeEnds form mode (S.left source.old) (S.left source.new)
         (K.written sink.old) (K.written sink.new) (D.rows keeper.old) (D.rows keeper.new)
         (D.is_honest keeper.new) (D.may_leave keeper.old) (D.may_leave keeper.new) result }
     ensures busy { result ≡ Status.Usage → ⊥ }
-    // Nor does a replay refuse a keeper that keeps nothing.
-    ensures kept { mode ≡ Mode.Replay → result ≡ Status.WrongStore false
-        → D.keeps keeper.old ≡ true }
+    ensures unkept { D.keeps keeper.old ≡ false → ModeUnkept mode (S.left source.old)
+        (S.left source.new) (K.written sink.old) (K.written sink.new) result }
     ensures clean { result ≡ Status.Done → K.clean sink.new ≡ true }
     ensures read_cause { result ≡ Status.ReadFault
         → Rose (S.faults source.old) (S.faults source.new) }
@@ -286,6 +283,7 @@ fn carry_out<S: Source, K: Sink, D: Keeper>(
         → Rose (K.faults sink.old) (K.faults sink.new) }
     ensures read_quiet { UnlessReadFault result (S.faults source.new ≡ S.faults source.old) }
     ensures write_quiet { UnlessWriteFault result (K.faults sink.new ≡ K.faults sink.old) }
+    ensures honest { D.is_honest keeper.new → D.is_honest keeper.old }
     ensures keep_cause { result ≡ Status.KeepFault
         → Rose (D.faults keeper.old) (D.faults keeper.new) }
     ensures keep_quiet { UnlessKeepFault result (D.faults keeper.new ≡ D.faults keeper.old) }
@@ -295,40 +293,59 @@ fn carry_out<S: Source, K: Sink, D: Keeper>(
         Mode::Resume => resume(form, alloc, source, sink, keeper),
         Mode::Query(what) => answer(form, alloc, sink, keeper, &what),
         Mode::Tally => tally(form, alloc, source, sink, keeper),
+        Mode::Check => check_all(form, alloc, source, sink),
         Mode::Gen { seed, count } => write_generated(form, alloc, sink, seed, count),
         Mode::Trial { seed, count } => write_trial(alloc, sink, seed, count),
     }
 }
 
-/// Runs the command of these words: `replay`, `resume`, `query` with a kind and perhaps an address, `tally`, `gen SEED
-/// COUNT` or `trial SEED COUNT`; each may stand behind the word `bech32`. Addresses are read and written as forty
+/// Runs the command of these words: `replay`, `resume`, `query` with a kind and perhaps an address, `tally`, `check`, `gen
+/// SEED COUNT` or `trial SEED COUNT`; `replay` and `resume` may stand behind the word `keep`, `query` behind the words `past
+/// HEIGHT`, and each behind the word `bech32`, which stands before all others. Addresses are read and written as forty
 /// hexadecimal digits, and behind `bech32` as their spellings of BIP 173 alone, modules being written by their names.
 /// Nothing else depends on that word: what is kept has no texts of addresses, so either form goes on from a store.
 ///
-/// Of `replay` the first line of the source is a genesis, each further line a block. It begins on a keeper without rows.
-/// What a line leads to is committed, and then its text is written; at the end of the input the report is written, and the
-/// sink flushed. A keeper that keeps nothing has no rows, and there a commit does nothing; all else is as over any other.
-/// `resume` goes on from the keeper's rows, so each of its lines is a block; its lines are numbered from 1. It writes and
-/// commits what the machine does from any sound state that has these rows. `query` writes the lines of that state's report
-/// that are of its kind and belong to its address, and commits nothing; it takes nothing from the source. `tally` counts
-/// ballots, of which each line of the source is one, by the stake of that state, and writes the line of the totals once the
-/// source was read to its end; it commits nothing. `gen` writes the generated input, and `trial` the summary of it, which a
-/// chain takes block by block; neither takes anything from the source, or calls the keeper.
+/// Of `replay` the first line of the source is a genesis, each further line a block. It begins on a keeper without
+/// rows. What a line leads to is committed, and then its text is written; at the end of the input the report is
+/// written, and the sink flushed. A keeper that keeps nothing has no rows, and there a commit does nothing; all else is
+/// as over any other. `resume` goes on from the keeper's rows, so each of its lines is a block; its lines are numbered
+/// from 1. It writes and commits what the machine does from any sound state that has these rows. Where they are in the
+/// first format of rows, they are brought to the second by a commit before any line; `query` and `tally` read both
+/// formats. `query` writes the lines of that state's report that are of its kind and belong to its address, and commits
+/// nothing; it takes nothing from the source. `tally` counts ballots, of which each line of the source is one, by the
+/// stake of that state, and writes the line of the totals once the source was read to its end; it commits nothing.
+/// `check` reads reward statements, of which each line of the source is one, and writes for each whether it is right; it
+/// does not call the keeper. `gen` writes the generated input, and `trial` the summary of it, which a chain takes block by block; neither takes
+/// anything from the source, or calls the keeper.
 ///
-/// What each status leaves: at `Done` the whole output, flushed; at `Usage` nothing was read or
-/// written; at `BadInput` and `Limit` exactly the texts of the lines before the named one, and of a trial and a tally
-/// nothing; at `ReadFault` those of all lines that were taken with their end, and of a tally nothing; at `WriteFault` all
-/// texts before the one being written and a part of that, or the whole output where the flush failed; at `KeepFault` those
-/// of the lines before the one whose commit failed, and nothing where the rows were not loaded; at `NoMemory` a front of
-/// the whole output; at `WrongStore`, `BadStore` and `NotFound` nothing. The keeper's rows are those of the last committed line, as
-/// they were where there is none: of the lines whose texts were written, and at `WriteFault` and `NoMemory` of one line more.
-/// A stop at a fault of the keeper may also leave the rows that were to be committed. `ReadFault`, `WriteFault` and
-/// `KeepFault` come only where the count of the source's, the sink's, the keeper's faults rose in this call, and that count
-/// rises at no other status.
+/// Behind `keep`, each commit also keeps what its rows replaced, in rows of the keeper whose keys begin with the byte 0x60
+/// or 0x61; what is said of rows is then said of the others, which are visible. A history that stands there goes on, and else
+/// one begins; a commit that brings rows to the second format begins it anew. Behind `past HEIGHT` a question is answered from
+/// the rows that were visible after the last commit of at most this height. Without these words such rows are those of no
+/// sound state.
 ///
-/// `WrongStore(false)` comes exactly where `replay` loaded rows, and `WrongStore(true)` where `resume`, `query` or `tally`
-/// loaded none; `BadStore` exactly where these loaded rows that are those of no sound state; `NotFound` exactly where a
-/// query has an address of which the report has no line.
+/// What each status leaves: at `Done` the whole output, flushed; at `Usage` nothing was read or written; at `BadInput`
+/// and `Limit` exactly the texts of the lines before the named one, and of a trial and a tally nothing; at `ReadFault`
+/// those of all lines that were taken with their end, and of a tally nothing; at `WriteFault` all texts before the one
+/// being written and a part of that, or the whole output where the flush failed; at `KeepFault` those of the lines
+/// before the one whose commit failed, and nothing where the rows were not loaded or not brought to the second format;
+/// at `NoMemory` a front of the whole output; at `WrongStore`, `BadStore`, `NotFound` and `NoPast` nothing. What was taken and
+/// written is what the source and the sink tell, where they tell it. The keeper's rows are those of the last committed
+/// line, as they were where there is none (in the second format, once they were brought to it): of the lines whose texts
+/// were written, and at `WriteFault` and `NoMemory` of one line more. A stop at a fault of the keeper may also leave the
+/// rows that were to be committed. `ReadFault`, `WriteFault` and `KeepFault` come only where the count of the source's,
+/// the sink's, the keeper's faults rose in this call, and that count rises at no other status.
+///
+/// Of `check` the member 130 is also at fault where the entries of a statement are no span, and `Limit` with `Bound` comes
+/// exactly where an operation of its bounds is over.
+///
+/// `WrongStore(false)` comes exactly where `replay` loaded rows, and `WrongStore(true)` where `resume`, `query` or
+/// `tally` loaded none, as over a keeper that keeps nothing; `BadStore` exactly where these loaded rows that are those of
+/// no sound state in either format; `NotFound` exactly where a query has an address of which the report has no line.
+/// Behind `keep`, `BadStore` also comes, before all of these, exactly where a history in the rows is not of its form. Behind
+/// `past HEIGHT` the order is `WrongStore(true)`; `BadStore` where a history is not of its form or no head stands; `NoPast`
+/// exactly where the height is below the base of the history or above the last height, with these; and `BadStore` where the
+/// past rows are those of no sound state.
 pub fn run<S: Source, K: Sink, D: Keeper>(
     alloc: Global,
     words: &[String],
@@ -343,28 +360,25 @@ pub fn run<S: Source, K: Sink, D: Keeper>(
         (S.left source.new) (K.written sink.old) (K.written sink.new)
         (D.rows keeper.old) (D.rows keeper.new) (D.is_honest keeper.new)
         (D.may_leave keeper.old) (D.may_leave keeper.new) result }
-    ensures clean { result ≡ Status.Done → K.clean sink.new ≡ true }
-    // Whatever the status, a stop leaves the rows after a front of the lines that holds each line of which a byte was written.
+    // Over a keeper that keeps nothing a replay begins, and what goes on from rows finds none.
+    ensures unkept { D.keeps keeper.old ≡ false
+        → CommandUnkept (command_of (map string_bytes words.now)) (S.left source.old)
+        (S.left source.new) (K.written sink.old) (K.written sink.new) result }
+    // Whatever the status, a stop leaves the rows after a front of the lines that holds each line of which a byte was
+    // written, and at most one line more.
     ensures stops { CommandStops (command_of (map string_bytes words.now)) (S.left source.old)
         (K.written sink.old) (K.written sink.new) (D.rows keeper.old)
         (D.is_honest keeper.new) (D.may_leave keeper.old) (D.may_leave keeper.new) }
-    // Usage only where the words are no command, and there nothing else but want of memory.
-    ensures usage { result ≡ Status.Usage → command_of (map string_bytes words.now) ≡ None }
-    ensures no_command { command_of (map string_bytes words.now) ≡ None
-        → (result ≡ Status.Usage) ⊎ (result ≡ Status.NoMemory) }
-    // A fault has its cause.
-    ensures read_cause { result ≡ Status.ReadFault
-        → Rose (S.faults source.old) (S.faults source.new) }
-    ensures write_cause { result ≡ Status.WriteFault
-        → Rose (K.faults sink.old) (K.faults sink.new) }
-    ensures read_quiet { UnlessReadFault result (S.faults source.new ≡ S.faults source.old) }
-    ensures write_quiet { UnlessWriteFault result (K.faults sink.new ≡ K.faults sink.old) }
-    ensures keep_cause { result ≡ Status.KeepFault
-        → Rose (D.faults keeper.old) (D.faults keeper.new) }
-    ensures keep_quiet { UnlessKeepFault result (D.faults keeper.new ≡ D.faults keeper.old) }
+    // Usage is of words that are no command, and every other status but want of memory of words that are one.
+    ensures usage { IsOfWords (command_of (map string_bytes words.now)) result }
+    // A fault has its cause, and there is none without it; at Done all was handed on.
+    ensures reads { Moved (is_read_fault result) (S.faults source.old) (S.faults source.new) }
+    ensures writes { Moved (is_write_fault result) (K.faults sink.old) (K.faults sink.new)
+        × (result ≡ Status.Done → K.clean sink.new ≡ true) }
+    ensures keeps { Moved (is_keep_fault result) (D.faults keeper.old) (D.faults keeper.new) }
     // Nothing else keeps the run from its end.
     ensures complete { IsUntroubledBy (command_of (map string_bytes words.now)) (S.left source.old)
-        (K.written sink.old) (D.keeps keeper.old) (D.rows keeper.old) (D.is_honest keeper.new)
+        (D.keeps keeper.old) (D.rows keeper.old) (D.is_honest keeper.new)
         (D.faults keeper.old) (D.faults keeper.new)
         → ¬ Rose (S.faults source.old) (S.faults source.new)
         → ¬ Rose (K.faults sink.old) (K.faults sink.new)
@@ -372,11 +386,8 @@ pub fn run<S: Source, K: Sink, D: Keeper>(
     // In each form of addresses: lines that are answered are a replay, and what was written for them is what it reports.
     ensures replayed { (form : Form) → LinesAreReplayed form }
     ensures whole { (form : Form) → AnswersAreReplays form }
-    // A stopped and resumed run prints what one run does.
-    ensures rest { (form : Form) → ResumesAreTheRest form }
-    ensures joined { (form : Form) → AnswersJoin form }
-    // And wherever lines lead, a run may go on.
-    ensures onward { (form : Form) → RunsMayGoOn form }
+    // A stopped and a resumed run print what one run prints; and wherever lines lead, a run may go on.
+    ensures continued { (form : Form) → RunsGoOn form }
     // What holds of each replay.
     ensures sound { RunsAreSound }
     ensures accounts { AccountsHoldWhatIsOwed }
@@ -404,8 +415,7 @@ pub fn run<S: Source, K: Sink, D: Keeper>(
     moments_of_runs_do_not_matter();
     shortfalls_are_bounded();
     match read_words(alloc, words) {
-        Ok(command) => carry_out(command.form, alloc, command.mode, source, sink, keeper),
-        Err(WordsFault::Usage) => Status::Usage,
-        Err(WordsFault::NoMemory) => Status::NoMemory,
+        Ok(command) => perform(alloc, command, source, sink, keeper),
+        Err(fault) => status_of_words(fault),
     }
 }

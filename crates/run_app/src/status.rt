@@ -2,10 +2,11 @@
 
 ghost use Rattle.std.specs.Prelude.{◌≡◌};
 ghost use Rattle.run_app.specs.Parts.{status_at_end};
-ghost use Rattle.run_app.specs.Ending.{status_of};
+ghost use Rattle.run_app.specs.Ending.{status_of, status_of_words};
 
 use base_decimals::Over;
 use base_messages::BlockFault;
+use run_words::WordsFault;
 
 /// Why a line of the input is not answered.
 #[derive(Clone, Copy, Debug, PartialEq, Eq)]
@@ -32,6 +33,8 @@ pub enum LimitKind {
     /// A result of the beginning of a block would be 10^38 units or more, or a period that it ends is 10^18;
     /// its operands.
     Ratio(Over),
+    /// An amount of the bounds of a reward statement would be 10^38 units or more; its operands.
+    Bound(Over),
 }
 
 /// How a run ended.
@@ -60,6 +63,9 @@ pub enum Status {
     WrongStore(bool),
     /// No line is told of this address.
     NotFound,
+    /// The keeper's rows tell nothing of this height: it is not between these, the base of their history and the last
+    /// height.
+    NoPast(u64, u64),
 }
 
 /// Why a line, or a piece of the input, was not answered.
@@ -83,6 +89,16 @@ pub enum EndStop {
     Report,
     Flush,
     NoMemory,
+}
+
+/// How a run ends whose words ask for nothing.
+pub(crate) fn status_of_words(fault: WordsFault) -> Status
+    ensures { result ≡ status_of_words fault }
+{
+    match fault {
+        WordsFault::Usage => Status::Usage,
+        WordsFault::NoMemory => Status::NoMemory,
+    }
 }
 
 /// How a run ends that a part of it stopped.

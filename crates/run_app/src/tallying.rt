@@ -1,6 +1,6 @@
 //! The command `tally`: the ballots of an input are counted by the stake of the chain that a keeper has.
 
-ghost use Rattle.std.specs.Prelude.{◌≡◌, IfOk, IfErr, true};
+ghost use Rattle.std.specs.Prelude.{◌≡◌, IfOk, IfErr, true, false};
 ghost use Rattle.base_io.specs.Outside.{Rose};
 ghost use Rattle.base_roles.specs.Entries.{at};
 ghost use Rattle.base_types.specs.Orders.{addr_cmp};
@@ -12,6 +12,7 @@ ghost use Rattle.rule_modules.specs.Sound.{IsSound};
 ghost use Rattle.run_app.specs.Kept.{UnlessKeepFault};
 ghost use Rattle.run_app.specs.Outcome.{UnlessReadFault, UnlessWriteFault};
 ghost use Rattle.run_app.specs.Tallies.{Counts, TallyEnds};
+ghost use Rattle.run_app.specs.Unkept.{FindsNoRows};
 ghost use Rattle.run_app.specs.Writes.{Writes};
 
 use crate::balloting::{Balloting, read_ballots};
@@ -122,6 +123,8 @@ pub(crate) fn tally<S: Source, K: Sink, D: Keeper>(
     ensures ends { TallyEnds form (S.left source.old) (S.left source.new)
         (K.written sink.old) (K.written sink.new) (D.rows keeper.old) (D.rows keeper.new)
         (D.is_honest keeper.new) (D.may_leave keeper.old) (D.may_leave keeper.new) result }
+    ensures unkept { D.keeps keeper.old ≡ false → FindsNoRows (S.left source.old)
+        (S.left source.new) (K.written sink.old) (K.written sink.new) result }
     ensures busy { result ≡ Status.Usage → ⊥ }
     ensures clean { result ≡ Status.Done → K.clean sink.new ≡ true }
     ensures read_cause { result ≡ Status.ReadFault
@@ -130,6 +133,7 @@ pub(crate) fn tally<S: Source, K: Sink, D: Keeper>(
         → Rose (K.faults sink.old) (K.faults sink.new) }
     ensures read_quiet { UnlessReadFault result (S.faults source.new ≡ S.faults source.old) }
     ensures write_quiet { UnlessWriteFault result (K.faults sink.new ≡ K.faults sink.old) }
+    ensures honest { D.is_honest keeper.new → D.is_honest keeper.old }
     ensures keep_cause { result ≡ Status.KeepFault
         → Rose (D.faults keeper.old) (D.faults keeper.new) }
     ensures keep_quiet { UnlessKeepFault result (D.faults keeper.new ≡ D.faults keeper.old) }

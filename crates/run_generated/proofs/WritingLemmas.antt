@@ -57,12 +57,11 @@ then_part w w1 w2 text more whole h k e old o =
 
 -- a part of the first text is a front of both
 pub part_grown : (w w' : Option (List ℕ)) (text more whole : List ℕ) → AddsPart w w' text → whole ≡ text ++ more → GrowsInPart w w' whole
-part_grown w w' text more whole h e old o =
-    let p = h old o in (
-      p.0,
-      record { rest = p.1.rest ++ more; text_is = e ∙ ap (λ t. t ++ more) p.1.bytes_are ∙ append_assoc p.0 p.1.rest more },
-      p.2,
-    )
+part_grown w w' text more whole h e old o = (
+  h.0,
+  record { rest = h.1.rest ++ more; text_is = e ∙ ap (λ t. t ++ more) h.1.bytes_are ∙ append_assoc h.0 h.1.rest more },
+  h.2 old o,
+)
 
 -- ---- the loop over blocks
 

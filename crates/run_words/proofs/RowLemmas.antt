@@ -12,36 +12,44 @@ use Rattle.base_types.specs.Address.{address_of, bytes_of}
 use Rattle.line_json.specs.Addresses.{account_in, bytes_in, cons_in, operator_asked}
 use Rattle.line_report.specs.declared.question.Query.TheVariants as question
 use Rattle.run_words.specs.Questions.{address_asked, kind_asked, of_account}
-use Rattle.run_words.specs.Words.{command_at, command_of, count_of, generating, in_form, is_bech32, is_option, mode_of, seed_of, with_input}
+use Rattle.run_words.specs.Words.{asking, at_height, behind_form, command_at, command_of, count_of, generating, height_of, is_bech32, is_keep, is_option, is_past, keeping, kept_mode, mode_of, past_of, plain, seed_of, with_input, with_word}
 use Rattle.run_words.proofs.ClapLemmas.{any_of_texts}
 
 both_none : {A : Type 0} (b : Bool) (x y : Option A) → x ≡ None → y ≡ None → cond b x y ≡ None
 both_none true x y p q = p
 both_none false x y p q = q
 
--- more than three words behind the form are no command
-long_mode : (form : Form) (words : List (List ℕ)) → 3 < length words → mode_of form words ≡ None
-long_mode form [] h = absurd (omega (arith, h))
-long_mode form (a ∷ []) h = absurd (omega (arith, h))
-long_mode form (a ∷ b ∷ []) h = absurd (omega (arith, h))
-long_mode form (a ∷ b ∷ c ∷ []) h = absurd (omega (arith, h))
-long_mode form (a ∷ b ∷ c ∷ d ∷ more) h = refl
+three_none : {A : Type 0} (a b : Bool) (x y z : Option A) → x ≡ None → y ≡ None → z ≡ None → cond a x (cond b y z) ≡ None
+three_none true b x y z p q r = p
+three_none false b x y z p q r = both_none b y z q r
 
--- nor are more than four words
-too_long : (words : List (List ℕ)) → 4 < length words → command_of words ≡ None
+-- more than five words behind the form are no command
+long_behind : (form : Form) (words : List (List ℕ)) → 5 < length words → behind_form form words ≡ None
+long_behind form [] h = absurd (omega (arith, h))
+long_behind form (a ∷ []) h = absurd (omega (arith, h))
+long_behind form (a ∷ b ∷ []) h = absurd (omega (arith, h))
+long_behind form (a ∷ b ∷ c ∷ []) h = absurd (omega (arith, h))
+long_behind form (a ∷ b ∷ c ∷ d ∷ []) h = absurd (omega (arith, h))
+long_behind form (a ∷ b ∷ c ∷ d ∷ e ∷ []) h = absurd (omega (arith, h))
+long_behind form (a ∷ b ∷ c ∷ d ∷ e ∷ f ∷ more) h = three_none (is_keep a) (is_past a) None None None refl refl refl
+
+-- nor are more than six words
+too_long : (words : List (List ℕ)) → 6 < length words → command_of words ≡ None
 too_long [] h = absurd (omega (arith, h))
 too_long (word ∷ words) h =
-    both_none (is_bech32 word) (in_form Bech32 (mode_of Bech32 words)) (in_form Hex (mode_of Hex (word ∷ words)))
-    (ap (in_form Bech32) (long_mode Bech32 words (omega (arith, h)))) (ap (in_form Hex) (long_mode Hex (word ∷ words) (omega (arith, h))))
+    both_none (is_bech32 word) (behind_form Bech32 words) (behind_form Hex (word ∷ words)) (long_behind Bech32 words (omega (arith, h))) (long_behind Hex (word ∷ words) (omega (arith, h)))
 
 -- others are what their places say
-by_places : (words : List (List ℕ)) → length words ≤ 4 → command_of words ≡ command_at (slice_get words 0) (slice_get words 1) (slice_get words 2) (slice_get words 3)
+by_places : (words : List (List ℕ)) → length words ≤ 6
+    → command_of words ≡ command_at (slice_get words 0) (slice_get words 1) (slice_get words 2) (slice_get words 3) (slice_get words 4) (slice_get words 5)
 by_places [] h = refl
 by_places (a ∷ []) h = refl
 by_places (a ∷ b ∷ []) h = refl
 by_places (a ∷ b ∷ c ∷ []) h = refl
 by_places (a ∷ b ∷ c ∷ d ∷ []) h = refl
-by_places (a ∷ b ∷ c ∷ d ∷ e ∷ more) h = absurd (omega (arith, h))
+by_places (a ∷ b ∷ c ∷ d ∷ e ∷ []) h = refl
+by_places (a ∷ b ∷ c ∷ d ∷ e ∷ f ∷ []) h = refl
+by_places (a ∷ b ∷ c ∷ d ∷ e ∷ f ∷ g ∷ more) h = absurd (omega (arith, h))
 
 -- ---- a word that begins with a hyphen is none of those of a command
 
@@ -56,18 +64,28 @@ record IsNoName (w : List ℕ) : Type 0 where
   replayed : bytes_eq w (codes "replay") ≡ false
   resumed : bytes_eq w (codes "resume") ≡ false
   tallied : bytes_eq w (codes "tally") ≡ false
+  checked : bytes_eq w (codes "check") ≡ false
   asked : bytes_eq w (codes "query") ≡ false
 
 no_name : (w : List ℕ) → is_option w ≡ true → IsNoName w
 no_name [] h = absurd (true≢false (sym h))
 no_name (x ∷ xs) h =
     let is : x ≡ 45 = grind (arith, h) in
-    rw is (record { generated = refl; tried = refl; replayed = refl; resumed = refl; tallied = refl; asked = refl })
+    rw is (record { generated = refl; tried = refl; replayed = refl; resumed = refl; tallied = refl; checked = refl; asked = refl })
 
 -- nor does it tell a form
 no_form : (w : List ℕ) → is_option w ≡ true → is_bech32 w ≡ false
 no_form [] h = absurd (true≢false (sym h))
 no_form (x ∷ xs) h = let is : x ≡ 45 = grind (arith, h) in rw is refl
+
+-- nor is it one of the words before a command
+no_keep : (w : List ℕ) → is_option w ≡ true → is_keep w ≡ false
+no_keep [] h = absurd (true≢false (sym h))
+no_keep (x ∷ xs) h = let is : x ≡ 45 = grind (arith, h) in rw is refl
+
+no_past : (w : List ℕ) → is_option w ≡ true → is_past w ≡ false
+no_past [] h = absurd (true≢false (sym h))
+no_past (x ∷ xs) h = let is : x ≡ 45 = grind (arith, h) in rw is refl
 
 -- and is of no question
 no_kind : (w : List ℕ) → is_option w ≡ true → kind_asked w ≡ None
@@ -137,6 +155,13 @@ no_count (x ∷ xs) h =
     let none : number_of 6 (45 ∷ xs) ≡ None = no_number 6 (45 ∷ xs) refl in
     rw (is, none) refl
 
+no_height : (w : List ℕ) → is_option w ≡ true → height_of w ≡ None
+no_height [] h = absurd (true≢false (sym h))
+no_height (x ∷ xs) h =
+    let is : x ≡ 45 = grind (arith, h) in
+    let none : number_of 19 (45 ∷ xs) ≡ None = no_number 19 (45 ∷ xs) refl in
+    rw (is, none) refl
+
 without_count : (form : ℕ → ℕ → Mode) (seed : Option ℕ) → with_input form seed None ≡ None
 without_count form None = refl
 without_count form (Some n) = refl
@@ -173,7 +198,7 @@ not_asked form b c q = elim (either_true (is_option b) (list_any is_option (c �
 refused_options : (form : Form) (words : List (List ℕ)) → list_any is_option words ≡ true → mode_of form words ≡ None
 refused_options form [] h = absurd (true≢false (sym h))
 refused_options form (a ∷ []) h = elim (either_true (is_option a) false h) [
-  | inl p ↦ rw ((no_name a p).replayed, (no_name a p).resumed, (no_name a p).tallied) refl
+  | inl p ↦ rw ((no_name a p).replayed, (no_name a p).resumed, (no_name a p).tallied, (no_name a p).checked) refl
   | inr q ↦ absurd (true≢false (sym q))
 ]
 refused_options form (a ∷ b ∷ []) h = elim (either_true (is_option a) (list_any is_option (b ∷ [])) h) [
@@ -189,14 +214,61 @@ refused_options form (a ∷ b ∷ c ∷ []) h = elim (either_true (is_option a) 
 ]
 refused_options form (a ∷ b ∷ c ∷ d ∷ more) h = refl
 
+-- nor behind `keep`
+refused_kept : (words : List (List ℕ)) → list_any is_option words ≡ true → kept_mode words ≡ None
+refused_kept [] h = refl
+refused_kept (a ∷ []) h = elim (either_true (is_option a) false h) [
+  | inl p ↦ rw ((no_name a p).replayed, (no_name a p).resumed) refl
+  | inr q ↦ absurd (true≢false (sym q))
+]
+refused_kept (a ∷ b ∷ more) h = refl
+
+-- nor behind `past`
+without_mode : (form : Form) (height : Option ℕ) → at_height form height None ≡ None
+without_mode form None = refl
+without_mode form (Some h) = refl
+
+no_command_at : (form : Form) (height : Option ℕ) (m : Option Mode) → m ≡ None → at_height form height m ≡ None
+no_command_at form height m none = ap (at_height form height) none ∙ without_mode form height
+
+not_asking : (form : Form) (name what text : List ℕ) → list_any is_option (name ∷ what ∷ text ∷ []) ≡ true → asking form name what text ≡ None
+not_asking form name what text h = elim (either_true (is_option name) (list_any is_option (what ∷ text ∷ [])) h) [
+  | inl p ↦ rw (no_name name p).asked refl
+  | inr q ↦ neither (bytes_eq name (codes "query")) (option_map mode.Query (address_asked form what text)) (ap (option_map mode.Query) (not_asked form what text q))
+]
+
+refused_past : (form : Form) (words : List (List ℕ)) → list_any is_option words ≡ true → past_of form words ≡ None
+refused_past form [] h = refl
+refused_past form (a ∷ []) h = refl
+refused_past form (a ∷ b ∷ []) h = refl
+refused_past form (a ∷ b ∷ c ∷ []) h = elim (either_true (is_option a) (list_any is_option (b ∷ c ∷ [])) h) [
+  | inl p ↦ ap (λ (height : Option ℕ). at_height form height (with_word b c)) (no_height a p)
+  | inr q ↦ no_command_at form (height_of a) (with_word b c) (refused_options form (b ∷ c ∷ []) q)
+]
+refused_past form (a ∷ b ∷ c ∷ d ∷ []) h = elim (either_true (is_option a) (list_any is_option (b ∷ c ∷ d ∷ [])) h) [
+  | inl p ↦ ap (λ (height : Option ℕ). at_height form height (asking form b c d)) (no_height a p)
+  | inr q ↦ no_command_at form (height_of a) (asking form b c d) (not_asking form b c d q)
+]
+refused_past form (a ∷ b ∷ c ∷ d ∷ e ∷ more) h = refl
+
 -- nor are they one behind the word for a form
+refused_behind : (form : Form) (words : List (List ℕ)) → list_any is_option words ≡ true → behind_form form words ≡ None
+refused_behind form [] h = refl
+refused_behind form (word ∷ words) h =
+    let none : plain form (mode_of form (word ∷ words)) ≡ None = ap (plain form) (refused_options form (word ∷ words) h) in
+    elim (either_true (is_option word) (list_any is_option words) h) [
+      | inl p ↦ rw (no_keep word p, no_past word p) none
+      | inr q ↦
+          three_none (is_keep word) (is_past word) (keeping form (kept_mode words)) (past_of form words) (plain form (mode_of form (word ∷ words))) (ap (keeping form) (refused_kept words q)) (refused_past form words q) none
+    ]
+
 refused_words : (words : List (List ℕ)) → list_any is_option words ≡ true → command_of words ≡ None
 refused_words [] h = absurd (true≢false (sym h))
 refused_words (word ∷ words) h =
-    let plain : in_form Hex (mode_of Hex (word ∷ words)) ≡ None = ap (in_form Hex) (refused_options Hex (word ∷ words) h) in
+    let hex : behind_form Hex (word ∷ words) ≡ None = refused_behind Hex (word ∷ words) h in
     elim (either_true (is_option word) (list_any is_option words) h) [
-      | inl p ↦ rw (no_form word p) plain
-      | inr q ↦ both_none (is_bech32 word) (in_form Bech32 (mode_of Bech32 words)) (in_form Hex (mode_of Hex (word ∷ words))) (ap (in_form Bech32) (refused_options Bech32 words q)) plain
+      | inl p ↦ rw (no_form word p) hex
+      | inr q ↦ both_none (is_bech32 word) (behind_form Bech32 words) (behind_form Hex (word ∷ words)) (refused_behind Bech32 words q) hex
     ]
 
 -- ---- the same of texts
@@ -205,16 +277,16 @@ length_of_texts : (words : List (String Global)) → length (map string_bytes wo
 length_of_texts [] = refl
 length_of_texts (w ∷ words) = ap suc (length_of_texts words)
 
-pub long_texts : (words : List (String Global)) → 4 < length words → command_of (map string_bytes words) ≡ None
+pub long_texts : (words : List (String Global)) → 6 < length words → command_of (map string_bytes words) ≡ None
 long_texts words h = too_long (map string_bytes words) (omega (arith, h, length_of_texts words))
 
 pub optional_texts : (words : List (String Global)) → list_any (λ word. is_option (string_bytes word)) words ≡ true → command_of (map string_bytes words) ≡ None
 optional_texts words h = refused_words (map string_bytes words) (sym (any_of_texts words) ∙ h)
 
 -- what is found at the places says what the words ask for
-pub texts_by_places : (words : List (String Global)) (first second third fourth : Option (List ℕ)) → length words ≤ 4
+pub texts_by_places : (words : List (String Global)) (first second third fourth fifth sixth : Option (List ℕ)) → length words ≤ 6
     → first ≡ slice_get (map string_bytes words) 0 → second ≡ slice_get (map string_bytes words) 1 → third ≡ slice_get (map string_bytes words) 2 → fourth ≡ slice_get (map string_bytes words) 3
-    → command_of (map string_bytes words) ≡ command_at first second third fourth
-texts_by_places words first second third fourth few a b c d =
+    → fifth ≡ slice_get (map string_bytes words) 4 → sixth ≡ slice_get (map string_bytes words) 5 → command_of (map string_bytes words) ≡ command_at first second third fourth fifth sixth
+texts_by_places words first second third fourth fifth sixth few a b c d e f =
     let places = by_places (map string_bytes words) (omega (arith, few, length_of_texts words)) in
-    rw (a, b, c, d) places
+    rw (a, b, c, d, e, f) places

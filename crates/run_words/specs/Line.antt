@@ -7,9 +7,11 @@ use Rattle.clap.specs.Simple.{App, new_app, new_rule, with_rule}
 abbrev pub without_own_name : App → App
 without_own_name a = record a { top = record a.top { no_binary_name = true } }
 
--- the names of the places: the longest command has four words
+-- the names of the places: the longest command has six words
 abbrev pub places : List (List ℕ)
-places = codes "first" ∷ codes "second" ∷ codes "third" ∷ codes "fourth" ∷ []
+places =
+    codes "first" ∷ codes "second" ∷ codes "third" ∷ codes "fourth" ∷ codes "fifth" ∷ codes "sixth"
+    ∷ []
 
-abbrev pub four : App
-four = fold (λ app place. with_rule app (new_rule place)) (without_own_name (new_app (codes "stakeplay"))) places
+abbrev pub six : App
+six = fold (λ app place. with_rule app (new_rule place)) (without_own_name (new_app (codes "stakeplay"))) places

@@ -1,9 +1,10 @@
 -- Worked rows of words.
-use Rattle.std.specs.Prelude.{◌≡◌, ℕ, List, [], ◌∷◌, ◌++◌, codes, replicate, Option, Some, None}
+use Rattle.std.specs.Prelude.{◌≡◌, ℕ, true, false, List, [], ◌∷◌, ◌++◌, codes, replicate, Option, Some, None}
+use Rattle.base_bech32.specs.declared.form.Form.{Form}
 use Rattle.base_bech32.specs.declared.form.Form.TheVariants.{Hex, Bech32}
 use Rattle.run_words.specs.declared.mode.Command.{Command}
 use Rattle.run_words.specs.declared.mode.Mode.{Mode}
-use Rattle.run_words.specs.declared.mode.Mode.TheVariants.{Replay, Resume, Query, Tally, Gen, Trial}
+use Rattle.run_words.specs.declared.mode.Mode.TheVariants.{Replay, Resume, Query, Tally, Check, Gen, Trial}
 use Rattle.base_types.specs.declared.account.Account.TheVariants as account
 use Rattle.base_types.specs.declared.account.Module.TheVariants as holder
 use Rattle.line_report.specs.declared.question.Query.TheVariants as question
@@ -11,10 +12,10 @@ use Rattle.run_words.specs.Words.{command_of}
 
 -- a command without the word for a form, and one behind `bech32`
 abbrev pub hex : Mode → Option Command
-hex m = Some (record { form = Hex; mode = m })
+hex m = Some (record { form = Hex; keep = false; past = None; mode = m })
 
 abbrev pub bech32 : Mode → Option Command
-bech32 m = Some (record { form = Bech32; mode = m })
+bech32 m = Some (record { form = Bech32; keep = false; past = None; mode = m })
 
 -- words that are a command
 pub record Commands : Type 0 where
@@ -24,6 +25,7 @@ pub record Commands : Type 0 where
   pub zeros : command_of (codes "gen" ∷ codes "00000000000000000007" ∷ codes "10" ∷ []) ≡ hex (Gen 7 10)
   pub trial : command_of (codes "trial" ∷ codes "7" ∷ codes "1000" ∷ []) ≡ hex (Trial 7 1000)
   pub tally : command_of (codes "tally" ∷ []) ≡ hex Tally
+  pub check : command_of (codes "check" ∷ []) ≡ hex Check
 
 -- an address: thirty-nine digits 0, then this one
 abbrev pub address_text : List ℕ → List ℕ
@@ -74,6 +76,7 @@ pub record NoCommands : Type 0 where
   pub long : command_of (codes "gen" ∷ codes "1" ∷ codes "1" ∷ codes "1" ∷ []) ≡ None
   pub more_than_alone : command_of (codes "replay" ∷ codes "1" ∷ codes "1" ∷ []) ≡ None
   pub tally_of_one : command_of (codes "tally" ∷ codes "7" ∷ []) ≡ None
+  pub check_of_one : command_of (codes "check" ∷ codes "7" ∷ []) ≡ None
   pub no_blocks : command_of (codes "gen" ∷ codes "1" ∷ codes "0" ∷ []) ≡ None
   pub too_many : command_of (codes "gen" ∷ codes "1" ∷ codes "100001" ∷ []) ≡ None
   pub zero_first : command_of (codes "gen" ∷ codes "1" ∷ codes "01" ∷ []) ≡ None
@@ -102,6 +105,7 @@ asks_spelled what text = command_of (codes "bech32" ∷ codes "query" ∷ what �
 pub record Spelled : Type 0 where
   pub replay : command_of (codes "bech32" ∷ codes "replay" ∷ []) ≡ bech32 Replay
   pub tally : command_of (codes "bech32" ∷ codes "tally" ∷ []) ≡ bech32 Tally
+  pub check : command_of (codes "bech32" ∷ codes "check" ∷ []) ≡ bech32 Check
   pub pool : command_of (codes "bech32" ∷ codes "query" ∷ codes "pool" ∷ []) ≡ bech32 (Query question.Pool)
   pub generated : command_of (codes "bech32" ∷ codes "gen" ∷ codes "7" ∷ codes "10" ∷ []) ≡ bech32 (Gen 7 10)
   pub tried : command_of (codes "bech32" ∷ codes "trial" ∷ codes "7" ∷ codes "10" ∷ []) ≡ bech32 (Trial 7 10)
@@ -122,3 +126,41 @@ pub record NotSpelled : Type 0 where
   pub no_account : asks_spelled (codes "delegations") spelled_operator ≡ None
   pub no_operator : asks_spelled (codes "validator") spelled_user ≡ None
   pub no_cons : asks_spelled (codes "signing") spelled_user ≡ None
+
+-- a command that keeps what it replaces, and one that asks of a past height
+abbrev pub kept_in : Form → Mode → Option Command
+kept_in form m = Some (record { form = form; keep = true; past = None; mode = m })
+
+abbrev pub past_in : Form → ℕ → Mode → Option Command
+past_in form height m = Some (record { form = form; keep = false; past = Some height; mode = m })
+
+-- words behind `keep`, and behind `past`
+pub record Histories : Type 0 where
+  pub replay : command_of (codes "keep" ∷ codes "replay" ∷ []) ≡ kept_in Hex Replay
+  pub resume : command_of (codes "keep" ∷ codes "resume" ∷ []) ≡ kept_in Hex Resume
+  pub spelled : command_of (codes "bech32" ∷ codes "keep" ∷ codes "replay" ∷ []) ≡ kept_in Bech32 Replay
+  pub first : command_of (codes "past" ∷ codes "0" ∷ codes "query" ∷ codes "supply" ∷ []) ≡ past_in Hex 0 (Query question.Supply)
+  pub greatest : command_of (codes "past" ∷ codes "9223372036854775807" ∷ codes "query" ∷ codes "pool" ∷ []) ≡ past_in Hex 9223372036854775807 (Query question.Pool)
+  pub holdings : command_of (codes "past" ∷ codes "7" ∷ codes "query" ∷ codes "account" ∷ user_text ∷ []) ≡ past_in Hex 7 (Query (question.Account (account.User user_bytes)))
+  pub asked : command_of (codes "bech32" ∷ codes "past" ∷ codes "12" ∷ codes "query" ∷ codes "validators" ∷ []) ≡ past_in Bech32 12 (Query question.Validators)
+
+-- words that are none behind these
+pub record NoHistories : Type 0 where
+  pub keep_alone : command_of (codes "keep" ∷ []) ≡ None
+  pub keep_twice : command_of (codes "keep" ∷ codes "keep" ∷ codes "replay" ∷ []) ≡ None
+  pub keep_query : command_of (codes "keep" ∷ codes "query" ∷ codes "supply" ∷ []) ≡ None
+  pub keep_tally : command_of (codes "keep" ∷ codes "tally" ∷ []) ≡ None
+  pub keep_first : command_of (codes "keep" ∷ codes "bech32" ∷ codes "replay" ∷ []) ≡ None
+  pub keep_last : command_of (codes "replay" ∷ codes "keep" ∷ []) ≡ None
+  pub past_alone : command_of (codes "past" ∷ codes "1" ∷ []) ≡ None
+  pub past_replay : command_of (codes "past" ∷ codes "1" ∷ codes "replay" ∷ []) ≡ None
+  pub past_tally : command_of (codes "past" ∷ codes "1" ∷ codes "tally" ∷ []) ≡ None
+  pub past_trial : command_of (codes "past" ∷ codes "1" ∷ codes "trial" ∷ codes "7" ∷ codes "10" ∷ []) ≡ None
+  pub past_twice : command_of (codes "past" ∷ codes "1" ∷ codes "past" ∷ codes "1" ∷ codes "query" ∷ codes "pool" ∷ []) ≡ None
+  pub no_height : command_of (codes "past" ∷ codes "query" ∷ codes "supply" ∷ []) ≡ None
+  pub zero_first : command_of (codes "past" ∷ codes "01" ∷ codes "query" ∷ codes "supply" ∷ []) ≡ None
+  pub zeros : command_of (codes "past" ∷ codes "00" ∷ codes "query" ∷ codes "supply" ∷ []) ≡ None
+  pub empty : command_of (codes "past" ∷ [] ∷ codes "query" ∷ codes "supply" ∷ []) ≡ None
+  pub too_great : command_of (codes "past" ∷ codes "9223372036854775808" ∷ codes "query" ∷ codes "supply" ∷ []) ≡ None
+  pub keep_past : command_of (codes "keep" ∷ codes "past" ∷ codes "1" ∷ codes "query" ∷ codes "supply" ∷ []) ≡ None
+  pub long : command_of (codes "bech32" ∷ codes "past" ∷ codes "1" ∷ codes "query" ∷ codes "account" ∷ user_text ∷ user_text ∷ []) ≡ None

@@ -1,5 +1,5 @@
-//! The commands, each with what its words say: `replay`, `resume`, `query`, `tally`, `gen` and `trial`; and before it the
-//! word `bech32`, which tells the form of addresses.
+//! The commands, each with what its words say: `replay`, `resume`, `query`, `tally`, `check`, `gen` and `trial`; and before
+//! them the word `bech32`, which tells the form of addresses, the word `keep`, and the word `past` with a height.
 use base_bech32::Form;
 use line_report::Query;
 
@@ -8,6 +8,10 @@ use line_report::Query;
 pub struct Command {
     /// How addresses are read and printed.
     pub form: Form,
+    /// Whether what commits replace is kept: of a replay or a resume.
+    pub keep: bool,
+    /// The height whose past rows answer a query, from 0 to 2^63 - 1; without one the present rows do.
+    pub past: Option<u64>,
     /// The command.
     pub mode: Mode,
 }
@@ -23,6 +27,8 @@ pub enum Mode {
     Query(Query),
     /// Ballots are counted by the stake of a stored chain, and the totals are written.
     Tally,
+    /// Reward statements are checked, and whether each is right is written.
+    Check,
     /// An input is generated and written.
     Gen {
         /// What its draws begin with.

@@ -3,13 +3,16 @@ ghost use Rattle.std.specs.Prelude.{◌≡◌, ◌≤◌};
 ghost use Rattle.std.specs.Char.{is_ascii_digit};
 ghost use Rattle.std.specs.List.{list_all};
 ghost use Rattle.base_decimals.specs.Texts.{is_number, number_of};
-ghost use Rattle.run_words.specs.Words.{begins_with_zero, count_of, seed_of};
+ghost use Rattle.run_words.specs.Words.{begins_with_zero, count_of, height_of, seed_of, zero_of};
 
 /// The most digits of a seed.
 const SEED_DIGITS: usize = 20;
 
 /// The most digits of a number of blocks.
 const COUNT_DIGITS: usize = 6;
+
+/// The most digits of a height.
+const HEIGHT_DIGITS: usize = 19;
 
 /// The most blocks.
 const MOST_BLOCKS: u128 = 100_000;
@@ -69,6 +72,28 @@ pub(crate) fn count_of(word: &str) -> Option<u32>
     let number = number_of(word, COUNT_DIGITS)?;
     if 1 <= number && number <= MOST_BLOCKS {
         Some(number as u32)
+    } else {
+        None
+    }
+}
+
+/// The height 0, where the word is that digit alone.
+fn zero_of(word: &str) -> Option<u64>
+    ensures { result ≡ zero_of word.now }
+{
+    if word == "0" { Some(0) } else { None }
+}
+
+/// A height: digits without zeros in front, at most 2^63 - 1.
+pub(crate) fn height_of(word: &str) -> Option<u64>
+    ensures { result ≡ height_of word.now }
+{
+    if begins_with_zero(word.as_bytes()) {
+        return zero_of(word);
+    }
+    let number = number_of(word, HEIGHT_DIGITS)?;
+    if number < 1 << 63 {
+        Some(number as u64)
     } else {
         None
     }

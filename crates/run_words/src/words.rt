@@ -3,28 +3,30 @@ ghost use Rattle.std.specs.Prelude.{◌≡◌, ◌≤◌, length, map, string_by
 ghost use Rattle.std.specs.List.{list_any};
 ghost use Rattle.clap.specs.Simple.{app_of};
 ghost use Rattle.clap.specs.Matches.{first_value, found_of};
-ghost use Rattle.run_words.specs.Line.{four};
-ghost use Rattle.run_words.specs.Words.{alone, command_at, command_of, generating, in_form, is_option, mode_at, with_word, with_words};
+ghost use Rattle.run_words.specs.Line.{six};
+ghost use Rattle.run_words.specs.Words.{alone, asking, at_height, behind_at, command_at, command_of, committing, generating, is_option, keeping, kept_at, mode_at, past_at, plain, with_word, with_words};
 
 use crate::asked::{address_asked, kind_asked};
 use crate::fault::WordsFault;
 use crate::mode::{Command, Mode};
-use crate::numbers::{count_of, seed_of};
+use crate::numbers::{count_of, height_of, seed_of};
 use base_bech32::Form;
 use clap::error::ErrorKind;
 use clap::{Arg, ArgMatches};
 use std::alloc::{AllocError, Global};
 
-/// The command line: four words by their places, none of which has to be there.
+/// The command line: six words by their places, none of which has to be there.
 fn command_line<'a>(alloc: Global) -> Result<clap::Command<'a>, AllocError>
-    ensures { IfOk result (λ command. app_of command ≡ four) }
+    ensures { IfOk result (λ command. app_of command ≡ six) }
 {
     clap::Command::new(alloc, "stakeplay")
         .no_binary_name(true)
         .arg(Arg::new(alloc, "first"))?
         .arg(Arg::new(alloc, "second"))?
         .arg(Arg::new(alloc, "third"))?
-        .arg(Arg::new(alloc, "fourth"))
+        .arg(Arg::new(alloc, "fourth"))?
+        .arg(Arg::new(alloc, "fifth"))?
+        .arg(Arg::new(alloc, "sixth"))
 }
 
 /// Whether the word begins with a hyphen.
@@ -41,10 +43,10 @@ fn has_option(words: &[String]) -> bool
     words.iter().any(|word| is_option(word.as_str().as_bytes()))
 }
 
-/// What stands at the places of at most four words, of which none begins with a hyphen. The only error is
+/// What stands at the places of at most six words, of which none begins with a hyphen. The only error is
 /// `NoMemory`.
 fn parsed<'a>(alloc: Global, words: &'a [String]) -> Result<ArgMatches<'a>, WordsFault>
-    requires few { length words.now ≤ 4 }
+    requires few { length words.now ≤ 6 }
     requires plain { list_any (λ word. is_option (string_bytes word)) words.now ≡ false }
     ensures first { IfOk result (λ matches. first_value (found_of matches) (codes "first")
         ≡ slice_get (map string_bytes words.now) 0) }
@@ -54,6 +56,10 @@ fn parsed<'a>(alloc: Global, words: &'a [String]) -> Result<ArgMatches<'a>, Word
         ≡ slice_get (map string_bytes words.now) 2) }
     ensures fourth { IfOk result (λ matches. first_value (found_of matches) (codes "fourth")
         ≡ slice_get (map string_bytes words.now) 3) }
+    ensures fifth { IfOk result (λ matches. first_value (found_of matches) (codes "fifth")
+        ≡ slice_get (map string_bytes words.now) 4) }
+    ensures sixth { IfOk result (λ matches. first_value (found_of matches) (codes "sixth")
+        ≡ slice_get (map string_bytes words.now) 5) }
     ensures fault { IfErr result (λ fault. fault ≡ WordsFault.NoMemory) }
 {
     let command = command_line(alloc)?;
@@ -66,18 +72,29 @@ fn parsed<'a>(alloc: Global, words: &'a [String]) -> Result<ArgMatches<'a>, Word
     }
 }
 
-/// The command of this name alone.
-fn alone(name: &str) -> Option<Mode>
-    ensures { result ≡ alone name.now }
+/// The command of this name that commits.
+fn committing(name: &str) -> Option<Mode>
+    ensures { result ≡ committing name.now }
 {
     if name == "replay" {
         Some(Mode::Replay)
     } else if name == "resume" {
         Some(Mode::Resume)
-    } else if name == "tally" {
-        Some(Mode::Tally)
     } else {
         None
+    }
+}
+
+/// The command of this name alone.
+fn alone(name: &str) -> Option<Mode>
+    ensures { result ≡ alone name.now }
+{
+    if name == "tally" {
+        Some(Mode::Tally)
+    } else if name == "check" {
+        Some(Mode::Check)
+    } else {
+        committing(name)
     }
 }
 
@@ -104,6 +121,17 @@ fn with_word(name: &str, what: &str) -> Option<Mode>
 {
     if name == "query" {
         Some(Mode::Query(kind_asked(what)?))
+    } else {
+        None
+    }
+}
+
+/// A query of this name with two words, of which one is an address in this form.
+fn asking(form: Form, name: &str, first: &str, second: &str) -> Option<Mode>
+    ensures { result ≡ asking form name.now first.now second.now }
+{
+    if name == "query" {
+        Some(Mode::Query(address_asked(form, first, second)?))
     } else {
         None
     }
@@ -140,43 +168,136 @@ fn mode_at(
     }
 }
 
-/// The command, with addresses in this form.
-fn in_form(form: Form, mode: Option<Mode>) -> Option<Command>
-    ensures { result ≡ in_form form mode }
+/// The command, which keeps nothing that it replaces and asks nothing of the past.
+fn plain(form: Form, mode: Option<Mode>) -> Option<Command>
+    ensures { result ≡ plain form mode }
 {
     let mode = mode?;
-    Some(Command { form, mode })
+    Some(Command {
+        form,
+        keep: false,
+        past: None,
+        mode,
+    })
 }
 
-/// What is asked for by what stands at the four places: the first may be `bech32`, and then the others are the command.
+/// The command, which keeps what it replaces.
+fn keeping(form: Form, mode: Option<Mode>) -> Option<Command>
+    ensures { result ≡ keeping form mode }
+{
+    let mode = mode?;
+    Some(Command {
+        form,
+        keep: true,
+        past: None,
+        mode,
+    })
+}
+
+/// The command, which asks of the past at this height.
+fn at_height(form: Form, height: Option<u64>, mode: Option<Mode>) -> Option<Command>
+    ensures { result ≡ at_height form height mode }
+{
+    let height = height?;
+    let mode = mode?;
+    Some(Command {
+        form,
+        keep: false,
+        past: Some(height),
+        mode,
+    })
+}
+
+/// The command of this name behind `keep`, where nothing stands behind it.
+fn kept_at(name: Option<&str>, other: Option<&str>) -> Option<Mode>
+    ensures { result ≡ kept_at (option_map (λ w. w.now) name.entry)
+        (option_map (λ w. w.now) other.entry) }
+{
+    match (name, other) {
+        (Some(name), None) => committing(name),
+        _ => None,
+    }
+}
+
+/// The query behind `past`, at this height.
+fn past_at(
+    form: Form,
+    height: Option<&str>,
+    name: Option<&str>,
+    what: Option<&str>,
+    text: Option<&str>,
+    other: Option<&str>,
+) -> Option<Command>
+    ensures { result ≡ past_at form (option_map (λ w. w.now) height.entry)
+        (option_map (λ w. w.now) name.entry) (option_map (λ w. w.now) what.entry)
+        (option_map (λ w. w.now) text.entry) (option_map (λ w. w.now) other.entry) }
+{
+    match (height, name, what, text, other) {
+        (Some(height), Some(name), Some(what), None, None) => {
+            at_height(form, height_of(height), with_word(name, what))
+        }
+        (Some(height), Some(name), Some(what), Some(text), None) => {
+            at_height(form, height_of(height), asking(form, name, what, text))
+        }
+        _ => None,
+    }
+}
+
+/// What is asked for by what stands at the places behind the word for the form: the first may be `keep` or `past`.
+fn behind_at(
+    form: Form,
+    first: Option<&str>,
+    second: Option<&str>,
+    third: Option<&str>,
+    fourth: Option<&str>,
+    fifth: Option<&str>,
+    sixth: Option<&str>,
+) -> Option<Command>
+    ensures { result ≡ behind_at form (option_map (λ w. w.now) first.entry)
+        (option_map (λ w. w.now) second.entry) (option_map (λ w. w.now) third.entry)
+        (option_map (λ w. w.now) fourth.entry) (option_map (λ w. w.now) fifth.entry)
+        (option_map (λ w. w.now) sixth.entry) }
+{
+    let word = first?;
+    if word == "keep" {
+        keeping(form, kept_at(second, third))
+    } else if word == "past" {
+        past_at(form, second, third, fourth, fifth, sixth)
+    } else {
+        plain(form, mode_at(form, first, second, third, fourth))
+    }
+}
+
+/// What is asked for by what stands at the six places: the first may be `bech32`, and then the others are the command.
 fn command_at(
     first: Option<&str>,
     second: Option<&str>,
     third: Option<&str>,
     fourth: Option<&str>,
+    fifth: Option<&str>,
+    sixth: Option<&str>,
 ) -> Option<Command>
     ensures { result ≡ command_at (option_map (λ w. w.now) first.entry)
         (option_map (λ w. w.now) second.entry) (option_map (λ w. w.now) third.entry)
-        (option_map (λ w. w.now) fourth.entry) }
+        (option_map (λ w. w.now) fourth.entry) (option_map (λ w. w.now) fifth.entry)
+        (option_map (λ w. w.now) sixth.entry) }
 {
     let word = first?;
     if word == "bech32" {
-        in_form(
-            Form::Bech32,
-            mode_at(Form::Bech32, second, third, fourth, None),
-        )
+        behind_at(Form::Bech32, second, third, fourth, fifth, sixth, None)
     } else {
-        in_form(Form::Hex, mode_at(Form::Hex, first, second, third, fourth))
+        behind_at(Form::Hex, first, second, third, fourth, fifth, sixth)
     }
 }
 
 /// What the words ask for: `replay`; `resume`; `query` with `supply`, `pool` or `validators`; `query` with `account`,
-/// `validator`, `delegations`, `rewards`, `unbondings`, `redelegations` or `signing` and an address; `tally`; `gen SEED
-/// COUNT`, where SEED is 1 to 20 digits below 2^64 and COUNT is from 1 to 100,000 without zeros in front; or `trial SEED
-/// COUNT`. The word `bech32` may stand before each of these.
+/// `validator`, `delegations`, `rewards`, `unbondings`, `redelegations` or `signing` and an address; `tally`; `check`; `gen
+/// SEED COUNT`, where SEED is 1 to 20 digits below 2^64 and COUNT is from 1 to 100,000 without zeros in front; or `trial SEED
+/// COUNT`. The word `keep` may stand before `replay` and `resume`, and the words `past HEIGHT` before `query`, where HEIGHT is
+/// digits without zeros in front, at most 2^63 - 1. The word `bech32` may stand before each of these.
 ///
-/// With it an address is a spelling of BIP 173, of `validator` with the prefix `cosmosvaloper`, of `signing` with
-/// `cosmosvalcons`, and of all others with `cosmos`; without it forty hexadecimal digits with small letters.
+/// Behind `bech32` an address is a spelling of BIP 173, of `validator` with the prefix `cosmosvaloper`, of `signing` with
+/// `cosmosvalcons`, and of all others with `cosmos`; without that word forty hexadecimal digits with small letters.
 ///
 /// The errors are `Usage`, only where the words are none of these, and `NoMemory`.
 #[tactic(auto, using(crate::proofs::RowLemmas::long_texts, crate::proofs::RowLemmas::optional_texts, crate::proofs::RowLemmas::texts_by_places))]
@@ -186,7 +307,7 @@ pub fn read_words(alloc: Global, words: &[String]) -> Result<Command, WordsFault
     ensures usage { IfErr result (λ fault. fault ≡ WordsFault.Usage
         → command_of (map string_bytes words.now) ≡ None) }
 {
-    if words.len() > 4 || has_option(words) {
+    if words.len() > 6 || has_option(words) {
         return Err(WordsFault::Usage);
     }
     let matches = parsed(alloc, words)?;
@@ -194,7 +315,9 @@ pub fn read_words(alloc: Global, words: &[String]) -> Result<Command, WordsFault
     let second = matches.get_str("second");
     let third = matches.get_str("third");
     let fourth = matches.get_str("fourth");
-    match command_at(first, second, third, fourth) {
+    let fifth = matches.get_str("fifth");
+    let sixth = matches.get_str("sixth");
+    match command_at(first, second, third, fourth, fifth, sixth) {
         Some(command) => Ok(command),
         None => Err(WordsFault::Usage),
     }

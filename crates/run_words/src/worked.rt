@@ -1,6 +1,6 @@
 //! Worked rows, as a function that does nothing: its contract is the rows.
 
-ghost use Rattle.run_words.specs.Worked.{Commands, NoCommands, NoQuestions, NotSpelled, Questions, Spelled};
+ghost use Rattle.run_words.specs.Worked.{Commands, Histories, NoCommands, NoHistories, NoQuestions, NotSpelled, Questions, Spelled};
 
 /// Words that are a command, and words that are none.
 pub fn words_by_example()
@@ -10,4 +10,6 @@ pub fn words_by_example()
     ensures unasked { NoQuestions }
     ensures spelled { Spelled }
     ensures not_spelled { NotSpelled }
+    ensures histories { Histories }
+    ensures no_histories { NoHistories }
 {}

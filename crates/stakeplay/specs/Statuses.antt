@@ -4,7 +4,7 @@ use Rattle.base_messages.specs.declared.faults.BlockFault.{BlockFault}
 use Rattle.base_messages.specs.declared.faults.BlockFault.TheVariants as block
 use Rattle.run_app.specs.declared.status.InputFault.TheVariants as input
 use Rattle.run_app.specs.declared.status.Status.{Status}
-use Rattle.run_app.specs.declared.status.Status.TheVariants.{Done, Usage, BadInput, Limit, ReadFault, WriteFault, KeepFault, NoMemory, BadStore, WrongStore, NotFound}
+use Rattle.run_app.specs.declared.status.Status.TheVariants.{Done, Usage, BadInput, Limit, ReadFault, WriteFault, KeepFault, NoMemory, BadStore, WrongStore, NotFound, NoPast}
 
 -- The number by which the process ends, for each status.
 abbrev pub status_number : Status → ℕ
@@ -19,6 +19,7 @@ status_number NoMemory = 7
 status_number BadStore = 8
 status_number (WrongStore is_empty) = 9
 status_number NotFound = 10
+status_number (NoPast base last) = 11
 
 -- The number by which a block's fault is named.
 abbrev pub number_of_fault : BlockFault → ℕ

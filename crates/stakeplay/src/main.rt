@@ -1,20 +1,27 @@
 //! `stakeplay STORE WORDS`: replays the accounting of a chain from standard input to standard
-//! output, answers questions about a store, counts ballots over one, or writes input that it generates. STORE is the path of a database file, in
-//! which the chain's rows are kept, or `-`, and then nothing is kept. WORDS is `replay`, `resume`, `query` with a kind and
-//! perhaps an address, `tally`, `gen SEED COUNT` or `trial SEED COUNT`.
+//! output, answers questions about a store, counts ballots over one, checks reward statements, or writes input that it
+//! generates. STORE is the path of a database file, in which the chain's rows are kept, or `-`, and then nothing is kept.
+//! WORDS is `replay`, `resume`, `query` with a kind and perhaps an address, `tally`, `check`, `gen SEED COUNT` or `trial SEED
+//! COUNT`. The word `keep` may stand before `replay` and
+//! `resume`, the words `past HEIGHT` before `query`, and the word `bech32` before all others.
 #![tactic(auto)]
 
+mod place;
+
 ghost use Rattle.std.specs.Prelude.{◌≡◌};
-ghost use Rattle.store_commits.specs.Held.{TakesDistinct};
+ghost use Rattle.store_history.specs.Held.{TakesDistinct};
 ghost use Rattle.stakeplay.specs.Statuses.{fault_number, line_number, status_number, number_of_fault};
 
-use base_io::{KeepFault, Keeper, NoKeeper, StdSink, StdSource};
+use crate::place::{Place, place_of, status_of_opening};
+use base_io::{Keeper, NoKeeper, StdSink, StdSource};
 use base_messages::BlockFault;
 use run_app::{InputFault, LimitKind, Status, run};
+use run_words::{WordsFault, read_words};
 use sqlite::Unknown;
 use std::alloc::Global;
 use std::env::{self, Env};
 use std::io::ErrorKind;
+use std::path::Path;
 use std::process::ExitCode;
 use store_sqlite::SqlKeeper;
 
@@ -34,6 +41,7 @@ fn number_of(status: &Status) -> u8
         Status::BadStore => 8,
         Status::WrongStore(_) => 9,
         Status::NotFound => 10,
+        Status::NoPast(_, _) => 11,
     }
 }
 
@@ -104,20 +112,40 @@ fn serve<D: Keeper>(rt: &HostRuntime, command: &[String], keeper: &mut D) -> Sta
     run(rt.alloc(), command, &mut source, &mut sink, keeper)
 }
 
+/// Whether there is no file of this name, in a folder that is there. Of the name that SQLite has for a database in memory
+/// it is not asked: no store has it.
+fn is_absent(rt: &HostRuntime, name: &str) -> bool {
+    if name == ":memory:" {
+        return false;
+    }
+    match Path::new(name).try_exists(rt) {
+        Ok(false) => {}
+        Ok(true) | Err(_) => return false,
+    }
+    match Path::new(name).parent() {
+        Some(folder) => folder.as_str().is_empty() || folder.is_dir(rt),
+        None => false,
+    }
+}
+
 /// Carries out a command over the store of this name. Of the name `-` there is none: nobody could read it when the program
-/// has ended, so nothing is kept.
+/// has ended, so nothing is kept. Where there is no file of the name, only a replay makes one.
 fn serve_from(rt: &HostRuntime, store: &str, command: &[String]) -> Status {
-    if store == "-" {
-        let mut keeper = NoKeeper::new(rt.alloc());
-        return serve(rt, command, &mut keeper);
-    }
-    if store.starts_with("-") {
-        return Status::Usage;
-    }
-    match SqlKeeper::open(rt, store, Unknown) {
-        Ok(mut keeper) => serve(rt, command, &mut keeper),
-        Err(KeepFault::Failed) => Status::KeepFault,
-        Err(KeepFault::NoMemory) => Status::NoMemory,
+    let asked = match read_words(rt.alloc(), command) {
+        Ok(asked) => Some(asked),
+        Err(WordsFault::Usage) => None,
+        Err(WordsFault::NoMemory) => return Status::NoMemory,
+    };
+    match place_of(store, asked, is_absent(rt, store)) {
+        Place::Nowhere => {
+            let mut keeper = NoKeeper::new(rt.alloc());
+            serve(rt, command, &mut keeper)
+        }
+        Place::Refused => Status::Usage,
+        Place::File => match SqlKeeper::open(rt, store, Unknown) {
+            Ok(mut keeper) => serve(rt, command, &mut keeper),
+            Err(fault) => status_of_opening(fault),
+        },
     }
 }
 
@@ -151,6 +179,7 @@ fn main(rt: HostRuntime) -> ExitCode {
         ),
         Status::Limit(_, LimitKind::Line) => eprintln!(rt; "stakeplay: line {line}: limit line"),
         Status::Limit(_, LimitKind::Input) => eprintln!(rt; "stakeplay: line {line}: limit input"),
+        Status::Limit(_, LimitKind::Bound(_)) => eprintln!(rt; "stakeplay: line {line}: limit bound"),
         Status::Limit(_, LimitKind::Ratio(_)) => eprintln!(rt;
             "stakeplay: line {line}: limit ratio"
         ),
@@ -162,6 +191,7 @@ fn main(rt: HostRuntime) -> ExitCode {
         Status::WrongStore(true) => eprintln!(rt; "stakeplay: store is empty"),
         Status::WrongStore(false) => eprintln!(rt; "stakeplay: store is not empty"),
         Status::NotFound => eprintln!(rt; "stakeplay: not found"),
+        Status::NoPast(_, _) => eprintln!(rt; "stakeplay: no past"),
     };
     ExitCode::from(number_of(&status))
 }

@@ -1,5 +1,5 @@
 -- What a commit brings a keeper to.
-use Rattle.std.proofs.Common.{◌≡◌, ◌≢◌, ◌<◌, ◌∙◌, ◌⊎◌, length, arith, inl, inr, Bool, true, false, true≢false, List, [], ◌∷◌, map, Option, Some, None, Result, Ok, Err, IfSome, refl, sym, ap, subst}
+use Rattle.std.proofs.Common.{◌≡◌, ◌≢◌, ℕ, ◌<◌, ◌∙◌, ◌⊎◌, length, arith, inl, inr, Bool, true, false, true≢false, List, [], ◌∷◌, map, Option, Some, None, Result, Ok, Err, IfSome, refl, sym, ap, subst}
 use Rattle.std.specs.Prelude.{All, Contains, IsSome, OnErr, OnOk, ⊤}
 use Rattle.std.specs.List.{AllByRecursion}
 use Rattle.std.proofs.lemmas.List.Elements.{All-contains, All-from_recursion}
@@ -7,9 +7,10 @@ use Rattle.base_io.specs.declared.keeper.Change.{Change}
 use Rattle.base_io.specs.declared.keeper.Row.{Row}
 use Rattle.base_io.specs.declared.keeper.KeepFault.{KeepFault}
 use Rattle.base_io.specs.declared.keeper.KeepFault.TheVariants as fault
-use Rattle.base_io.specs.Rows.{HasDistinctKeys, Makes, Pair}
-use Rattle.base_io.specs.Changes.{ChangeRows, ChangesRows, LeavesRows, changed, pair_of}
+use Rattle.base_io.specs.Rows.{Makes, Pair}
+use Rattle.base_io.specs.Changes.{ChangeRows, ChangesRows, IsOrdinary, LeavesRows, changed, pair_of}
 use Rattle.base_roles.specs.declared.items.Item.{Item}
+use Rattle.base_roles.specs.declared.items.Item.TheVariants as item
 use Rattle.base_roles.specs.Items.{AreChanges, IsOnce, key_of}
 use Rattle.rule_machine.specs.Items.{items_of}
 use Rattle.store_rows.specs.Spelled.{HasRow, IsWritable}
@@ -17,9 +18,10 @@ use Rattle.store_rows.proofs.KeyLemmas.{key_in_range}
 use Rattle.base_records.proofs.KindLemmas.{once-told}
 use Rattle.base_records.proofs.MemberLemmas.{Member, Once, contained, member, once}
 use Rattle.store_items.specs.Stored.{AreStored, HaveOwnKeys, rows_in}
-use Rattle.store_items.specs.Making.{AreMade, CanBeWritten, HasKeyInRange, HasRowIfPut, change_seen, item_change, item_put}
+use Rattle.store_items.specs.Making.{AreMade, CanBeWritten, HasKeyInRange, HasNewHead, HasRowIfPut, change_seen, item_change, item_put}
 use Rattle.rule_modules.specs.Chain.{State}
-use Rattle.store_commits.specs.Commits.{Commits, Holds, IsCommit}
+use Rattle.store_commits.specs.Commits.{Commits, Holds, IsCommit, LeadTo}
+use Rattle.store_commits.specs.Held.{HasRisen}
 use Rattle.store_commits.proofs.Ranges.{has_row}
 
 -- ---- items that are stored
@@ -189,33 +191,132 @@ module _ (result : Result ⊤ KeepFault) (old new : List Item) (list : List Chan
       made (Ok done) m = made_rows (rows_in old) (rows_in new) list rows rows' held.rows (λ some. reached (held.stored some)) m
       made (Err why) m = tt
 
+-- ---- changes of format
+
+-- what changes make of rows that are told
+led_rows : (items : List Item) (list : List Change) (rows rows' : Option (List Pair)) → LeadTo items list rows → Makes (changed list) rows rows' → Makes (λ before. rows_in items) rows rows'
+led_rows items list rows None lead m = tt
+led_rows items list rows (Some after) lead m =
+    let is : changed list m.0 ≡ rows_in items = subst (λ (o : Option (List Pair)). IfSome o (λ r. changed list r ≡ rows_in items)) m.1 lead.rows in
+    (m.0, m.1, m.2 ∙ is)
+
+led_stop : (items : List Item) (list : List Change) (rows : Option (List Pair)) (leaves leaves' : List Pair → Type 0) → LeadTo items list rows
+    → IfSome rows (λ pairs. (left : List Pair) → leaves' left → leaves left ⊎ (left ≡ changed list pairs)) → IsSome rows → (left : List Pair) → leaves' left → leaves left ⊎ ((left ≡ rows_in items) × AreStored items)
+led_stop items list None leaves leaves' lead stop some left l = absurd (true≢false (sym some))
+led_stop items list (Some pairs) leaves leaves' lead stop some left l = by (stop left l)
+  where
+    by : leaves left ⊎ (left ≡ changed list pairs) → leaves left ⊎ ((left ≡ rows_in items) × AreStored items)
+    by (inl was) = inl was
+    by (inr is) = inr (is ∙ lead.rows, lead.stored refl)
+
+pub led : (result : Result ⊤ KeepFault) (items : List Item) (list : List Change) (rows rows' : Option (List Pair)) (honest honest' : Type 0) (leaves leaves' : List Pair → Type 0) → LeadTo items list rows
+    → OnOk result (Makes (changed list) rows rows') → OnOk result (honest' → IsSome rows → IsSome rows') → OnErr result (Makes (λ pairs. pairs) rows rows') → LeavesRows leaves' rows' → (honest' → honest)
+    → (honest' → IfSome rows (λ pairs. (left : List Pair) → leaves' left → leaves left ⊎ (left ≡ changed list pairs)))
+    → Commits result items rows rows' honest honest' leaves leaves'
+led result items list rows rows' honest honest' leaves leaves' lead ok told err settled back stop = record {
+  stored = stored_ok result ok;
+  ok = made result ok;
+  told = told;
+  err = err;
+  settled = λ before. settled;
+  back = back;
+  stop = λ h some left l. led_stop items list rows leaves leaves' lead (stop h) some left l;
+}
+  where
+    stored_ok : (r : Result ⊤ KeepFault) → OnOk r (Makes (changed list) rows rows') → OnOk r (IsSome rows' → AreStored items)
+    stored_ok (Ok done) m = λ some. lead.stored (told_before (changed list) rows rows' m some)
+    stored_ok (Err why) m = tt
+
+    made : (r : Result ⊤ KeepFault) → OnOk r (Makes (changed list) rows rows') → OnOk r (Makes (λ before. rows_in items) rows rows')
+    made (Ok done) m = led_rows items list rows rows' lead m
+    made (Err why) m = tt
+
+pub no_change : (list : List Change) → length list ≡ 0 → list ≡ []
+no_change [] none = refl
+no_change (c ∷ list) none = absurd (omega (arith, none))
+
+-- no change leads to the rows that are there
+pub led_nowhere : (items : List Item) (list : List Change) (rows : Option (List Pair)) (honest : Type 0) (leaves : List Pair → Type 0) → list ≡ [] → LeadTo items list rows → Commits (Ok tt) items rows rows honest honest leaves leaves
+led_nowhere items list rows honest leaves none lead = record {
+  stored = lead.stored;
+  ok = same rows (subst (λ (l : List Change). IfSome rows (λ r. changed l r ≡ rows_in items)) none lead.rows);
+  told = λ h some. some;
+  err = tt;
+  settled = λ s. s;
+  back = λ h. h;
+  stop = λ h some left l. inl l;
+}
+  where
+    same : (o : Option (List Pair)) → IfSome o (λ r. r ≡ rows_in items) → Makes (λ before. rows_in items) o o
+    same None is = tt
+    same (Some r) is = (r, refl, is)
+
+pub taken : (list : List Change) (takes : Type 0) → (list ≡ []) ⊎ takes → 0 < length list → takes
+taken list takes (inl none) some = absurd (omega (arith, subst (λ (l : List Change). 0 < length l) none some))
+taken list takes (inr t) some = t
+
 -- ---- the changes of a chain
 
 pub all_writable : {all items : List Item} → ((i : Item) → Contains all i → IsWritable i) → items ≡ all → All IsWritable items
 all_writable {all} {items} h is = all_by IsWritable items (λ i c. h i (subst (λ (l : List Item). Contains l i) is c))
 
--- no key is changed twice, by the law of commits
-abbrev pub KeysDiffer : Type 0
-KeysDiffer = (old new : List Item) (list : List Change) → HaveOwnKeys new → AreMade old new list → HasDistinctKeys list
+-- every keeper takes the changes, by the law of commits
+abbrev pub AllTake : Type 0
+AllTake = (old new : List Item) (list : List Change) → HaveOwnKeys new → AreMade old new list → HasNewHead old new → IsOrdinary list
 
-pub first_commit : KeysDiffer → (q : State) (items : List Item) (list : List Change) → IsOnce (map key_of (items_of q)) → items ≡ items_of q → map change_seen list ≡ map item_put items → All HasRow items → IsCommit [] (items_of q) list
-first_commit differ q items list keys is seen rows =
+-- the last height and time are an item
+head_there : (q : State) → Contains (items_of q) (item.Head q.view.ctx.height q.view.ctx.time)
+head_there q = contained (items_of q) (item.Head q.view.ctx.height q.view.ctx.time) (inl refl)
+
+first_head : (q : State) → HasNewHead [] (items_of q)
+first_head q = record {
+  height = q.view.ctx.height;
+  time = q.view.ctx.time;
+  stands = head_there q;
+  is_new = λ c. absurd (member [] (item.Head q.view.ctx.height q.view.ctx.time) c);
+}
+
+same_height : (h t h' t' : ℕ) → item.Head h t ≡ item.Head h' t' → h ≡ h'
+same_height h t h' t' e = cc
+
+-- a height that rose is that of a new head
+new_head : (p q : State) → IsOnce (map key_of (items_of p)) → HasRisen p q → HasNewHead (items_of p) (items_of q)
+new_head p q keys risen = record {
+  height = q.view.ctx.height;
+  time = q.view.ctx.time;
+  stands = head_there q;
+  is_new = λ c. lower (own_keys (items_of p) keys (item.Head q.view.ctx.height q.view.ctx.time) (item.Head p.view.ctx.height p.view.ctx.time) c (head_there p) refl);
+}
+  where
+    lower : item.Head q.view.ctx.height q.view.ctx.time ≡ item.Head p.view.ctx.height p.view.ctx.time → ⊥
+    lower e =
+        let same = same_height q.view.ctx.height q.view.ctx.time p.view.ctx.height p.view.ctx.time e in
+        omega (arith, same, risen)
+
+pub first_commit : AllTake → (q : State) (items : List Item) (list : List Change) → IsOnce (map key_of (items_of q)) → items ≡ items_of q → map change_seen list ≡ map item_put items → All HasRow items → IsCommit [] (items_of q) list
+first_commit take q items list keys is seen rows =
     let have = subst (All HasRow) is rows in
     let made = made_first (items_of q) list keys (seen ∙ ap (map item_put) is) have in
-    record { made = made; distinct = differ [] (items_of q) list (own_keys (items_of q) keys) made; stored = λ none. stored_first (items_of q) keys have }
+    record { made = made; ordinary = take [] (items_of q) list (own_keys (items_of q) keys) made (first_head q); stored = λ none. stored_first (items_of q) keys have }
 
 pub all_can_be_written : {old new : List Item} {changes told : List (Item × Bool)} → AreChanges old new changes → ((i : Item) → Contains new i → IsWritable i) → told ≡ changes → All CanBeWritten told
 all_can_be_written {old} {new} {changes} {told} a writable is = all_by CanBeWritten told (λ c there. can_be_written old new changes a writable c (subst (λ (l : List (Item × Bool)). Contains l c) is there))
 
-pub next_commit : KeysDiffer → (p q : State) (changes told : List (Item × Bool)) (list : List Change) → IsOnce (map key_of (items_of q)) → ((i : Item) → Contains (items_of q) i → IsWritable i) → AreChanges (items_of p) (items_of q) changes → told ≡ changes
-    → map change_seen list ≡ map item_change told → All HasRowIfPut told → All HasKeyInRange told → IsCommit (items_of p) (items_of q) list
-next_commit differ p q changes told list keys writable a is seen rows ranged =
-    let made : AreMade (items_of p) (items_of q) list = record { changes = changes; from_items = a; in_range = subst (All HasKeyInRange) is ranged; same = seen ∙ ap (map item_change) is } in
-    record {
-      made = made;
-      distinct = differ (items_of p) (items_of q) list (own_keys (items_of q) keys) made;
-      stored = λ s. stored_next (items_of p) (items_of q) changes s a keys writable (subst (All HasRowIfPut) is rows);
-    }
+pub next_made : (p q : State) (changes told : List (Item × Bool)) (list : List Change) → AreChanges (items_of p) (items_of q) changes → told ≡ changes → map change_seen list ≡ map item_change told → All HasKeyInRange told
+    → AreMade (items_of p) (items_of q) list
+next_made p q changes told list a is seen ranged = record { changes = changes; from_items = a; in_range = subst (All HasKeyInRange) is ranged; same = seen ∙ ap (map item_change) is }
+
+-- every keeper takes the changes of a chain whose height rose
+pub next_taken : AllTake → (p q : State) (list : List Change) → IsOnce (map key_of (items_of p)) → IsOnce (map key_of (items_of q)) → HasRisen p q → AreMade (items_of p) (items_of q) list → IsOrdinary list
+next_taken take p q list keys keys' risen made = take (items_of p) (items_of q) list (own_keys (items_of q) keys') made (new_head p q keys risen)
+
+pub next_commit : (p q : State) (changes told : List (Item × Bool)) (list : List Change) → IsOrdinary list → IsOnce (map key_of (items_of q)) → ((i : Item) → Contains (items_of q) i → IsWritable i) → AreChanges (items_of p) (items_of q) changes
+    → told ≡ changes → map change_seen list ≡ map item_change told → All HasRowIfPut told → All HasKeyInRange told → IsCommit (items_of p) (items_of q) list
+next_commit p q changes told list ordinary keys writable a is seen rows ranged = record {
+  made = next_made p q changes told list a is seen ranged;
+  ordinary = ordinary;
+  stored = λ s. stored_next (items_of p) (items_of q) changes s a keys writable (subst (All HasRowIfPut) is rows);
+}
 
 -- ---- whether there are rows
 

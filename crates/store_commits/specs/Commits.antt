@@ -2,8 +2,8 @@
 use Rattle.std.specs.Prelude.{◌≡◌, ◌⊎◌, ⊤, List, Option, Result, IfSome, IsSome, OnOk, OnErr}
 use Rattle.base_io.specs.declared.keeper.Change.{Change}
 use Rattle.base_io.specs.declared.keeper.KeepFault.{KeepFault}
-use Rattle.base_io.specs.Rows.{HasDistinctKeys, Makes, Pair}
-use Rattle.base_io.specs.Changes.{LeavesRows}
+use Rattle.base_io.specs.Rows.{Makes, Pair}
+use Rattle.base_io.specs.Changes.{IsOrdinary, LeavesRows, changed}
 use Rattle.base_roles.specs.declared.items.Item.{Item}
 use Rattle.store_items.specs.Stored.{AreStored, rows_in}
 use Rattle.store_items.specs.Making.{AreMade}
@@ -15,12 +15,18 @@ pub record Holds (items : List Item) (told : Option (List Pair)) : Type 0 where
   pub stored : IsSome told → AreStored items
   pub rows : IfSome told (λ rows. rows ≡ rows_in items)
 
--- These changes lead from some items to others, and none changes the key of another. If each of the
--- first items has a row, so has each of the others.
+-- These changes lead from some items to others, and every keeper takes them. If each of the first items
+-- has a row, so has each of the others.
 pub record IsCommit (old new : List Item) (list : List Change) : Type 0 where
   pub made : AreMade old new list
-  pub distinct : HasDistinctKeys list
+  pub ordinary : IsOrdinary list
   pub stored : AreStored old → AreStored new
+
+-- These changes lead from the rows that a keeper tells to those of these items, of which each has
+-- one then.
+pub record LeadTo (items : List Item) (list : List Change) (told : Option (List Pair)) : Type 0 where
+  pub stored : IsSome told → AreStored items
+  pub rows : IfSome told (λ rows. changed list rows ≡ rows_in items)
 
 -- What a commit leaves that is to bring a keeper to these items: after Ok just their rows, of which
 -- each item has one where they are told, and after a fault the rows that it held. A stop then leaves

@@ -1,7 +1,6 @@
 -- What a keeper holds of a chain, and what a commit makes of it.
-use Rattle.std.specs.Prelude.{List, [], Option, Some, None}
-use Rattle.base_io.specs.declared.keeper.Change.{Change}
-use Rattle.base_io.specs.Rows.{HasDistinctKeys, Pair}
+use Rattle.std.specs.Prelude.{◌<◌, List, [], Option, Some, None}
+use Rattle.base_io.specs.Rows.{Pair}
 use Rattle.base_roles.specs.declared.items.Item.{Item}
 use Rattle.rule_machine.specs.Items.{items_of}
 use Rattle.rule_modules.specs.Chain.{State}
@@ -16,6 +15,6 @@ items_at (Some p) = items_of p
 abbrev pub rows_at : Option State → List Pair
 rows_at s = rows_in (items_at s)
 
--- every list of changes of distinct keys is taken
-abbrev pub TakesDistinct : (List Change → Type 0) → Type 0
-TakesDistinct takes = (changes : List Change) → HasDistinctKeys changes → takes changes
+-- the last height rose from one state to the other
+abbrev pub HasRisen : State → State → Type 0
+HasRisen p q = p.view.ctx.height < q.view.ctx.height

@@ -1,14 +1,16 @@
-//! Commits of a chain to a keeper: all of its rows at the genesis, and at each block those that changed.
+//! Commits of a chain to a keeper: all of its rows at the genesis, and at each block those that
+//! changed; and before a run that goes on from rows of another format, those that are others in the
+//! one that is written.
 
-ghost use Rattle.std.specs.Prelude.{◌≡◌, ◌≢◌, ◌≤◌, [], List, Ok, IsErrOf, IfErr, IfOk, IfSome, IsSome, OnErr, OnOk, true, false};
+ghost use Rattle.std.specs.Prelude.{◌≡◌, ◌≢◌, ◌⊎◌, ◌≤◌, [], List, Ok, IsErrOf, IfErr, IfOk, IfSome, IsSome, OnErr, OnOk, true, false};
 ghost use Rattle.base_io.specs.declared.keeper.Change.{Change};
 ghost use Rattle.base_io.specs.Keeping.{UnlessLost};
 ghost use Rattle.base_io.specs.Outside.{Rose};
 ghost use Rattle.base_io.specs.Rows.{Makes, Pair};
-ghost use Rattle.base_io.specs.Changes.{LeavesRows};
+ghost use Rattle.base_io.specs.Changes.{ChangeRows, IsOrdinary, LeavesRows};
 ghost use Rattle.base_roles.specs.declared.items.Item.{Item};
-ghost use Rattle.store_commits.specs.Held.{TakesDistinct};
-ghost use Rattle.store_commits.specs.Commits.{Commits, Holds, IsCommit};
+ghost use Rattle.store_commits.specs.Held.{HasRisen};
+ghost use Rattle.store_commits.specs.Commits.{Commits, Holds, IsCommit, LeadTo};
 ghost use Rattle.rule_machine.specs.Items.{items_of};
 ghost use Rattle.chain_modules.specs.Kept.{StandsFor};
 ghost use Rattle.rule_modules.specs.Chain.{State};
@@ -34,8 +36,6 @@ pub fn has_rows<D: Keeper>(keeper: &mut D) -> Result<bool, KeepFault>
     ensures honest { D.is_honest keeper.new → D.is_honest keeper.old }
     ensures stop { D.is_honest keeper.new → (left : List Pair)
         → D.may_leave keeper.new left → D.may_leave keeper.old left }
-    ensures takes { (changes : List Change) → D.takes keeper.old changes
-        → D.takes keeper.new changes }
     ensures later { D.faults keeper.old ≤ D.faults keeper.new }
     ensures cause { IsErrOf result KeepFault.Failed
         → Rose (D.faults keeper.old) (D.faults keeper.new) }
@@ -69,8 +69,9 @@ fn first_changes(alloc: Global, chain: &Chain) -> Result<Vec<Change>, KeepFault>
 
 /// The changes of rows since a chain was settled. The only error is `NoMemory`.
 fn next_changes(alloc: Global, chain: &Chain) -> Result<Vec<Change>, KeepFault>
-    requires settled { (p : State) × StandsFor chain.now.settled p }
-    requires stands { (q : State) × StandsFor chain.now.kept q }
+    // The height rose since then.
+    requires risen { (p : State) × (q : State) × StandsFor chain.now.settled p
+        × StandsFor chain.now.kept q × HasRisen p q }
     ensures made { (p q : State) → StandsFor chain.now.settled p → StandsFor chain.now.kept q
         → IfOk result (λ list. IsCommit (items_of p) (items_of q) list.items) }
     ensures fault { IfErr result (λ fault. fault ≡ KeepFault.NoMemory) }
@@ -90,7 +91,6 @@ fn next_changes(alloc: Global, chain: &Chain) -> Result<Vec<Change>, KeepFault>
 
 /// Commits changes that lead from the items that the keeper holds to others.
 fn commit_made<D: Keeper>(keeper: &mut D, list: &[Change]) -> Result<(), KeepFault>
-    requires takes { TakesDistinct (D.takes keeper.old) }
     requires made { (old new : List Item) × IsCommit old new list.now
         × Holds old (D.rows keeper.old) }
     ensures commits { (old new : List Item) → IsCommit old new list.now
@@ -98,8 +98,6 @@ fn commit_made<D: Keeper>(keeper: &mut D, list: &[Change]) -> Result<(), KeepFau
         (D.is_honest keeper.old) (D.is_honest keeper.new)
         (D.may_leave keeper.old) (D.may_leave keeper.new) }
     ensures honest { D.is_honest keeper.new → D.is_honest keeper.old }
-    ensures takes { (changes : List Change) → D.takes keeper.old changes
-        → D.takes keeper.new changes }
     ensures later { D.faults keeper.old ≤ D.faults keeper.new }
     ensures cause { IsErrOf result KeepFault.Failed
         → Rose (D.faults keeper.old) (D.faults keeper.new) }
@@ -119,7 +117,6 @@ pub fn commit_first<D: Keeper>(
     keeper: &mut D,
     chain: &Chain,
 ) -> Result<(), KeepFault>
-    requires takes { TakesDistinct (D.takes keeper.old) }
     requires holds { Holds [] (D.rows keeper.old) }
     requires stands { (q : State) × StandsFor chain.now.kept q }
     ensures commits { (q : State) → StandsFor chain.now.kept q
@@ -127,8 +124,6 @@ pub fn commit_first<D: Keeper>(
         (D.is_honest keeper.old) (D.is_honest keeper.new)
         (D.may_leave keeper.old) (D.may_leave keeper.new) }
     ensures honest { D.is_honest keeper.new → D.is_honest keeper.old }
-    ensures takes { (changes : List Change) → D.takes keeper.old changes
-        → D.takes keeper.new changes }
     ensures later { D.faults keeper.old ≤ D.faults keeper.new }
     ensures cause { IsErrOf result KeepFault.Failed
         → Rose (D.faults keeper.old) (D.faults keeper.new) }
@@ -155,10 +150,9 @@ pub fn commit_next<D: Keeper>(
     keeper: &mut D,
     chain: &mut Chain,
 ) -> Result<(), KeepFault>
-    requires takes { TakesDistinct (D.takes keeper.old) }
-    requires holds { (p : State) × StandsFor chain.old.settled p
-        × Holds (items_of p) (D.rows keeper.old) }
-    requires stands { (q : State) × StandsFor chain.old.kept q }
+    // The height rose since then.
+    requires holds { (p : State) × (q : State) × StandsFor chain.old.settled p
+        × StandsFor chain.old.kept q × HasRisen p q × Holds (items_of p) (D.rows keeper.old) }
     ensures commits { (q : State) → StandsFor chain.old.kept q
         → Commits result (items_of q) (D.rows keeper.old) (D.rows keeper.new)
         (D.is_honest keeper.old) (D.is_honest keeper.new)
@@ -167,8 +161,6 @@ pub fn commit_next<D: Keeper>(
     ensures settled { OnOk result (chain.new.settled ≡ chain.old.kept) }
     ensures unsettled { OnErr result (chain.new.settled ≡ chain.old.settled) }
     ensures honest { D.is_honest keeper.new → D.is_honest keeper.old }
-    ensures takes { (changes : List Change) → D.takes keeper.old changes
-        → D.takes keeper.new changes }
     ensures later { D.faults keeper.old ≤ D.faults keeper.new }
     ensures cause { IsErrOf result KeepFault.Failed
         → Rose (D.faults keeper.old) (D.faults keeper.new) }
@@ -189,4 +181,30 @@ pub fn commit_next<D: Keeper>(
         }
         Err(fault) => Err(fault),
     }
+}
+
+/// Commits the changes that bring the rows of a keeper to those of a chain in the format that is
+/// written. Where there are none, the rows are so, and nothing is done.
+///
+/// # Errors
+/// `Failed`, only where the count of faults rose, and `NoMemory`. The rows are as before then.
+pub fn commit_migration<D: Keeper>(keeper: &mut D, list: &[Change]) -> Result<(), KeepFault>
+    requires ordinary { (list.now ≡ []) ⊎ IsOrdinary list.now }
+    requires changing { ChangeRows list.now (D.rows keeper.old) }
+    ensures commits { (items : List Item) → LeadTo items list.now (D.rows keeper.old)
+        → Commits result items (D.rows keeper.old) (D.rows keeper.new)
+        (D.is_honest keeper.old) (D.is_honest keeper.new)
+        (D.may_leave keeper.old) (D.may_leave keeper.new) }
+    // Where nothing is to be done nothing fails.
+    ensures none { list.now ≡ [] → result ≡ Ok tt }
+    ensures honest { D.is_honest keeper.new → D.is_honest keeper.old }
+    ensures later { D.faults keeper.old ≤ D.faults keeper.new }
+    ensures cause { IsErrOf result KeepFault.Failed
+        → Rose (D.faults keeper.old) (D.faults keeper.new) }
+    ensures quiet { UnlessLost result (D.faults keeper.new ≡ D.faults keeper.old) }
+{
+    if list.is_empty() {
+        return Ok(());
+    }
+    keeper.commit(list)
 }

@@ -1,5 +1,5 @@
 -- What a keeper over a keeper tells, and what is left of the rows of the other.
-use Rattle.std.proofs.Common.{◌≡◌, ◌∙◌, ◌⊎◌, inl, inr, ℕ, List, map, Option, Some, None, Ok, Err, Result, refl, sym, ap, ap₂, subst}
+use Rattle.std.proofs.Common.{◌≡◌, ◌∙◌, ◌⊎◌, inl, inr, ℕ, List, [], ◌∷◌, map, Option, Some, None, Ok, Err, Result, refl, sym, ap, ap₂, subst}
 use Rattle.std.specs.Prelude.{if◌then◌else◌, unwrap_or, Bool, ◌^◌, ◌<◌, IfOk, IfSome, IsSome, IsSomeAnd, OnErr, OnOk}
 use Rattle.base_io.specs.declared.keeper.Change.{Change}
 use Rattle.base_io.specs.declared.keeper.KeepFault.{KeepFault}
@@ -7,7 +7,7 @@ use Rattle.base_io.specs.Changes.{ChangeRows, IsOrdinary, LeavesRows, Rises, cha
 use Rattle.base_io.specs.Rows.{Makes, Pair}
 use Rattle.store_history.specs.History.{IsHistory, is_visible, last_of, stored_base, visible}
 use Rattle.store_history.specs.Commits.{IsCommit, anew, committed, height_of, made, seen}
-use Rattle.store_history.specs.Held.{CommitsTo, Knows, ShowsLeft, base_after, shown}
+use Rattle.store_history.specs.Held.{Became, CommitsTo, HaveBecome, Knows, ShowsLeft, base_after, shown}
 use Rattle.store_history.proofs.MapLemmas.{filter_rises}
 use Rattle.store_history.proofs.LeftLemmas.{new_leaves, on_leaves}
 use Rattle.store_history.proofs.ListLemmas.{shown_last}
@@ -43,6 +43,28 @@ holds_still P told (Some after) m h = subst P (sym m.2) (subst (λ (t : Option (
 pub holds_after : (f : List Pair → List Pair) (P Q : List Pair → Type 0) (told told' : Option (List Pair)) → ((rows : List Pair) → P rows → Q (f rows)) → Makes f told told' → IfSome told P → IfSome told' Q
 holds_after f P Q told None leads m h = tt
 holds_after f P Q told (Some after) leads m h = subst Q (sym m.2) (leads m.0 (subst (λ (t : Option (List Pair)). IfSome t P) m.1 h))
+
+-- ---- what became of rows
+
+-- what became of rows that stayed
+pub become_still : (first told told' : Option (List Pair)) → Makes (λ rows. rows) told told' → HaveBecome first told → HaveBecome first told'
+become_still first told told' stayed h = holds_still (λ rows. (before : List Pair) × (first ≡ Some before) × Became before rows) told told' stayed h
+
+-- what became of rows to which one commit more was made
+became_more : (list : List Change) → IsCommit list → (before rows : List Pair) → Became before rows → Became before (committed (map seen list) rows)
+became_more list it before rows h = (list ∷ h.0, (it, h.1), ap (committed (map seen list)) h.2)
+
+pub become_after : {X : Type 0} (r : Result X KeepFault) (list : List Change) → IsCommit list → (first told told' : Option (List Pair)) → OnOk r (Makes (committed (map seen list)) told told') → OnErr r (Makes (λ rows. rows) told told') → HaveBecome first told
+    → HaveBecome first told'
+become_after (Ok x) list it first told told' ok err h =
+    holds_after (committed (map seen list)) (λ rows. (before : List Pair) × (first ≡ Some before) × Became before rows) (λ rows. (before : List Pair) × (first ≡ Some before) × Became before rows) told told'
+    (λ rows was. (was.0, was.1, became_more list it was.0 rows was.2)) ok h
+become_after (Err e) list it first told told' ok err h = become_still first told told' err h
+
+-- nothing became yet of rows that are told as they were
+pub become_none : (told : Option (List Pair)) → HaveBecome told told
+become_none None = tt
+become_none (Some rows) = (rows, refl, ([], tt, refl))
 
 -- ---- what is shown
 
@@ -177,6 +199,10 @@ knows_still told told' base vis stayed k = record {
   base_is = holds_still (λ rows. base ≡ stored_base rows) told told' stayed k.base_is;
   seen_are = holds_still (λ rows. vis ≡ visible rows) told told' stayed k.seen_are;
 }
+
+-- what became of rows that a load left became of those before it
+pub become_before : (first mid told : Option (List Pair)) → Makes (λ rows. rows) first mid → HaveBecome mid told → HaveBecome first told
+become_before first mid told stayed h = if_some_by told _ _ (λ rows is was. (was.0, told_back first mid was.0 stayed was.1, was.2)) h
 
 -- a fault after the keeper was only asked for its rows
 pub commits_loaded : {X : Type 0} (r : Result X KeepFault) (fault : KeepFault) → r ≡ Err fault → (list : List Change) (told mid : Option (List Pair)) (honest between : Type 0) (leaves at : List Pair → Type 0) → Makes (λ rows. rows) told mid → LeavesRows at mid

@@ -10,7 +10,7 @@ use Rattle.base_io.specs.declared.keeper.KeepFault.{KeepFault}
 use Rattle.std.specs.Ordering.{is_eq}
 use Rattle.base_io.specs.Rows.{HasDistinctKeys, Makes, Pair, key_cmp, put}
 use Rattle.base_io.specs.Changes.{LeavesRows, Rises}
-use Rattle.store_history.specs.Commits.{committed, is_kept, made_by}
+use Rattle.store_history.specs.Commits.{AreCommits, after, committed, is_kept, made_by}
 use Rattle.store_history.specs.Commits as commits
 use Rattle.store_history.specs.History.{IsHistory, base_in, base_key, is_visible, kept_height, kept_key, kept_name, kept_value, stored_base, visible, was}
 
@@ -50,6 +50,17 @@ pub record IsKeeping
   pub rises : IfSome told Rises
   pub history : IfSome told IsHistory
   pub knows : known ≡ true → Knows told base seen
+
+-- ---- what became of rows
+
+-- these rows are what commits made of the first ones
+abbrev pub Became : List Pair → List Pair → Type 0
+Became first rows = (commits : List (List Change)) × AreCommits commits × (rows ≡ after commits first)
+
+-- where rows are told, they are what commits made of the first ones, which were told
+abbrev pub HaveBecome : Option (List Pair) → Option (List Pair) → Type 0
+HaveBecome first told =
+    IfSome told (λ rows. (before : List Pair) × (first ≡ Some before) × Became before rows)
 
 -- ---- reading rows, one after the other
 

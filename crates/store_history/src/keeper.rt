@@ -1,13 +1,13 @@
 //! A keeper over a keeper that also keeps what each commit's rows replaced.
 
-ghost use Rattle.std.specs.Prelude.{◌≡◌, ◌≤◌, ◌⊎◌, List, [], false, map, IfOk, IfSome, IsErrOf, IsSome, OnErr, OnOk};
+ghost use Rattle.std.specs.Prelude.{◌≡◌, ◌≤◌, ◌⊎◌, ℕ, List, [], Option, None, false, map, IfOk, IfSome, IsErrOf, IsSome, OnErr, OnOk};
 ghost use Rattle.base_io.specs.declared.keeper.Change.{Change};
 ghost use Rattle.base_io.specs.Keeping.{UnlessLost};
 ghost use Rattle.base_io.specs.Outside.{Rose};
 ghost use Rattle.base_io.specs.Changes.{changed, pair_of, ChangeRows, IsOrdinary, LeavesRows, Rises};
 ghost use Rattle.base_io.specs.Rows.{Makes, Pair};
 ghost use Rattle.store_history.specs.Commits.{committed, seen};
-ghost use Rattle.store_history.specs.Held.{shown, Knows, ShowsLeft, TakesDistinct};
+ghost use Rattle.store_history.specs.Held.{shown, HaveBecome, Knows, ShowsLeft, TakesDistinct};
 ghost use Rattle.store_history.specs.History.{IsHistory};
 
 use crate::committing::commit_known;
@@ -15,15 +15,35 @@ use crate::history::History;
 use crate::loading::{OpenFault, load_visible, read_history};
 use base_io::{Change, KeepFault, Keeper, Row};
 use std::alloc::Global;
-use std::marker::Model;
+use std::marker::{Brand, Model, PhantomData};
+
+/// What proofs remember of a keeper that is lent: the name of the reference, and the rows that it told then.
+///
+/// It has no values. Code that lends a keeper to a [`HistoryKeeper`] is generic over it and gives the keeper
+/// back, and is called with [`Brand`] in its place, of which the call's proof says what it stands for.
+pub trait Loan {
+    ghost name: { ℕ };
+
+    ghost rows: { Option (List Pair) };
+}
+
+impl Loan for Brand {
+    ghost name = { 0 };
+
+    ghost rows = { None };
+}
 
 /// A keeper over another, which it was lent. It tells the visible rows of the other, and with each commit
 /// it keeps there what the changed rows were before, so that rows of a past height can be read.
 ///
 /// Each commit is one commit of the other keeper. What of a history stands among the rows of the other has
 /// keys that begin with the byte 0x60 or 0x61.
+///
+/// Whatever is done with it, the other keeper is the one of the loan `L`, and its rows are what commits made
+/// of those of the loan. So code that is generic over keepers need not say so.
 #[derive(Drop)]
-pub struct HistoryKeeper<'a, D: Keeper> {
+pub struct HistoryKeeper<'a, D: Keeper, L: Loan> {
+    of: PhantomData<L>,
     alloc: Global,
     inner: &'a mut D,
     /// Whether what is known are the rows of the other keeper. Where memory was wanting to follow a commit,
@@ -32,8 +52,9 @@ pub struct HistoryKeeper<'a, D: Keeper> {
     history: History,
 }
 
-impl<'a, D: Keeper> Model for HistoryKeeper<'a, D> {
-    ghost use Rattle.store_history.specs.Held.{Held, held_code, IsKeeping};
+impl<'a, D: Keeper, L: Loan> Model for HistoryKeeper<'a, D, L> {
+    ghost use Rattle.std.specs.Prelude.{◌≡◌};
+    ghost use Rattle.store_history.specs.Held.{HaveBecome, Held, held_code, IsKeeping};
 
     ghost Value = { Held D };
 
@@ -42,21 +63,26 @@ impl<'a, D: Keeper> Model for HistoryKeeper<'a, D> {
     ghost view = { λ k. record { inner = k.inner } };
 
     ghost invariant = { λ k. IsKeeping (D.takes k.inner.now) (D.rows k.inner.now)
-        (D.may_leave k.inner.now) k.known k.history.base k.history.visible };
+        (D.may_leave k.inner.now) k.known k.history.base k.history.visible
+        × (k.inner.ghost_name ≡ L.name) × HaveBecome L.rows (D.rows k.inner.now) };
 }
 
-impl<'a, D: Keeper> HistoryKeeper<'a, D> {
+impl<'a, D: Keeper, L: Loan> HistoryKeeper<'a, D, L> {
     /// A keeper over one of whose rows this is known, as [`read_history`] reads it.
-    pub fn over(alloc: Global, inner: &'a mut D, history: History) -> HistoryKeeper<'a, D>
+    pub fn over(alloc: Global, inner: &'a mut D, history: History) -> HistoryKeeper<'a, D, L>
         requires takes { TakesDistinct (D.takes inner.old) }
         requires settled { LeavesRows (D.may_leave inner.old) (D.rows inner.old) }
         requires rises { IfSome (D.rows inner.old) Rises }
         requires history { IfSome (D.rows inner.old) IsHistory }
         requires knows { Knows (D.rows inner.old) history.base history.visible }
+        // It is the one of the loan, and its rows are those of the loan, or what commits made of them.
+        requires lent { inner.ghost_name ≡ L.name }
+        requires became { HaveBecome L.rows (D.rows inner.old) }
         ensures same_reference { result.inner.ghost_name ≡ inner.entry.ghost_name }
         ensures same { result.inner.now ≡ inner.old }
     {
         HistoryKeeper {
+            of: PhantomData,
             alloc,
             inner,
             known: true,
@@ -64,12 +90,19 @@ impl<'a, D: Keeper> HistoryKeeper<'a, D> {
         }
     }
 
-    /// Gives the other keeper back.
+    /// Gives the other keeper back: that of the loan, with what commits made of its rows, in which a history
+    /// is of its form.
     pub fn into_inner(self) -> &'a mut D
         ensures same_reference { result.ghost_name ≡ self.entry.inner.ghost_name }
         ensures same { result.now ≡ self.entry.inner.now }
+        ensures lent { result.ghost_name ≡ L.name }
+        ensures became { HaveBecome L.rows (D.rows result.now) }
+        ensures history { IfSome (D.rows result.now) IsHistory }
+        ensures settled { LeavesRows (D.may_leave result.now) (D.rows result.now) }
+        ensures takes { TakesDistinct (D.takes result.now) }
     {
         let HistoryKeeper {
+            of: _,
             alloc: _,
             inner,
             known: _,
@@ -80,17 +113,18 @@ impl<'a, D: Keeper> HistoryKeeper<'a, D> {
 }
 
 /// Begins to keep a history in the rows of a keeper, or goes on with the one that stands there. The keeper
-/// takes every list of distinct keys. Where it is to be used after a fault, [`read_history`] and
-/// [`HistoryKeeper::over`] do the same and say more.
+/// takes every list of distinct keys. [`read_history`] and [`HistoryKeeper::over`] are its two parts.
 ///
 /// # Errors
-/// `Failed` where the keeper did not give its rows, `BadHistory` where a history in them is not of its
-/// form, and `NoMemory`.
-pub fn open<'a, D: Keeper>(
+/// `Failed` where the keeper did not give its rows, and its count of faults rose; `BadHistory` where a history
+/// in them is not of its form; and `NoMemory`. The rows of the keeper are as before.
+pub fn open<'a, D: Keeper, L: Loan>(
     alloc: Global,
     inner: &'a mut D,
-) -> Result<HistoryKeeper<'a, D>, OpenFault>
-    requires { TakesDistinct (D.takes inner.old) }
+) -> Result<HistoryKeeper<'a, D, L>, OpenFault>
+    requires takes { TakesDistinct (D.takes inner.old) }
+    requires lent { inner.ghost_name ≡ L.name }
+    requires rows { D.rows inner.old ≡ L.rows }
     ensures same_reference { IfOk result (λ k. k.inner.ghost_name ≡ inner.entry.ghost_name) }
     ensures same { IfOk result
         (λ k. Makes (λ pairs. pairs) (D.rows inner.old) (D.rows k.inner.now)) }
@@ -110,7 +144,7 @@ pub fn open<'a, D: Keeper>(
     }
 }
 
-impl<D: Keeper> Keeper for HistoryKeeper<'_, D> {
+impl<D: Keeper, L: Loan> Keeper for HistoryKeeper<'_, D, L> {
     ghost use Rattle.base_io.specs.Changes.{IsOrdinary};
     ghost use Rattle.store_history.specs.Held.{shown, ShowsLeft};
     ghost use Rattle.std.proofs.Common.{ap};
@@ -209,4 +243,6 @@ impl<D: Keeper> Keeper for HistoryKeeper<'_, D> {
     ghost takes_ordinary = { λ _ changes ordinary. ordinary };
 
     ghost untold = { λ k unkept. ap shown (D.untold k.inner.now unkept) };
+
+    ghost keeps_alike = { λ k other. D.keeps_alike k.inner.now other.inner.now };
 }

@@ -14,7 +14,7 @@ mod worked;
 
 pub use going_back::{PastFault, past};
 pub use history::History;
-pub use keeper::{HistoryKeeper, open};
+pub use keeper::{HistoryKeeper, Loan, open};
 pub use laws::past_rows_are_what_stood;
 pub use loading::{OpenFault, read_history};
 pub use worked::worked_rows;

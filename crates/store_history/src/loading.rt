@@ -7,7 +7,7 @@ ghost use Rattle.base_io.specs.Outside.{Rose};
 ghost use Rattle.base_io.specs.Changes.{pair_of, LeavesRows, Rises};
 ghost use Rattle.base_io.specs.Rows.{Makes, Pair};
 ghost use Rattle.store_history.specs.Held.{Knows};
-ghost use Rattle.store_history.specs.Opened.{open_fault};
+ghost use Rattle.store_history.specs.Opened.{open_fault, OnLoaded, UnlessFailed};
 ghost use Rattle.store_history.specs.History.{stored_base, visible, IsHistory};
 
 use crate::forms::is_visible;
@@ -125,7 +125,10 @@ pub fn read_history<D: Keeper>(alloc: Global, keeper: &mut D) -> Result<History,
         → IfSome (D.rows keeper.new) (λ rows. IsHistory rows → ⊥) }
     ensures ascending { IfSome (D.rows keeper.new) Rises }
     ensures same { Makes (λ pairs. pairs) (D.rows keeper.old) (D.rows keeper.new) }
-    ensures told { OnOk result (D.is_honest keeper.new
+    // A keeper that keeps nothing has nothing to load.
+    ensures unkept { D.keeps keeper.old ≡ false → IsErrOf result OpenFault.BadHistory → ⊥ }
+    // Where the rows were loaded, an honest keeper tells them still.
+    ensures told { OnLoaded result (D.is_honest keeper.new
         → IsSome (D.rows keeper.old) → IsSome (D.rows keeper.new)) }
     ensures settled { LeavesRows (D.may_leave keeper.new) (D.rows keeper.new) }
     ensures honest { D.is_honest keeper.new → D.is_honest keeper.old }
@@ -136,8 +139,7 @@ pub fn read_history<D: Keeper>(alloc: Global, keeper: &mut D) -> Result<History,
     ensures later { D.faults keeper.old ≤ D.faults keeper.new }
     ensures cause { IsErrOf result OpenFault.Failed
         → Rose (D.faults keeper.old) (D.faults keeper.new) }
-    ensures quiet { (IsErrOf result OpenFault.Failed → ⊥)
-        → D.faults keeper.new ≡ D.faults keeper.old }
+    ensures quiet { UnlessFailed result (D.faults keeper.new ≡ D.faults keeper.old) }
 {
     match keeper.load() {
         Ok(rows) => read_rows(alloc, rows.as_slice()),

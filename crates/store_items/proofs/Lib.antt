@@ -1,7 +1,11 @@
 pub mod Blocks
+pub mod Listed
 pub mod Loops
 pub mod Members
+pub mod MigrationLemmas
+pub mod Ordinary
 pub mod OwnKeys
 pub mod Reached
 pub mod Through
+pub mod Told
 pub mod Writing

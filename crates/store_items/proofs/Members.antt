@@ -7,9 +7,10 @@ use Rattle.sqlite_rules.specs.Lists.{Has}
 use Rattle.base_io.specs.Rows.{Pair, key_cmp, put}
 use Rattle.base_io.specs.Changes.{Rises}
 use Rattle.base_roles.specs.declared.items.Item.{Item}
-use Rattle.store_rows.specs.Rows.{key_bytes, row_of}
+use Rattle.store_rows.specs.declared.format.Format.{Format}
+use Rattle.store_rows.specs.Rows.{key_bytes, row_in}
 use Rattle.store_sqlite.proofs.Maps.{has_put, put_has, put_keeps, put_rises, total}
-use Rattle.store_items.specs.Stored.{rows_in}
+use Rattle.store_items.specs.Stored.{rows_as}
 
 -- ---- members
 
@@ -55,25 +56,25 @@ same_or_other a b = go (key_cmp a b) refl
 abbrev pub AreOnce : List Item → Type 0
 AreOnce items = (i j : Item) → Has items i → Has items j → key_bytes i ≡ key_bytes j → i ≡ j
 
-pub rows_rise : (items : List Item) → Rises (rows_in items)
-rows_rise [] = tt
-rows_rise (j ∷ js) = put_rises (row_of j) (rows_in js) (rows_rise js)
+pub rows_rise : (f : Format) (items : List Item) → Rises (rows_as f items)
+rows_rise f [] = tt
+rows_rise f (j ∷ js) = put_rises (row_in f j) (rows_as f js) (rows_rise f js)
 
-pub row_there : (items : List Item) (i : Item) → AreOnce items → Has items i → Has (rows_in items) (row_of i)
-row_there [] i once h = absurd h
-row_there (j ∷ js) i once (inl same) = subst (λ (k : Item). Has (rows_in (j ∷ js)) (row_of k)) (sym same) (has_put (row_of j) (rows_in js))
-row_there (j ∷ js) i once (inr later) = go (key_cmp (key_bytes i) (key_bytes j)) refl (row_there js i (λ a b p q. once a b (inr p) (inr q)) later)
+pub row_there : (f : Format) (items : List Item) (i : Item) → AreOnce items → Has items i → Has (rows_as f items) (row_in f i)
+row_there f [] i once h = absurd h
+row_there f (j ∷ js) i once (inl same) = subst (λ (k : Item). Has (rows_as f (j ∷ js)) (row_in f k)) (sym same) (has_put (row_in f j) (rows_as f js))
+row_there f (j ∷ js) i once (inr later) = go (key_cmp (key_bytes i) (key_bytes j)) refl (row_there f js i (λ a b p q. once a b (inr p) (inr q)) later)
   where
-    go : (o : Ordering) → key_cmp (key_bytes i) (key_bytes j) ≡ o → Has (rows_in js) (row_of i) → Has (put (row_of j) (rows_in js)) (row_of i)
-    go Less e there = put_keeps (row_of j) (rows_in js) (row_of i) there (λ f. cc)
-    go Equal e there = subst (λ (k : Item). Has (put (row_of j) (rows_in js)) (row_of k)) (sym (once i j (inr later) (inl refl) (tied (key_bytes i) (key_bytes j) e))) (has_put (row_of j) (rows_in js))
-    go Greater e there = put_keeps (row_of j) (rows_in js) (row_of i) there (λ f. cc)
+    go : (o : Ordering) → key_cmp (key_bytes i) (key_bytes j) ≡ o → Has (rows_as f js) (row_in f i) → Has (put (row_in f j) (rows_as f js)) (row_in f i)
+    go Less e there = put_keeps (row_in f j) (rows_as f js) (row_in f i) there (λ f. cc)
+    go Equal e there = subst (λ (k : Item). Has (put (row_in f j) (rows_as f js)) (row_in f k)) (sym (once i j (inr later) (inl refl) (tied (key_bytes i) (key_bytes j) e))) (has_put (row_in f j) (rows_as f js))
+    go Greater e there = put_keeps (row_in f j) (rows_as f js) (row_in f i) there (λ f. cc)
 
-pub item_there : (items : List Item) (p : Pair) → Has (rows_in items) p → (i : Item) × Has items i × (row_of i ≡ p)
-item_there [] p h = absurd h
-item_there (j ∷ js) p h = elim (put_has (row_of j) (rows_in js) p h) [
+pub item_there : (f : Format) (items : List Item) (p : Pair) → Has (rows_as f items) p → (i : Item) × Has items i × (row_in f i ≡ p)
+item_there f [] p h = absurd h
+item_there f (j ∷ js) p h = elim (put_has (row_in f j) (rows_as f js) p h) [
   | inl same ↦ (j, inl refl, sym same)
-  | inr later ↦ let (i, there, is) = item_there js p later in (i, inr there, is)
+  | inr later ↦ let (i, there, is) = item_there f js p later in (i, inr there, is)
 ]
 
 -- an item of this key, or none

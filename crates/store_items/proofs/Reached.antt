@@ -16,23 +16,22 @@ use Rattle.base_io.specs.Rows as rows
 use Rattle.base_roles.specs.declared.items.Item.{Item}
 use Rattle.base_roles.specs.declared.items.Item.TheVariants as item
 use Rattle.base_roles.specs.Items.{IsOnce, key_of}
-use Rattle.store_rows.specs.Rows.{key_bytes, row_of, value_bytes}
+use Rattle.store_rows.specs.declared.format.Format.{Format}
+use Rattle.store_rows.specs.Formats.{written}
+use Rattle.store_rows.specs.Rows.{key_bytes, row_in, row_of, value_bytes, value_in}
 use Rattle.store_rows.specs.Spelled.{IsKeyInRange}
 use Rattle.store_rows.proofs.KeyLemmas.{keys_one_to_one, ranged_one_to_one}
 use Rattle.store_rows.proofs.WholeLemmas.{key_alone, one_to_one}
 use Rattle.store_sqlite.proofs.Maps.{same_members, total}
 use Rattle.store_items.specs.Stored.{AreStored, HaveOwnKeys, rows_in}
 use Rattle.store_items.specs.Making.{AreMade, HasKeyInRange, change_seen, item_change}
+use Rattle.store_items.proofs.Listed.{bytes_apart, got_at}
 use Rattle.store_items.proofs.Members.{AreOnce, find_key, has_map, has_of, item_there, map_has, place_of, row_there, rows_rise, same_or_other, tied}
 use Rattle.store_items.proofs.Through.{IsFree, all_rise, kept_through, put_through, through_only}
 
-stored_once : (items : List Item) → AreStored items → AreOnce items
-stored_once items s i j h k same =
-    s.once i j (place_of items i h) (place_of items j k) (keys_one_to_one i j (s.have_rows i (place_of items i h)) (s.have_rows j (place_of items j k)) same)
-
 -- ---- changes of rows and of items
 
-seen_key : (d : Change) → (change_seen d).0 ≡ rows.key_of d
+pub seen_key : (d : Change) → (change_seen d).0 ≡ rows.key_of d
 seen_key (change.Put row) = refl
 seen_key (change.Remove key) = refl
 
@@ -46,14 +45,14 @@ put_is i false r e = absurd (no_value (ap (λ (s : List ℕ × Option (List ℕ)
     no_value : None ≡ Some r.value.items → ⊥
     no_value f = cc
 
-made_put : (d : Change) (i : Item) → change_seen d ≡ (key_bytes i, Some (value_bytes i)) → (r : Row) × (change.Put r ≡ d) × (pair_of r ≡ row_of i)
-made_put (change.Put r) i e = (r, refl, ap₂ (λ (k v : List ℕ). (k, v)) (ap (λ (s : List ℕ × Option (List ℕ)). s.0) e) (some_same (ap (λ (s : List ℕ × Option (List ℕ)). s.1) e)))
+pub made_put : (f : Format) (d : Change) (i : Item) → change_seen d ≡ (key_bytes i, Some (value_in f i)) → (r : Row) × (change.Put r ≡ d) × (pair_of r ≡ row_in f i)
+made_put f (change.Put r) i e = (r, refl, ap₂ (λ (k v : List ℕ). (k, v)) (ap (λ (s : List ℕ × Option (List ℕ)). s.0) e) (some_same (ap (λ (s : List ℕ × Option (List ℕ)). s.1) e)))
   where
-    some_same : Some r.value.items ≡ Some (value_bytes i) → r.value.items ≡ value_bytes i
+    some_same : Some r.value.items ≡ Some (value_in f i) → r.value.items ≡ value_in f i
     some_same f = cc
-made_put (change.Remove key) i e = absurd (no_value (ap (λ (s : List ℕ × Option (List ℕ)). s.1) e))
+made_put f (change.Remove key) i e = absurd (no_value (ap (λ (s : List ℕ × Option (List ℕ)). s.1) e))
   where
-    no_value : None ≡ Some (value_bytes i) → ⊥
+    no_value : None ≡ Some (value_in f i) → ⊥
     no_value f = cc
 
 -- ---- values of rows
@@ -67,7 +66,7 @@ value_there key value (p ∷ ps) e = go (key_cmp p.0 key) refl e (value_there ke
     go Equal is f later = inl (ap₂ (λ (k v : List ℕ). (k, v)) (sym (tied p.0 key is)) (let same : value ≡ p.1 = cc in same))
     go Greater is f later = absurd cc
 
-there_value : (ps : List Pair) (p : Pair) → Rises ps → Has ps p → value_of p.0 ps ≡ Some p.1
+pub there_value : (ps : List Pair) (p : Pair) → Rises ps → Has ps p → value_of p.0 ps ≡ Some p.1
 there_value [] p up h = absurd h
 there_value (q ∷ ps) p up (inl same) =
     subst (λ (r : Pair). value_of r.0 (q ∷ ps) ≡ Some r.1) (sym same) (ap (λ (o : Ordering). match_ordering o (value_of q.0 ps) (Some q.1) None) (tied_itself total q.0))
@@ -79,11 +78,6 @@ there_value (q ∷ ps) p up (inr later) =
 abbrev AreApart : List (Item × Bool) → Type 0
 AreApart [] = Unit {0}
 AreApart (c ∷ cs) = AllByRecursion (λ d. key_bytes c.0 ≡ key_bytes d.0 → ⊥) cs × AreApart cs
-
-got_at : {A : Type 0} (xs : List A) (x : A) → Has xs x → (k : ℕ) × (k < length xs) × (slice_get xs k ≡ Some x)
-got_at [] x h = absurd h
-got_at (y ∷ ys) x (inl same) = (0, omega arith, ap (λ z. Some z) (sym same))
-got_at (y ∷ ys) x (inr later) = let (k, lt, is) = got_at ys x later in (suc k, omega (arith, lt), is)
 
 not_later : (c : Item × Bool) (cs : List (Item × Bool)) → IsOnce (c ∷ cs) → Has cs c → ⊥
 not_later c cs once h =
@@ -172,10 +166,10 @@ module _ (old new : List Item) (list : List Change) (o : AreStored old) (n : Are
   from_item c h = map_has change_seen list (item_change c) (subst (λ (l : List (List ℕ × Option (List ℕ))). Has l (item_change c)) (sym made.same) (has_map item_change made.changes c h))
 
   old_once : AreOnce old
-  old_once = stored_once old o
+  old_once = bytes_apart old o
 
   new_once : AreOnce new
-  new_once = stored_once new n
+  new_once = bytes_apart new n
 
   -- an item that is new stands, and was not there
   stands : (i : Item) → Has made.changes (i, true) → Has new i × (Has old i → ⊥)
@@ -216,23 +210,23 @@ module _ (old new : List Item) (list : List Change) (o : AreStored old) (n : Are
   put_row : (m : Item) → Has new m → (Has old m → ⊥) → Has (changed list (rows_in old)) (row_of m)
   put_row m in_new other =
       let (d, there, is) = from_item (m, true) (new_change m in_new other) in
-      let (r, same, row) = made_put d m is in
+      let (r, same, row) = made_put written d m is in
       subst (λ (p : Pair). Has (changed list (rows_in old)) p) row (put_through list (rows_in old) r distinct (subst (λ (x : Change). Has list x) (sym same) there))
 
   to_new : (p : Pair) → Has (changed list (rows_in old)) p → Has (rows_in new) p
-  to_new p h = elim (through_only list (rows_in old) p (rows_rise old) h) [
+  to_new p h = elim (through_only list (rows_in old) p (rows_rise written old) h) [
     | inl it ↦
         let (c, there, is) = from_row (change.Put it.0) it.1 in
         let (true_is, row) = put_is c.0 c.1 it.0 is in
         let now = stands c.0 (subst (λ (b : Bool). Has made.changes (c.0, b)) true_is there) in
-        subst (λ (q : Pair). Has (rows_in new) q) (row ∙ it.2) (row_there new c.0 new_once now.0)
+        subst (λ (q : Pair). Has (rows_in new) q) (row ∙ it.2) (row_there written new c.0 new_once now.0)
     | inr it ↦
-        let (was, there, is) = item_there old p it.0 in
+        let (was, there, is) = item_there written old p it.0 in
         let key_is : key_bytes was ≡ p.0 = ap (λ (q : Pair). q.0) is in
         elim (find_key new (key_bytes was)) [
           | inl found ↦
               elim (same_or_other (value_bytes found.0) (value_bytes was)) [
-                | inl value ↦ subst (λ (q : Pair). Has (rows_in new) q) (ap₂ (λ (k v : List ℕ). (k, v)) found.2 value ∙ is) (row_there new found.0 new_once found.1)
+                | inl value ↦ subst (λ (q : Pair). Has (rows_in new) q) (ap₂ (λ (k v : List ℕ). (k, v)) found.2 value ∙ is) (row_there written new found.0 new_once found.1)
                 | inr other ↦
                     let (d, t, s) = from_item (found.0, true) (new_change found.0 found.1 (λ in_old. other (ap value_bytes (old_once found.0 was in_old there found.2)))) in
                     absurd (it.1 d t (sym (seen_key d) ∙ ap (λ (x : List ℕ × Option (List ℕ)). x.0) s ∙ found.2 ∙ key_is))
@@ -245,22 +239,22 @@ module _ (old new : List Item) (list : List Change) (o : AreStored old) (n : Are
 
   to_changed : (p : Pair) → Has (rows_in new) p → Has (changed list (rows_in old)) p
   to_changed p h =
-      let (m, in_new, is) = item_there new p h in
+      let (m, in_new, is) = item_there written new p h in
       subst (λ (q : Pair). Has (changed list (rows_in old)) q) is
       (elim (find_key old (key_bytes m)) [
         | inl found ↦
             elim (same_or_other (value_bytes found.0) (value_bytes m)) [
               | inl value ↦
-                  let same : found.0 ≡ m = one_to_one found.0 m (o.have_rows found.0 (place_of old found.0 found.1)) (n.have_rows m (place_of new m in_new)) (ap₂ (λ (k v : List ℕ). (k, v)) found.2 value) in
+                  let same : found.0 ≡ m = one_to_one written found.0 m (o.have_rows found.0 (place_of old found.0 found.1)) (n.have_rows m (place_of new m in_new)) (ap₂ (λ (k v : List ℕ). (k, v)) found.2 value) in
                   let in_old = subst (λ (x : Item). Has old x) same found.1 in
-                  kept_through list (rows_in old) (row_of m) (row_there old m old_once in_old) (stays_free m in_new in_old)
+                  kept_through list (rows_in old) (row_of m) (row_there written old m old_once in_old) (stays_free m in_new in_old)
               | inr other ↦ put_row m in_new (λ in_old. other (ap value_bytes (old_once found.0 m found.1 in_old found.2)))
             ]
         | inr none ↦ put_row m in_new (λ in_old. none m in_old refl)
       ])
 
   pub rows_reached : changed list (rows_in old) ≡ rows_in new
-  rows_reached = same_members (changed list (rows_in old)) (rows_in new) (all_rise list (rows_in old) (rows_rise old)) (rows_rise new) to_new to_changed
+  rows_reached = same_members (changed list (rows_in old)) (rows_in new) (all_rise list (rows_in old) (rows_rise written old)) (rows_rise written new) to_new to_changed
 
   -- each change changes the rows
   change_changes : (d : Change) → Has list d → ChangesRows (rows_in old) d
@@ -270,8 +264,8 @@ module _ (old new : List Item) (list : List Change) (o : AreStored old) (n : Are
       go (change.Put r) it = λ e.
           let (true_is, row) = put_is it.0.0 it.0.1 r it.2 in
           let now = stands it.0.0 (subst (λ (b : Bool). Has made.changes (it.0.0, b)) true_is it.1) in
-          let (was, there, same) = item_there old (pair_of r) (value_there r.key.items r.value.items (rows_in old) e) in
-          now.1 (subst (λ (x : Item). Has old x) (one_to_one was it.0.0 (o.have_rows was (place_of old was there)) (n.have_rows it.0.0 (place_of new it.0.0 now.0)) (same ∙ sym row)) there)
+          let (was, there, same) = item_there written old (pair_of r) (value_there r.key.items r.value.items (rows_in old) e) in
+          now.1 (subst (λ (x : Item). Has old x) (one_to_one written was it.0.0 (o.have_rows was (place_of old was there)) (n.have_rows it.0.0 (place_of new it.0.0 now.0)) (same ∙ sym row)) there)
       go (change.Remove key) it = removed it.0.0 it.0.1 it.1 it.2
         where
           removed : (i : Item) (b : Bool) → Has made.changes (i, b) → item_change (i, b) ≡ (key.items, None) → IsSome (value_of key.items (rows_in old))
@@ -281,7 +275,7 @@ module _ (old new : List Item) (list : List Change) (o : AreStored old) (n : Are
               no_value f = cc
           removed i false h e =
               let (was, there, same, none) = gone i h in
-              let is : value_of (key_bytes was) (rows_in old) ≡ Some (value_bytes was) = there_value (rows_in old) (row_of was) (rows_rise old) (row_there old was old_once there) in
+              let is : value_of (key_bytes was) (rows_in old) ≡ Some (value_bytes was) = there_value (rows_in old) (row_of was) (rows_rise written old) (row_there written old was old_once there) in
               let at_key : key_bytes was ≡ key.items = same ∙ ap (λ (s : List ℕ × Option (List ℕ)). s.0) e in
               subst (λ (r : Option (List ℕ)). IsSome r) (sym is ∙ ap (λ (k : List ℕ). value_of k (rows_in old)) at_key) refl
 

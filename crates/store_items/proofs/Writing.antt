@@ -17,6 +17,7 @@ use Rattle.base_types.specs.Orders.{denom_cmp}
 use Rattle.base_coins.specs.Coins.{IsMoney, Money}
 use Rattle.base_roles.specs.declared.entities.Historical.{Historical}
 use Rattle.base_roles.specs.declared.entities.Purse.{Purse}
+use Rattle.base_roles.specs.declared.entities.SigningInfo.{SigningInfo}
 use Rattle.base_roles.specs.declared.entities.StartingInfo.{StartingInfo}
 use Rattle.base_roles.specs.declared.items.Item.{Item}
 use Rattle.base_roles.specs.declared.items.Item.TheVariants as item
@@ -90,32 +91,35 @@ ratio_short (r ∷ rs) n h = by (nat_le r.0 n) (ratio_short rs n (λ x m. h x (i
 
 -- ---- the ring
 
-ring_short : (window : ℕ) (votes : List Bool) → window ≤ 100000 → IsCountable (ring_of window votes)
+ring_short : (window : ℕ) (votes : List Bool) → window ≤ 100000 → length (ring_of window votes) ≤ 100000
 ring_short window votes most =
     let last = reverse (take window votes) in
     let older = length last - length votes % window in
     let whole : length last ≤ window = omega (arith, length-reverse (take window votes), length-take window votes) in
-    let front : length (take older last) ≤ length last = omega (arith, length-take older last) in
-    let back : length (drop older last) ≤ length last = omega (arith, length-drop older last) in
-    omega (arith, whole, front, back, most, length-append (drop older last) (take older last))
+    omega (arith, whole, most, length-take older last, length-drop older last, length-append (drop older last) (take older last))
 
 -- ---- all items
 
+-- the item can be written, and where it is a signing record its window has at most 100,000 places
+abbrev CanStand : Item → Type 0
+CanStand (item.Signing cons info ring) = length ring ≤ 100000
+CanStand i = IsWritable i
+
 abbrev AllWritten : List Item → Type 0
-AllWritten items = (i : Item) → Member items i → IsWritable i
+AllWritten items = (i : Item) → Member items i → CanStand i
 
 both : (xs ys : List Item) → AllWritten xs → AllWritten ys → AllWritten (xs ++ ys)
 both xs ys a b i m = by (member-cases xs ys i m)
   where
-    by : Member xs i ⊎ Member ys i → IsWritable i
+    by : Member xs i ⊎ Member ys i → CanStand i
     by (inl l) = a i l
     by (inr r) = b i r
 
-mapped : {A : Type 0} (f : A → Item) (es : List A) → ((e : A) → Member es e → IsWritable (f e)) → AllWritten (map f es)
-mapped f es h i m = let e = member-map f es i m in subst IsWritable e.2 (h e.0 e.1)
+mapped : {A : Type 0} (f : A → Item) (es : List A) → ((e : A) → Member es e → CanStand (f e)) → AllWritten (map f es)
+mapped f es h i m = let e = member-map f es i m in subst CanStand e.2 (h e.0 e.1)
 
-single : (i : Item) → IsWritable i → AllWritten (i ∷ [])
-single i h j (inl e) = subst IsWritable e h
+single : (i : Item) → CanStand i → AllWritten (i ∷ [])
+single i h j (inl e) = subst CanStand e h
 single i h j (inr m) = absurd m
 
 flat : {A : Type 0} (g : A → List Item) (es : List A) → ((e : A) → Member es e → AllWritten (g e)) → AllWritten (flat_map g es)
@@ -140,9 +144,9 @@ module _ (o : List ℕ) (p : Periods) (starts : List StartingInfo) (short : (r :
     where
       by : (k : Option Historical) → history_kept p starts r.0 ≡ k
           → Member (cons_option (option_map (λ h. item.Historical o r.0 h) k) (filter_map (λ ended. option_map (λ h. item.Historical o ended.0 h) (history_kept p starts ended.0)) rs)) i
-          → (Member (filter_map (λ ended. option_map (λ h. item.Historical o ended.0 h) (history_kept p starts ended.0)) rs) i → IsWritable i) → IsWritable i
+          → (Member (filter_map (λ ended. option_map (λ h. item.Historical o ended.0 h) (history_kept p starts ended.0)) rs) i → CanStand i) → CanStand i
       by None e n later = later n
-      by (Some h) e (inl s) later = subst IsWritable s (kept_short r.0 (references_of p starts r.0 == 0) h e)
+      by (Some h) e (inl s) later = subst CanStand s (kept_short r.0 (references_of p starts r.0 == 0) h e)
       by (Some h) e (inr n) later = later n
 
 module _ (p : State) (s : IsSound p) where
@@ -170,7 +174,7 @@ module _ (p : State) (s : IsSound p) where
   short : (c : Money) → IsMoney c → ((d : List ℕ) → Member (names_in c) d → Member (denominations_of p) d) → IsCountable c
   short = coins_short (denominations_of p) s.few
 
-  purse_written : (e : List ℕ × Purse) → Member (shared_in p).purses.purses e → IsWritable (item.Purse e.0 e.1)
+  purse_written : (e : List ℕ × Purse) → Member (shared_in p).purses.purses e → CanStand (item.Purse e.0 e.1)
   purse_written e m =
       let sound = all_at (λ (x : List ℕ × Purse). PurseIsSound x.1) (shared_in p).purses.purses e s.purses.purses m in
       let within : (d : List ℕ) → Member (names_in e.1.outstanding ++ names_in e.1.commission ++ names_in e.1.current) d → Member (denominations_of p) d = λ d n. of_purses d (in_purses (shared_in p).purses.purses e d m n) in
@@ -233,5 +237,26 @@ module _ (p : State) (s : IsSound p) where
       shared : AllWritten (shared_items (shared_in p))
       shared = both _ _ purses (both _ _ (mapped (λ e. item.Withdraw e.0 e.1) (shared_in p).withdraw (λ e m. tt)) rewards)
 
+can_be_written : (i : Item) → CanStand i → IsWritable i
+can_be_written (item.Head height time) h = h
+can_be_written (item.Parameters params) h = h
+can_be_written (item.Balance account denom amount) h = h
+can_be_written (item.Supply denom amount) h = h
+can_be_written (item.Validator validator) h = h
+can_be_written (item.Delegation operator delegator shares) h = h
+can_be_written (item.Unbonding delegator operator entries) h = h
+can_be_written (item.Redelegation delegator source target entries) h = h
+can_be_written (item.Signing cons info ring) h = omega (arith, h)
+can_be_written (item.Purse operator purse) h = h
+can_be_written (item.Pool coins) h = h
+can_be_written (item.Withdraw delegator to) h = h
+can_be_written (item.CurrentPeriod operator period) h = h
+can_be_written (item.Historical operator period history) h = h
+can_be_written (item.Start operator delegator info) h = h
+can_be_written (item.Event operator event) h = h
+
 pub all_written : (p : State) → IsSound p → (i : Item) → Contains (items_of p) i → IsWritable i
-all_written p s i c = all_members p s i (member (items_of p) i c)
+all_written p s i c = can_be_written i (all_members p s i (member (items_of p) i c))
+
+pub windows_short : (p : State) → IsSound p → (cons : List ℕ) (info : SigningInfo) (ring : List Bool) → Contains (items_of p) (item.Signing cons info ring) → length ring ≤ 100000
+windows_short p s cons info ring c = all_members p s (item.Signing cons info ring) (member (items_of p) (item.Signing cons info ring) c)

@@ -1,8 +1,9 @@
 -- Changes of items as changes of rows.
-use Rattle.std.specs.Prelude.{◌≡◌, ℕ, Bool, true, if◌then◌else◌, List, map, All, Option, Some, None}
+use Rattle.std.specs.Prelude.{◌≡◌, ℕ, Bool, true, if◌then◌else◌, List, map, All, Contains, Option, Some, None}
 use Rattle.base_io.specs.declared.keeper.Change.{Change}
 use Rattle.base_io.specs.declared.keeper.Change.TheVariants as change
 use Rattle.base_roles.specs.declared.items.Item.{Item}
+use Rattle.base_roles.specs.declared.items.Item.TheVariants as item
 use Rattle.base_roles.specs.Items.{AreChanges}
 use Rattle.store_rows.specs.Rows.{key_bytes, value_bytes}
 use Rattle.store_rows.specs.Spelled.{HasRow, IsKeyInRange, IsWritable}
@@ -38,3 +39,10 @@ pub record AreMade (old new : List Item) (list : List Change) : Type 0 where
   pub from_items : AreChanges old new changes
   pub in_range : All HasKeyInRange changes
   pub same : map change_seen list ≡ map item_change changes
+
+-- The last height and time of the new items are none of the old ones.
+pub record HasNewHead (old new : List Item) : Type 0 where
+  pub height : ℕ
+  pub time : ℕ
+  pub stands : Contains new (item.Head height time)
+  pub is_new : ¬ Contains old (item.Head height time)

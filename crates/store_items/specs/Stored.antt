@@ -3,13 +3,19 @@ use Rattle.std.specs.Prelude.{◌≡◌, List, [], ◌∷◌, Contains}
 use Rattle.base_io.specs.Rows.{Pair, put}
 use Rattle.base_roles.specs.declared.items.Item.{Item}
 use Rattle.base_roles.specs.Items.{key_of}
-use Rattle.store_rows.specs.Rows.{row_of}
+use Rattle.store_rows.specs.declared.format.Format.{Format}
+use Rattle.store_rows.specs.Formats.{written}
+use Rattle.store_rows.specs.Rows.{row_in}
 use Rattle.store_rows.specs.Spelled.{HasRow}
 
--- the rows of items, in whatever order these stand
+-- the rows of items in a format, in whatever order these stand
+abbrev pub rows_as : Format → List Item → List Pair
+rows_as f [] = []
+rows_as f (i ∷ items) = put (row_in f i) (rows_as f items)
+
+-- the same in the format that is written
 abbrev pub rows_in : List Item → List Pair
-rows_in [] = []
-rows_in (i ∷ items) = put (row_of i) (rows_in items)
+rows_in items = rows_as written items
 
 -- none has the key of another
 abbrev pub HaveOwnKeys : List Item → Type 0

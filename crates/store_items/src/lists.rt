@@ -3,29 +3,30 @@
 ghost use Rattle.std.specs.Prelude.{◌≡◌, ◌≢◌, List, map, All, IfOk, IfErr, IsErrOf};
 ghost use Rattle.base_io.specs.Changes.{pair_of};
 ghost use Rattle.base_roles.specs.declared.items.Item.{Item};
-ghost use Rattle.store_rows.specs.Rows.{row_of};
+ghost use Rattle.store_rows.specs.Rows.{row_in};
 ghost use Rattle.store_rows.specs.Spelled.{HasRow, IsWritable};
 ghost use Rattle.store_items.specs.Making.{CanBeWritten, HasKeyInRange, HasRowIfPut, change_seen, item_change, item_put};
 
 use base_io::{Change, Row};
 use base_roles::Item;
 use std::alloc::Global;
-use store_rows::{RowFault, decode, encode, key_of};
+use store_rows::{Format, RowFault, decode, encode, key_of};
 
-/// The items of rows, in their order.
+/// The items of rows in a format, in their order.
 ///
 /// # Errors
 /// `BadRow`, exactly where a row is that of no item, and `NoMemory`.
-pub fn items_of(alloc: Global, rows: &[Row]) -> Result<Vec<Item>, RowFault>
-    ensures rows { IfOk result (λ items. map row_of items.items ≡ map pair_of rows.now) }
+pub fn items_of(alloc: Global, format: Format, rows: &[Row]) -> Result<Vec<Item>, RowFault>
+    ensures rows { IfOk result
+        (λ items. map (row_in format) items.items ≡ map pair_of rows.now) }
     ensures found { IfOk result (λ items. All HasRow items.items) }
     // Rows that are refused are those of no items.
     ensures only { IsErrOf result RowFault.BadRow → (items : List Item)
-        → All HasRow items → map row_of items ≢ map pair_of rows.now }
+        → All HasRow items → map (row_in format) items ≢ map pair_of rows.now }
 {
     let mut items = Vec::new(alloc);
     for row in rows {
-        let item = decode(alloc, row)?;
+        let item = decode(alloc, format, row)?;
         items.push(item)?;
     }
     Ok(items)
@@ -41,7 +42,7 @@ fn change_of(alloc: Global, change: &(Item, bool)) -> Result<Change, RowFault>
     ensures fault { IfErr result (λ fault. fault ≡ RowFault.NoMemory) }
 {
     if change.1 {
-        Ok(Change::Put(encode(alloc, &change.0)?))
+        Ok(Change::Put(encode(alloc, Format::WRITTEN, &change.0)?))
     } else {
         Ok(Change::Remove(key_of(alloc, &change.0)?))
     }
@@ -81,7 +82,7 @@ pub fn puts_of(alloc: Global, items: &[Item]) -> Result<Vec<Change>, RowFault>
 {
     let mut made = Vec::new(alloc);
     for item in items {
-        let row = encode(alloc, item)?;
+        let row = encode(alloc, Format::WRITTEN, item)?;
         made.push(Change::Put(row))?;
     }
     Ok(made)

@@ -1,4 +1,3 @@
 pub mod KeepLaws
 pub mod RestoreLemmas
 mod ResumeLemmas
-pub mod StoreLemmas

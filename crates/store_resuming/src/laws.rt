@@ -3,6 +3,7 @@
 //! Each law is the contract of a function that does nothing.
 
 ghost use Rattle.store_resuming.specs.Kept.{RecordsAreAll, RecordsAreKept, RowsDecide};
+ghost use Rattle.store_resuming.specs.Restored.{FormatsTellTheSame};
 
 /// The records of a sound state, as modules keep them, stand for it.
 pub fn records_are_kept()
@@ -17,4 +18,9 @@ pub fn records_are_all()
 /// What stands for a sound state stands for each other one with the same items.
 pub fn rows_decide_what_is_kept()
     ensures { RowsDecide }
+{}
+
+/// States that have the same rows in one format have the same in the other.
+pub fn formats_tell_the_same()
+    ensures { FormatsTellTheSame }
 {}

@@ -1,9 +1,12 @@
 pub mod CoinLemmas
 pub mod CoinReads
 pub mod FieldLemmas
+pub mod FormatLemmas
 pub mod ItemLemmas
 pub mod KeyLemmas
 pub mod LoopLemmas
+pub mod MissedLemmas
+pub mod MissedReads
 pub mod NumberLemmas
 pub mod OrderLemmas
 pub mod PlaceLemmas
@@ -11,5 +14,6 @@ pub mod ReadsLemmas
 pub mod RecordLemmas
 pub mod RingReads
 pub mod RowsOnLiterals
+pub mod TellingLemmas
 pub mod ValueLemmas
 pub mod WholeLemmas

@@ -1,4 +1,4 @@
--- The places of a window are read as they are packed.
+-- The places of a window are read as they are packed in the first format.
 use Rattle.std.proofs.Common.{◌≡◌, ◌∙◌, ℕ, zero, suc, ◌+◌, ◌-◌, ◌*◌, ◌/◌, ◌%◌, ◌^◌, ◌<◌, ◌≤◌, ◌⊎◌, inl, inr, min, Bool, true, false, not, cond, eqb, List, [], ◌∷◌, ◌++◌, length, take, drop, Result, Ok, Err, refl, sym, ap, ap₂, subst, append_assoc, arith}
 use Rattle.std.specs.Int.{w32}
 use Rattle.std.proofs.Math.Nat.{div-div-eq-div-mul, pow-suc}
@@ -7,8 +7,8 @@ use Rattle.std.proofs.lemmas.List.{append-nil, drop_all, drop_at, length-append,
 use Rattle.base_coins.specs.Steps.{◌>>=◌}
 use Rattle.store_rows.specs.declared.fault.RowFault.{RowFault}
 use Rattle.store_rows.specs.declared.fault.RowFault.TheVariants.{BadRow}
-use Rattle.store_rows.specs.Fields.{four_bytes, packed, packed_len, places_byte, ring_bytes, truth_byte}
-use Rattle.store_rows.specs.Reading.{bytes_at, number_at, places_in, places_of, ring_at, with_places}
+use Rattle.store_rows.specs.Fields.{four_bytes, packed, packed_len, packed_ring_bytes, places_byte, truth_byte}
+use Rattle.store_rows.specs.Reading.{bytes_at, number_at, packed_ring_at, places_in, places_of, with_places}
 use Rattle.store_rows.specs.Spelled.{IsCountable}
 use Rattle.store_rows.proofs.ReadsLemmas.{IsBytes, Reads, bind_is, bind_ok, ok_is}
 use Rattle.store_rows.proofs.NumberLemmas.{bytes_read, four_read}
@@ -85,7 +85,7 @@ many_again (suc m) ps le =
     ∙ ap₂ with_places (places_again (take 8 ps)) (ap (λ (k : ℕ). places_of k (packed m (drop 8 ps))) left ∙ rest)
     ∙ ap (λ (xs : List Bool). Ok xs) (take-append-drop 8 ps)
 
-passed : {A : Type 0} (b : Bool) (r : Result A RowFault) (y : A) → cond b r (Err BadRow) ≡ Ok y → (b ≡ true) × (r ≡ Ok y)
+pub passed : {A : Type 0} (b : Bool) (r : Result A RowFault) (y : A) → cond b r (Err BadRow) ≡ Ok y → (b ≡ true) × (r ≡ Ok y)
 passed true r y e = (refl, e)
 passed false r y e = absurd cc
 
@@ -131,9 +131,9 @@ below_power (suc (suc (suc (suc (suc (suc (suc zero))))))) byte h le = omega (ar
 below_power (suc (suc (suc (suc (suc (suc (suc (suc zero)))))))) byte h le = omega (arith, h)
 below_power (suc (suc (suc (suc (suc (suc (suc (suc (suc n))))))))) byte h le = absurd (omega (arith, le))
 
-pub ring_reads : Reads ring_at ring_bytes IsCountable
-unfolding ring_at
-ring_reads = record {
+pub packed_ring_reads : Reads packed_ring_at packed_ring_bytes IsCountable
+unfolding packed_ring_at
+packed_ring_reads = record {
   takes = λ bytes ps rest fits e.
       let (n, at_n, then) = bind_ok (number_at w32 bytes) (λ n. bytes_at (packed_len n.0) n.1 >>= λ p. places_of n.0 p.0 >>= λ places. Ok (places, p.1)) (ps, rest) e in
       let (n_parts, n_fits, below) = four_read.takes bytes n.0 n.1 fits at_n in
@@ -142,14 +142,14 @@ ring_reads = record {
       let (places, there, end) = bind_ok (places_of n.0 p.0) (λ places. Ok (places, p.1)) (ps, rest) later in
       let (packed_is, count) = many_take n.0 p.0 places p_len there in
       let same : p.0 ≡ packed (packed_len (length places)) places = sym packed_is ∙ ap (λ (m : ℕ). packed m places) (p_len ∙ ap packed_len (sym count)) in
-      subst (λ (y : List Bool × List ℕ). (bytes ≡ ring_bytes y.0 ++ y.1) × IsBytes y.1 × IsCountable y.0) (ok_is (places, p.1) (ps, rest) end)
+      subst (λ (y : List Bool × List ℕ). (bytes ≡ packed_ring_bytes y.0 ++ y.1) × IsBytes y.1 × IsCountable y.0) (ok_is (places, p.1) (ps, rest) end)
       (n_parts ∙ ap (λ (r : List ℕ). four_bytes n.0 ++ r) (p_parts ∙ ap (λ (f : List ℕ). f ++ p.1) same) ∙ sym (append_assoc (four_bytes n.0) (packed (packed_len (length places)) places) p.1) ∙ ap (λ (k : ℕ). (four_bytes k ++ packed (packed_len (length places)) places) ++ p.1) (sym count), p_fits, omega (arith, below, count));
   again = λ ps rest count.
       let m = packed_len (length ps) in
       let len : length (packed m ps) ≡ m = length-packed m ps in
       let small : IsBytes (packed m ps) = packed_small m ps in
       let enough : length ps ≤ 8 * packed_len (length ps) = omega arith in
-      ap ring_at (append_assoc (four_bytes (length ps)) (packed m ps) rest)
+      ap packed_ring_at (append_assoc (four_bytes (length ps)) (packed m ps) rest)
       ∙ bind_is (number_at w32 (four_bytes (length ps) ++ (packed m ps ++ rest))) (length ps, packed m ps ++ rest) (λ n. bytes_at (packed_len n.0) n.1 >>= λ p. places_of n.0 p.0 >>= λ places. Ok (places, p.1)) (Ok (ps, rest))
       (four_read.again (length ps) (packed m ps ++ rest) count)
       (bind_is (bytes_at m (packed m ps ++ rest)) (packed m ps, rest) (λ p. places_of (length ps) p.0 >>= λ places. Ok (places, p.1)) (Ok (ps, rest)) ((bytes_read m).again (packed m ps) rest (len, small))

@@ -9,10 +9,11 @@ use Rattle.base_roles.specs.declared.items.Item.TheVariants as item
 use Rattle.base_roles.specs.Items.{key_of}
 use Rattle.store_rows.specs.declared.fault.RowFault.{RowFault}
 use Rattle.store_rows.specs.declared.fault.RowFault.TheVariants.{BadRow, NoMemory}
+use Rattle.store_rows.specs.declared.format.Format.{Format}
 use Rattle.store_rows.specs.declared.kind.Kind.{Kind}
 use Rattle.store_rows.specs.declared.kind.Kind.TheVariants as kind
 use Rattle.store_rows.specs.Kinds.{kind_of, prefix_of}
-use Rattle.store_rows.specs.Rows.{key_bytes, row_of, value_bytes}
+use Rattle.store_rows.specs.Rows.{key_bytes, row_in, value_in}
 use Rattle.store_rows.specs.Reading.{Gives, byte_at, item_in, item_of, or_bad}
 use Rattle.store_rows.specs.Spelled.{HasRow}
 use Rattle.store_rows.proofs.ReadsLemmas.{IsBytes, bind_ok, ok_is}
@@ -115,23 +116,23 @@ kind_again kind.Event = refl
 
 -- ---- items
 
-read_by : (k : Kind) (key value : List ℕ) (i : Item) → IsBytes key → IsBytes value → item_in k key value ≡ Ok i → IsRead k key value i
-read_by kind.Head key value i key_fits value_fits e = head_takes key value i value_fits e
-read_by kind.Parameters key value i key_fits value_fits e = parameters_take key value i value_fits e
-read_by kind.Balance key value i key_fits value_fits e = balance_takes key value i key_fits value_fits e
-read_by kind.Supply key value i key_fits value_fits e = supply_takes key value i key_fits value_fits e
-read_by kind.Validator key value i key_fits value_fits e = validator_takes key value i key_fits value_fits e
-read_by kind.Delegation key value i key_fits value_fits e = delegation_takes key value i key_fits value_fits e
-read_by kind.Unbonding key value i key_fits value_fits e = unbonding_takes key value i key_fits value_fits e
-read_by kind.Redelegation key value i key_fits value_fits e = redelegation_takes key value i key_fits value_fits e
-read_by kind.Signing key value i key_fits value_fits e = signing_takes key value i key_fits value_fits e
-read_by kind.Purse key value i key_fits value_fits e = purse_takes key value i key_fits value_fits e
-read_by kind.Pool key value i key_fits value_fits e = pool_takes key value i value_fits e
-read_by kind.Withdraw key value i key_fits value_fits e = withdraw_takes key value i key_fits value_fits e
-read_by kind.CurrentPeriod key value i key_fits value_fits e = current_takes key value i key_fits value_fits e
-read_by kind.Historical key value i key_fits value_fits e = historical_takes key value i key_fits value_fits e
-read_by kind.Start key value i key_fits value_fits e = start_takes key value i key_fits value_fits e
-read_by kind.Event key value i key_fits value_fits e = event_takes key value i key_fits value_fits e
+read_by : (f : Format) (k : Kind) (key value : List ℕ) (i : Item) → IsBytes key → IsBytes value → item_in f k key value ≡ Ok i → IsRead f k key value i
+read_by f kind.Head key value i key_fits value_fits e = head_takes f key value i value_fits e
+read_by f kind.Parameters key value i key_fits value_fits e = parameters_take f key value i value_fits e
+read_by f kind.Balance key value i key_fits value_fits e = balance_takes f key value i key_fits value_fits e
+read_by f kind.Supply key value i key_fits value_fits e = supply_takes f key value i key_fits value_fits e
+read_by f kind.Validator key value i key_fits value_fits e = validator_takes f key value i key_fits value_fits e
+read_by f kind.Delegation key value i key_fits value_fits e = delegation_takes f key value i key_fits value_fits e
+read_by f kind.Unbonding key value i key_fits value_fits e = unbonding_takes f key value i key_fits value_fits e
+read_by f kind.Redelegation key value i key_fits value_fits e = redelegation_takes f key value i key_fits value_fits e
+read_by f kind.Signing key value i key_fits value_fits e = signing_takes f key value i key_fits value_fits e
+read_by f kind.Purse key value i key_fits value_fits e = purse_takes f key value i key_fits value_fits e
+read_by f kind.Pool key value i key_fits value_fits e = pool_takes f key value i value_fits e
+read_by f kind.Withdraw key value i key_fits value_fits e = withdraw_takes f key value i key_fits value_fits e
+read_by f kind.CurrentPeriod key value i key_fits value_fits e = current_takes f key value i key_fits value_fits e
+read_by f kind.Historical key value i key_fits value_fits e = historical_takes f key value i key_fits value_fits e
+read_by f kind.Start key value i key_fits value_fits e = start_takes f key value i key_fits value_fits e
+read_by f kind.Event key value i key_fits value_fits e = event_takes f key value i key_fits value_fits e
 
 good : {A : Type 0} (o : Option A) (x : A) → or_bad o ≡ Ok x → o ≡ Some x
 good None x e = absurd cc
@@ -141,42 +142,42 @@ byte_is : (key : List ℕ) (x : ℕ × List ℕ) → byte_at key ≡ Ok x → ke
 byte_is [] x e = absurd cc
 byte_is (b ∷ rest) x e = subst (λ (y : ℕ × List ℕ). b ∷ rest ≡ y.0 ∷ y.1) (ok_is (b, rest) x e) refl
 
-pub item_takes : (key value : List ℕ) (i : Item) → IsBytes key → IsBytes value → item_of key value ≡ Ok i → HasRow i × (row_of i ≡ (key, value))
+pub item_takes : (f : Format) (key value : List ℕ) (i : Item) → IsBytes key → IsBytes value → item_of f key value ≡ Ok i → HasRow i × (row_in f i ≡ (key, value))
 unfolding item_of
-item_takes key value i key_fits value_fits e =
-    let (x, here, after) = bind_ok (byte_at key) (λ x. or_bad (kind_of x.0) >>= λ which. item_in which x.1 value) i e in
-    let (k, which, then) = bind_ok (or_bad (kind_of x.0)) (λ which. item_in which x.1 value) i after in
+item_takes f key value i key_fits value_fits e =
+    let (x, here, after) = bind_ok (byte_at key) (λ x. or_bad (kind_of x.0) >>= λ which. item_in f which x.1 value) i e in
+    let (k, which, then) = bind_ok (or_bad (kind_of x.0)) (λ which. item_in f which x.1 value) i after in
     let whole = byte_is key x here in
     let fields_fit : IsBytes x.1 = λ n. subst IsBytes whole key_fits (suc n) in
-    let it = read_by k x.1 value i fields_fit value_fits then in
+    let it = read_by f k x.1 value i fields_fit value_fits then in
     let key_is : key ≡ key_bytes i = whole ∙ ap₂ (λ (b : ℕ) (bs : List ℕ). b ∷ bs) (kind_is x.0 k (good (kind_of x.0) k which) ∙ ap prefix_of (sym it.kind_is)) it.key_is in
     (it.has, ap₂ (λ (a b : List ℕ). (a, b)) (sym key_is) (sym it.value_is))
 
-pub item_again : (i : Item) → HasRow i → item_of (key_bytes i) (value_bytes i) ≡ Ok i
+pub item_again : (f : Format) (i : Item) → HasRow i → item_of f (key_bytes i) (value_in f i) ≡ Ok i
 unfolding item_of
-item_again (item.Head height time) h = head_again height time h.1.0 h.1.1
-item_again (item.Parameters params) h = parameters_again params h.1
-item_again (item.Balance account denom amount) h = balance_again account denom amount h.0 h.1.0 h.1.1 h.1.2
-item_again (item.Supply denom amount) h = supply_again denom amount h.0 h.1.0 h.1.1
-item_again (item.Validator validator) h = validator_again validator h.1
-item_again (item.Delegation operator delegator shares) h = delegation_again operator delegator shares h.1.0 h.1.1 h.1.2
-item_again (item.Unbonding delegator operator entries) h = unbonding_again delegator operator entries h.1.0 h.1.1 h.0 h.1.2
-item_again (item.Redelegation delegator source target entries) h = redelegation_again delegator source target entries h.1.0 h.1.1 h.1.2 h.0 h.1.3
-item_again (item.Signing cons info ring) h = signing_again cons info ring h.1.0 h.1.1 h.0
-item_again (item.Purse operator purse) h = purse_again operator purse h.1.0 h.0.0 h.0.1 h.0.2 h.1.1
-item_again (item.Pool coins) h = pool_again coins h.0 h.1
-item_again (item.Withdraw delegator to) h = withdraw_again delegator to h.1.0 h.1.1
-item_again (item.CurrentPeriod operator period) h = current_again operator period h.1.0 h.1.1
-item_again (item.Historical operator period history) h = historical_again operator period history h.1.0 h.1.1 h.0 h.1.2
-item_again (item.Start operator delegator info) h = start_again operator delegator info h.1.0 h.1.1 h.1.2
-item_again (item.Event operator event) h = event_again operator event h.1.0 h.1.1
+item_again f (item.Head height time) h = head_again f height time h.1.0 h.1.1
+item_again f (item.Parameters params) h = parameters_again params h.1
+item_again f (item.Balance account denom amount) h = balance_again account denom amount h.0 h.1.0 h.1.1 h.1.2
+item_again f (item.Supply denom amount) h = supply_again denom amount h.0 h.1.0 h.1.1
+item_again f (item.Validator validator) h = validator_again validator h.1
+item_again f (item.Delegation operator delegator shares) h = delegation_again operator delegator shares h.1.0 h.1.1 h.1.2
+item_again f (item.Unbonding delegator operator entries) h = unbonding_again delegator operator entries h.1.0 h.1.1 h.0 h.1.2
+item_again f (item.Redelegation delegator source target entries) h = redelegation_again delegator source target entries h.1.0 h.1.1 h.1.2 h.0 h.1.3
+item_again f (item.Signing cons info ring) h = signing_again f cons info ring h.1.0 h.1.1 h.0
+item_again f (item.Purse operator purse) h = purse_again operator purse h.1.0 h.0.0 h.0.1 h.0.2 h.1.1
+item_again f (item.Pool coins) h = pool_again coins h.0 h.1
+item_again f (item.Withdraw delegator to) h = withdraw_again delegator to h.1.0 h.1.1
+item_again f (item.CurrentPeriod operator period) h = current_again operator period h.1.0 h.1.1
+item_again f (item.Historical operator period history) h = historical_again operator period history h.1.0 h.1.1 h.0 h.1.2
+item_again f (item.Start operator delegator info) h = start_again operator delegator info h.1.0 h.1.1 h.1.2
+item_again f (item.Event operator event) h = event_again operator event h.1.0 h.1.1
 
 -- ---- the laws
 
 -- items of one row are one item
-pub one_to_one : (i j : Item) → HasRow i → HasRow j → row_of i ≡ row_of j → i ≡ j
-one_to_one i j hi hj same =
-    ok_is i j (sym (item_again i hi) ∙ ap (λ (p : Pair). item_of p.0 p.1) same ∙ item_again j hj)
+pub one_to_one : (f : Format) (i j : Item) → HasRow i → HasRow j → row_in f i ≡ row_in f j → i ≡ j
+one_to_one f i j hi hj same =
+    ok_is i j (sym (item_again f i hi) ∙ ap (λ (p : Pair). item_of f p.0 p.1) same ∙ item_again f j hj)
 
 -- a row tells the fields of the key alone
 pub key_alone : (i : Item) → key_bytes (key_of i) ≡ key_bytes i
@@ -199,20 +200,20 @@ key_alone (item.Event operator event) = refl
 
 -- ---- what a call that reads a row answers
 
-pub is_found : (key value : List ℕ) (r : Result Item RowFault) → IsBytes key → IsBytes value → Gives (λ i. i) r (item_of key value) → IfOk r (λ i. HasRow i × (row_of i ≡ (key, value)))
-is_found key value (Ok i) key_fits value_fits given = item_takes key value i key_fits value_fits given
-is_found key value (Err fault) key_fits value_fits given = tt
+pub is_found : (f : Format) (key value : List ℕ) (r : Result Item RowFault) → IsBytes key → IsBytes value → Gives (λ i. i) r (item_of f key value) → IfOk r (λ i. HasRow i × (row_in f i ≡ (key, value)))
+is_found f key value (Ok i) key_fits value_fits given = item_takes f key value i key_fits value_fits given
+is_found f key value (Err fault) key_fits value_fits given = tt
 
-pub is_refused : (key value : List ℕ) (r : Result Item RowFault) → Gives (λ i. i) r (item_of key value) → IsErrOf r BadRow → (i : Item) → HasRow i → row_of i ≡ (key, value) → ⊥
-is_refused key value r given bad i has same =
-    let read : item_of key value ≡ Ok i = ap (λ (p : Pair). item_of p.0 p.1) (sym same) ∙ item_again i has in
+pub is_refused : (f : Format) (key value : List ℕ) (r : Result Item RowFault) → Gives (λ i. i) r (item_of f key value) → IsErrOf r BadRow → (i : Item) → HasRow i → row_in f i ≡ (key, value) → ⊥
+is_refused f key value r given bad i has same =
+    let read : item_of f key value ≡ Ok i = ap (λ (p : Pair). item_of f p.0 p.1) (sym same) ∙ item_again f i has in
     go r given bad read
   where
-    go : (r : Result Item RowFault) → Gives (λ i. i) r (item_of key value) → IsErrOf r BadRow → item_of key value ≡ Ok i → ⊥
+    go : (r : Result Item RowFault) → Gives (λ i. i) r (item_of f key value) → IsErrOf r BadRow → item_of f key value ≡ Ok i → ⊥
     go (Ok j) given bad read = cc
     go (Err BadRow) given bad read = cc
     go (Err NoMemory) given bad read = cc
 
-pub is_alone : (key value : List ℕ) (r : Result Item RowFault) → Gives (λ i. i) r (item_of key value) → IfOk r (λ i. (other : Item) → HasRow other → row_of other ≡ (key, value) → other ≡ i)
-is_alone key value (Ok i) given = λ other has same. ok_is other i (sym (item_again other has) ∙ ap (λ (p : Pair). item_of p.0 p.1) same ∙ given)
-is_alone key value (Err fault) given = tt
+pub is_alone : (f : Format) (key value : List ℕ) (r : Result Item RowFault) → Gives (λ i. i) r (item_of f key value) → IfOk r (λ i. (other : Item) → HasRow other → row_in f other ≡ (key, value) → other ≡ i)
+is_alone f key value (Ok i) given = λ other has same. ok_is other i (sym (item_again f other has) ∙ ap (λ (p : Pair). item_of f p.0 p.1) same ∙ given)
+is_alone f key value (Err fault) given = tt

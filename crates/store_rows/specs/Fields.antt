@@ -6,6 +6,8 @@ use Rattle.base_types.specs.declared.status.BondStatus.{BondStatus}
 use Rattle.base_types.specs.declared.status.BondStatus.TheVariants.{Bonded, Unbonding, Unbonded}
 use Rattle.base_coins.specs.declared.coin.DecCoin.{DecCoin}
 use Rattle.base_coins.specs.Coins.{Money}
+use Rattle.store_rows.specs.declared.format.Format.{Format}
+use Rattle.store_rows.specs.declared.format.Format.TheVariants.{First, Second}
 
 -- the length of a list
 unfoldable pub four_bytes : ℕ → List ℕ
@@ -65,6 +67,27 @@ packed (suc n) places = places_byte (take 8 places) ∷ packed n (drop 8 places)
 abbrev pub packed_len : ℕ → ℕ
 packed_len n = div_ceil n 8
 
--- a ring: the number of its places, and the places
-abbrev pub ring_bytes : List Bool → List ℕ
-ring_bytes places = four_bytes (length places) ++ packed (packed_len (length places)) places
+-- a ring in the first format: the number of its places, and the places
+abbrev pub packed_ring_bytes : List Bool → List ℕ
+packed_ring_bytes places = four_bytes (length places) ++ packed (packed_len (length places)) places
+
+-- ---- the missed places of a window alone
+
+-- the numbers of the missed places, the first place being of this number
+abbrev pub missed_from : ℕ → List Bool → List ℕ
+missed_from n [] = []
+missed_from n (true ∷ places) = n ∷ missed_from (n + 1) places
+missed_from n (false ∷ places) = missed_from (n + 1) places
+
+-- counted from 0
+abbrev pub missed_of : List Bool → List ℕ
+missed_of places = missed_from 0 places
+
+-- a ring in the second format: the number of its places, and the list of the missed ones
+abbrev pub missed_ring_bytes : List Bool → List ℕ
+missed_ring_bytes places = four_bytes (length places) ++ list_bytes four_bytes (missed_of places)
+
+-- a ring in a format
+abbrev pub ring_bytes : Format → List Bool → List ℕ
+ring_bytes First = packed_ring_bytes
+ring_bytes Second = missed_ring_bytes

@@ -1,7 +1,10 @@
+pub mod Alike
 pub mod Fields
+pub mod Formats
 pub mod Kinds
 pub mod Order
 pub mod Reading
 pub mod Rows
 pub mod Spelled
+pub mod Told
 pub mod Worked

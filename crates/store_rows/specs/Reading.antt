@@ -1,5 +1,5 @@
 -- The item of a row, read from left to right. Each field is a value and the bytes behind it.
-use Rattle.std.specs.Prelude.{◌≡◌, ℕ, ◌-◌, ◌/◌, ◌%◌, ◌^◌, zero, suc, Bool, true, false, not, ◌&&◌, ◌==◌, nat_lt, min, if◌then◌else◌, List, [], ◌∷◌, ◌++◌, length, take, drop, Option, Some, None, Result, Ok, Err, ⊤}
+use Rattle.std.specs.Prelude.{◌≡◌, ℕ, ◌+◌, ◌-◌, ◌/◌, ◌%◌, ◌^◌, zero, suc, Bool, true, false, not, ◌&&◌, ◌==◌, nat_le, nat_lt, min, if◌then◌else◌, List, [], ◌∷◌, ◌++◌, length, take, drop, replicate, Option, Some, None, Result, Ok, Err, ⊤}
 use Rattle.std.specs.Int.{Width, w32, w64, w128, byte_len, from_be_bytes}
 use Rattle.std.specs.Ordering.{is_lt}
 use Rattle.base_types.specs.declared.account.Account.{Account}
@@ -22,9 +22,12 @@ use Rattle.base_roles.specs.declared.items.Item.TheVariants as item
 use Rattle.base_roles.specs.declared.params.Params.{Params}
 use Rattle.store_rows.specs.declared.fault.RowFault.{RowFault}
 use Rattle.store_rows.specs.declared.fault.RowFault.TheVariants.{BadRow, NoMemory}
+use Rattle.store_rows.specs.declared.format.Format.{Format}
+use Rattle.store_rows.specs.declared.format.Format.TheVariants.{First, Second}
 use Rattle.store_rows.specs.declared.kind.Kind.{Kind}
 use Rattle.store_rows.specs.declared.kind.Kind.TheVariants as kind
 use Rattle.store_rows.specs.Fields.{packed_len}
+use Rattle.store_rows.specs.Formats.{number_of}
 use Rattle.store_rows.specs.Kinds.{kind_of}
 
 -- A call's fault is that of the reading, unless memory was wanting.
@@ -175,12 +178,39 @@ places_of n [] = Ok []
 places_of n (byte ∷ bytes) =
     if (byte / 2 ^ min n 8) == 0 then with_places (places_in (min n 8) byte) (places_of (n - min n 8) bytes) else Err BadRow
 
-unfoldable pub ring_at : List ℕ → Result (List Bool × List ℕ) RowFault
-ring_at bytes = do
+unfoldable pub packed_ring_at : List ℕ → Result (List Bool × List ℕ) RowFault
+packed_ring_at bytes = do
   n ← number_at w32 bytes
   packed ← bytes_at (packed_len n.0) n.1
   places ← places_of n.0 packed.0
   Ok (places, packed.1)
+
+-- ---- the missed places alone
+
+-- the place is none before the least, and is below the end
+abbrev pub comes_next : ℕ → ℕ → ℕ → Bool
+comes_next least end place = nat_le least place && nat_lt place end
+
+-- the places ascend from the least on, each above the one before it, and are below the end
+abbrev pub are_places : ℕ → ℕ → List ℕ → Bool
+are_places least end [] = true
+are_places least end (place ∷ places) = comes_next least end place && are_places (place + 1) end places
+
+-- the places from this one on up to the end, of which these were missed
+abbrev pub places_with : ℕ → ℕ → List ℕ → List Bool
+places_with at end [] = replicate (end - at) false
+places_with at end (place ∷ missed) = replicate (place - at) false ++ true ∷ places_with (place + 1) end missed
+
+unfoldable pub missed_ring_at : List ℕ → Result (List Bool × List ℕ) RowFault
+missed_ring_at bytes = do
+  n ← number_at w32 bytes
+  missed ← list_at (number_at w32) n.1
+  if are_places 0 n.0 missed.0 then Ok (places_with 0 n.0 missed.0, missed.1) else Err BadRow
+
+-- a ring in a format
+abbrev pub ring_at : Format → List ℕ → Result (List Bool × List ℕ) RowFault
+ring_at First = packed_ring_at
+ring_at Second = missed_ring_at
 
 -- ---- the larger values
 
@@ -271,17 +301,15 @@ info_at bytes = do
 
 -- ---- items: the fields of the key behind the kind's byte, then those of the value
 
--- the form of rows is told by one byte
-abbrev pub format_at : List ℕ → Result (List ℕ) RowFault
-format_at [] = Err BadRow
-format_at (zero ∷ rest) = Err BadRow
-format_at (suc zero ∷ rest) = Ok rest
-format_at (suc (suc b) ∷ rest) = Err BadRow
+-- the number of a format, in one byte
+abbrev pub format_at : Format → List ℕ → Result (List ℕ) RowFault
+format_at f [] = Err BadRow
+format_at f (first ∷ rest) = if first == number_of f then Ok rest else Err BadRow
 
-unfoldable pub head_of : List ℕ → List ℕ → Result Item RowFault
-head_of key value = do
+unfoldable pub head_of : Format → List ℕ → List ℕ → Result Item RowFault
+head_of f key value = do
   key_end ← ends key
-  fields ← format_at value
+  fields ← format_at f value
   height ← number_at w64 fields
   time ← moment_at height.1
   value_end ← ends time.1
@@ -360,12 +388,12 @@ redelegation_of key value = do
   value_end ← ends entries.1
   Ok (item.Redelegation delegator.0 pair.0 pair.1 entries.0)
 
-unfoldable pub signing_of : List ℕ → List ℕ → Result Item RowFault
-signing_of key value = do
+unfoldable pub signing_of : Format → List ℕ → List ℕ → Result Item RowFault
+signing_of f key value = do
   cons ← bytes_at 20 key
   key_end ← ends cons.1
   info ← info_at value
-  ring ← ring_at info.1
+  ring ← ring_at f info.1
   value_end ← ends ring.1
   Ok (item.Signing cons.0 info.0 ring.0)
 
@@ -428,27 +456,33 @@ event_of key value = do
   Ok (item.Event operator.0 (record { height = height.0; period = period.0; fraction = fraction.0 }))
 
 -- the item of a kind, from the fields of its key and those of its value
-abbrev pub item_in : Kind → List ℕ → List ℕ → Result Item RowFault
-item_in kind.Head = head_of
-item_in kind.Parameters = parameters_of
-item_in kind.Balance = balance_of
-item_in kind.Supply = supply_of
-item_in kind.Validator = validator_of
-item_in kind.Delegation = delegation_of
-item_in kind.Unbonding = unbonding_of
-item_in kind.Redelegation = redelegation_of
-item_in kind.Signing = signing_of
-item_in kind.Purse = purse_of
-item_in kind.Pool = pool_of
-item_in kind.Withdraw = withdraw_of
-item_in kind.CurrentPeriod = current_of
-item_in kind.Historical = historical_of
-item_in kind.Start = start_of
-item_in kind.Event = event_of
+abbrev pub item_in : Format → Kind → List ℕ → List ℕ → Result Item RowFault
+item_in f kind.Head = head_of f
+item_in f kind.Parameters = parameters_of
+item_in f kind.Balance = balance_of
+item_in f kind.Supply = supply_of
+item_in f kind.Validator = validator_of
+item_in f kind.Delegation = delegation_of
+item_in f kind.Unbonding = unbonding_of
+item_in f kind.Redelegation = redelegation_of
+item_in f kind.Signing = signing_of f
+item_in f kind.Purse = purse_of
+item_in f kind.Pool = pool_of
+item_in f kind.Withdraw = withdraw_of
+item_in f kind.CurrentPeriod = current_of
+item_in f kind.Historical = historical_of
+item_in f kind.Start = start_of
+item_in f kind.Event = event_of
 
--- the item of a row
-unfoldable pub item_of : List ℕ → List ℕ → Result Item RowFault
-item_of key value = do
+-- the item of a row in a format
+unfoldable pub item_of : Format → List ℕ → List ℕ → Result Item RowFault
+item_of f key value = do
   prefix ← byte_at key
   which ← or_bad (kind_of prefix.0)
-  item_in which prefix.1 value
+  item_in f which prefix.1 value
+
+-- the length of a signing record's ring, which stands behind the other fields in each format
+unfoldable pub length_at : List ℕ → List ℕ → Result ℕ RowFault
+length_at key value = do
+  prefix ← byte_at key
+  if prefix.0 == 48 then (info_at value >>= λ info. number_at w32 info.1 >>= λ n. Ok n.0) else Err BadRow

@@ -13,14 +13,12 @@ use Rattle.base_roles.specs.declared.items.Item.{Item}
 use Rattle.base_roles.specs.declared.items.Item.TheVariants as item
 use Rattle.base_roles.specs.declared.params.Params.{Params}
 use Rattle.base_io.specs.Rows.{Pair}
+use Rattle.store_rows.specs.declared.format.Format.{Format}
 use Rattle.store_rows.specs.declared.kind.Kind.{Kind}
 use Rattle.store_rows.specs.declared.kind.Kind.TheVariants as kind
 use Rattle.store_rows.specs.Fields.{coins_bytes, denom_bytes, eight_bytes, list_bytes, ring_bytes, sixteen_bytes, status_byte, truth_byte}
+use Rattle.store_rows.specs.Formats.{number_of, written}
 use Rattle.store_rows.specs.Kinds.{prefix_of}
-
--- the number of this form of rows, in front of the last height
-abbrev pub format : ℕ
-format = 1
 
 -- ---- the values of the larger items, field by field
 
@@ -98,24 +96,32 @@ key_fields (item.Event operator event) = operator ++ (eight_bytes event.height +
 abbrev pub key_bytes : Item → List ℕ
 key_bytes i = prefix_of (kind_in i) ∷ key_fields i
 
-abbrev pub value_bytes : Item → List ℕ
-value_bytes (item.Head height time) = format ∷ (eight_bytes height ++ sixteen_bytes time)
-value_bytes (item.Parameters params) = params_bytes params
-value_bytes (item.Balance account denom amount) = sixteen_bytes amount
-value_bytes (item.Supply denom amount) = sixteen_bytes amount
-value_bytes (item.Validator validator) = validator_bytes validator
-value_bytes (item.Delegation operator delegator shares) = sixteen_bytes shares
-value_bytes (item.Unbonding delegator operator entries) = list_bytes unbonding_bytes entries
-value_bytes (item.Redelegation delegator source target entries) = list_bytes redelegation_bytes entries
-value_bytes (item.Signing cons info ring) = info_bytes info ++ ring_bytes ring
-value_bytes (item.Purse operator purse) = purse_bytes purse
-value_bytes (item.Pool coins) = coins_bytes coins
-value_bytes (item.Withdraw delegator to) = to
-value_bytes (item.CurrentPeriod operator period) = eight_bytes period
-value_bytes (item.Historical operator period history) = history_bytes history
-value_bytes (item.Start operator delegator info) = starting_bytes info
-value_bytes (item.Event operator event) = sixteen_bytes event.fraction
+-- the other fields, in a format
+abbrev pub value_in : Format → Item → List ℕ
+value_in f (item.Head height time) = number_of f ∷ (eight_bytes height ++ sixteen_bytes time)
+value_in f (item.Parameters params) = params_bytes params
+value_in f (item.Balance account denom amount) = sixteen_bytes amount
+value_in f (item.Supply denom amount) = sixteen_bytes amount
+value_in f (item.Validator validator) = validator_bytes validator
+value_in f (item.Delegation operator delegator shares) = sixteen_bytes shares
+value_in f (item.Unbonding delegator operator entries) = list_bytes unbonding_bytes entries
+value_in f (item.Redelegation delegator source target entries) = list_bytes redelegation_bytes entries
+value_in f (item.Signing cons info ring) = info_bytes info ++ ring_bytes f ring
+value_in f (item.Purse operator purse) = purse_bytes purse
+value_in f (item.Pool coins) = coins_bytes coins
+value_in f (item.Withdraw delegator to) = to
+value_in f (item.CurrentPeriod operator period) = eight_bytes period
+value_in f (item.Historical operator period history) = history_bytes history
+value_in f (item.Start operator delegator info) = starting_bytes info
+value_in f (item.Event operator event) = sixteen_bytes event.fraction
 
--- the row of an item
+-- the row of an item in a format
+abbrev pub row_in : Format → Item → Pair
+row_in f i = (key_bytes i, value_in f i)
+
+-- the same in the format that is written
+abbrev pub value_bytes : Item → List ℕ
+value_bytes i = value_in written i
+
 abbrev pub row_of : Item → Pair
-row_of i = (key_bytes i, value_bytes i)
+row_of i = row_in written i

@@ -5,6 +5,7 @@ ghost use Rattle.std.specs.Int.{w32, w64, w128};
 ghost use Rattle.store_rows.specs.Reading.{Gives, account_at, byte_at, bytes_at, decimal_at, denom_at, ends, format_at, moment_at, number_at, status_at, truth_at, user_at};
 
 use crate::fault::RowFault;
+use crate::format::Format;
 use crate::front::Unread;
 use base_decimals::Dec;
 use base_types::{Account, Addr, BondStatus, ConsAddr, Denom, Moment};
@@ -200,16 +201,19 @@ pub(crate) fn status_at(bytes: &mut Unread<'_>) -> Result<BondStatus, RowFault>
     }
 }
 
-/// Takes the byte that tells this form of rows.
-pub(crate) fn format_at(bytes: &mut Unread<'_>) -> Result<(), RowFault>
-    ensures { Gives (λ _. bytes.new.left.now) result (format_at bytes.old.left.now) }
+/// Takes the byte that tells the number of this format.
+pub(crate) fn format_at(format: Format, bytes: &mut Unread<'_>) -> Result<(), RowFault>
+    ensures { Gives (λ _. bytes.new.left.now) result (format_at format bytes.old.left.now) }
 {
     let left = bytes.left;
     match left {
-        [1, rest @ ..] => {
+        [] => Err(RowFault::BadRow),
+        [first, rest @ ..] => {
+            if *first != format.number() {
+                return Err(RowFault::BadRow);
+            }
             bytes.left = rest;
             Ok(())
         }
-        _ => Err(RowFault::BadRow),
     }
 }

@@ -7,22 +7,23 @@ use crate::fault::RowFault;
 use crate::fields::{
     account_at, cons_at, decimal_at, denom_at, ends, format_at, moment_at, u64_at, u128_at, user_at,
 };
+use crate::format::Format;
 use crate::front::Unread;
 use crate::kind::Kind;
 use crate::lists::{redelegations_at, unbondings_at};
-use crate::places::ring_at;
+use crate::rings::ring_at;
 use crate::values::{info_at, params_at, validator_at};
 use base_roles::{Historical, Item, Purse, SlashEvent, StartingInfo};
 use base_types::Addr;
 use std::alloc::Global;
 
 #[tactic(auto, unfolding(crate::specs::Reading::head_of))]
-fn head_of(key: &[u8], value: &[u8]) -> Result<Item, RowFault>
-    ensures { Gives (λ i. i) result (head_of key.now value.now) }
+fn head_of(format: Format, key: &[u8], value: &[u8]) -> Result<Item, RowFault>
+    ensures { Gives (λ i. i) result (head_of format key.now value.now) }
 {
     ends(&Unread { left: key })?;
     let mut value = Unread { left: value };
-    format_at(&mut value)?;
+    format_at(format, &mut value)?;
     let height = u64_at(&mut value)?;
     let time = moment_at(&mut value)?;
     ends(&value)?;
@@ -164,15 +165,15 @@ fn redelegation_of(alloc: Global, key: &[u8], value: &[u8]) -> Result<Item, RowF
 }
 
 #[tactic(auto, unfolding(crate::specs::Reading::signing_of))]
-fn signing_of(alloc: Global, key: &[u8], value: &[u8]) -> Result<Item, RowFault>
-    ensures { Gives (λ i. i) result (signing_of key.now value.now) }
+fn signing_of(alloc: Global, format: Format, key: &[u8], value: &[u8]) -> Result<Item, RowFault>
+    ensures { Gives (λ i. i) result (signing_of format key.now value.now) }
 {
     let mut key = Unread { left: key };
     let cons = cons_at(&mut key)?;
     ends(&key)?;
     let mut value = Unread { left: value };
     let info = info_at(&mut value)?;
-    let ring = ring_at(alloc, &mut value)?;
+    let ring = ring_at(alloc, format, &mut value)?;
     ends(&value)?;
     Ok(Item::Signing { cons, info, ring })
 }
@@ -291,11 +292,17 @@ fn event_of(key: &[u8], value: &[u8]) -> Result<Item, RowFault>
 }
 
 /// The item of this kind.
-pub(crate) fn item_in(alloc: Global, kind: Kind, key: &[u8], value: &[u8]) -> Result<Item, RowFault>
-    ensures { Gives (λ i. i) result (item_in kind key.now value.now) }
+pub(crate) fn item_in(
+    alloc: Global,
+    format: Format,
+    kind: Kind,
+    key: &[u8],
+    value: &[u8],
+) -> Result<Item, RowFault>
+    ensures { Gives (λ i. i) result (item_in format kind key.now value.now) }
 {
     match kind {
-        Kind::Head => head_of(key, value),
+        Kind::Head => head_of(format, key, value),
         Kind::Parameters => parameters_of(key, value),
         Kind::Balance => balance_of(key, value),
         Kind::Supply => supply_of(key, value),
@@ -303,7 +310,7 @@ pub(crate) fn item_in(alloc: Global, kind: Kind, key: &[u8], value: &[u8]) -> Re
         Kind::Delegation => delegation_of(key, value),
         Kind::Unbonding => unbonding_of(alloc, key, value),
         Kind::Redelegation => redelegation_of(alloc, key, value),
-        Kind::Signing => signing_of(alloc, key, value),
+        Kind::Signing => signing_of(alloc, format, key, value),
         Kind::Purse => purse_of(alloc, key, value),
         Kind::Pool => pool_of(alloc, key, value),
         Kind::Withdraw => withdraw_of(key, value),

@@ -1,8 +1,8 @@
-//! The places of a window of votes, eight in a byte, the first in the lowest bit.
+//! The places of a window of votes in the first format: eight in a byte, the first in the lowest bit.
 
 ghost use Rattle.std.specs.Prelude.{◌≡◌, ◌≤◌, ◌<◌, ◌/◌, ◌^◌, ◌++◌, ◌==◌, length, OnOk};
-ghost use Rattle.store_rows.specs.Fields.{packed, packed_len, places_byte, ring_bytes};
-ghost use Rattle.store_rows.specs.Reading.{Gives, places_in, places_of, ring_at};
+ghost use Rattle.store_rows.specs.Fields.{packed, packed_len, packed_ring_bytes, places_byte};
+ghost use Rattle.store_rows.specs.Reading.{Gives, packed_ring_at, places_in, places_of};
 
 use crate::fault::RowFault;
 use crate::fields::{bytes_at, u32_at};
@@ -50,9 +50,12 @@ fn places_of(alloc: Global, count: usize, bytes: &[u8]) -> Result<Vec<bool>, Row
 }
 
 /// A ring of places.
-#[tactic(auto, unfolding(crate::specs::Reading::ring_at))]
-pub(crate) fn ring_at(alloc: Global, bytes: &mut Unread<'_>) -> Result<Listed<bool>, RowFault>
-    ensures { Gives (λ x. (x, bytes.new.left.now)) result (ring_at bytes.old.left.now) }
+#[tactic(auto, unfolding(crate::specs::Reading::packed_ring_at))]
+pub(crate) fn packed_ring_at(
+    alloc: Global,
+    bytes: &mut Unread<'_>,
+) -> Result<Listed<bool>, RowFault>
+    ensures { Gives (λ x. (x, bytes.new.left.now)) result (packed_ring_at bytes.old.left.now) }
 {
     let count = u32_at(bytes)?;
     let count = count as usize;
@@ -89,9 +92,9 @@ fn push_packed(out: &mut Vec<u8>, places: &[bool]) -> Result<(), AllocError>
 }
 
 /// Appends a ring of places.
-pub(crate) fn push_ring(out: &mut Vec<u8>, places: &[bool]) -> Result<(), AllocError>
+pub(crate) fn push_packed_ring(out: &mut Vec<u8>, places: &[bool]) -> Result<(), AllocError>
     requires { length places.now < 2 ^ 32 }
-    ensures { OnOk result (out.new.items ≡ out.old.items ++ ring_bytes places.now) }
+    ensures { OnOk result (out.new.items ≡ out.old.items ++ packed_ring_bytes places.now) }
 {
     push_len(out, places.len())?;
     push_packed(out, places)

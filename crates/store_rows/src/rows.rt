@@ -4,15 +4,16 @@ ghost use Rattle.std.specs.Prelude.{◌≡◌, ◌≢◌, ◌++◌, OnOk, IfOk, 
 ghost use Rattle.base_io.specs.Changes.{pair_of};
 ghost use Rattle.base_roles.specs.declared.items.Item.{Item};
 ghost use Rattle.store_rows.specs.Reading.{Gives, item_of};
-ghost use Rattle.store_rows.specs.Rows.{key_bytes, key_fields, kind_in, row_of, value_bytes};
+ghost use Rattle.store_rows.specs.Rows.{key_bytes, key_fields, kind_in, row_in, value_in};
 ghost use Rattle.store_rows.specs.Spelled.{HasRow, IsInRange, IsKeyInRange, IsWritable};
 
 use crate::fault::RowFault;
 use crate::fields::byte_at;
+use crate::format::Format;
 use crate::front::Unread;
 use crate::items::item_in;
 use crate::kind::Kind;
-use crate::places::push_ring;
+use crate::rings::push_ring;
 use crate::writing::{
     push_account, push_coins, push_cons, push_decimal, push_denom, push_history, push_info,
     push_moment, push_params, push_purse, push_redelegations, push_starting, push_u64, push_u128,
@@ -21,9 +22,6 @@ use crate::writing::{
 use base_io::Row;
 use base_roles::Item;
 use std::alloc::{AllocError, Global};
-
-/// The number of this form of rows.
-const FORMAT: u8 = 1;
 
 /// How many bytes a key or a value has room for from the beginning, which is enough for most: so each is
 /// allocated once.
@@ -127,14 +125,14 @@ fn push_key(out: &mut Vec<u8>, item: &Item) -> Result<(), AllocError>
 }
 
 /// Appends the value.
-fn push_value(out: &mut Vec<u8>, item: &Item) -> Result<(), AllocError>
+fn push_value(out: &mut Vec<u8>, format: Format, item: &Item) -> Result<(), AllocError>
     requires { IsWritable item.now }
-    ensures written { OnOk result (out.new.items ≡ out.old.items ++ value_bytes item.now) }
+    ensures written { OnOk result (out.new.items ≡ out.old.items ++ value_in format item.now) }
     ensures range { OnOk result (IsKeyInRange item.now → IsInRange item.now) }
 {
     match item {
         Item::Head { height, time } => {
-            out.push(FORMAT)?;
+            out.push(format.number())?;
             push_u64(out, *height)?;
             push_moment(out, *time)
         }
@@ -146,7 +144,7 @@ fn push_value(out: &mut Vec<u8>, item: &Item) -> Result<(), AllocError>
         Item::Redelegation { entries, .. } => push_redelegations(out, entries.as_slice()),
         Item::Signing { info, ring, .. } => {
             push_info(out, info)?;
-            push_ring(out, ring.as_slice())
+            push_ring(out, format, ring.as_slice())
         }
         Item::Purse { purse, .. } => push_purse(out, purse),
         Item::Pool { coins } => push_coins(out, coins),
@@ -173,74 +171,75 @@ pub fn key_of(alloc: Global, item: &Item) -> Result<Vec<u8>, RowFault>
     Ok(key)
 }
 
-/// The row of an item. Its lists have fewer than 2^32 elements, and a balance or a supply is not 0.
+/// The row of an item in a format. Its lists have fewer than 2^32 elements, and a balance or a
+/// supply is not 0.
 ///
 /// # Errors
 /// `NoMemory` alone.
-pub fn encode(alloc: Global, item: &Item) -> Result<Row, RowFault>
+pub fn encode(alloc: Global, format: Format, item: &Item) -> Result<Row, RowFault>
     requires { IsWritable item.now }
-    ensures row { IfOk result (λ row. pair_of row ≡ row_of item.now) }
+    ensures row { IfOk result (λ row. pair_of row ≡ row_in format item.now) }
     // So its row is read as this item.
     ensures has { IfOk result (λ _. HasRow item.now) }
     ensures fault { IfErr result (λ fault. fault ≡ RowFault.NoMemory) }
 {
     let key = key_of(alloc, item)?;
     let mut value = Vec::with_capacity(alloc, ROOM)?;
-    push_value(&mut value, item)?;
+    push_value(&mut value, format, item)?;
     Ok(Row { key, value })
 }
 
 #[tactic(auto, unfolding(crate::specs::Reading::item_of))]
-fn item_of(alloc: Global, key: &[u8], value: &[u8]) -> Result<Item, RowFault>
-    ensures { Gives (λ i. i) result (item_of key.now value.now) }
+fn item_of(alloc: Global, format: Format, key: &[u8], value: &[u8]) -> Result<Item, RowFault>
+    ensures { Gives (λ i. i) result (item_of format key.now value.now) }
 {
     let mut key = Unread { left: key };
     let prefix = byte_at(&mut key)?;
     match Kind::of(prefix) {
-        Some(kind) => item_in(alloc, kind, key.left, value),
+        Some(kind) => item_in(alloc, format, kind, key.left, value),
         None => Err(RowFault::BadRow),
     }
 }
 
 /// The item of these bytes, and what is known of it.
-fn item_found(alloc: Global, key: &[u8], value: &[u8]) -> Result<Item, RowFault>
+fn item_found(alloc: Global, format: Format, key: &[u8], value: &[u8]) -> Result<Item, RowFault>
     ensures found { IfOk result
-        (λ item. HasRow item × (row_of item ≡ (key.now, value.now))) }
+        (λ item. HasRow item × (row_in format item ≡ (key.now, value.now))) }
     ensures alone { IfOk result (λ item. (other : Item) → HasRow other
-        → row_of other ≡ (key.now, value.now) → other ≡ item) }
+        → row_in format other ≡ (key.now, value.now) → other ≡ item) }
     ensures only { IsErrOf result RowFault.BadRow
-        → (item : Item) → HasRow item → row_of item ≢ (key.now, value.now) }
+        → (item : Item) → HasRow item → row_in format item ≢ (key.now, value.now) }
 {
-    item_of(alloc, key, value)
+    item_of(alloc, format, key, value)
 }
 
-/// The item of a row.
+/// The item of a row in a format.
 ///
 /// # Errors
 /// `BadRow`, exactly where the row is that of no item, and `NoMemory`.
-pub fn decode(alloc: Global, row: &Row) -> Result<Item, RowFault>
+pub fn decode(alloc: Global, format: Format, row: &Row) -> Result<Item, RowFault>
     // What is read has a row, and it is this one.
-    ensures found { IfOk result (λ item. HasRow item × (row_of item ≡ pair_of row.now)) }
+    ensures found { IfOk result (λ item. HasRow item × (row_in format item ≡ pair_of row.now)) }
     // It is the only one that has.
     ensures alone { IfOk result (λ item. (other : Item) → HasRow other
-        → row_of other ≡ pair_of row.now → other ≡ item) }
+        → row_in format other ≡ pair_of row.now → other ≡ item) }
     // A row that is refused is that of no item.
     ensures only { IsErrOf result RowFault.BadRow
-        → (item : Item) → HasRow item → row_of item ≢ pair_of row.now }
+        → (item : Item) → HasRow item → row_in format item ≢ pair_of row.now }
 {
-    item_found(alloc, row.key.as_slice(), row.value.as_slice())
+    item_found(alloc, format, row.key.as_slice(), row.value.as_slice())
 }
 
 /// The item as its row is read.
 ///
 /// # Errors
 /// `NoMemory` alone.
-pub fn read_back(alloc: Global, item: &Item) -> Result<Item, RowFault>
+pub fn read_back(alloc: Global, format: Format, item: &Item) -> Result<Item, RowFault>
     requires { IsWritable item.now }
     // It is the item that was written.
     ensures same { IfOk result (λ again. again ≡ item.now) }
     ensures fault { IfErr result (λ fault. fault ≡ RowFault.NoMemory) }
 {
-    let row = encode(alloc, item)?;
-    decode(alloc, &row)
+    let row = encode(alloc, format, item)?;
+    decode(alloc, format, &row)
 }

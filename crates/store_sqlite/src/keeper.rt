@@ -128,7 +128,7 @@ impl<S: Alter + Drop> SqlKeeper<S> {
 }
 
 impl<S: Alter + Drop> Keeper for SqlKeeper<S> {
-    ghost use Rattle.std.specs.Prelude.{true};
+    ghost use Rattle.std.specs.Prelude.{refl, true};
     ghost use Rattle.std.proofs.Common.{true≢false};
     ghost use Rattle.sqlite.specs.State.{HasCleanDisk};
     ghost use Rattle.sqlite.specs.Held.{state};
@@ -168,4 +168,6 @@ impl<S: Alter + Drop> Keeper for SqlKeeper<S> {
     ghost takes_ordinary = { λ _ changes ordinary. ordinary.distinct };
 
     ghost untold = { λ _ unkept. absurd (true≢false unkept) };
+
+    ghost keeps_alike = { λ _ _. refl };
 }

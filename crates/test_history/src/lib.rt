@@ -6,4 +6,6 @@ mod checked;
 #[cfg(test)]
 mod keeper_tests;
 #[cfg(test)]
+mod lending;
+#[cfg(test)]
 mod past_tests;

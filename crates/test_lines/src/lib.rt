@@ -1,5 +1,5 @@
-//! Tests of the lines of inputs and outputs (`line_json`), of ballots and tallies (`line_ballots`), and of reports and of
-//! answers to questions (`line_report`). They stand apart so that they are proved without these, and nothing waits for
+//! Tests of the lines of inputs and outputs (`line_json`), of ballots and tallies (`line_ballots`), of reward statements
+//! (`line_statements`), and of reports and of answers to questions (`line_report`). They stand apart so that they are proved without these, and nothing waits for
 //! them.
 #![tactic(auto)]
 
@@ -11,5 +11,7 @@ mod ballot_tests;
 mod reading_tests;
 #[cfg(test)]
 mod report_tests;
+#[cfg(test)]
+mod statement_tests;
 #[cfg(test)]
 mod writing_tests;

@@ -1,18 +1,18 @@
 //! Runs of which one call of the source, the sink or the keeper fails: the status, the text and the rows they leave.
 
 use crate::whole::{
-    Fronts, LINES, WHOLE, are_behind, behind, command_behind, input_behind, lines_within,
-    make_fronts, text_of,
+    Fronts, KEPT, KEPT_ON, LINES, NEW, OLD, ON, Start, WHOLE, are_behind, are_same, begun,
+    command_behind, input_behind, lines_within, make_fronts, text_of, visible,
 };
-use base_io::{MemKeeper, MemSink, MemSource};
+use base_io::{MemKeeper, MemSink, MemSource, Row};
 use run_app::{Status, run};
 use std::process::Abort;
 
 /// How many bytes a read gives.
 const PIECE: usize = 2000;
 
-/// Behind how many lines runs begin. Where there are none it is a replay, else it resumes.
-const STARTS: [u32; 2] = [0, 2];
+/// Where runs begin.
+const STARTS: [Start; 5] = [NEW, ON, OLD, KEPT, KEPT_ON];
 
 /// The object of which a call fails.
 #[derive(Clone, Copy, PartialEq, Eq)]
@@ -36,38 +36,53 @@ fn calls(
     calls
 }
 
-/// How a run ends, and what it leaves: the text of so many lines, and the rows behind so many.
+/// How a run ends, and what it leaves: the text of so many lines, and the rows behind so many, or
+/// those on which it began.
 #[derive(Clone, Copy)]
 struct Exit {
     status: Status,
     text: u32,
-    kept: u32,
+    kept: Option<u32>,
 }
 
-/// Whether a run that goes on behind the first lines ends so where this call fails.
+/// Whether these rows are left.
+fn are_left(
+    rt: &(impl Abort + AllocGlobal),
+    fronts: &Fronts,
+    start: Start,
+    kept: Option<u32>,
+    rows: &[Row],
+) -> bool {
+    match kept {
+        Some(lines) => are_behind(rt, fronts, lines, rows),
+        None => are_same(&begun(rt, fronts, start).1, rows),
+    }
+}
+
+/// Whether a run that begins so ends so where this call fails.
 fn exits(
     rt: &(impl Abort + AllocGlobal),
     fronts: &Fronts,
-    first: u32,
+    start: Start,
     failing: Failing,
     call: u32,
     exit: &Exit,
 ) -> bool {
-    let (before, rows) = behind(rt, &fronts.input, first);
+    let (before, rows) = begun(rt, fronts, start);
     let reads = calls(rt, Failing::Source, failing, call);
-    let mut source = MemSource::new(input_behind(rt, fronts, first), PIECE, reads);
+    let mut source = MemSource::new(input_behind(rt, fronts, start.lines), PIECE, reads);
     let mut sink = MemSink::new(rt.alloc(), calls(rt, Failing::Sink, failing, call));
     let keeps = calls(rt, Failing::Keeper, failing, call);
     let mut keeper = MemKeeper::new(rt.alloc(), rows, keeps);
-    let words = command_behind(rt, first);
+    let words = command_behind(rt, start.lines, start.is_kept);
     let status = run(rt.alloc(), &words, &mut source, &mut sink, &mut keeper);
     status == exit.status
         && text_of(rt, fronts, exit.text).get(before.len()..) == Some(sink.bytes())
-        && are_behind(rt, fronts, exit.kept, keeper.rows())
+        && are_left(rt, fronts, start, exit.kept, &visible(rt, keeper.rows()))
 }
 
 /// How a run ends and what it leaves of whose calls one fails, or none where that one is not made.
-fn exit_of(is_made: bool, fault: Status, text: u32, kept: u32) -> Exit {
+fn exit_of(is_made: bool, fault: Status, text: u32, kept: Option<u32>) -> Exit {
     if is_made {
         Exit {
             status: fault,
@@ -78,7 +93,7 @@ fn exit_of(is_made: bool, fault: Status, text: u32, kept: u32) -> Exit {
         Exit {
             status: Status::Done,
             text: WHOLE,
-            kept: LINES,
+            kept: Some(LINES),
         }
     }
 }
@@ -86,16 +101,16 @@ fn exit_of(is_made: bool, fault: Status, text: u32, kept: u32) -> Exit {
 #[test]
 fn each_failed_read_leaves_the_lines_that_had_ended(rt: HostRuntime) {
     let fronts = make_fronts(&rt);
-    for first in STARTS {
-        let input = input_behind(&rt, &fronts, first);
+    for start in STARTS {
+        let input = input_behind(&rt, &fronts, start.lines);
         // So many reads give bytes, and one more finds the end.
         let reads = u32::try_from(input.len().div_ceil(PIECE));
         let reads = reads.ok().expect(&rt, "few reads");
         for call in 0..reads.saturating_add(2) {
             let bytes = (call as usize).saturating_mul(PIECE);
-            let ended = first.saturating_add(lines_within(&input, bytes));
-            let exit = exit_of(call <= reads, Status::ReadFault, ended, ended);
-            assert!(rt; exits(&rt, &fronts, first, Failing::Source, call, &exit));
+            let ended = start.lines.saturating_add(lines_within(&input, bytes));
+            let exit = exit_of(call <= reads, Status::ReadFault, ended, Some(ended));
+            assert!(rt; exits(&rt, &fronts, start, Failing::Source, call, &exit));
         }
     }
 }
@@ -103,33 +118,45 @@ fn each_failed_read_leaves_the_lines_that_had_ended(rt: HostRuntime) {
 #[test]
 fn each_failed_write_leaves_the_texts_before_it(rt: HostRuntime) {
     let fronts = make_fronts(&rt);
-    for first in STARTS {
+    for start in STARTS {
         // A write for each line, one for the report, and a flush.
-        let lines = LINES.saturating_sub(first);
+        let lines = LINES.saturating_sub(start.lines);
         for call in 0..lines.saturating_add(3) {
-            let text = first.saturating_add(call);
+            let text = start.lines.saturating_add(call);
             let kept = text.saturating_add(1).min(LINES);
             let exit = exit_of(
                 call < lines.saturating_add(2),
                 Status::WriteFault,
                 text,
-                kept,
+                Some(kept),
             );
-            assert!(rt; exits(&rt, &fronts, first, Failing::Sink, call, &exit));
+            assert!(rt; exits(&rt, &fronts, start, Failing::Sink, call, &exit));
         }
+    }
+}
+
+/// How many calls of the keeper a run makes before it commits its first line: a load; one more where it keeps what it
+/// replaces, and one more there before a genesis begins a history; a commit that brings rows of the first format to the
+/// second.
+fn calls_before(start: Start) -> u32 {
+    match (start.is_kept, start.lines) {
+        (true, 0) => 3,
+        (true, _) => 2,
+        (false, _) => { if start.is_old { 2 } else { 1 } }
     }
 }
 
 #[test]
 fn each_failed_call_of_the_keeper_leaves_what_it_had(rt: HostRuntime) {
     let fronts = make_fronts(&rt);
-    for first in STARTS {
-        // A load, and a commit for each line.
-        let lines = LINES.saturating_sub(first);
-        for call in 0..lines.saturating_add(2) {
-            let kept = first.saturating_add(call.saturating_sub(1));
-            let exit = exit_of(call <= lines, Status::KeepFault, kept, kept);
-            assert!(rt; exits(&rt, &fronts, first, Failing::Keeper, call, &exit));
+    for start in STARTS {
+        let before = calls_before(start);
+        let calls = LINES.saturating_sub(start.lines).saturating_add(before);
+        for call in 0..calls.saturating_add(1) {
+            let text = start.lines.saturating_add(call.saturating_sub(before));
+            let kept = if call < before { None } else { Some(text) };
+            let exit = exit_of(call < calls, Status::KeepFault, text, kept);
+            assert!(rt; exits(&rt, &fronts, start, Failing::Keeper, call, &exit));
         }
     }
 }

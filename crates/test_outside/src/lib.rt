@@ -5,6 +5,8 @@
 #[cfg(test)]
 mod exit_tests;
 #[cfg(test)]
+mod old;
+#[cfg(test)]
 mod stop_tests;
 #[cfg(test)]
 mod whole;

@@ -1,13 +1,14 @@
 //! Runs over a database whose files stop after some calls: what is left there, and how a run goes on from it.
 
-ghost use Rattle.store_commits.specs.Held.{TakesDistinct};
+ghost use Rattle.store_history.specs.Held.{TakesDistinct};
 
 use crate::whole::{
-    Fronts, LINES, WHOLE, are_behind, command_behind, copied, input_behind, make_fronts, text_of,
+    Fronts, KEPT, LINES, NEW, OLD, Start, WHOLE, are_behind, are_same, begun, command_behind,
+    copied, input_behind, make_fronts, text_of, visible,
 };
 use base_io::{Keeper, Row, SureSink, SureSource};
 use run_app::{Status, run};
-use sqlite::{Connection, FileStore, Files, Options};
+use sqlite::{Connection, FileStore, Files, Options, params};
 use sqlite_disk::{Crash, Disk, Fuse, Memory};
 use std::process::Abort;
 use store_sqlite::SqlKeeper;
@@ -21,16 +22,34 @@ const ALL: u64 = u64::MAX;
 /// How often a stop is tried at most.
 const TRIES: u64 = 2000;
 
-/// The files of a new store, closed.
-fn new_files(rt: &(impl Abort + AllocGlobal)) -> Files<Memory> {
+/// Puts a row that does not stand into a store.
+fn insert(rt: &impl Abort, conn: &mut Connection<FileStore<Memory>>, row: &Row) {
+    let (name, body) = (row.key.as_slice(), row.value.as_slice());
+    let text = "INSERT INTO kept (name, body) VALUES (?1, ?2)";
+    let _one = conn.execute(text, params![name, body]).expect(rt, "a row");
+}
+
+/// The files of a store with these rows, closed.
+fn files_of(rt: &(impl Abort + AllocGlobal), rows: &[Row]) -> Files<Memory> {
     let files = Files {
         log: Memory::new(rt.alloc()),
         db: Memory::new(rt.alloc()),
     };
     let conn = Connection::open_files(rt.alloc(), files, Options::new(1));
     let keeper = SqlKeeper::adopt(rt.alloc(), conn.ok().expect(rt, "new files"));
-    let conn = keeper.expect(rt, "a keeper").into_connection();
+    let mut conn = keeper.expect(rt, "a keeper").into_connection();
+    for row in rows {
+        insert(rt, &mut conn, row);
+    }
     conn.close_files().ok().expect(rt, "closed files")
+}
+
+/// A file of these bytes that stops after so many calls.
+fn file_of(rt: &(impl Abort + AllocGlobal), bytes: &[u8], calls: u64) -> Fuse<Memory> {
+    let mut file = Memory::new(rt.alloc());
+    file.write_at(0, bytes).expect(rt, "memory");
+    file.sync().expect(rt, "memory");
+    Fuse::new(file, calls)
 }
 
 /// A keeper over these files, if they may be used and their calls suffice to open them.
@@ -49,13 +68,14 @@ fn driven<K: Keeper>(
     rt: &(impl Abort + AllocGlobal),
     fronts: &Fronts,
     first: u32,
+    is_kept: bool,
     keeper: &mut K,
 ) -> (Status, Vec<u8>)
     requires { TakesDistinct (K.takes keeper.old) }
 {
     let mut source = SureSource::new(input_behind(rt, fronts, first), 4096);
     let mut sink = SureSink::new(rt.alloc());
-    let words = command_behind(rt, first);
+    let words = command_behind(rt, first, is_kept);
     let status = run(rt.alloc(), &words, &mut source, &mut sink, keeper);
     (status, copied(rt, sink.bytes()))
 }
@@ -76,13 +96,35 @@ fn ends_whole<K: Keeper>(
     rt: &(impl Abort + AllocGlobal),
     fronts: &Fronts,
     lines: u32,
+    is_kept: bool,
     keeper: &mut K,
 ) -> bool
     requires { TakesDistinct (K.takes keeper.old) }
 {
     let before = text_of(rt, fronts, lines).len();
-    let (status, rest) = driven(rt, fronts, lines, keeper);
+    let (status, rest) = driven(rt, fronts, lines, is_kept, keeper);
     status == Status::Done && text_of(rt, fronts, WHOLE).get(before..) == Some(rest.as_slice())
+}
+
+/// Of how many lines the rows are that a run left which wrote this: from the last on; or it left
+/// those on which it began, and wrote nothing.
+fn lines_left(
+    rt: &(impl Abort + AllocGlobal),
+    fronts: &Fronts,
+    start: Start,
+    rows: &[Row],
+    written: &[u8],
+) -> Option<u32> {
+    match lines_of(rt, fronts, rows) {
+        Some(lines) => Some(lines),
+        None => {
+            if written.is_empty() && are_same(&begun(rt, fronts, start).1, rows) {
+                Some(start.lines)
+            } else {
+                None
+            }
+        }
+    }
 }
 
 /// Whether, in files that a stop left, the rows are those of a front of the lines that holds each line of whose text
@@ -90,88 +132,84 @@ fn ends_whole<K: Keeper>(
 fn goes_on(
     rt: &(impl Abort + AllocGlobal),
     fronts: &Fronts,
+    start: Start,
     files: Files<Fuse<Memory>>,
     written: &[u8],
 ) -> bool {
     let mut keeper = opened(rt, files).expect(rt, "files of a store");
-    let rows = keeper.load().expect(rt, "the rows");
-    let lines = lines_of(rt, fronts, &rows).expect(rt, "rows of a front");
+    let rows = visible(rt, &keeper.load().expect(rt, "the rows"));
+    let lines = lines_left(rt, fronts, start, &rows, written).expect(rt, "rows of a front");
     let told = if lines == LINES { WHOLE } else { lines };
-    let is_whole = ends_whole(rt, fronts, lines, &mut keeper);
-    let rows = keeper.load().expect(rt, "the rows");
-    text_of(rt, fronts, told).starts_with(written)
+    let before = text_of(rt, fronts, start.lines).len();
+    let text = text_of(rt, fronts, told).get(before..);
+    let is_whole = ends_whole(rt, fronts, lines, start.is_kept, &mut keeper);
+    let rows = visible(rt, &keeper.load().expect(rt, "the rows"));
+    text.expect(rt, "lines from there on").starts_with(written)
         && is_whole
         && are_behind(rt, fronts, LINES, &rows)
 }
 
-/// A file as a stop leaves it at which nothing that was written is lost.
-fn unharmed(rt: &(impl Abort + AllocGlobal), file: &Fuse<Memory>) -> Fuse<Memory> {
-    let mut copy = Memory::new(rt.alloc());
-    copy.write_at(0, file.inner().bytes()).expect(rt, "memory");
-    copy.sync().expect(rt, "memory");
-    Fuse::new(copy, ALL)
-}
-
-/// Whether a replay whose files stop after so many calls leaves what it may, where nothing that was written is lost and
-/// where all is that was not synced; and how it ended. None, where the calls do not suffice to open the files.
+/// Whether a run that begins on a copy of this store, whose files stop after so many calls, leaves
+/// what it may, where nothing that was written is lost and where all is that was not synced; and
+/// how it ended. None, where the calls do not suffice to open the files.
 fn stops(
     rt: &(impl Abort + AllocGlobal),
     fronts: &Fronts,
+    start: Start,
+    store: &Files<Memory>,
     log_calls: u64,
     db_calls: u64,
 ) -> Option<(bool, Status)> {
-    let files = new_files(rt);
     let files = Files {
-        log: Fuse::new(files.log, log_calls),
-        db: Fuse::new(files.db, db_calls),
+        log: file_of(rt, store.log.bytes(), log_calls),
+        db: file_of(rt, store.db.bytes(), db_calls),
     };
     let mut keeper = opened(rt, files)?;
-    let (status, written) = driven(rt, fronts, 0, &mut keeper);
+    let (status, written) = driven(rt, fronts, start.lines, start.is_kept, &mut keeper);
     let mut lost = keeper.into_connection().into_store().close();
     let kept = Files {
-        log: unharmed(rt, &lost.log),
-        db: unharmed(rt, &lost.db),
+        log: file_of(rt, lost.log.inner().bytes(), ALL),
+        db: file_of(rt, lost.db.inner().bytes(), ALL),
     };
     lost.log.crash();
     lost.db.crash();
     Some((
-        goes_on(rt, fronts, kept, &written) && goes_on(rt, fronts, lost, &written),
+        goes_on(rt, fronts, start, kept, &written) && goes_on(rt, fronts, start, lost, &written),
         status,
     ))
 }
 
-#[test]
-fn a_stop_at_each_call_of_the_log_loses_nothing(rt: HostRuntime) {
-    let fronts = make_fronts(&rt);
+/// Whether a run that begins so leaves what it may where the files stop at each call in turn: those
+/// of the log, or those of the database file.
+fn loses_nothing(rt: &(impl Abort + AllocGlobal), start: Start, is_log: bool) -> bool {
+    let fronts = make_fronts(rt);
+    let store = files_of(rt, &begun(rt, &fronts, start).1);
     for calls in 0..TRIES {
-        match stops(&rt, &fronts, calls, ALL) {
+        let (log, db) = if is_log { (calls, ALL) } else { (ALL, calls) };
+        match stops(rt, &fronts, start, &store, log, db) {
             None => {}
-            Some((is_right, status)) => {
-                assert!(rt; is_right);
-                assert!(rt; status == Status::KeepFault || status == Status::Done);
-                if status == Status::Done {
-                    return;
+            Some((false, _)) => return false,
+            Some((true, Status::Done)) => return true,
+            Some((true, status)) => {
+                if status != Status::KeepFault {
+                    return false;
                 }
             }
         }
     }
-    panic!(rt; "the calls never suffice");
+    panic!(rt; "the calls never suffice")
+}
+
+#[test]
+fn a_stop_at_each_call_of_the_log_loses_nothing(rt: HostRuntime) {
+    for start in [NEW, OLD, KEPT] {
+        assert!(rt; loses_nothing(&rt, start, true));
+    }
 }
 
 #[test]
 fn a_stop_at_each_call_of_the_database_file_loses_nothing(rt: HostRuntime) {
-    let fronts = make_fronts(&rt);
-    for calls in 0..TRIES {
-        match stops(&rt, &fronts, ALL, calls) {
-            None => {}
-            Some((is_right, status)) => {
-                assert!(rt; is_right);
-                assert!(rt; status == Status::KeepFault || status == Status::Done);
-                if status == Status::Done {
-                    return;
-                }
-            }
-        }
+    for start in [NEW, OLD, KEPT] {
+        assert!(rt; loses_nothing(&rt, start, false));
     }
-    panic!(rt; "the calls never suffice");
 }

@@ -3,6 +3,7 @@
 ghost use Rattle.std.specs.Prelude.{map};
 ghost use Rattle.base_io.specs.Changes.{pair_of, Rises};
 
+use crate::old::old_rows;
 use base_io::{Keeper, Row, SureKeeper, SureSink, SureSource};
 use run_app::{InputFault, Status, run};
 use std::process::Abort;
@@ -12,6 +13,50 @@ pub(crate) const LINES: u32 = 4;
 
 /// The place of the whole output among the texts.
 pub(crate) const WHOLE: u32 = 5;
+
+/// Where runs begin: behind how many lines, and whether the rows are in the first format there; and
+/// whether they keep what they replace. Where there are no lines it is a replay, else it resumes.
+#[derive(Clone, Copy)]
+pub(crate) struct Start {
+    pub(crate) lines: u32,
+    pub(crate) is_old: bool,
+    pub(crate) is_kept: bool,
+}
+
+/// A replay.
+pub(crate) const NEW: Start = Start {
+    lines: 0,
+    is_old: false,
+    is_kept: false,
+};
+
+/// A run that goes on.
+pub(crate) const ON: Start = Start {
+    lines: 2,
+    is_old: false,
+    is_kept: false,
+};
+
+/// A run that goes on from rows of the first format.
+pub(crate) const OLD: Start = Start {
+    lines: 2,
+    is_old: true,
+    is_kept: false,
+};
+
+/// A replay that keeps what it replaces.
+pub(crate) const KEPT: Start = Start {
+    lines: 0,
+    is_old: false,
+    is_kept: true,
+};
+
+/// A run that goes on, and keeps what it replaces.
+pub(crate) const KEPT_ON: Start = Start {
+    lines: 2,
+    is_old: false,
+    is_kept: true,
+};
 
 /// A copy of bytes.
 pub(crate) fn copied(rt: &(impl Abort + AllocGlobal), bytes: &[u8]) -> Vec<u8> {
@@ -59,9 +104,40 @@ fn input(rt: &(impl Abort + AllocGlobal)) -> Vec<u8> {
     left(rt, &["gen", "7", "3"], Vec::new(rt.alloc()), Status::Done).0
 }
 
-/// The words of a run that goes on behind the first lines: a replay where there are none, else it resumes.
-pub(crate) fn command_behind(rt: &(impl Abort + AllocGlobal), lines: u32) -> Vec<String> {
-    words(rt, &[if lines == 0 { "replay" } else { "resume" }])
+/// The words of a run that goes on behind the first lines: a replay where there are none, else it
+/// resumes. It may keep what it replaces.
+pub(crate) fn command_behind(
+    rt: &(impl Abort + AllocGlobal),
+    lines: u32,
+    is_kept: bool,
+) -> Vec<String> {
+    let command = if lines == 0 { "replay" } else { "resume" };
+    if is_kept {
+        words(rt, &["keep", command])
+    } else {
+        words(rt, &[command])
+    }
+}
+
+/// Whether a key is of no row of a history.
+fn is_visible(key: &[u8]) -> bool {
+    match key {
+        [first, ..] => *first != 0x60 && *first != 0x61,
+        [] => true,
+    }
+}
+
+/// Copies of the rows that are of no history.
+pub(crate) fn visible(rt: &(impl Abort + AllocGlobal), rows: &[Row]) -> Vec<Row> {
+    let mut seen = Vec::new(rt.alloc());
+    for row in rows {
+        if is_visible(row.key.as_slice()) {
+            let key = copied(rt, row.key.as_slice());
+            let value = copied(rt, row.value.as_slice());
+            put(rt, &mut seen, Row { key, value });
+        }
+    }
+    seen
 }
 
 /// How many lines end within the first bytes of a text.
@@ -91,17 +167,29 @@ fn part(rt: &(impl Abort + AllocGlobal), text: &[u8], lines: u32, is_behind: boo
 }
 
 /// What is written of the first lines of an input, and the rows behind them: a replay of them, up to a line which is cut.
-pub(crate) fn behind(
-    rt: &(impl Abort + AllocGlobal),
-    input: &[u8],
-    lines: u32,
-) -> (Vec<u8>, Vec<Row>)
+fn behind(rt: &(impl Abort + AllocGlobal), input: &[u8], lines: u32) -> (Vec<u8>, Vec<Row>)
     ensures { Rises (map pair_of result.1.items) }
 {
     let mut cut = part(rt, input, lines, false);
     cut.push(b'{').expect(rt, "memory");
     let status = Status::BadInput(u64::from(lines).saturating_add(1), InputFault::NotJson);
     left(rt, &["replay"], cut, status)
+}
+
+/// What is written of the lines behind which runs begin, and the rows on which they begin.
+pub(crate) fn begun(
+    rt: &(impl Abort + AllocGlobal),
+    fronts: &Fronts,
+    start: Start,
+) -> (Vec<u8>, Vec<Row>)
+    ensures { Rises (map pair_of result.1.items) }
+{
+    let (text, rows) = behind(rt, &fronts.input, start.lines);
+    if start.is_old {
+        (text, old_rows(rt, &rows))
+    } else {
+        (text, rows)
+    }
 }
 
 /// An input, and what each front of its lines leaves.
@@ -115,7 +203,7 @@ pub(crate) struct Fronts {
 }
 
 /// Puts a value at the end of a list.
-fn put<T: Drop>(rt: &impl Abort, list: &mut Vec<T>, value: T) {
+pub(crate) fn put<T: Drop>(rt: &impl Abort, list: &mut Vec<T>, value: T) {
     match list.push(value) {
         Ok(()) => {}
         Err(_) => panic!(rt; "no memory"),
@@ -159,7 +247,7 @@ pub(crate) fn input_behind(
 }
 
 /// Whether two lists of rows are the same.
-fn are_same(one: &[Row], other: &[Row]) -> bool {
+pub(crate) fn are_same(one: &[Row], other: &[Row]) -> bool {
     one.len() == other.len()
         && one.iter().zip(other).all(|(row, pair)| {
             row.key.as_slice() == pair.key.as_slice()

@@ -6,6 +6,8 @@
 #[cfg(test)]
 mod checked;
 #[cfg(test)]
+mod format_tests;
+#[cfg(test)]
 mod keeper_tests;
 #[cfg(test)]
 mod memory_tests;

@@ -1,4 +1,4 @@
-//! Rows of every kind, read and written again, and rows of no item.
+//! Rows of every kind in the first format, read and written again, and rows of no item.
 
 ghost use Rattle.store_rows.specs.Spelled.{IsWritable};
 
@@ -7,7 +7,7 @@ use base_io::Row;
 use base_roles::{Commission, Item, Listed, SigningInfo, SlashEvent, StartingInfo, Validator};
 use base_types::{Account, Addr, BondStatus, ConsAddr, Denom, Moment};
 use std::process::Abort;
-use store_rows::{RowFault, decode, encode, key_of, read_back};
+use store_rows::{Format, RowFault, decode, encode, key_of, read_back};
 
 // Rows of items, each with its kind, its key and its value.
 const ROWS: [(&str, &str, &str); 18] = [
@@ -254,21 +254,21 @@ const BAD_ROWS: [(&str, &str, &str); 31] = [
     ),
 ];
 
-fn row(rt: &(impl Abort + AllocGlobal), key: &str, value: &str) -> Row {
+pub(crate) fn row(rt: &(impl Abort + AllocGlobal), key: &str, value: &str) -> Row {
     Row {
         key: hex::decode(rt.alloc(), key).expect(rt, "hexadecimal digits"),
         value: hex::decode(rt.alloc(), value).expect(rt, "hexadecimal digits"),
     }
 }
 
-fn are_same(row: &Row, other: &Row) -> bool {
+pub(crate) fn are_same(row: &Row, other: &Row) -> bool {
     row.key.as_slice() == other.key.as_slice() && row.value.as_slice() == other.value.as_slice()
 }
 
 /// Whether a row is read, and written again as it was.
 fn stands(rt: &(impl Abort + AllocGlobal), given: &Row) -> bool {
-    let item = decode(rt.alloc(), given).expect(rt, "an item");
-    let again = encode(rt.alloc(), &item).expect(rt, "its row");
+    let item = decode(rt.alloc(), Format::First, given).expect(rt, "an item");
+    let again = encode(rt.alloc(), Format::First, &item).expect(rt, "its row");
     let key = key_of(rt.alloc(), &item).expect(rt, "its key");
     are_same(&again, given) && key.as_slice() == given.key.as_slice()
 }
@@ -285,7 +285,12 @@ fn rows_are_read_and_written_again(rt: HostRuntime) {
 fn rows_of_no_item_are_refused(rt: HostRuntime) {
     for (_what, key, value) in BAD_ROWS {
         let given = row(&rt, key, value);
-        assert!(rt; matches!(decode(rt.alloc(), &given), Err(RowFault::BadRow)));
+        assert!(rt;
+            matches!(
+                decode(rt.alloc(), Format::First, &given),
+                Err(RowFault::BadRow)
+            )
+        );
     }
 }
 
@@ -347,7 +352,7 @@ fn has_row(rt: &(impl Abort + AllocGlobal), item: &Item, place: usize) -> bool
     requires { IsWritable item.now }
 {
     let (_kind, key, value) = *ROWS.get(place).expect(rt, "a row of the table");
-    let written = encode(rt.alloc(), item).expect(rt, "a row");
+    let written = encode(rt.alloc(), Format::First, item).expect(rt, "a row");
     are_same(&written, &row(rt, key, value))
 }
 
@@ -405,6 +410,6 @@ fn an_item_is_read_back(rt: HostRuntime) {
         operator: addr(&rt, 0x33),
         period: 3,
     };
-    let again = read_back(rt.alloc(), &period).expect(&rt, "an item");
+    let again = read_back(rt.alloc(), Format::Second, &period).expect(&rt, "an item");
     assert!(rt; matches!(again, Item::CurrentPeriod { period: 3, .. }));
 }

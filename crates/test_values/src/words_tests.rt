@@ -24,14 +24,42 @@ fn read(alloc: Global, line: &str) -> Result<Command, WordsFault> {
 
 /// A command whose addresses are hexadecimal.
 fn hex(mode: Mode) -> Result<Command, WordsFault> {
-    let form = Form::Hex;
-    Ok(Command { form, mode })
+    Ok(Command {
+        form: Form::Hex,
+        keep: false,
+        past: None,
+        mode,
+    })
 }
 
 /// A command whose addresses are spelled.
 fn bech32(mode: Mode) -> Result<Command, WordsFault> {
-    let form = Form::Bech32;
-    Ok(Command { form, mode })
+    Ok(Command {
+        form: Form::Bech32,
+        keep: false,
+        past: None,
+        mode,
+    })
+}
+
+/// A command that keeps what it replaces.
+fn kept(form: Form, mode: Mode) -> Result<Command, WordsFault> {
+    Ok(Command {
+        form,
+        keep: true,
+        past: None,
+        mode,
+    })
+}
+
+/// A command that asks of a past height.
+fn past(form: Form, height: u64, what: Query) -> Result<Command, WordsFault> {
+    Ok(Command {
+        form,
+        keep: false,
+        past: Some(height),
+        mode: Mode::Query(what),
+    })
 }
 
 /// The module that holds rewards.
@@ -111,6 +139,27 @@ fn commands_behind_bech32(rt: HostRuntime) -> Result<(), Fail> {
 }
 
 #[test]
+fn commands_keep_and_ask_of_the_past(rt: HostRuntime) -> Result<(), Fail> {
+    let alloc: Global = rt.alloc();
+    assert!(rt; read(alloc, "keep replay") == kept(Form::Hex, Mode::Replay));
+    assert!(rt; read(alloc, "bech32 keep resume") == kept(Form::Bech32, Mode::Resume));
+    assert!(rt; read(alloc, "past 0 query supply") == past(Form::Hex, 0, Query::Supply));
+    assert!(rt;
+        read(
+            alloc,
+            "past 9223372036854775807 query account 0000000000000000000000000000000000000004"
+        ) == past(Form::Hex, 9_223_372_036_854_775_807, Query::Account(pool()))
+    );
+    assert!(rt;
+        read(
+            alloc,
+            "bech32 past 7 query account cosmos1qqqqqqqqqqqqqqqqqqqqqqqqqqqqqqqyufzeg8"
+        ) == past(Form::Bech32, 7, Query::Account(pool()))
+    );
+    Ok(())
+}
+
+#[test]
 fn other_words_are_no_command(rt: HostRuntime) -> Result<(), Fail> {
     let alloc: Global = rt.alloc();
     for line in [
@@ -140,6 +189,20 @@ fn other_words_are_no_command(rt: HostRuntime) -> Result<(), Fail> {
         "gen 000000000000000000001 1",
         "gen  1",
         "trial 1 ",
+        "keep",
+        "keep tally",
+        "keep query supply",
+        "keep keep replay",
+        "keep bech32 replay",
+        "replay keep",
+        "past 1",
+        "past query supply",
+        "past 01 query supply",
+        "past  query supply",
+        "past 9223372036854775808 query supply",
+        "past 1 tally",
+        "past 1 past 1 query supply",
+        "bech32 past 1 query account 0000000000000000000000000000000000000004 1",
         "bech32",
         "bech32 ",
         "bech32 bech32 replay",

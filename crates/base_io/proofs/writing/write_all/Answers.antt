@@ -28,9 +28,9 @@ loop-at-preserved g c = record {
 
 pub returns-in_err-at-clause-err : goal.returns-in_err-at-clause-err
 returns-in_err-at-clause-err g c =
-    let part : AddsPart (g.K.Sink.written c.args.sink.now) (g.K.Sink.written c.write.new.self) c.args.text.now = λ bytes told. (
+    let part : AddsPart (g.K.Sink.written c.args.sink.now) (g.K.Sink.written c.write.new.self) c.args.text.now = (
       take c.loop-at.at c.args.text.now,
       record { rest = drop c.loop-at.at c.args.text.now; bytes_are = sym (take-append-drop c.loop-at.at c.args.text.now); more = some_left c.args.text.now c.loop-at.at c.loop-at-test.true },
-      c.in_err-at.ensures.err _ (c.loop-at.invariant.written bytes told),
+      λ bytes told. c.in_err-at.ensures.err _ (c.loop-at.invariant.written bytes told),
     ) in
     search (rules, part)

@@ -2,8 +2,8 @@ use Rattle.std.proofs.Common.{rules, arith, refl, ◌≡◌, ◌≢◌, ◌≤�
 use Rattle.std.proofs.lemmas.List.{length-take}
 use Rattle.run_app.specs.Machine.{longest}
 use Rattle.run_app.specs.Outcome.{most_bytes}
-use Rattle.run_app.proofs.BallotLemmas.{bytes_of_ballots, over_input, over_long, stopped, taken_first, taken_number, told_first, told_more}
-use Rattle.run_app.proofs.DriveLemmas.{byte_or, first_of}
+use Rattle.run_app.proofs.BallotLemmas.{all_kept, all_uncounted, bytes_of_ballots, over_input, over_long, stopped, taken_first, taken_number, unread}
+use Rattle.run_app.proofs.DriveLemmas.{byte_or, first_of, told_first, told_more}
 use Rattle.run_app.proofs.balloting.read_ballots.Goals.{else-piece-ne10-via-then-piece-ne10+else-len-eq-LONGEST, else-piece-ne10-via-else-piece-ne10}
 use Rattle.run_app.proofs.balloting.read_ballots.Goals as goal
 
@@ -71,3 +71,43 @@ returns-else-piece-ne10-clause-uncounted g c =
       | else-piece-ne10-via-else-piece-ne10 w ↦ let ten : slice_index_or c.read_at_most-2.new.piece 0 0 ≡ 10 = search rules in inl ten
     ] in
     over_input c.args.form _ a.0 _ _ _ _ _ c.read_at_most-2.new.piece _ a.3 a.2 moved (first_of c.read_at_most-2.new.piece 0 room) full (byte_or _ _ short a.2.short)
+
+pub returns-in-Err-clause-uncounted : goal.returns-in-Err-clause-uncounted
+returns-in-Err-clause-uncounted g c =
+    let a = c.loop-taken.invariant.at in
+    let most : length a.0 ≤ most_bytes = rw a.1 c.loop-taken.invariant.most in
+    unread c.args.form _ a.0 _ _ _ _ _ a.3 a.2 most c.in-Err.ensures.err
+
+pub returns-in-Ok-eq0-clause-kept : goal.returns-in-Ok-eq0-clause-kept
+returns-in-Ok-eq0-clause-kept g c =
+    let read = rw c.in-Ok-eq0.field-0-test at c.in-Ok-eq0.ensures in
+    let a = c.loop-taken.invariant.at in
+    let most : length a.0 ≤ most_bytes = rw a.1 c.loop-taken.invariant.most in
+    all_kept c.args.form c.last_ballot.result _ a.0 _ _ _ _ a.3 (read.end refl) read.moved most (c.last_ballot.ensures.kept a.0 a.2)
+
+pub returns-in-Ok-eq0-clause-uncounted : goal.returns-in-Ok-eq0-clause-uncounted
+returns-in-Ok-eq0-clause-uncounted g c =
+    let read = rw c.in-Ok-eq0.field-0-test at c.in-Ok-eq0.ensures in
+    let a = c.loop-taken.invariant.at in
+    let most : length a.0 ≤ most_bytes = rw a.1 c.loop-taken.invariant.most in
+    all_uncounted c.args.form c.last_ballot.result _ a.0 _ _ _ a.3 (read.end refl) read.moved (c.last_ballot.ensures.uncounted a.0 most a.2)
+
+pub returns-in-Err-read_at_most-clause-uncounted : goal.returns-in-Err-read_at_most-clause-uncounted
+returns-in-Err-read_at_most-clause-uncounted g c =
+    let a = c.loop-taken.invariant.at in
+    let most : length a.0 ≤ most_bytes = rw a.1 c.loop-taken.invariant.most in
+    unread c.args.form _ a.0 _ _ _ _ _ a.3 a.2 most c.in-Err-read_at_most.ensures.err
+
+pub returns-in-Ok-eq0-read_at_most-clause-kept : goal.returns-in-Ok-eq0-read_at_most-clause-kept
+returns-in-Ok-eq0-read_at_most-clause-kept g c =
+    let read = rw c.in-Ok-eq0-read_at_most.field-0-test at c.in-Ok-eq0-read_at_most.ensures in
+    let a = c.loop-taken.invariant.at in
+    let most : length a.0 ≤ most_bytes = rw a.1 c.loop-taken.invariant.most in
+    all_kept c.args.form c.last_ballot-in-Ok-eq0-read_at_most.result _ a.0 _ _ _ _ a.3 (read.end refl) read.moved most (c.last_ballot-in-Ok-eq0-read_at_most.ensures.kept a.0 a.2)
+
+pub returns-in-Ok-eq0-read_at_most-clause-uncounted : goal.returns-in-Ok-eq0-read_at_most-clause-uncounted
+returns-in-Ok-eq0-read_at_most-clause-uncounted g c =
+    let read = rw c.in-Ok-eq0-read_at_most.field-0-test at c.in-Ok-eq0-read_at_most.ensures in
+    let a = c.loop-taken.invariant.at in
+    let most : length a.0 ≤ most_bytes = rw a.1 c.loop-taken.invariant.most in
+    all_uncounted c.args.form c.last_ballot-in-Ok-eq0-read_at_most.result _ a.0 _ _ _ a.3 (read.end refl) read.moved (c.last_ballot-in-Ok-eq0-read_at_most.ensures.uncounted a.0 most a.2)

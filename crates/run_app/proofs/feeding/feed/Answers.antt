@@ -10,7 +10,6 @@ loop-end-init g c = record {
   later = omega arith;
   quiet = refl;
   honest = λ h. h;
-  takes = λ changes t. t;
   keep_later = omega arith;
   keep_quiet = refl;
 }
@@ -20,9 +19,6 @@ end_line-requires-clause-number g c =
     let k = c.requires.kept in
     let most = fed_to_number c.args.form _ _ _ _ _ _ _ _ _ _ (c.loop-end.invariant.fed k.0 k.1 k.2).1 in
     omega (arith, c.requires.number, most)
-
-pub end_line-requires-clause-takes : goal.end_line-requires-clause-takes
-end_line-requires-clause-takes g c = λ changes d. c.loop-end.invariant.takes changes (c.requires.takes changes d)
 
 pub end_line-requires-clause-kept : goal.end_line-requires-clause-kept
 end_line-requires-clause-kept g c =
@@ -43,9 +39,8 @@ loop-end-preserved g c = record {
       (t.0, rw c.after-rest.ensures (fed_to_end c.args.form _ s _ _ _ _ f.0 _ _ _ t.0 _ _ _ _ f.1 c.in-Some.ensures.end t.1), t.2);
   later = omega (arith, c.end_line.ensures.later);
   quiet = c.in_default-end_line.ensures.quiet ∙ c.loop-end.invariant.quiet;
-  honest = λ h. c.loop-end.invariant.honest (c.end_line.ensures.honest h);
-  takes = λ changes t. c.end_line.ensures.takes changes (c.loop-end.invariant.takes changes t);
-  keep_later = omega (arith, c.end_line.ensures.keep_later);
+  honest = λ h. c.loop-end.invariant.honest (c.end_line.ensures.keeps.honest h);
+  keep_later = omega (arith, c.loop-end.invariant.keep_later, c.end_line.ensures.keeps.count);
   keep_quiet = c.in_default-end_line.ensures.keep_quiet ∙ c.loop-end.invariant.keep_quiet;
 }
 
@@ -60,3 +55,12 @@ returns-clause-stops g c = λ b s k.
     let f = c.loop-end.invariant.fed b s k in
     let none : HasNoEnd c.loop-end.rest.now = rw c.in_default.is at c.end_of_line.ensures.none in
     piece_stops c.args.form _ c.extend.result _ s _ _ _ _ f.0 _ _ _ f.1 (left_of b _ _ _ _ f.0 f.2) none c.extend.ensures.err
+
+pub returns-in-Err-clause-keeps : goal.returns-in-Err-clause-keeps
+returns-in-Err-clause-keeps g c = record {
+  honest = λ h. c.loop-end.invariant.honest (c.end_line.ensures.keeps.honest h);
+  count = omega (arith, c.loop-end.invariant.keep_later, c.end_line.ensures.keeps.count);
+}
+
+pub returns-clause-keeps : goal.returns-clause-keeps
+returns-clause-keeps g c = record { honest = c.loop-end.invariant.honest; count = c.loop-end.invariant.keep_later }

@@ -1,5 +1,4 @@
-use Rattle.std.proofs.Common.{◌≡◌, ◌≤◌, List, length}
-use Rattle.base_io.specs.declared.keeper.Change.{Change}
+use Rattle.std.proofs.Common.{◌≡◌, ◌≤◌, length}
 use Rattle.run_app.specs.Kept.{Began, Keeping}
 use Rattle.run_app.specs.Machine.{Standing}
 use Rattle.run_app.proofs.PartLemmas.{FedTo}
@@ -13,7 +12,6 @@ invariant-loop-end g l = record {
   later : g.K.Sink.faults l.initial.sink ≤ g.K.Sink.faults l.sink;
   quiet : g.K.Sink.faults l.sink ≡ g.K.Sink.faults l.initial.sink;
   honest : g.D.Keeper.is_honest l.keeper → g.D.Keeper.is_honest l.initial.keeper;
-  takes : (changes : List Change) → g.D.Keeper.takes l.initial.keeper changes → g.D.Keeper.takes l.keeper changes;
   keep_later : g.D.Keeper.faults l.initial.keeper ≤ g.D.Keeper.faults l.keeper;
   keep_quiet : g.D.Keeper.faults l.keeper ≡ g.D.Keeper.faults l.initial.keeper;
 }

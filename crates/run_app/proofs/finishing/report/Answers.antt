@@ -1,7 +1,7 @@
 use Rattle.std.proofs.Common.{subst}
 use Rattle.run_app.specs.Machine.{StandsAt}
 use Rattle.run_app.proofs.PartLemmas.{nothing_reported}
-use Rattle.run_app.proofs.AnswerLemmas.{none_yet, lacking, report_failed, report_full, report_written}
+use Rattle.run_app.proofs.AnswerLemmas.{none_yet, lacking, report_failed, report_full, report_unflushed, report_written}
 use Rattle.run_app.proofs.finishing.report.Goals as goal
 
 pub returns-in_default-clause-stops : goal.returns-in_default-clause-stops
@@ -21,3 +21,7 @@ returns-in-Err-NoMemory-clause-stops g c = λ s stood.
 pub returns-in-Ok-flush-clause-written : goal.returns-in-Ok-flush-clause-written
 returns-in-Ok-flush-clause-written g c = λ s stood.
     report_written c.args.form c.in-Some.chain s _ _ (subst (λ x. StandsAt x s) c.in-Some.is stood) c.in-Ok.ensures.text c.deref.ensures.value _ _ _ c.in-Ok-write_all.ensures.ok c.in-Ok-flush.ensures.same
+
+pub returns-in-Err-clause-stops : goal.returns-in-Err-clause-stops
+returns-in-Err-clause-stops g c = λ s stood.
+    report_unflushed c.args.form c.in-Some.chain s _ _ (subst (λ x. StandsAt x s) c.in-Some.is stood) c.in-Ok.ensures.text c.deref.ensures.value _ _ _ c.in-Ok-write_all.ensures.ok c.flush.ensures.same

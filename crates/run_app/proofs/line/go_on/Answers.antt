@@ -1,6 +1,6 @@
-use Rattle.std.proofs.Common.{Some}
 use Rattle.run_app.proofs.KeepLemmas.{answer_kept, answer_unkept, fault_kept, settled_for, stands_some}
 use Rattle.run_app.proofs.LineLemmas.{no_keep, not_kept_stops}
+use Rattle.run_app.proofs.RisenLemmas.{block_rises}
 use Rattle.run_app.proofs.line.go_on.Goals as goal
 
 pub returns-in-Err-clause-err : goal.returns-in-Err-clause-err
@@ -11,16 +11,13 @@ returns-in-Err-clause-cause g c = λ e.
     let k = c.requires.kept in
     absurd (no_keep c.in-Err.stop _ (c.in-Err.ensures.err k.1 k.2.stands) e)
 
-pub commit_next-requires-clause-holds : goal.commit_next-requires-clause-holds
-commit_next-requires-clause-holds g c =
+pub commit_next-requires : goal.commit_next-requires
+commit_next-requires g c =
     let k = c.requires.kept in
-    (k.1, settled_for c.advance.new.chain c.args.chain.now k.1 c.in_default.ensures.settled k.2.same k.2.stands, k.2.held)
-
-pub commit_next-requires-clause-stands : goal.commit_next-requires-clause-stands
-commit_next-requires-clause-stands g c =
-    let k = c.requires.kept in
-    let q = stands_some c.advance.new.chain _ (c.in_default.ensures.ok k.1 k.2.stands).2 in
-    (q.0, q.2)
+    let a = c.in_default.ensures.ok k.1 k.2.stands in
+    let q = stands_some c.advance.new.chain a.0 a.2 in
+    let settled = settled_for c.advance.new.chain c.args.chain.now k.1 c.in_default.ensures.settled k.2.same k.2.stands in
+    (k.1, q.0, settled, q.2, block_rises c.args.form c.args.number c.args.line.now k.1 settled.sound _ a.0 q.0 a.1 q.1, k.2.held)
 
 pub returns-in-Ok-clause-ok : goal.returns-in-Ok-clause-ok
 returns-in-Ok-clause-ok g c = λ b p k.

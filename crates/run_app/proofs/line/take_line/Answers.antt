@@ -25,3 +25,15 @@ returns-in-Err-clause-long g c = long_only c.in-Err.stop _ c.in-Err.ensures.of_l
 
 pub returns-in-Err-clause-cause : goal.returns-in-Err-clause-cause
 returns-in-Err-clause-cause g c = λ e. absurd (no_write c.in-Err.stop c.args.line.now c.in-Err.ensures.of_line e)
+
+pub returns-in-Ok-clause-keeps : goal.returns-in-Ok-clause-keeps
+returns-in-Ok-clause-keeps g c = record { honest = c.answer.ensures.honest; count = c.answer.ensures.later }
+
+pub returns-in-Err-clause-keeps : goal.returns-in-Err-clause-keeps
+returns-in-Err-clause-keeps g c = record { honest = c.answer.ensures.honest; count = c.answer.ensures.later }
+
+pub returns-in-Err-Failed-clause-keeps : goal.returns-in-Err-Failed-clause-keeps
+returns-in-Err-Failed-clause-keeps g c = record { honest = c.answer.ensures.honest; count = c.answer.ensures.later }
+
+pub returns-in-Err-NoMemory-clause-keeps : goal.returns-in-Err-NoMemory-clause-keeps
+returns-in-Err-NoMemory-clause-keeps g c = record { honest = c.answer.ensures.honest; count = c.answer.ensures.later }

@@ -1,6 +1,6 @@
 use Rattle.std.proofs.Common.{refl}
-use Rattle.run_app.proofs.ModeLemmas.{quiet_at, quiet_keep}
-use Rattle.run_app.proofs.ResumeLemmas.{asked, not_asked, unresumed_busy, unresumed_cause, unresumed_quiet, unresumed_undone, unresumed_unread, unresumed_unwritten}
+use Rattle.run_app.proofs.ModeLemmas.{nothing, quiet_at, quiet_keep}
+use Rattle.run_app.proofs.ResumeLemmas.{asked, no_rows_found, not_asked, unresumed_busy, unresumed_cause, unresumed_quiet, unresumed_undone, unresumed_unread, unresumed_unwritten}
 use Rattle.run_app.proofs.resuming.answer.Goals as goal
 
 pub returns-in-Ok-clause-ends : goal.returns-in-Ok-clause-ends
@@ -39,3 +39,9 @@ returns-in-Err-clause-keep_cause g c = rw c.status_of_restore.ensures (unresumed
 
 pub returns-in-Err-clause-keep_quiet : goal.returns-in-Err-clause-keep_quiet
 returns-in-Err-clause-keep_quiet g c = rw c.status_of_restore.ensures (unresumed_quiet c.in-Err.fault _ c.in-Err.ensures.quiet)
+
+pub returns-in-Ok-clause-unkept : goal.returns-in-Ok-clause-unkept
+returns-in-Ok-clause-unkept g c = λ off. absurd (c.in-Ok.ensures.unkept off)
+
+pub returns-in-Err-clause-unkept : goal.returns-in-Err-clause-unkept
+returns-in-Err-clause-unkept g c = rw c.status_of_restore.ensures (λ off. (no_rows_found c.in-Err.fault (c.in-Err.ensures.unkept off), nothing _ _ refl))

@@ -1,24 +1,48 @@
-use Rattle.std.proofs.Common.{inl, refl}
-use Rattle.run_app.proofs.ModeLemmas.{quiet_at, quiet_read}
-use Rattle.run_app.proofs.ResumeLemmas.{not_resumed, resumed_first, unresumed_busy, unresumed_cause, unresumed_quiet, unresumed_undone, unresumed_unread, unresumed_unwritten, went_on}
+use Rattle.std.proofs.Common.{inl, inr, refl}
+use Rattle.run_app.proofs.DriveLemmas.{begun_busy}
+use Rattle.run_app.proofs.ModeLemmas.{nothing_done, quiet_at, quiet_read}
+use Rattle.run_app.proofs.ResumeLemmas.{all_taken, each_changes, leads_first, never_none, no_rows_found, not_brought, not_resumed, resumed_first, unresumed_busy, unresumed_cause, unresumed_quiet, unresumed_undone, unresumed_unread, unresumed_unwritten, went_on}
 use Rattle.run_app.proofs.resuming.resume.Goals as goal
 
-pub drive-requires-clause-takes : goal.drive-requires-clause-takes
-drive-requires-clause-takes g c = λ changes d. c.restore.ensures.takes changes (c.requires.takes changes d)
+pub commit_migration-requires-clause-ordinary : goal.commit_migration-requires-clause-ordinary
+commit_migration-requires-clause-ordinary g c =
+    let e = c.restore_with_changes.ensures in
+    rw c.deref.ensures.value (all_taken c.args.form _ _ _ _ _ c.in-Ok.ensures.restored e.same)
+
+pub commit_migration-requires-clause-changing : goal.commit_migration-requires-clause-changing
+commit_migration-requires-clause-changing g c =
+    let e = c.restore_with_changes.ensures in
+    rw c.deref.ensures.value (each_changes c.args.form _ _ _ _ _ c.in-Ok.ensures.restored e.same)
 
 pub drive-requires-clause-kept : goal.drive-requires-clause-kept
 drive-requires-clause-kept g c =
-    let e = c.restore.ensures in
-    (_, _, resumed_first c.args.form _ _ _ _ _ c.in-Ok.ensures.chain e.same e.settled)
+    let e = c.restore_with_changes.ensures in
+    let commits = rw c.deref.ensures.value at c.in-Ok-commit_migration.ensures.commits in
+    (_, _, resumed_first c.args.form _ _ _ _ _ c.in-Ok.ensures.restored e.same _ _ _ _ e.settled commits)
 
-pub returns-in-Ok-clause-ends : goal.returns-in-Ok-clause-ends
-returns-in-Ok-clause-ends g c =
-    let e = c.restore.ensures in
-    inl (went_on c.args.form _ _ _ _ _ c.in-Ok.ensures.chain e.same e.settled _ _ _ _ _ _ _ _ c.drive.ensures.honest c.drive.ensures.ends)
+pub returns-in-Ok-commit_migration-clause-ends : goal.returns-in-Ok-commit_migration-clause-ends
+returns-in-Ok-commit_migration-clause-ends g c =
+    let e = c.restore_with_changes.ensures in
+    let commits = rw c.deref.ensures.value at c.in-Ok-commit_migration.ensures.commits in
+    inl (went_on c.args.form _ _ _ _ _ c.in-Ok.ensures.restored e.same _ _ _ _ e.settled commits _ _ _ _ _ _ _ _ c.drive.ensures.keeps.honest c.commit_migration.ensures.honest c.drive.ensures.ends)
+
+pub returns-in-Err-Failed-clause-ends : goal.returns-in-Err-Failed-clause-ends
+returns-in-Err-Failed-clause-ends g c =
+    let e = c.restore_with_changes.ensures in
+    let commits = rw c.deref.ensures.value at c.in-Err-Failed.ensures.commits in
+    let none = rw c.deref.ensures.value at c.in-Err-Failed.ensures.none in
+    not_brought c.args.form _ _ _ _ _ c.in-Ok.ensures.restored e.same _ _ _ _ _ _ _ _ _ (inl refl) (never_none _ _ none) (commits _ (leads_first c.args.form _ _ _ _ _ c.in-Ok.ensures.restored e.same)) e.stop
+
+pub returns-in-Err-NoMemory-clause-ends : goal.returns-in-Err-NoMemory-clause-ends
+returns-in-Err-NoMemory-clause-ends g c =
+    let e = c.restore_with_changes.ensures in
+    let commits = rw c.deref.ensures.value at c.in-Err-NoMemory.ensures.commits in
+    let none = rw c.deref.ensures.value at c.in-Err-NoMemory.ensures.none in
+    not_brought c.args.form _ _ _ _ _ c.in-Ok.ensures.restored e.same _ _ _ _ _ _ _ _ _ (inr refl) (never_none _ _ none) (commits _ (leads_first c.args.form _ _ _ _ _ c.in-Ok.ensures.restored e.same)) e.stop
 
 pub returns-in-Err-clause-ends : goal.returns-in-Err-clause-ends
 returns-in-Err-clause-ends g c =
-    let e = c.restore.ensures in
+    let e = c.restore_with_changes.ensures in
     rw c.status_of_restore.ensures (not_resumed c.args.form c.in-Err.fault _ _ _ _ _ _ _ c.in-Err.ensures.fault e.same e.stop)
 
 pub returns-in-Err-clause-busy : goal.returns-in-Err-clause-busy
@@ -44,3 +68,18 @@ returns-in-Err-clause-keep_cause g c = rw c.status_of_restore.ensures (unresumed
 
 pub returns-in-Err-clause-keep_quiet : goal.returns-in-Err-clause-keep_quiet
 returns-in-Err-clause-keep_quiet g c = rw c.status_of_restore.ensures (unresumed_quiet c.in-Err.fault _ c.in-Err.ensures.quiet)
+
+pub returns-in-Ok-commit_migration-clause-unkept : goal.returns-in-Ok-commit_migration-clause-unkept
+returns-in-Ok-commit_migration-clause-unkept g c = λ off. absurd (c.in-Ok.ensures.unkept off)
+
+pub returns-in-Err-Failed-clause-unkept : goal.returns-in-Err-Failed-clause-unkept
+returns-in-Err-Failed-clause-unkept g c = λ off. absurd (c.in-Ok.ensures.unkept off)
+
+pub returns-in-Err-NoMemory-clause-unkept : goal.returns-in-Err-NoMemory-clause-unkept
+returns-in-Err-NoMemory-clause-unkept g c = λ off. absurd (c.in-Ok.ensures.unkept off)
+
+pub returns-in-Err-clause-unkept : goal.returns-in-Err-clause-unkept
+returns-in-Err-clause-unkept g c = rw c.status_of_restore.ensures (λ off. (no_rows_found c.in-Err.fault (c.in-Err.ensures.unkept off), nothing_done _ _))
+
+pub returns-in-Ok-commit_migration-clause-busy : goal.returns-in-Ok-commit_migration-clause-busy
+returns-in-Ok-commit_migration-clause-busy g c = begun_busy c.drive.result c.drive.ensures.begun

@@ -8,6 +8,15 @@ returns-in-Gen-clause-ends g c = rw c.in-Gen.is ((refl, c.write_generated.ensure
 pub returns-in-Trial-clause-ends : goal.returns-in-Trial-clause-ends
 returns-in-Trial-clause-ends g c = rw c.in-Trial.is ((refl, c.write_trial.ensures.ends), untouched _ _)
 
+pub returns-in-Check-clause-ends : goal.returns-in-Check-clause-ends
+returns-in-Check-clause-ends g c = rw c.in-Check.is (c.check_all.ensures.ends, untouched _ _)
+
+pub returns-in-Check-clause-keep_cause : goal.returns-in-Check-clause-keep_cause
+returns-in-Check-clause-keep_cause g c = λ e. absurd (c.check_all.ensures.keep e)
+
+pub returns-in-Check-clause-keep_quiet : goal.returns-in-Check-clause-keep_quiet
+returns-in-Check-clause-keep_quiet g c = quiet_keep _ _ refl
+
 pub returns-in-Gen-clause-keep_cause : goal.returns-in-Gen-clause-keep_cause
 returns-in-Gen-clause-keep_cause g c = λ e. absurd (c.write_generated.ensures.keep e)
 
@@ -22,3 +31,24 @@ returns-in-Trial-clause-keep_quiet g c = quiet_keep _ _ refl
 
 pub returns-in-Query-clause-ends : goal.returns-in-Query-clause-ends
 returns-in-Query-clause-ends g c = rw c.in-Query.is (refl, c.answer.ensures.ends)
+
+pub returns-in-Query-clause-unkept : goal.returns-in-Query-clause-unkept
+returns-in-Query-clause-unkept g c = rw c.in-Query.is (λ off. let u = c.answer.ensures.unkept off in (u.0, refl, u.1))
+
+pub returns-in-Gen-clause-unkept : goal.returns-in-Gen-clause-unkept
+returns-in-Gen-clause-unkept g c = rw c.in-Gen.is (λ off. tt)
+
+pub returns-in-Trial-clause-unkept : goal.returns-in-Trial-clause-unkept
+returns-in-Trial-clause-unkept g c = rw c.in-Trial.is (λ off. tt)
+
+pub returns-in-Replay-clause-unkept : goal.returns-in-Replay-clause-unkept
+returns-in-Replay-clause-unkept g c = rw c.in-Replay.is c.replay.ensures.unkept
+
+pub returns-in-Resume-clause-unkept : goal.returns-in-Resume-clause-unkept
+returns-in-Resume-clause-unkept g c = rw c.in-Resume.is c.resume.ensures.unkept
+
+pub returns-in-Check-clause-unkept : goal.returns-in-Check-clause-unkept
+returns-in-Check-clause-unkept g c = rw c.in-Check.is (λ off. tt)
+
+pub returns-in-Tally-clause-unkept : goal.returns-in-Tally-clause-unkept
+returns-in-Tally-clause-unkept g c = rw c.in-Tally.is c.tally.ensures.unkept

@@ -1,11 +1,9 @@
-use Rattle.std.proofs.Common.{inl, inr, refl, ap, ◌∙◌, None, Ok}
+use Rattle.std.proofs.Common.{inl, inr, refl, sym, ap, ◌∙◌, true≢false, None, Ok}
 use Rattle.run_app.specs.Kept.{on_none}
+use Rattle.run_app.proofs.DriveLemmas.{begun_busy, begun_unkept}
 use Rattle.run_app.proofs.KeepLemmas.{begins_on_none}
 use Rattle.run_app.proofs.ModeLemmas.{nothing_done, rows_left}
 use Rattle.run_app.proofs.running.replay.Goals as goal
-
-pub drive-requires-clause-takes : goal.drive-requires-clause-takes
-drive-requires-clause-takes g c = λ changes d. c.has_rows.ensures.takes changes (c.requires.takes changes d)
 
 pub drive-requires-clause-kept : goal.drive-requires-clause-kept
 drive-requires-clause-kept g c =
@@ -32,7 +30,13 @@ returns-in-Err-NoMemory-clause-ends g c =
     let e = c.has_rows.ensures in
     inr (tt, nothing_done _ _, rows_left _ _ _ _ _ e.same e.stop)
 
-pub returns-in-Ok-true-clause-kept : goal.returns-in-Ok-true-clause-kept
-returns-in-Ok-true-clause-kept g c =
+pub returns-in-Ok-false-clause-unkept : goal.returns-in-Ok-false-clause-unkept
+returns-in-Ok-false-clause-unkept g c = λ off. begun_unkept c.drive.result c.drive.ensures.begun
+
+pub returns-in-Ok-true-clause-unkept : goal.returns-in-Ok-true-clause-unkept
+returns-in-Ok-true-clause-unkept g c =
     let e = c.has_rows.ensures in
-    λ _. e.kept (c.in-Ok-true.is ∙ ap Ok c.in-Ok-true.field-0-test)
+    λ off _. absurd (true≢false (sym (e.kept (c.in-Ok-true.is ∙ ap Ok c.in-Ok-true.field-0-test)) ∙ off))
+
+pub returns-in-Ok-false-clause-busy : goal.returns-in-Ok-false-clause-busy
+returns-in-Ok-false-clause-busy g c = begun_busy c.drive.result c.drive.ensures.begun

@@ -1,92 +1,91 @@
 use Rattle.std.proofs.Common.{map}
 use Rattle.std.specs.Prelude.{string_bytes}
+use Rattle.run_app.specs.Commands.{way_of}
 use Rattle.run_app.proofs.ModeLemmas.{few_blocks}
-use Rattle.run_app.proofs.CommandLemmas.{ends_unasked, ends_unbegun, never_asked, untroubled_command}
-use Rattle.run_app.proofs.OnwardLemmas.{runs_may_go_on}
-use Rattle.run_app.proofs.RestLemmas.{answers_join, the_rest}
+use Rattle.run_app.proofs.CommandLemmas.{complete_unasked, ends_unasked, is_of_command, is_of_no_command, kept_unasked, read_unasked, unkept_unasked, write_unasked}
+use Rattle.run_app.proofs.CountLemmas.{moved_keep, moved_read, moved_write}
+use Rattle.run_app.proofs.RejoinLemmas.{runs_go_on}
 use Rattle.run_app.proofs.SoundLemmas.{lines_replayed}
-use Rattle.run_app.proofs.StopLemmas.{mode_stops, stops_unbegun}
+use Rattle.run_app.proofs.StopLemmas.{stops_unbegun}
+use Rattle.run_app.proofs.WayLemmas.{untroubled_way, way_commits, way_stops}
 use Rattle.run_app.proofs.WholeLemmas.{answers_replayed}
 use Rattle.run_app.proofs.running.run.Goals as goal
 
-pub carry_out-requires-clause-few : goal.carry_out-requires-clause-few
-carry_out-requires-clause-few g c = few_blocks (map string_bytes c.args.words.now) c.in-Ok.command c.in-Ok.ensures.command
+pub perform-requires-clause-few : goal.perform-requires-clause-few
+perform-requires-clause-few g c = few_blocks (map string_bytes c.args.words.now) c.in-Ok.command c.in-Ok.ensures.command
+
+-- ---- a command
 
 pub returns-in-Ok-clause-ends : goal.returns-in-Ok-clause-ends
-returns-in-Ok-clause-ends g c = rw c.in-Ok.ensures.command c.carry_out.ensures.ends
+returns-in-Ok-clause-ends g c = rw c.in-Ok.ensures.command c.perform.ensures.ends
+
+pub returns-in-Ok-clause-unkept : goal.returns-in-Ok-clause-unkept
+returns-in-Ok-clause-unkept g c = rw c.in-Ok.ensures.command c.perform.ensures.unkept
+
+pub returns-in-Ok-clause-stops : goal.returns-in-Ok-clause-stops
+returns-in-Ok-clause-stops g c = rw c.in-Ok.ensures.command (way_stops c.in-Ok.command.form (way_of c.in-Ok.command) _ _ _ _ _ _ _ _ _ c.perform.result c.perform.ensures.ends)
+
+pub returns-in-Ok-clause-usage : goal.returns-in-Ok-clause-usage
+returns-in-Ok-clause-usage g c = is_of_command c.perform.result _ c.in-Ok.command c.in-Ok.ensures.command c.perform.ensures.busy
+
+pub returns-in-Ok-clause-reads : goal.returns-in-Ok-clause-reads
+returns-in-Ok-clause-reads g c = moved_read c.perform.result _ _ c.perform.ensures.read_cause c.perform.ensures.read_quiet
+
+pub returns-in-Ok-clause-writes : goal.returns-in-Ok-clause-writes
+returns-in-Ok-clause-writes g c = (moved_write c.perform.result _ _ c.perform.ensures.write_cause c.perform.ensures.write_quiet, c.perform.ensures.clean)
+
+pub returns-in-Ok-clause-keeps : goal.returns-in-Ok-clause-keeps
+returns-in-Ok-clause-keeps g c = moved_keep c.perform.result _ _ c.perform.ensures.keep_cause c.perform.ensures.keep_quiet
 
 pub returns-in-Ok-clause-complete : goal.returns-in-Ok-clause-complete
 returns-in-Ok-clause-complete g c =
     rw c.in-Ok.ensures.command
     (λ calm reads writes.
-    untroubled_command c.in-Ok.command.form c.in-Ok.command.mode _ _ _ _ _ _ _ _ _ _ _ _ _ c.carry_out.ensures.ends calm c.carry_out.ensures.busy
-    (λ e. reads (c.carry_out.ensures.read_cause e)) (λ e. writes (c.carry_out.ensures.write_cause e)) c.carry_out.ensures.keep_cause c.carry_out.ensures.kept)
+    untroubled_way c.in-Ok.command.form (way_of c.in-Ok.command) (way_commits c.in-Ok.command) _ _ _ _ _ _ _ _ _ _ _ _ _ c.perform.ensures.ends calm c.perform.ensures.busy
+    (λ e. reads (c.perform.ensures.read_cause e)) (λ e. writes (c.perform.ensures.write_cause e)) c.perform.ensures.keep_cause c.perform.ensures.unkept)
 
-pub returns-in-Ok-clause-usage : goal.returns-in-Ok-clause-usage
-returns-in-Ok-clause-usage g c = λ e. absurd (c.carry_out.ensures.busy e)
+-- ---- no command
 
-pub returns-in-Ok-clause-no_command : goal.returns-in-Ok-clause-no_command
-returns-in-Ok-clause-no_command g c = λ none. absurd (never_asked _ c.in-Ok.command none c.in-Ok.ensures.command)
+pub returns-in-Err-clause-ends : goal.returns-in-Err-clause-ends
+returns-in-Err-clause-ends g c = rw c.status_of_words.ensures (ends_unasked c.in-Err.fault _ _ _ _ _ _ c.in-Err.ensures.usage)
+
+pub returns-in-Err-clause-unkept : goal.returns-in-Err-clause-unkept
+returns-in-Err-clause-unkept g c = rw c.status_of_words.ensures (λ off. unkept_unasked c.in-Err.fault _ _ _ c.in-Err.ensures.usage)
+
+pub returns-in-Err-clause-stops : goal.returns-in-Err-clause-stops
+returns-in-Err-clause-stops g c = stops_unbegun _ _ _ _ _ _
+
+pub returns-in-Err-clause-usage : goal.returns-in-Err-clause-usage
+returns-in-Err-clause-usage g c = rw c.status_of_words.ensures (is_of_no_command c.in-Err.fault _ c.in-Err.ensures.usage)
+
+pub returns-in-Err-clause-reads : goal.returns-in-Err-clause-reads
+returns-in-Err-clause-reads g c = rw c.status_of_words.ensures (read_unasked c.in-Err.fault _)
+
+pub returns-in-Err-clause-writes : goal.returns-in-Err-clause-writes
+returns-in-Err-clause-writes g c = rw c.status_of_words.ensures (write_unasked c.in-Err.fault _ _)
+
+pub returns-in-Err-clause-keeps : goal.returns-in-Err-clause-keeps
+returns-in-Err-clause-keeps g c = rw c.status_of_words.ensures (kept_unasked c.in-Err.fault _)
+
+pub returns-in-Err-clause-complete : goal.returns-in-Err-clause-complete
+returns-in-Err-clause-complete g c = rw c.status_of_words.ensures (λ calm reads writes. complete_unasked c.in-Err.fault _ _ _ _ _ _ _ c.in-Err.ensures.usage calm)
+
+-- ---- laws
 
 pub returns-in-Ok-clause-replayed : goal.returns-in-Ok-clause-replayed
 returns-in-Ok-clause-replayed g c = lines_replayed
 
+pub returns-in-Err-clause-replayed : goal.returns-in-Err-clause-replayed
+returns-in-Err-clause-replayed g c = lines_replayed
+
 pub returns-in-Ok-clause-whole : goal.returns-in-Ok-clause-whole
 returns-in-Ok-clause-whole g c = λ form. answers_replayed form (lines_replayed form)
 
-pub returns-in-Err-Usage-clause-ends : goal.returns-in-Err-Usage-clause-ends
-returns-in-Err-Usage-clause-ends g c = ends_unasked _ _ _ _ _ _ (c.in-Err-Usage.ensures.usage c.in-Err-Usage.field-0-is)
+pub returns-in-Err-clause-whole : goal.returns-in-Err-clause-whole
+returns-in-Err-clause-whole g c = λ form. answers_replayed form (lines_replayed form)
 
-pub returns-in-Err-Usage-clause-usage : goal.returns-in-Err-Usage-clause-usage
-returns-in-Err-Usage-clause-usage g c = λ e. c.in-Err-Usage.ensures.usage c.in-Err-Usage.field-0-is
+pub returns-in-Ok-clause-continued : goal.returns-in-Ok-clause-continued
+returns-in-Ok-clause-continued g c = runs_go_on
 
-pub returns-in-Err-Usage-clause-replayed : goal.returns-in-Err-Usage-clause-replayed
-returns-in-Err-Usage-clause-replayed g c = lines_replayed
-
-pub returns-in-Err-Usage-clause-whole : goal.returns-in-Err-Usage-clause-whole
-returns-in-Err-Usage-clause-whole g c = λ form. answers_replayed form (lines_replayed form)
-
-pub returns-in-Err-NoMemory-clause-ends : goal.returns-in-Err-NoMemory-clause-ends
-returns-in-Err-NoMemory-clause-ends g c = ends_unbegun _ _ _ _ _ _
-
-pub returns-in-Err-NoMemory-clause-replayed : goal.returns-in-Err-NoMemory-clause-replayed
-returns-in-Err-NoMemory-clause-replayed g c = lines_replayed
-
-pub returns-in-Err-NoMemory-clause-whole : goal.returns-in-Err-NoMemory-clause-whole
-returns-in-Err-NoMemory-clause-whole g c = λ form. answers_replayed form (lines_replayed form)
-
-pub returns-in-Ok-clause-stops : goal.returns-in-Ok-clause-stops
-returns-in-Ok-clause-stops g c = rw c.in-Ok.ensures.command (mode_stops c.in-Ok.command.form c.in-Ok.command.mode _ _ _ _ _ _ _ _ _ c.carry_out.result c.carry_out.ensures.ends)
-
-pub returns-in-Err-Usage-clause-stops : goal.returns-in-Err-Usage-clause-stops
-returns-in-Err-Usage-clause-stops g c = stops_unbegun _ _ _ _ _ _
-
-pub returns-in-Err-NoMemory-clause-stops : goal.returns-in-Err-NoMemory-clause-stops
-returns-in-Err-NoMemory-clause-stops g c = stops_unbegun _ _ _ _ _ _
-
-pub returns-in-Ok-clause-rest : goal.returns-in-Ok-clause-rest
-returns-in-Ok-clause-rest g c = the_rest
-
-pub returns-in-Err-Usage-clause-rest : goal.returns-in-Err-Usage-clause-rest
-returns-in-Err-Usage-clause-rest g c = the_rest
-
-pub returns-in-Err-NoMemory-clause-rest : goal.returns-in-Err-NoMemory-clause-rest
-returns-in-Err-NoMemory-clause-rest g c = the_rest
-
-pub returns-in-Ok-clause-onward : goal.returns-in-Ok-clause-onward
-returns-in-Ok-clause-onward g c = runs_may_go_on
-
-pub returns-in-Err-Usage-clause-onward : goal.returns-in-Err-Usage-clause-onward
-returns-in-Err-Usage-clause-onward g c = runs_may_go_on
-
-pub returns-in-Err-NoMemory-clause-onward : goal.returns-in-Err-NoMemory-clause-onward
-returns-in-Err-NoMemory-clause-onward g c = runs_may_go_on
-
-pub returns-in-Ok-clause-joined : goal.returns-in-Ok-clause-joined
-returns-in-Ok-clause-joined g c = answers_join
-
-pub returns-in-Err-Usage-clause-joined : goal.returns-in-Err-Usage-clause-joined
-returns-in-Err-Usage-clause-joined g c = answers_join
-
-pub returns-in-Err-NoMemory-clause-joined : goal.returns-in-Err-NoMemory-clause-joined
-returns-in-Err-NoMemory-clause-joined g c = answers_join
+pub returns-in-Err-clause-continued : goal.returns-in-Err-clause-continued
+returns-in-Err-clause-continued g c = runs_go_on

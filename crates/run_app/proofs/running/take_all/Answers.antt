@@ -2,7 +2,7 @@ use Rattle.std.proofs.Common.{rules, arith, refl, ◌≡◌, ◌∙◌, ◌≤�
 use Rattle.std.proofs.lemmas.List.{length-take}
 use Rattle.run_app.proofs.KeepLemmas.{left_of}
 use Rattle.run_app.proofs.RunLemmas.{fed_number}
-use Rattle.run_app.proofs.DriveLemmas.{stands_first, read_ends, feed_ends, goes_on, end_ends, long_ends, pass_ends, first_of, byte_or}
+use Rattle.run_app.proofs.DriveLemmas.{begun_by, stands_first, read_ends, feed_ends, goes_on, end_ends, long_ends, pass_ends, first_of, byte_or}
 use Rattle.run_app.specs.Outcome.{most_bytes}
 use Rattle.run_app.specs.Machine.{longest}
 use Rattle.run_app.proofs.running.take_all.Goals.{else-piece-ne10-via-then-piece-ne10+else-len-eq-LONGEST, else-piece-ne10-via-else-piece-ne10}
@@ -22,7 +22,6 @@ loop-taken-init g c = record {
   short = rw c.requires.line (omega arith);
   at = λ b s k. (s, k, stands_first c.args.form s _ _ _ s _ c.requires.number refl c.requires.line);
   honest = λ h. h;
-  takes = λ changes t. t;
   keep_later = omega arith;
   keep_quiet = refl;
   read_later = omega arith;
@@ -42,17 +41,11 @@ returns-in-Ok-eq0-clause-ends g c = λ b s k.
     let a = c.loop-taken.invariant.at b s k in
     end_ends c.args.form _ s _ _ _ _ _ _ _ _ _ _ _ _ a.2 c.loop-taken.invariant.most (read.end refl) read.moved (c.end.ensures.status b a.0 a.1)
 
-pub end-requires-clause-takes : goal.end-requires-clause-takes
-end-requires-clause-takes g c = λ changes d. c.loop-taken.invariant.takes changes (c.requires.takes changes d)
-
 pub end-requires-clause-kept : goal.end-requires-clause-kept
 end-requires-clause-kept g c =
     let k = c.requires.kept in
     let a = c.loop-taken.invariant.at k.0 k.1 k.2 in
     (k.0, a.0, a.1)
-
-pub feed-requires-clause-takes : goal.feed-requires-clause-takes
-feed-requires-clause-takes g c = λ changes d. c.loop-taken.invariant.takes changes (c.requires.takes changes d)
 
 pub feed-requires-clause-kept : goal.feed-requires-clause-kept
 feed-requires-clause-kept g c =
@@ -63,8 +56,9 @@ feed-requires-clause-kept g c =
 pub returns-in-Err-feed-clause-ends : goal.returns-in-Err-feed-clause-ends
 returns-in-Err-feed-clause-ends g c = λ b s k.
     let fits : c.loop-taken.taken + c.in-Ok.n ≤ most_bytes = omega (arith, c.in-Ok.ensures.within, c.room.ensures.fits) in
+    let there : c.in-Ok.n ≤ length c.read_at_most.new.piece = omega (arith, c.in-Ok.ensures.within, c.room.ensures.within, c.read_at_most.auto.piece, c.loop-taken.invariant.room) in
     let a = c.loop-taken.invariant.at b s k in
-    rw c.status_of.ensures (feed_ends c.args.form _ s _ _ _ _ _ _ _ _ _ _ _ c.read_at_most.new.piece c.in-Err-feed.stop a.2 c.in-Ok.ensures.moved (c.in-Err-feed.ensures.stops b a.0 a.1) fits)
+    rw c.status_of.ensures (feed_ends c.args.form _ s _ _ _ _ _ _ _ _ _ _ _ c.read_at_most.new.piece c.in-Err-feed.stop a.2 c.in-Ok.ensures.moved (c.in-Err-feed.ensures.stops b a.0 a.1) fits there)
 
 pub loop-taken-preserved : goal.loop-taken-preserved
 loop-taken-preserved g c =
@@ -75,6 +69,7 @@ loop-taken-preserved g c =
     let more : c.feed.new.progress.number ≤ c.loop-taken.progress.number + length piece = fed_number c.args.form _ _ _ _ _ _ _ _ _ fed0.1 in
     let most : length piece ≤ c.in-Ok.n = short_piece c.in-Ok.n c.read_at_most.new.piece in
     let within : c.in-Ok.n ≤ c.room.result = c.in-Ok.ensures.within in
+    let there : c.in-Ok.n ≤ length c.read_at_most.new.piece = omega (arith, within, c.room.ensures.within, c.read_at_most.auto.piece, c.loop-taken.invariant.room) in
     record {
       room = omega (arith, c.read_at_most.auto.piece);
       most = omega (arith, c.room.ensures.fits);
@@ -83,14 +78,13 @@ loop-taken-preserved g c =
       at = λ b s k.
           let a = c.loop-taken.invariant.at b s k in
           let fed = c.in_default.ensures.fed b a.0 a.1 in
-          (fed.0, fed.2, goes_on c.args.form s _ _ _ _ _ _ _ _ _ _ _ _ _ _ c.read_at_most.new.piece a.2 c.in-Ok.ensures.moved fed.1);
+          (fed.0, fed.2, goes_on c.args.form s _ _ _ _ _ _ _ _ _ _ _ _ _ _ c.read_at_most.new.piece a.2 c.in-Ok.ensures.moved there fed.1);
       read_later = omega (arith, c.read_at_most.ensures.later);
       write_later = omega (arith, c.feed.ensures.later);
       read_quiet = c.in-Ok.ensures.quiet ∙ c.loop-taken.invariant.read_quiet;
       write_quiet = c.in_default.ensures.quiet ∙ c.loop-taken.invariant.write_quiet;
-      honest = λ h. c.loop-taken.invariant.honest (c.feed.ensures.honest h);
-      takes = λ changes t. c.feed.ensures.takes changes (c.loop-taken.invariant.takes changes t);
-      keep_later = omega (arith, c.feed.ensures.keep_later);
+      honest = λ h. c.loop-taken.invariant.honest (c.feed.ensures.keeps.honest h);
+      keep_later = omega (arith, c.loop-taken.invariant.keep_later, c.feed.ensures.keeps.count);
       keep_quiet = c.in_default.ensures.keep_quiet ∙ c.loop-taken.invariant.keep_quiet;
     }
 
@@ -127,3 +121,42 @@ returns-else-piece-ne10-clause-ends g c = λ b s k.
     ] in
     let a = c.loop-taken.invariant.at b s k in
     pass_ends c.args.form _ s _ _ _ _ _ _ _ _ _ c.read_at_most-2.new.piece _ a.2 moved (first_of c.read_at_most-2.new.piece 0 room) (left_of b _ _ _ _ a.0 a.1) full (byte_or _ _ short c.loop-taken.invariant.short)
+
+pub returns-in-Err-clause-keeps : goal.returns-in-Err-clause-keeps
+returns-in-Err-clause-keeps g c = record { honest = c.loop-taken.invariant.honest; count = c.loop-taken.invariant.keep_later }
+
+pub returns-in-Ok-eq0-clause-keeps : goal.returns-in-Ok-eq0-clause-keeps
+returns-in-Ok-eq0-clause-keeps g c = record {
+  honest = λ h. c.loop-taken.invariant.honest (c.end.ensures.keeps.honest h);
+  count = omega (arith, c.loop-taken.invariant.keep_later, c.end.ensures.keeps.count);
+}
+
+pub returns-in-Err-feed-clause-keeps : goal.returns-in-Err-feed-clause-keeps
+returns-in-Err-feed-clause-keeps g c = record {
+  honest = λ h. c.loop-taken.invariant.honest (c.feed.ensures.keeps.honest h);
+  count = omega (arith, c.loop-taken.invariant.keep_later, c.feed.ensures.keeps.count);
+}
+
+pub returns-in-Err-read_at_most-clause-keeps : goal.returns-in-Err-read_at_most-clause-keeps
+returns-in-Err-read_at_most-clause-keeps g c = record { honest = c.loop-taken.invariant.honest; count = c.loop-taken.invariant.keep_later }
+
+pub returns-in-Ok-eq0-read_at_most-clause-keeps : goal.returns-in-Ok-eq0-read_at_most-clause-keeps
+returns-in-Ok-eq0-read_at_most-clause-keeps g c = record {
+  honest = λ h. c.loop-taken.invariant.honest (c.end-in-Ok-eq0-read_at_most.ensures.keeps.honest h);
+  count = omega (arith, c.loop-taken.invariant.keep_later, c.end-in-Ok-eq0-read_at_most.ensures.keeps.count);
+}
+
+pub returns-then-len-eq-LONGEST-clause-keeps : goal.returns-then-len-eq-LONGEST-clause-keeps
+returns-then-len-eq-LONGEST-clause-keeps g c = record { honest = c.loop-taken.invariant.honest; count = c.loop-taken.invariant.keep_later }
+
+pub returns-else-piece-ne10-clause-keeps : goal.returns-else-piece-ne10-clause-keeps
+returns-else-piece-ne10-clause-keeps g c = record { honest = c.loop-taken.invariant.honest; count = c.loop-taken.invariant.keep_later }
+
+pub returns-in-Ok-eq0-clause-begun : goal.returns-in-Ok-eq0-clause-begun
+returns-in-Ok-eq0-clause-begun g c = c.end.ensures.begun
+
+pub returns-in-Ok-eq0-read_at_most-clause-begun : goal.returns-in-Ok-eq0-read_at_most-clause-begun
+returns-in-Ok-eq0-read_at_most-clause-begun g c = c.end-in-Ok-eq0-read_at_most.ensures.begun
+
+pub returns-in-Err-feed-clause-begun : goal.returns-in-Err-feed-clause-begun
+returns-in-Err-feed-clause-begun g c = rw c.status_of.ensures (begun_by c.in-Err-feed.stop)

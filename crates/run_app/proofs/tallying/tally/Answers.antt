@@ -1,13 +1,14 @@
 use Rattle.std.proofs.Common.{refl}
-use Rattle.run_app.proofs.ModeLemmas.{quiet_at, quiet_keep, quiet_read}
-use Rattle.run_app.proofs.ResumeLemmas.{unresumed_busy, unresumed_cause, unresumed_quiet, unresumed_undone, unresumed_unread, unresumed_unwritten}
+use Rattle.store_resuming.proofs.RestoreLemmas.{same_itself}
+use Rattle.run_app.proofs.ModeLemmas.{nothing_done, quiet_at, quiet_keep, quiet_read}
+use Rattle.run_app.proofs.ResumeLemmas.{no_rows_found, unresumed_busy, unresumed_cause, unresumed_quiet, unresumed_undone, unresumed_unread, unresumed_unwritten}
 use Rattle.run_app.proofs.TallyLemmas.{not_tallied, tallied}
 use Rattle.run_app.proofs.tallying.tally.Goals as goal
 
 pub count_ballots-requires : goal.count_ballots-requires
 count_ballots-requires g c =
     let chain = c.in-Ok.ensures.chain in
-    record { sound = (chain.first, chain.storable.sound, chain.stands chain.first chain.storable refl) }
+    record { sound = (chain.first, chain.storable.sound, chain.stands chain.first chain.storable (same_itself chain.first)) }
 
 pub returns-in-Ok-clause-ends : goal.returns-in-Ok-clause-ends
 returns-in-Ok-clause-ends g c =
@@ -48,3 +49,9 @@ returns-in-Err-clause-keep_cause g c = rw c.status_of_restore.ensures (unresumed
 
 pub returns-in-Err-clause-keep_quiet : goal.returns-in-Err-clause-keep_quiet
 returns-in-Err-clause-keep_quiet g c = rw c.status_of_restore.ensures (unresumed_quiet c.in-Err.fault _ c.in-Err.ensures.quiet)
+
+pub returns-in-Ok-clause-unkept : goal.returns-in-Ok-clause-unkept
+returns-in-Ok-clause-unkept g c = λ off. absurd (c.in-Ok.ensures.unkept off)
+
+pub returns-in-Err-clause-unkept : goal.returns-in-Err-clause-unkept
+returns-in-Err-clause-unkept g c = rw c.status_of_restore.ensures (λ off. (no_rows_found c.in-Err.fault (c.in-Err.ensures.unkept off), nothing_done _ _))

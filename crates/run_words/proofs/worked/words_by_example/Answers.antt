@@ -28,6 +28,7 @@ unfolding spellings_on_literals
 returns-clause-spelled c = record {
   replay = refl;
   tally = refl;
+  check = refl;
   pool = refl;
   generated = refl;
   tried = refl;

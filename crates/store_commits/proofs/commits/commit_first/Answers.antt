@@ -3,8 +3,8 @@ use Rattle.rule_machine.specs.Items.{items_of}
 use Rattle.store_commits.proofs.Committing.{not_committed}
 use Rattle.store_commits.proofs.commits.commit_first.Goals as goal
 
-pub commit_made-requires-clause-made : goal.commit_made-requires-clause-made
-commit_made-requires-clause-made g c =
+pub commit_made-requires : goal.commit_made-requires
+commit_made-requires g c =
     let q = c.requires.stands in
     ([], items_of q.0, rw c.deref.ensures.value (c.in-Ok.ensures.made q.0 q.1), c.requires.holds)
 

@@ -2,7 +2,7 @@ use Rattle.store_commits.proofs.Committing.{changing, committed}
 use Rattle.store_commits.proofs.commits.commit_made.Goals as goal
 
 pub commit-requires-clause-taken : goal.commit-requires-clause-taken
-commit-requires-clause-taken g c = c.requires.takes c.args.list.now c.requires.made.2.distinct
+commit-requires-clause-taken g c = g.met.D.Keeper.takes_ordinary c.args.keeper.now c.args.list.now c.requires.made.2.ordinary
 
 pub commit-requires-clause-changing : goal.commit-requires-clause-changing
 commit-requires-clause-changing g c =

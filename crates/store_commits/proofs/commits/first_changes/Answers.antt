@@ -9,4 +9,4 @@ puts_of-requires c =
 
 pub returns-in-Ok-puts_of-clause-made : goal.returns-in-Ok-puts_of-clause-made
 returns-in-Ok-puts_of-clause-made c = λ q stands.
-    first_commit c.commits_reach_new_rows.ensures.distinct q _ _ (c.items_can_be_kept.ensures.once q stands.sound) (c.deref.ensures.value ∙ c.in-Ok.ensures.items q stands) c.in-Ok-puts_of.ensures.changes c.in-Ok-puts_of.ensures.have_rows
+    first_commit c.commits_reach_new_rows.ensures.ordinary q _ _ (c.items_can_be_kept.ensures.once q stands.sound) (c.deref.ensures.value ∙ c.in-Ok.ensures.items q stands) c.in-Ok-puts_of.ensures.changes c.in-Ok-puts_of.ensures.have_rows

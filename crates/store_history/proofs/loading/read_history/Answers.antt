@@ -1,7 +1,8 @@
-use Rattle.std.proofs.Common.{Err, ap, map}
+use Rattle.std.proofs.Common.{◌∙◌, List, Err, ap, map}
+use Rattle.base_io.specs.declared.keeper.Row.{Row}
 use Rattle.base_io.specs.Changes.{pair_of}
 use Rattle.store_history.specs.History.{IsHistory}
-use Rattle.store_history.proofs.LoadLemmas.{if_ok_both, knows_from, open_cause, open_not_bad, open_quiet, told_list, told_so}
+use Rattle.store_history.proofs.LoadLemmas.{if_ok_both, knows_from, never_bad, not_failed, not_loaded, open_cause, open_not_bad, open_quiet, told_list, told_so, were_loaded}
 use Rattle.store_history.proofs.KeepingLemmas.{on_ok}
 use Rattle.store_history.proofs.loading.read_history.Goals as goal
 
@@ -34,4 +35,20 @@ pub returns-in-Err-clause-cause : goal.returns-in-Err-clause-cause
 returns-in-Err-clause-cause g c = open_cause c.load.result _ c.in-Err.fault _ c.in-Err.is (ap Err c.open_fault.ensures) c.load.ensures.cause
 
 pub returns-in-Err-clause-quiet : goal.returns-in-Err-clause-quiet
-returns-in-Err-clause-quiet g c = open_quiet c.load.result _ c.in-Err.fault _ c.in-Err.is (ap Err c.open_fault.ensures) c.load.ensures.quiet
+returns-in-Err-clause-quiet g c = open_quiet c.load.result _ c.in-Err.fault _ c.in-Err.is c.open_fault.ensures c.load.ensures.quiet
+
+pub returns-in-Ok-clause-unkept : goal.returns-in-Ok-clause-unkept
+returns-in-Ok-clause-unkept g c = λ off is.
+    never_bad (map pair_of c.as_slice.result.now) (ap (map pair_of) c.as_slice.ensures.value ∙ ap (λ (rows : List Row). map pair_of rows) (c.in-Ok.ensures.unkept off)) (c.read_rows.ensures.bad is)
+
+pub returns-in-Ok-clause-told : goal.returns-in-Ok-clause-told
+returns-in-Ok-clause-told g c = were_loaded c.read_rows.result _ c.in-Ok.ensures.told
+
+pub returns-in-Err-clause-unkept : goal.returns-in-Err-clause-unkept
+returns-in-Err-clause-unkept g c = λ off is. absurd (open_not_bad _ c.in-Err.fault (ap Err c.open_fault.ensures) is)
+
+pub returns-in-Err-clause-told : goal.returns-in-Err-clause-told
+returns-in-Err-clause-told g c = not_loaded _ c.in-Err.fault _ c.open_fault.ensures
+
+pub returns-in-Ok-clause-quiet : goal.returns-in-Ok-clause-quiet
+returns-in-Ok-clause-quiet g c = not_failed c.read_rows.result _ c.in-Ok.ensures.quiet

@@ -1,3 +1,4 @@
+use Rattle.store_items.proofs.Ordinary.{ordinary}
 use Rattle.store_items.proofs.Reached.{all_change, are_distinct, rows_reached}
 use Rattle.store_items.proofs.laws.commits_reach_new_rows.Goals as goal
 
@@ -9,3 +10,6 @@ returns-clause-changing c = all_change
 
 pub returns-clause-reached : goal.returns-clause-reached
 returns-clause-reached c = rows_reached
+
+pub returns-clause-ordinary : goal.returns-clause-ordinary
+returns-clause-ordinary c = ordinary

@@ -12,15 +12,15 @@ returns-clause-module_key c = refl
 
 pub returns-clause-head : goal.returns-clause-head
 unfolding rows_on_literals
-returns-clause-head c = refl
+returns-clause-head c = (refl, refl)
 
 pub returns-clause-signing : goal.returns-clause-signing
 unfolding rows_on_literals
-returns-clause-signing c = refl
+returns-clause-signing c = (refl, refl)
 
-pub returns-clause-nine_missed : goal.returns-clause-nine_missed
+pub returns-clause-rings : goal.returns-clause-rings
 unfolding rows_on_literals
-returns-clause-nine_missed c = refl
+returns-clause-rings c = (refl, refl, refl)
 
 pub returns-clause-coins : goal.returns-clause-coins
 unfolding rows_on_literals
@@ -28,16 +28,20 @@ returns-clause-coins c = (refl, refl)
 
 pub returns-clause-read_back : goal.returns-clause-read_back
 unfolding rows_on_literals
-returns-clause-read_back c = (refl, refl, refl)
+returns-clause-read_back c = (refl, refl, refl, refl)
 
 pub returns-clause-bad_ends : goal.returns-clause-bad_ends
 unfolding rows_on_literals
-returns-clause-bad_ends c = (refl, refl, refl, refl, refl)
+returns-clause-bad_ends c = ((refl, refl), (refl, refl), (refl, refl), (refl, refl), (refl, refl))
 
 pub returns-clause-bad_values : goal.returns-clause-bad_values
 unfolding rows_on_literals
-returns-clause-bad_values c = (refl, refl, refl, refl, refl)
+returns-clause-bad_values c = ((refl, refl), (refl, refl), (refl, refl), (refl, refl), (refl, refl))
+
+pub returns-clause-bad_rings : goal.returns-clause-bad_rings
+unfolding rows_on_literals
+returns-clause-bad_rings c = (refl, refl, refl, refl, refl, refl)
 
 pub returns-clause-bad_coins : goal.returns-clause-bad_coins
 unfolding rows_on_literals
-returns-clause-bad_coins c = (refl, refl, refl)
+returns-clause-bad_coins c = ((refl, refl), (refl, refl), (refl, refl))

@@ -1,20 +1,23 @@
 use Rattle.base_io.specs.Changes.{Rises}
 use Rattle.store_history.specs.History.{IsHistory}
-use Rattle.store_history.proofs.KeepingLemmas.{holds_still, if_ok_by, knows_still, on_ok, shown_holds, shown_makes, shown_rises, shown_settled, shown_some, shown_stop, some_shown}
+use Rattle.store_history.proofs.KeepingLemmas.{become_still, holds_still, if_ok_by, knows_still, on_ok, shown_holds, shown_makes, shown_rises, shown_settled, shown_some, shown_stop, some_shown}
 use Rattle.std.proofs.Common.{refl}
 use Rattle.store_history.proofs.keeper.HistoryKeeperKeeper.load.Goals as goal
 
 pub invariant_of-self : goal.invariant_of-self
 invariant_of-self g c =
     let told = g.D.Keeper.rows c.self.inside.inner.now in
-    let told' = g.D.Keeper.rows c.load_visible.new.keeper in
-    record {
-      takes_all = λ changes distinct. c.load_visible.ensures.takes changes (c.self.invariant.takes_all changes distinct);
-      settled = c.load_visible.ensures.settled;
-      rises = c.load_visible.ensures.ascending;
-      history = holds_still IsHistory told told' c.load_visible.ensures.same c.self.invariant.history;
-      knows = λ k. knows_still told told' c.self.inside.history.base c.self.inside.history.visible c.load_visible.ensures.same (c.self.invariant.knows k);
-    }
+    let told' = g.D.Keeper.rows c.load_visible.new.keeper in (
+      record {
+        takes_all = λ changes distinct. c.load_visible.ensures.takes changes (c.self.invariant.0.takes_all changes distinct);
+        settled = c.load_visible.ensures.settled;
+        rises = c.load_visible.ensures.ascending;
+        history = holds_still IsHistory told told' c.load_visible.ensures.same c.self.invariant.0.history;
+        knows = λ k. knows_still told told' c.self.inside.history.base c.self.inside.history.visible c.load_visible.ensures.same (c.self.invariant.0.knows k);
+      },
+      c.self.invariant.1,
+      become_still _ told told' c.load_visible.ensures.same c.self.invariant.2,
+    )
 
 pub returns-clause-rows : goal.returns-clause-rows
 returns-clause-rows g c =
@@ -40,4 +43,4 @@ returns-clause-stop g c =
 
 pub returns-clause-history : goal.returns-clause-history
 returns-clause-history g c =
-    holds_still IsHistory (g.D.Keeper.rows c.self.inside.inner.now) (g.D.Keeper.rows c.load_visible.new.keeper) c.load_visible.ensures.same c.self.invariant.history
+    holds_still IsHistory (g.D.Keeper.rows c.self.inside.inner.now) (g.D.Keeper.rows c.load_visible.new.keeper) c.load_visible.ensures.same c.self.invariant.0.history

@@ -1,5 +1,5 @@
--- Rows that were loaded, and the items of which they are the rows.
-use Rattle.std.proofs.Common.{◌≡◌, ◌∙◌, ◌⊎◌, inl, inr, ℕ, suc, ◌<◌, List, [], ◌∷◌, length, map, All, refl, sym, ap, ap₂, subst, arith, Ordering, Less, Equal, Greater}
+-- Rows in the order of their keys, and the items of which they are the rows in a format.
+use Rattle.std.proofs.Common.{◌≡◌, ◌∙◌, ◌⊎◌, inl, inr, ℕ, suc, ◌<◌, List, [], ◌∷◌, length, map, All, refl, sym, ap, subst, arith, Ordering, Less, Equal, Greater}
 use Rattle.std.specs.Prelude.{Contains, slice_get, Some}
 use Rattle.std.specs.List.{AllByRecursion}
 use Rattle.std.specs.List.Sorted.{IsPermutation}
@@ -12,14 +12,15 @@ use Rattle.sqlite_rules.proofs.ListLemmas.{all_from, all_has}
 use Rattle.base_io.specs.Rows.{Pair, key_cmp, put}
 use Rattle.base_io.specs.Changes.{Rises}
 use Rattle.base_roles.specs.declared.items.Item.{Item}
-use Rattle.base_roles.specs.Items.{IsOnce, key_of}
-use Rattle.store_rows.specs.Rows.{key_bytes, row_of}
+use Rattle.base_roles.specs.Items.{IsOnce}
+use Rattle.store_rows.specs.declared.format.Format.{Format}
+use Rattle.store_rows.specs.Rows.{key_bytes, row_in}
 use Rattle.store_rows.specs.Spelled.{HasRow}
 use Rattle.store_rows.proofs.KeyLemmas.{keys_one_to_one}
 use Rattle.store_rows.proofs.WholeLemmas.{key_alone, one_to_one}
 use Rattle.store_sqlite.proofs.Maps.{same_members, total}
-use Rattle.store_items.specs.Stored.{AreStored, rows_in}
-use Rattle.store_items.proofs.Members.{AreOnce, has_map, has_of, item_there, map_has, place_of, row_there, rows_rise, tied}
+use Rattle.store_items.specs.Stored.{AreStored, rows_as}
+use Rattle.store_items.proofs.Members.{AreOnce, has_map, has_of, item_there, map_has, place_of, row_there, rows_rise}
 
 -- ---- lists without repeats, of the same elements
 
@@ -74,7 +75,7 @@ module _ {A : Type 0} where
       let from : (z : A) → Has rest z → Has xs z = λ z k. elim (g z (without_has ys x h z k)) [ inl e ↦ absurd (apart.0 (subst (Has rest) e k)) | inr l ↦ l ] in
       IsPermutation-trans (x ∷ xs) (x ∷ rest) ys (IsPermutation-cons x xs rest (permuted xs rest a.1 apart.1 to from)) (without_permuted ys x h)
 
-  got_at : (xs : List A) (x : A) → Has xs x → (k : ℕ) × (k < length xs) × (slice_get xs k ≡ Some x)
+  pub got_at : (xs : List A) (x : A) → Has xs x → (k : ℕ) × (k < length xs) × (slice_get xs k ≡ Some x)
   got_at [] x h = absurd h
   got_at (y ∷ ys) x (inl same) = (0, omega arith, ap (λ z. Some z) (sym same))
   got_at (y ∷ ys) x (inr later) = let (k, lt, is) = got_at ys x later in (suc k, omega (arith, lt), is)
@@ -99,7 +100,7 @@ apart_under f (x ∷ xs) apart = ((λ h. apart.0 (has_map f xs x h)), apart_unde
 
 -- ---- rows that rise
 
-never_itself : (a b : List ℕ) → key_cmp a b ≡ Less → a ≡ b → ⊥
+pub never_itself : (a b : List ℕ) → key_cmp a b ≡ Less → a ≡ b → ⊥
 never_itself a b less same =
     let tie : key_cmp a b ≡ Equal = ap (key_cmp a) (sym same) ∙ tied_itself total a in
     cc
@@ -122,14 +123,14 @@ module _ (items : List Item) (all : All HasRow items) where
   pub has_row : (i : Item) → Has items i → HasRow i
   has_row i h = all_has HasRow items i (recursion_from_All HasRow items all) h
 
-  module _ (up : Rises (map row_of items)) where
+  module _ (f : Format) (up : Rises (map (row_in f) items)) where
     bytes_once : AreOnce items
-    bytes_once i j h k same = one_to_one i j (has_row i h) (has_row j k) (same_row (map row_of items) up (row_of i) (row_of j) (has_map row_of items i h) (has_map row_of items j k) same)
+    bytes_once i j h k same = one_to_one f i j (has_row i h) (has_row j k) (same_row (map (row_in f) items) up (row_in f i) (row_in f j) (has_map (row_in f) items i h) (has_map (row_in f) items j k) same)
 
-    pub rising_rows : rows_in items ≡ map row_of items
-    rising_rows = same_members (rows_in items) (map row_of items) (rows_rise items) up
-        (λ p h. let (i, there, is) = item_there items p h in subst (Has (map row_of items)) is (has_map row_of items i there))
-        (λ p h. let (i, there, is) = map_has row_of items p h in subst (Has (rows_in items)) is (row_there items i bytes_once there))
+    pub rising_rows : rows_as f items ≡ map (row_in f) items
+    rising_rows = same_members (rows_as f items) (map (row_in f) items) (rows_rise f items) up
+        (λ p h. let (i, there, is) = item_there f items p h in subst (Has (map (row_in f) items)) is (has_map (row_in f) items i there))
+        (λ p h. let (i, there, is) = map_has (row_in f) items p h in subst (Has (rows_as f items)) is (row_there f items i bytes_once there))
 
     pub rising_stored : AreStored items
     rising_stored = record {
@@ -138,58 +139,67 @@ module _ (items : List Item) (all : All HasRow items) where
     }
 
     pub rising_items_apart : AreApart items
-    rising_items_apart = apart_under row_of items (rising_apart (map row_of items) up)
+    rising_items_apart = apart_under (row_in f) items (rising_apart (map (row_in f) items) up)
 
 -- ---- items of the same rows
 
-bytes_apart : (items : List Item) → AreStored items → AreOnce items
+pub bytes_apart : (items : List Item) → AreStored items → AreOnce items
 bytes_apart items s i j h k same =
     s.once i j (place_of items i h) (place_of items j k) (keys_one_to_one i j (s.have_rows i (place_of items i h)) (s.have_rows j (place_of items j k)) same)
 
 -- what has its row in other items is one of them
-same_has : (xs ys : List Item) → AreStored xs → AreStored ys → rows_in xs ≡ rows_in ys → (i : Item) → Has xs i → Has ys i
-same_has xs ys s t same i h =
-    let there : Has (rows_in ys) (row_of i) = subst (λ (l : List Pair). Has l (row_of i)) same (row_there xs i (bytes_apart xs s) h) in
-    let (j, k, is) = item_there ys (row_of i) there in
-    subst (Has ys) (one_to_one j i (t.have_rows j (place_of ys j k)) (s.have_rows i (place_of xs i h)) is) k
+pub same_has : (f : Format) (xs ys : List Item) → AreStored xs → AreStored ys → rows_as f xs ≡ rows_as f ys → (i : Item) → Has xs i → Has ys i
+same_has f xs ys s t same i h =
+    let there : Has (rows_as f ys) (row_in f i) = subst (λ (l : List Pair). Has l (row_in f i)) same (row_there f xs i (bytes_apart xs s) h) in
+    let (j, k, is) = item_there f ys (row_in f i) there in
+    subst (Has ys) (one_to_one f j i (t.have_rows j (place_of ys j k)) (s.have_rows i (place_of xs i h)) is) k
 
-pub same_rows_permuted : (xs ys : List Item) → AreStored xs → AreStored ys → AreApart xs → AreApart ys → rows_in xs ≡ rows_in ys → IsPermutation xs ys
-same_rows_permuted xs ys s t a b same = permuted xs ys a b (same_has xs ys s t same) (same_has ys xs t s (sym same))
+pub same_rows_permuted : (f : Format) (xs ys : List Item) → AreStored xs → AreStored ys → AreApart xs → AreApart ys → rows_as f xs ≡ rows_as f ys → IsPermutation xs ys
+same_rows_permuted f xs ys s t a b same = permuted xs ys a b (same_has f xs ys s t same) (same_has f ys xs t s (sym same))
+
+-- items of the same rows in one format have the same rows in each
+pub rows_same : (f g : Format) (xs ys : List Item) → AreStored xs → AreStored ys → rows_as f xs ≡ rows_as f ys → rows_as g xs ≡ rows_as g ys
+rows_same f g xs ys s t same = same_members (rows_as g xs) (rows_as g ys) (rows_rise g xs) (rows_rise g ys) (to xs ys s t same) (to ys xs t s (sym same))
+  where
+    to : (xs ys : List Item) → AreStored xs → AreStored ys → rows_as f xs ≡ rows_as f ys → (p : Pair) → Has (rows_as g xs) p → Has (rows_as g ys) p
+    to xs ys s t same p h =
+        let (i, there, is) = item_there g xs p h in
+        subst (Has (rows_as g ys)) is (row_there g ys i (bytes_apart ys t) (same_has f xs ys s t same i there))
 
 pub stored_permuted : (xs ys : List Item) → IsPermutation xs ys → AreStored xs → AreStored ys
 stored_permuted xs ys p s =
     let back : (i : Item) → Contains ys i → Contains xs i = λ i c. Contains-permutation ys xs i (IsPermutation-sym xs ys p) c in
     record { have_rows = λ i c. s.have_rows i (back i c); once = λ i j c d same. s.once i j (back i c) (back j d) same }
 
-pub permuted_rows : (xs ys : List Item) → IsPermutation xs ys → AreStored xs → rows_in xs ≡ rows_in ys
-permuted_rows xs ys p s = same_members (rows_in xs) (rows_in ys) (rows_rise xs) (rows_rise ys) (to xs ys p s) (to ys xs (IsPermutation-sym xs ys p) (stored_permuted xs ys p s))
+pub permuted_rows : (f : Format) (xs ys : List Item) → IsPermutation xs ys → AreStored xs → rows_as f xs ≡ rows_as f ys
+permuted_rows f xs ys p s = same_members (rows_as f xs) (rows_as f ys) (rows_rise f xs) (rows_rise f ys) (to xs ys p s) (to ys xs (IsPermutation-sym xs ys p) (stored_permuted xs ys p s))
   where
-    to : (xs ys : List Item) → IsPermutation xs ys → AreStored xs → (r : Pair) → Has (rows_in xs) r → Has (rows_in ys) r
+    to : (xs ys : List Item) → IsPermutation xs ys → AreStored xs → (r : Pair) → Has (rows_as f xs) r → Has (rows_as f ys) r
     to xs ys p s r h =
-        let (i, there, is) = item_there xs r h in
+        let (i, there, is) = item_there f xs r h in
         let moved : Has ys i = has_of ys i (Contains-permutation xs ys i p (place_of xs i there)) in
-        subst (Has (rows_in ys)) is (row_there ys i (bytes_apart ys (stored_permuted xs ys p s)) moved)
+        subst (Has (rows_as f ys)) is (row_there f ys i (bytes_apart ys (stored_permuted xs ys p s)) moved)
 
 -- ---- the rows of items are those of a list in their order
 
-inserted : (i : Item) (js : List Item) → HasRow i → AllByRecursion HasRow js → (more : List Item) × AllByRecursion HasRow more × (map row_of more ≡ put (row_of i) (map row_of js))
-inserted i [] h all = (i ∷ [], (h, tt), refl)
-inserted i (j ∷ js) h all = by (key_cmp (key_bytes j) (key_bytes i)) (inserted i js h all.1)
+inserted : (f : Format) (i : Item) (js : List Item) → HasRow i → AllByRecursion HasRow js → (more : List Item) × AllByRecursion HasRow more × (map (row_in f) more ≡ put (row_in f i) (map (row_in f) js))
+inserted f i [] h all = (i ∷ [], (h, tt), refl)
+inserted f i (j ∷ js) h all = by (key_cmp (key_bytes j) (key_bytes i)) (inserted f i js h all.1)
   where
-    by : (o : Ordering) → ((more : List Item) × AllByRecursion HasRow more × (map row_of more ≡ put (row_of i) (map row_of js)))
-        → (more : List Item) × AllByRecursion HasRow more × (map row_of more ≡ match_ordering o (row_of j ∷ put (row_of i) (map row_of js)) (row_of i ∷ map row_of js) (row_of i ∷ row_of j ∷ map row_of js))
-    by Less later = (j ∷ later.0, (all.0, later.1), ap (λ (l : List Pair). row_of j ∷ l) later.2)
+    by : (o : Ordering) → ((more : List Item) × AllByRecursion HasRow more × (map (row_in f) more ≡ put (row_in f i) (map (row_in f) js)))
+        → (more : List Item) × AllByRecursion HasRow more × (map (row_in f) more ≡ match_ordering o (row_in f j ∷ put (row_in f i) (map (row_in f) js)) (row_in f i ∷ map (row_in f) js) (row_in f i ∷ row_in f j ∷ map (row_in f) js))
+    by Less later = (j ∷ later.0, (all.0, later.1), ap (λ (l : List Pair). row_in f j ∷ l) later.2)
     by Equal later = (i ∷ js, (h, all.1), refl)
     by Greater later = (i ∷ j ∷ js, (h, all), refl)
 
-listed : (items : List Item) → AllByRecursion HasRow items → (its : List Item) × AllByRecursion HasRow its × (map row_of its ≡ rows_in items)
-listed [] all = ([], tt, refl)
-listed (i ∷ items) all =
-    let (its, rows, is) = listed items all.1 in
-    let (more, have, are) = inserted i its all.0 rows in
-    (more, have, are ∙ ap (put (row_of i)) is)
+listed : (f : Format) (items : List Item) → AllByRecursion HasRow items → (its : List Item) × AllByRecursion HasRow its × (map (row_in f) its ≡ rows_as f items)
+listed f [] all = ([], tt, refl)
+listed f (i ∷ items) all =
+    let (its, rows, is) = listed f items all.1 in
+    let (more, have, are) = inserted f i its all.0 rows in
+    (more, have, are ∙ ap (put (row_in f i)) is)
 
-pub rows_listed : (items : List Item) → AreStored items → (its : List Item) × All HasRow its × (map row_of its ≡ rows_in items)
-rows_listed items s =
-    let (its, rows, is) = listed items (all_from HasRow items (λ i h. s.have_rows i (place_of items i h))) in
+pub rows_listed : (f : Format) (items : List Item) → AreStored items → (its : List Item) × All HasRow its × (map (row_in f) its ≡ rows_as f items)
+rows_listed f items s =
+    let (its, rows, is) = listed f items (all_from HasRow items (λ i h. s.have_rows i (place_of items i h))) in
     (its, All-from_recursion HasRow its rows, is)

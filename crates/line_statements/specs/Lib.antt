@@ -1,0 +1,4 @@
+pub mod Entries
+pub mod Spelled
+pub mod Statements
+pub mod Worked

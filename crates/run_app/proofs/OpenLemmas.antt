@@ -1,0 +1,93 @@
+-- Runs that were to keep a history, and do not begin.
+use Rattle.std.proofs.Common.{◌≡◌, inl, inr, ℕ, List, Option, IfSome, Result, Err, refl, subst}
+use Rattle.std.specs.Prelude.{IsErrOf, IsSome}
+use Rattle.base_bech32.specs.declared.form.Form.{Form}
+use Rattle.base_io.specs.Rows.{Pair}
+use Rattle.run_words.specs.declared.mode.Mode.{Mode}
+use Rattle.run_words.specs.declared.mode.Mode.TheVariants.{Replay, Resume, Query, Tally, Check, Gen, Trial}
+use Rattle.store_history.specs.declared.history.History.{History}
+use Rattle.store_history.specs.declared.loading.OpenFault.{OpenFault}
+use Rattle.store_history.specs.declared.loading.OpenFault.TheVariants as unopened
+use Rattle.store_history.specs.History.{IsHistory}
+use Rattle.store_history.specs.Opened.{OnLoaded, UnlessFailed}
+use Rattle.run_app.specs.declared.status.Status.{Status}
+use Rattle.run_app.specs.declared.status.Status.TheVariants.{Done, Usage, ReadFault, WriteFault, KeepFault, BadStore}
+use Rattle.run_app.specs.Histories.{IsCommitting, IsUnopened, status_of_open}
+use Rattle.run_app.specs.Kept.{UnlessKeepFault}
+use Rattle.run_app.specs.Modes.{ModeEnds}
+use Rattle.run_app.specs.Unkept.{ModeUnkept}
+use Rattle.run_app.proofs.ModeLemmas.{nothing_done}
+
+-- how a history was not read
+abbrev unread : OpenFault → Result History OpenFault
+unread f = Err f
+
+pub is_unopened : (f : OpenFault) (rows rows' : Option (List Pair)) (honest' : Type 0) → OnLoaded (unread f) (honest' → IsSome rows → IsSome rows') → (IsErrOf (unread f) unopened.BadHistory → IfSome rows' (λ now. IsHistory now → ⊥))
+    → IsUnopened (status_of_open f) rows rows' honest'
+is_unopened unopened.Failed rows rows' honest' told bad = tt
+is_unopened unopened.BadHistory rows rows' honest' told bad = record { are = bad refl; told = told }
+is_unopened unopened.NoMemory rows rows' honest' told bad = tt
+
+pub mode_unopened : (f : OpenFault) (m : Mode) (left w : Option (List ℕ)) → IsCommitting m → (IsErrOf (unread f) unopened.BadHistory → ⊥) → ModeUnkept m left left w w (status_of_open f) × (status_of_open f ≡ BadStore → ⊥)
+mode_unopened unopened.Failed Replay left w commits never = (λ e. absurd cc, λ e. absurd cc)
+mode_unopened unopened.Failed Resume left w commits never = ((tt, nothing_done left w), λ e. absurd cc)
+mode_unopened unopened.Failed (Query what) left w commits never = absurd commits
+mode_unopened unopened.Failed Tally left w commits never = absurd commits
+mode_unopened unopened.Failed Check left w commits never = absurd commits
+mode_unopened unopened.Failed (Gen seed count) left w commits never = absurd commits
+mode_unopened unopened.Failed (Trial seed count) left w commits never = absurd commits
+mode_unopened unopened.BadHistory m left w commits never = absurd (never refl)
+mode_unopened unopened.NoMemory Replay left w commits never = (λ e. absurd cc, λ e. absurd cc)
+mode_unopened unopened.NoMemory Resume left w commits never = ((tt, nothing_done left w), λ e. absurd cc)
+mode_unopened unopened.NoMemory (Query what) left w commits never = absurd commits
+mode_unopened unopened.NoMemory Tally left w commits never = absurd commits
+mode_unopened unopened.NoMemory Check left w commits never = absurd commits
+mode_unopened unopened.NoMemory (Gen seed count) left w commits never = absurd commits
+mode_unopened unopened.NoMemory (Trial seed count) left w commits never = absurd commits
+
+-- a run over a keeper that keeps nothing does not end on a bad store
+pub never_bad_store : (form : Form) (m : Mode) (left left' w w' : Option (List ℕ)) (rows rows' : Option (List Pair)) (honest' : Type 0) (leaves leaves' : List Pair → Type 0) (s : Status) → IsCommitting m → ModeEnds form m left left' w w' rows rows' honest' leaves leaves' s
+    → ModeUnkept m left left' w w' s → s ≡ BadStore → ⊥
+never_bad_store form Replay left left' w w' rows rows' honest' leaves leaves' s commits ends unkept e = by (subst (λ (t : Status). ModeEnds form Replay left left' w w' rows rows' honest' leaves leaves' t) e ends)
+  where
+    by : ModeEnds form Replay left left' w w' rows rows' honest' leaves leaves' BadStore → ⊥
+    by (inl r) = r.5
+    by (inr u) = u.0
+never_bad_store form Resume left left' w w' rows rows' honest' leaves leaves' s commits ends unkept e = (subst (λ (t : Status). ModeUnkept Resume left left' w w' t) e unkept).0
+never_bad_store form (Query what) left left' w w' rows rows' honest' leaves leaves' s commits ends unkept e = commits
+never_bad_store form Tally left left' w w' rows rows' honest' leaves leaves' s commits ends unkept e = commits
+never_bad_store form Check left left' w w' rows rows' honest' leaves leaves' s commits ends unkept e = commits
+never_bad_store form (Gen seed count) left left' w w' rows rows' honest' leaves leaves' s commits ends unkept e = commits
+never_bad_store form (Trial seed count) left left' w w' rows rows' honest' leaves leaves' s commits ends unkept e = commits
+
+-- ---- by which statuses
+
+pub unopened_busy : (f : OpenFault) → status_of_open f ≡ Usage → ⊥
+unopened_busy unopened.Failed e = cc
+unopened_busy unopened.BadHistory e = cc
+unopened_busy unopened.NoMemory e = cc
+
+pub unopened_undone : (f : OpenFault) → status_of_open f ≡ Done → ⊥
+unopened_undone unopened.Failed e = cc
+unopened_undone unopened.BadHistory e = cc
+unopened_undone unopened.NoMemory e = cc
+
+pub unopened_unread : (f : OpenFault) → status_of_open f ≡ ReadFault → ⊥
+unopened_unread unopened.Failed e = cc
+unopened_unread unopened.BadHistory e = cc
+unopened_unread unopened.NoMemory e = cc
+
+pub unopened_unwritten : (f : OpenFault) → status_of_open f ≡ WriteFault → ⊥
+unopened_unwritten unopened.Failed e = cc
+unopened_unwritten unopened.BadHistory e = cc
+unopened_unwritten unopened.NoMemory e = cc
+
+pub opened_cause : (f : OpenFault) (P : Type 0) → (IsErrOf (unread f) unopened.Failed → P) → status_of_open f ≡ KeepFault → P
+opened_cause unopened.Failed P cause e = cause refl
+opened_cause unopened.BadHistory P cause e = absurd cc
+opened_cause unopened.NoMemory P cause e = absurd cc
+
+pub opened_quiet : (f : OpenFault) (P : Type 0) → UnlessFailed (unread f) P → UnlessKeepFault (status_of_open f) P
+opened_quiet unopened.Failed P quiet = tt
+opened_quiet unopened.BadHistory P quiet = quiet
+opened_quiet unopened.NoMemory P quiet = quiet

@@ -1,0 +1,58 @@
+use Rattle.std.proofs.Common.{◌∙◌, inl, inr, refl}
+use Rattle.store_history.proofs.KeepingLemmas.{become_before}
+use Rattle.run_app.proofs.ModeLemmas.{nothing_done, quiet_at, quiet_read, rows_left}
+use Rattle.run_app.proofs.OpenLemmas.{is_unopened, mode_unopened, never_bad_store, opened_cause, opened_quiet, unopened_busy, unopened_undone, unopened_unread, unopened_unwritten}
+use Rattle.run_app.proofs.WayLemmas.{committing_few, kept_before}
+use Rattle.run_app.proofs.keeping.keep.Goals as goal
+
+pub carry_out_kept-requires-clause-few : goal.carry_out_kept-requires-clause-few
+carry_out_kept-requires-clause-few g c = committing_few c.args.mode c.requires.commits
+
+pub carry_out_kept-requires-clause-takes : goal.carry_out_kept-requires-clause-takes
+carry_out_kept-requires-clause-takes g c = λ changes distinct. c.read_history.ensures.takes changes (c.requires.takes changes distinct)
+
+pub returns-in-Ok-clause-ends : goal.returns-in-Ok-clause-ends
+returns-in-Ok-clause-ends g c =
+    let e = c.read_history.ensures in
+    inl (record {
+      ends = kept_before c.args.form c.args.mode c.requires.commits _ _ _ _ _ _ _ _ _ _ _ _ _ e.same c.in-Ok.ensures.told e.stop c.carry_out_kept.ensures.honest c.carry_out_kept.ensures.ends;
+      became = become_before _ _ _ e.same c.carry_out_kept.ensures.became;
+      history = c.carry_out_kept.ensures.history;
+    })
+
+pub returns-in-Ok-clause-unkept : goal.returns-in-Ok-clause-unkept
+returns-in-Ok-clause-unkept g c = λ off.
+    let unkept = c.carry_out_kept.ensures.unkept (g.met.D.Keeper.keeps_alike c.read_history.new.keeper c.args.keeper.now ∙ off) in
+    (unkept, never_bad_store c.args.form c.args.mode _ _ _ _ _ _ _ _ _ c.carry_out_kept.result.0 c.requires.commits c.carry_out_kept.ensures.ends unkept)
+
+pub returns-in-Err-clause-ends : goal.returns-in-Err-clause-ends
+returns-in-Err-clause-ends g c =
+    let e = c.read_history.ensures in
+    rw c.status_of_open.ensures (inr (is_unopened c.in-Err.fault _ _ _ c.in-Err.ensures.told c.in-Err.ensures.bad, nothing_done _ _, rows_left _ _ _ _ _ e.same e.stop))
+
+pub returns-in-Err-clause-busy : goal.returns-in-Err-clause-busy
+returns-in-Err-clause-busy g c = rw c.status_of_open.ensures (unopened_busy c.in-Err.fault)
+
+pub returns-in-Err-clause-unkept : goal.returns-in-Err-clause-unkept
+returns-in-Err-clause-unkept g c = rw c.status_of_open.ensures (λ off. mode_unopened c.in-Err.fault c.args.mode _ _ c.requires.commits (c.in-Err.ensures.unkept off))
+
+pub returns-in-Err-clause-clean : goal.returns-in-Err-clause-clean
+returns-in-Err-clause-clean g c = rw c.status_of_open.ensures (λ e. absurd (unopened_undone c.in-Err.fault e))
+
+pub returns-in-Err-clause-read_cause : goal.returns-in-Err-clause-read_cause
+returns-in-Err-clause-read_cause g c = rw c.status_of_open.ensures (λ e. absurd (unopened_unread c.in-Err.fault e))
+
+pub returns-in-Err-clause-write_cause : goal.returns-in-Err-clause-write_cause
+returns-in-Err-clause-write_cause g c = rw c.status_of_open.ensures (λ e. absurd (unopened_unwritten c.in-Err.fault e))
+
+pub returns-in-Err-clause-read_quiet : goal.returns-in-Err-clause-read_quiet
+returns-in-Err-clause-read_quiet g c = quiet_read _ _ refl
+
+pub returns-in-Err-clause-write_quiet : goal.returns-in-Err-clause-write_quiet
+returns-in-Err-clause-write_quiet g c = quiet_at _ _ refl
+
+pub returns-in-Err-clause-keep_cause : goal.returns-in-Err-clause-keep_cause
+returns-in-Err-clause-keep_cause g c = rw c.status_of_open.ensures (opened_cause c.in-Err.fault _ c.in-Err.ensures.cause)
+
+pub returns-in-Err-clause-keep_quiet : goal.returns-in-Err-clause-keep_quiet
+returns-in-Err-clause-keep_quiet g c = rw c.status_of_open.ensures (opened_quiet c.in-Err.fault _ c.in-Err.ensures.quiet)

@@ -1,0 +1,27 @@
+use Rattle.std.proofs.Common.{◌∙◌, refl, sym}
+use Rattle.run_app.proofs.WayLemmas.{kept_commits, plain_few}
+use Rattle.run_app.proofs.performing.perform.Goals as goal
+
+pub carry_out-requires : goal.carry_out-requires
+carry_out-requires g c = plain_few c.args.command c.in-Plain.mode c.requires.few (sym c.way_of.ensures ∙ c.in-Plain.is)
+
+pub keep-requires-clause-commits : goal.keep-requires-clause-commits
+keep-requires-clause-commits g c = kept_commits c.args.command c.in-Kept.mode (sym c.way_of.ensures ∙ c.in-Kept.is)
+
+pub returns-in-Plain-clause-ends : goal.returns-in-Plain-clause-ends
+returns-in-Plain-clause-ends g c = rw (← c.way_of.ensures, c.in-Plain.is) c.carry_out.ensures.ends
+
+pub returns-in-Plain-clause-unkept : goal.returns-in-Plain-clause-unkept
+returns-in-Plain-clause-unkept g c = rw (← c.way_of.ensures, c.in-Plain.is) c.carry_out.ensures.unkept
+
+pub returns-in-Kept-clause-ends : goal.returns-in-Kept-clause-ends
+returns-in-Kept-clause-ends g c = rw (← c.way_of.ensures, c.in-Kept.is) c.keep.ensures.ends
+
+pub returns-in-Kept-clause-unkept : goal.returns-in-Kept-clause-unkept
+returns-in-Kept-clause-unkept g c = rw (← c.way_of.ensures, c.in-Kept.is) c.keep.ensures.unkept
+
+pub returns-in-Past-clause-ends : goal.returns-in-Past-clause-ends
+returns-in-Past-clause-ends g c = rw (← c.way_of.ensures, c.in-Past.is) (refl, c.answer_past.ensures.ends)
+
+pub returns-in-Past-clause-unkept : goal.returns-in-Past-clause-unkept
+returns-in-Past-clause-unkept g c = rw (← c.way_of.ensures, c.in-Past.is) (λ off. let u = c.answer_past.ensures.unkept off in (u.0, (refl, u.1)))

@@ -1,0 +1,58 @@
+use Rattle.std.proofs.Common.{inl, inr, refl}
+use Rattle.run_app.proofs.ModeLemmas.{nothing, quiet_at}
+use Rattle.run_app.proofs.PastLemmas.{asked_at, chain_unkept, past_busy, past_undone, past_unkept, past_unread, past_unwritten, refused_chain, refused_past}
+use Rattle.run_app.proofs.ResumeLemmas.{unresumed_busy, unresumed_undone, unresumed_unread, unresumed_unwritten}
+use Rattle.run_app.proofs.recalling.answer_at.Goals as goal
+
+-- ---- rows that tell nothing of the height
+
+pub returns-in-Err-clause-answers : goal.returns-in-Err-clause-answers
+returns-in-Err-clause-answers g c = rw c.status_of_past.ensures (inr (refused_past c.args.height _ c.in-Err.fault c.in-Err.ensures, nothing _ _ refl))
+
+pub returns-in-Err-clause-busy : goal.returns-in-Err-clause-busy
+returns-in-Err-clause-busy g c = rw c.status_of_past.ensures (past_busy c.in-Err.fault)
+
+pub returns-in-Err-clause-read : goal.returns-in-Err-clause-read
+returns-in-Err-clause-read g c = rw c.status_of_past.ensures (past_unread c.in-Err.fault)
+
+pub returns-in-Err-clause-keep : goal.returns-in-Err-clause-keep
+returns-in-Err-clause-keep g c = rw c.status_of_past.ensures (past_unkept c.in-Err.fault)
+
+pub returns-in-Err-clause-clean : goal.returns-in-Err-clause-clean
+returns-in-Err-clause-clean g c = rw c.status_of_past.ensures (λ e. absurd (past_undone c.in-Err.fault e))
+
+pub returns-in-Err-clause-write_cause : goal.returns-in-Err-clause-write_cause
+returns-in-Err-clause-write_cause g c = rw c.status_of_past.ensures (λ e. absurd (past_unwritten c.in-Err.fault e))
+
+pub returns-in-Err-clause-write_quiet : goal.returns-in-Err-clause-write_quiet
+returns-in-Err-clause-write_quiet g c = quiet_at _ _ refl
+
+-- ---- past rows
+
+pub returns-in-Ok-chain_of_rows-clause-answers : goal.returns-in-Ok-chain_of_rows-clause-answers
+returns-in-Ok-chain_of_rows-clause-answers g c =
+    let chain = rw c.deref.ensures.value at c.in-Ok-chain_of_rows.ensures.chain in
+    inl (asked_at c.args.form c.args.height c.args.what.now _ _ _ _ _ c.write_answer.result c.in-Ok.ensures chain c.write_answer.ensures.ends)
+
+pub returns-in-Err-chain_of_rows-clause-answers : goal.returns-in-Err-chain_of_rows-clause-answers
+returns-in-Err-chain_of_rows-clause-answers g c =
+    let none = rw c.deref.ensures.value at c.in-Err-chain_of_rows.ensures.fault in
+    rw c.status_of_restore.ensures (inr (refused_chain c.args.height _ _ c.in-Err-chain_of_rows.fault c.in-Ok.ensures none, nothing _ _ refl))
+
+pub returns-in-Err-chain_of_rows-clause-busy : goal.returns-in-Err-chain_of_rows-clause-busy
+returns-in-Err-chain_of_rows-clause-busy g c = rw c.status_of_restore.ensures (unresumed_busy c.in-Err-chain_of_rows.fault)
+
+pub returns-in-Err-chain_of_rows-clause-read : goal.returns-in-Err-chain_of_rows-clause-read
+returns-in-Err-chain_of_rows-clause-read g c = rw c.status_of_restore.ensures (unresumed_unread c.in-Err-chain_of_rows.fault)
+
+pub returns-in-Err-chain_of_rows-clause-keep : goal.returns-in-Err-chain_of_rows-clause-keep
+returns-in-Err-chain_of_rows-clause-keep g c = rw c.status_of_restore.ensures (chain_unkept _ c.in-Err-chain_of_rows.fault c.in-Err-chain_of_rows.ensures.fault)
+
+pub returns-in-Err-chain_of_rows-clause-clean : goal.returns-in-Err-chain_of_rows-clause-clean
+returns-in-Err-chain_of_rows-clause-clean g c = rw c.status_of_restore.ensures (λ e. absurd (unresumed_undone c.in-Err-chain_of_rows.fault e))
+
+pub returns-in-Err-chain_of_rows-clause-write_cause : goal.returns-in-Err-chain_of_rows-clause-write_cause
+returns-in-Err-chain_of_rows-clause-write_cause g c = rw c.status_of_restore.ensures (λ e. absurd (unresumed_unwritten c.in-Err-chain_of_rows.fault e))
+
+pub returns-in-Err-chain_of_rows-clause-write_quiet : goal.returns-in-Err-chain_of_rows-clause-write_quiet
+returns-in-Err-chain_of_rows-clause-write_quiet g c = quiet_at _ _ refl

@@ -1,0 +1,94 @@
+-- How a run ends, by what its words ask for: no command, or one, of which the words before it say in which way it is carried out.
+use Rattle.std.specs.Prelude.{◌≡◌, ℕ, Bool, true, false, List, [], Option, Some, None, IfSome}
+use Rattle.base_bech32.specs.declared.form.Form.{Form}
+use Rattle.base_io.specs.Rows.{Pair}
+use Rattle.line_report.specs.declared.question.Query.{Query as Question}
+use Rattle.run_words.specs.declared.mode.Command.{Command}
+use Rattle.run_words.specs.declared.mode.Mode.{Mode}
+use Rattle.run_words.specs.declared.mode.Mode.TheVariants.{Replay, Resume, Query, Tally, Check, Gen, Trial}
+use Rattle.store_history.specs.Held.{ShowsLeft, shown}
+use Rattle.store_history.specs.History.{IsHistory}
+use Rattle.run_app.specs.declared.performing.Way.{Way}
+use Rattle.run_app.specs.declared.performing.Way.TheVariants.{Plain, Kept, Past}
+use Rattle.run_app.specs.declared.status.Status.{Status}
+use Rattle.run_app.specs.declared.status.Status.TheVariants.{BadStore}
+use Rattle.run_app.specs.Histories.{FitsPast, KeepEnds, PastEnds}
+use Rattle.run_app.specs.Kept.{AreUntouched}
+use Rattle.run_app.specs.Modes.{IsUntroubledAt, ModeEnds}
+use Rattle.run_app.specs.Stops.{LeavesAsBefore, ModeStops}
+use Rattle.run_app.specs.Unkept.{FindsNoRows, ModeUnkept}
+use Rattle.run_app.specs.Writes.{Leaves}
+
+-- a command that commits may keep what it replaces
+abbrev pub kept_way : Bool → Mode → Way
+kept_way true m = Kept m
+kept_way false m = Plain m
+
+-- a question may be of a past height
+abbrev pub past_way : Option ℕ → Question → Way
+past_way (Some height) what = Past height what
+past_way None what = Plain (Query what)
+
+-- the way of a command, by the words before it
+abbrev pub way_in : Bool → Option ℕ → Mode → Way
+way_in keep past Replay = kept_way keep Replay
+way_in keep past Resume = kept_way keep Resume
+way_in keep past (Query what) = past_way past what
+way_in keep past Tally = Plain Tally
+way_in keep past Check = Plain Check
+way_in keep past (Gen seed count) = Plain (Gen seed count)
+way_in keep past (Trial seed count) = Plain (Trial seed count)
+
+abbrev pub way_of : Command → Way
+way_of c = way_in c.keep c.past c.mode
+
+-- ---- what was taken, written and kept
+
+abbrev pub WayEnds : Form → Way → Option (List ℕ) → Option (List ℕ) → Option (List ℕ) → Option (List ℕ) → Option (List Pair) → Option (List Pair) → Type 0 → (List Pair → Type 0) → (List Pair → Type 0) → Status → Type 0
+WayEnds form (Plain m) left left' written written' rows rows' honest' leaves leaves' status = ModeEnds form m left left' written written' rows rows' honest' leaves leaves' status
+WayEnds form (Kept m) left left' written written' rows rows' honest' leaves leaves' status = KeepEnds form m left left' written written' rows rows' honest' leaves leaves' status
+WayEnds form (Past height what) left left' written written' rows rows' honest' leaves leaves' status = (left' ≡ left) × PastEnds form height what written written' rows rows' honest' leaves leaves' status
+
+-- the same of what words ask for: of no command, and of one with addresses in its form
+abbrev pub CommandEnds : Option Command → Option (List ℕ) → Option (List ℕ) → Option (List ℕ) → Option (List ℕ) → Option (List Pair) → Option (List Pair) → Type 0 → (List Pair → Type 0) → (List Pair → Type 0) → Status → Type 0
+CommandEnds None left left' written written' rows rows' honest' leaves leaves' status = Leaves left left' written written' (λ text. text ≡ []) × AreUntouched rows rows' leaves leaves'
+CommandEnds (Some c) left left' written written' rows rows' honest' leaves leaves' status = WayEnds c.form (way_of c) left left' written written' rows rows' honest' leaves leaves' status
+
+-- ---- what a stop leaves
+
+-- Where what is replaced is kept, a stop leaves the visible rows as without it. A question changes no rows.
+abbrev pub WayStops : Form → Way → Option (List ℕ) → Option (List ℕ) → Option (List ℕ) → Option (List Pair) → Type 0 → (List Pair → Type 0) → (List Pair → Type 0) → Type 0
+WayStops form (Plain m) left written written' rows honest' leaves leaves' = ModeStops form m left written written' rows honest' leaves leaves'
+WayStops form (Kept m) left written written' rows honest' leaves leaves' = ModeStops form m left written written' (shown rows) honest' (ShowsLeft leaves) (ShowsLeft leaves')
+WayStops form (Past height what) left written written' rows honest' leaves leaves' = LeavesAsBefore honest' leaves leaves'
+
+-- the same of what words ask for: where they are no command, a stop leaves what it could leave before
+abbrev pub CommandStops : Option Command → Option (List ℕ) → Option (List ℕ) → Option (List ℕ) → Option (List Pair) → Type 0 → (List Pair → Type 0) → (List Pair → Type 0) → Type 0
+CommandStops None left written written' rows honest' leaves leaves' = LeavesAsBefore honest' leaves leaves'
+CommandStops (Some c) left written written' rows honest' leaves leaves' = WayStops c.form (way_of c) left written written' rows honest' leaves leaves'
+
+-- ---- over a keeper that keeps nothing
+
+-- There is no history that is not of its form, and no past rows.
+abbrev pub WayUnkept : Way → Option (List ℕ) → Option (List ℕ) → Option (List ℕ) → Option (List ℕ) → Status → Type 0
+WayUnkept (Plain m) left left' written written' status = ModeUnkept m left left' written written' status
+WayUnkept (Kept m) left left' written written' status = ModeUnkept m left left' written written' status × (status ≡ BadStore → ⊥)
+WayUnkept (Past height what) left left' written written' status = FindsNoRows left left' written written' status
+
+-- the same of what words ask for
+abbrev pub CommandUnkept : Option Command → Option (List ℕ) → Option (List ℕ) → Option (List ℕ) → Option (List ℕ) → Status → Type 0
+CommandUnkept None left left' written written' status = Unit {0}
+CommandUnkept (Some c) left left' written written' status = WayUnkept (way_of c) left left' written written' status
+
+-- ---- runs that nothing keeps from their end
+
+-- Where what is replaced is kept, the visible rows fit the command, and a history in the rows is of its form.
+abbrev pub WayIsUntroubled : Form → Way → Option (List ℕ) → Bool → Option (List Pair) → Type 0 → ℕ → ℕ → Type 0
+WayIsUntroubled form (Plain m) left keeps rows honest' faults faults' = IsUntroubledAt form m left keeps rows honest' faults faults'
+WayIsUntroubled form (Kept m) left keeps rows honest' faults faults' = IsUntroubledAt form m left keeps (shown rows) honest' faults faults' × IfSome rows IsHistory
+WayIsUntroubled form (Past height what) left keeps rows honest' faults faults' = FitsPast form height what rows honest' faults faults'
+
+-- the same of what words ask for, which is a command
+abbrev pub IsUntroubledBy : Option Command → Option (List ℕ) → Bool → Option (List Pair) → Type 0 → ℕ → ℕ → Type 0
+IsUntroubledBy None left keeps rows honest' faults faults' = ⊥
+IsUntroubledBy (Some c) left keeps rows honest' faults faults' = WayIsUntroubled c.form (way_of c) left keeps rows honest' faults faults'

@@ -1,0 +1,115 @@
+//! The commands that commit, where what they replace is kept: they are carried out over a keeper that keeps a history.
+
+ghost use Rattle.std.specs.Prelude.{◌≡◌, false, true, IfSome};
+ghost use Rattle.base_io.specs.Changes.{LeavesRows, Rises};
+ghost use Rattle.base_io.specs.Outside.{Rose};
+ghost use Rattle.run_app.specs.Histories.{IsCommitting, KeepEnds, status_of_open};
+ghost use Rattle.run_app.specs.Kept.{UnlessKeepFault};
+ghost use Rattle.run_app.specs.Modes.{HasFewBlocks, ModeEnds};
+ghost use Rattle.run_app.specs.Outcome.{UnlessReadFault, UnlessWriteFault};
+ghost use Rattle.run_app.specs.Unkept.{ModeUnkept};
+ghost use Rattle.store_history.specs.Held.{shown, HaveBecome, Knows, ShowsLeft, TakesDistinct};
+ghost use Rattle.store_history.specs.History.{IsHistory};
+
+use crate::running::carry_out;
+use crate::status::Status;
+use base_bech32::Form;
+use base_io::{Keeper, Sink, Source};
+use run_words::Mode;
+use std::alloc::Global;
+use std::marker::Brand;
+use store_history::{History, HistoryKeeper, Loan, OpenFault, read_history};
+
+/// How a run ends that was to keep a history, and does not begin.
+fn status_of_open(fault: OpenFault) -> Status
+    ensures { result ≡ status_of_open fault }
+{
+    match fault {
+        OpenFault::Failed => Status::KeepFault,
+        OpenFault::BadHistory => Status::BadStore,
+        OpenFault::NoMemory => Status::NoMemory,
+    }
+}
+
+/// Carries out a command over a keeper that is lent, of whose rows this is known. What of them is visible is left as without
+/// a history. It gives the keeper back.
+fn carry_out_kept<'a, L: Loan, S: Source, K: Sink, D: Keeper>(
+    form: Form,
+    alloc: Global,
+    mode: Mode,
+    source: &mut S,
+    sink: &mut K,
+    keeper: &'a mut D,
+    history: History,
+) -> (Status, &'a mut D)
+    requires few { HasFewBlocks mode }
+    requires lent { keeper.ghost_name ≡ L.name }
+    requires rows { D.rows keeper.old ≡ L.rows }
+    requires takes { TakesDistinct (D.takes keeper.old) }
+    requires settled { LeavesRows (D.may_leave keeper.old) (D.rows keeper.old) }
+    requires rises { IfSome (D.rows keeper.old) Rises }
+    requires history { IfSome (D.rows keeper.old) IsHistory }
+    requires knows { Knows (D.rows keeper.old) history.base history.visible }
+    ensures same_reference { result.1.ghost_name ≡ keeper.entry.ghost_name }
+    ensures ends { ModeEnds form mode (S.left source.old) (S.left source.new)
+        (K.written sink.old) (K.written sink.new)
+        (shown (D.rows keeper.old)) (shown (D.rows result.1.now)) (D.is_honest result.1.now)
+        (ShowsLeft (D.may_leave keeper.old)) (ShowsLeft (D.may_leave result.1.now)) result.0 }
+    ensures became { HaveBecome (D.rows keeper.old) (D.rows result.1.now) }
+    ensures history { IfSome (D.rows result.1.now) IsHistory }
+    ensures busy { result.0 ≡ Status.Usage → ⊥ }
+    ensures unkept { D.keeps keeper.old ≡ false → ModeUnkept mode (S.left source.old)
+        (S.left source.new) (K.written sink.old) (K.written sink.new) result.0 }
+    ensures clean { result.0 ≡ Status.Done → K.clean sink.new ≡ true }
+    ensures read_cause { result.0 ≡ Status.ReadFault
+        → Rose (S.faults source.old) (S.faults source.new) }
+    ensures write_cause { result.0 ≡ Status.WriteFault
+        → Rose (K.faults sink.old) (K.faults sink.new) }
+    ensures read_quiet { UnlessReadFault result.0 (S.faults source.new ≡ S.faults source.old) }
+    ensures write_quiet { UnlessWriteFault result.0 (K.faults sink.new ≡ K.faults sink.old) }
+    ensures honest { D.is_honest result.1.now → D.is_honest keeper.old }
+    ensures keep_cause { result.0 ≡ Status.KeepFault
+        → Rose (D.faults keeper.old) (D.faults result.1.now) }
+    ensures keep_quiet { UnlessKeepFault result.0 (D.faults result.1.now ≡ D.faults keeper.old) }
+{
+    let mut over = HistoryKeeper::<D, L>::over(alloc, keeper, history);
+    let status = carry_out(form, alloc, mode, source, sink, &mut over);
+    (status, over.into_inner())
+}
+
+/// Carries out a command that commits, and keeps what it replaces.
+pub(crate) fn keep<S: Source, K: Sink, D: Keeper>(
+    form: Form,
+    alloc: Global,
+    mode: Mode,
+    source: &mut S,
+    sink: &mut K,
+    keeper: &mut D,
+) -> Status
+    requires commits { IsCommitting mode }
+    requires takes { TakesDistinct (D.takes keeper.old) }
+    ensures ends { KeepEnds form mode (S.left source.old) (S.left source.new)
+        (K.written sink.old) (K.written sink.new) (D.rows keeper.old) (D.rows keeper.new)
+        (D.is_honest keeper.new) (D.may_leave keeper.old) (D.may_leave keeper.new) result }
+    ensures busy { result ≡ Status.Usage → ⊥ }
+    ensures unkept { D.keeps keeper.old ≡ false → ModeUnkept mode (S.left source.old)
+        (S.left source.new) (K.written sink.old) (K.written sink.new) result
+        × (result ≡ Status.BadStore → ⊥) }
+    ensures clean { result ≡ Status.Done → K.clean sink.new ≡ true }
+    ensures read_cause { result ≡ Status.ReadFault
+        → Rose (S.faults source.old) (S.faults source.new) }
+    ensures write_cause { result ≡ Status.WriteFault
+        → Rose (K.faults sink.old) (K.faults sink.new) }
+    ensures read_quiet { UnlessReadFault result (S.faults source.new ≡ S.faults source.old) }
+    ensures write_quiet { UnlessWriteFault result (K.faults sink.new ≡ K.faults sink.old) }
+    ensures keep_cause { result ≡ Status.KeepFault
+        → Rose (D.faults keeper.old) (D.faults keeper.new) }
+    ensures keep_quiet { UnlessKeepFault result (D.faults keeper.new ≡ D.faults keeper.old) }
+{
+    match read_history(alloc, keeper) {
+        Ok(history) => {
+            carry_out_kept::<Brand, S, K, D>(form, alloc, mode, source, sink, keeper, history).0
+        }
+        Err(fault) => status_of_open(fault),
+    }
+}

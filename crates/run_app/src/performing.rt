@@ -1,0 +1,99 @@
+//! What words ask for: a command, in the way that the words before it say.
+
+ghost use Rattle.std.specs.Prelude.{◌≡◌, false};
+ghost use Rattle.base_io.specs.Outside.{Rose};
+ghost use Rattle.run_app.specs.Commands.{WayEnds, WayUnkept, kept_way, past_way, way_of};
+ghost use Rattle.run_app.specs.Kept.{UnlessKeepFault};
+ghost use Rattle.run_app.specs.Modes.{HasFewBlocks};
+ghost use Rattle.run_app.specs.Outcome.{UnlessReadFault, UnlessWriteFault};
+ghost use Rattle.store_history.specs.Held.{TakesDistinct};
+
+use crate::keeping::keep;
+use crate::recalling::answer_past;
+use crate::running::carry_out;
+use crate::status::Status;
+use base_io::{Keeper, Sink, Source};
+use line_report::Query;
+use run_words::{Command, Mode};
+use std::alloc::Global;
+
+/// The way in which a command is carried out.
+#[derive(Clone, Copy, Debug, PartialEq, Eq)]
+pub enum Way {
+    /// As its own words say.
+    Plain(Mode),
+    /// It commits, and what it replaces is kept.
+    Kept(Mode),
+    /// It is a question, of this past height.
+    Past(u64, Query),
+}
+
+/// A command that commits, and keeps what it replaces where it is to.
+fn kept_way(keep: bool, mode: Mode) -> Way
+    ensures { result ≡ kept_way keep mode }
+{
+    if keep {
+        Way::Kept(mode)
+    } else {
+        Way::Plain(mode)
+    }
+}
+
+/// A question, of a past height where there is one.
+fn past_way(past: Option<u64>, what: Query) -> Way
+    ensures { result ≡ past_way past what }
+{
+    match past {
+        Some(height) => Way::Past(height, what),
+        None => Way::Plain(Mode::Query(what)),
+    }
+}
+
+/// The way in which a command is carried out.
+fn way_of(command: &Command) -> Way
+    ensures { result ≡ way_of command.now }
+{
+    match command.mode {
+        Mode::Replay => kept_way(command.keep, Mode::Replay),
+        Mode::Resume => kept_way(command.keep, Mode::Resume),
+        Mode::Query(what) => past_way(command.past, what),
+        Mode::Tally => Way::Plain(Mode::Tally),
+        Mode::Check => Way::Plain(Mode::Check),
+        Mode::Gen { seed, count } => Way::Plain(Mode::Gen { seed, count }),
+        Mode::Trial { seed, count } => Way::Plain(Mode::Trial { seed, count }),
+    }
+}
+
+/// Carries out a command, in its way.
+pub(crate) fn perform<S: Source, K: Sink, D: Keeper>(
+    alloc: Global,
+    command: Command,
+    source: &mut S,
+    sink: &mut K,
+    keeper: &mut D,
+) -> Status
+    requires few { HasFewBlocks command.mode }
+    requires takes { TakesDistinct (D.takes keeper.old) }
+    ensures ends { WayEnds command.form (way_of command) (S.left source.old) (S.left source.new)
+        (K.written sink.old) (K.written sink.new) (D.rows keeper.old) (D.rows keeper.new)
+        (D.is_honest keeper.new) (D.may_leave keeper.old) (D.may_leave keeper.new) result }
+    ensures busy { result ≡ Status.Usage → ⊥ }
+    ensures unkept { D.keeps keeper.old ≡ false → WayUnkept (way_of command) (S.left source.old)
+        (S.left source.new) (K.written sink.old) (K.written sink.new) result }
+    ensures clean { result ≡ Status.Done → K.clean sink.new ≡ true }
+    ensures read_cause { result ≡ Status.ReadFault
+        → Rose (S.faults source.old) (S.faults source.new) }
+    ensures write_cause { result ≡ Status.WriteFault
+        → Rose (K.faults sink.old) (K.faults sink.new) }
+    ensures read_quiet { UnlessReadFault result (S.faults source.new ≡ S.faults source.old) }
+    ensures write_quiet { UnlessWriteFault result (K.faults sink.new ≡ K.faults sink.old) }
+    ensures keep_cause { result ≡ Status.KeepFault
+        → Rose (D.faults keeper.old) (D.faults keeper.new) }
+    ensures keep_quiet { UnlessKeepFault result (D.faults keeper.new ≡ D.faults keeper.old) }
+{
+    match way_of(&command) {
+        Way::Plain(mode) => carry_out(command.form, alloc, mode, source, sink, keeper),
+        Way::Kept(mode) => keep(command.form, alloc, mode, source, sink, keeper),
+        Way::Past(height, what) => { answer_past(command.form, alloc, sink, keeper, height, &what) }
+    }
+}

@@ -1,0 +1,97 @@
+//! Questions of a past height: the chain of the past rows is asked as that of the present ones is.
+
+ghost use Rattle.std.specs.Prelude.{◌≡◌, [], false, true, map};
+ghost use Rattle.base_io.specs.Changes.{pair_of};
+ghost use Rattle.base_io.specs.Outside.{Rose};
+ghost use Rattle.run_app.specs.Histories.{PastAnswers, PastEnds, status_of_past};
+ghost use Rattle.run_app.specs.Kept.{UnlessKeepFault};
+ghost use Rattle.run_app.specs.Outcome.{UnlessWriteFault};
+ghost use Rattle.run_app.specs.Unkept.{IsOfNoRows};
+ghost use Rattle.run_app.specs.Writes.{Adds};
+ghost use Rattle.store_resuming.specs.Restoring.{InOrder};
+
+use crate::resuming::{status_of_restore, write_answer};
+use crate::status::Status;
+use base_bech32::Form;
+use base_io::{KeepFault, Keeper, Row, Sink};
+use line_report::Query;
+use std::alloc::Global;
+use store_history::{PastFault, past};
+use store_resuming::chain_of_rows;
+
+/// How a run ends where rows tell nothing of a height.
+fn status_of_past(fault: PastFault) -> Status
+    ensures { result ≡ status_of_past fault }
+{
+    match fault {
+        PastFault::BadHistory => Status::BadStore,
+        PastFault::NoPast(base, last) => Status::NoPast(base, last),
+        PastFault::NoMemory => Status::NoMemory,
+    }
+}
+
+/// Writes the report's lines of the past rows of these at a height that answer the question.
+fn answer_at<K: Sink>(
+    form: Form,
+    alloc: Global,
+    sink: &mut K,
+    rows: &[Row],
+    height: u64,
+    what: &Query,
+) -> Status
+    ensures answers { PastAnswers form height what.now (InOrder (map pair_of rows.now))
+        (K.written sink.old) (K.written sink.new) result }
+    ensures busy { result ≡ Status.Usage → ⊥ }
+    ensures read { result ≡ Status.ReadFault → ⊥ }
+    ensures keep { result ≡ Status.KeepFault → ⊥ }
+    ensures clean { result ≡ Status.Done → K.clean sink.new ≡ true }
+    ensures write_cause { result ≡ Status.WriteFault
+        → Rose (K.faults sink.old) (K.faults sink.new) }
+    ensures write_quiet { UnlessWriteFault result (K.faults sink.new ≡ K.faults sink.old) }
+{
+    let stood = match past(alloc, rows, height) {
+        Ok(stood) => stood,
+        Err(fault) => return status_of_past(fault),
+    };
+    match chain_of_rows(alloc, &stood) {
+        Ok(chain) => write_answer(form, alloc, sink, &chain, what),
+        Err(fault) => status_of_restore(fault),
+    }
+}
+
+/// The command `query` behind `past` and a height: the report's lines of the past rows that answer the question are written,
+/// and nothing is committed.
+pub(crate) fn answer_past<K: Sink, D: Keeper>(
+    form: Form,
+    alloc: Global,
+    sink: &mut K,
+    keeper: &mut D,
+    height: u64,
+    what: &Query,
+) -> Status
+    ensures ends { PastEnds form height what.now (K.written sink.old) (K.written sink.new)
+        (D.rows keeper.old) (D.rows keeper.new) (D.is_honest keeper.new)
+        (D.may_leave keeper.old) (D.may_leave keeper.new) result }
+    ensures busy { result ≡ Status.Usage → ⊥ }
+    ensures read { result ≡ Status.ReadFault → ⊥ }
+    // One that keeps nothing has no rows.
+    ensures unkept { D.keeps keeper.old ≡ false → IsOfNoRows result
+        × Adds (K.written sink.old) (K.written sink.new) (λ text. text ≡ []) }
+    ensures clean { result ≡ Status.Done → K.clean sink.new ≡ true }
+    ensures write_cause { result ≡ Status.WriteFault
+        → Rose (K.faults sink.old) (K.faults sink.new) }
+    ensures write_quiet { UnlessWriteFault result (K.faults sink.new ≡ K.faults sink.old) }
+    ensures keep_cause { result ≡ Status.KeepFault
+        → Rose (D.faults keeper.old) (D.faults keeper.new) }
+    ensures keep_quiet { UnlessKeepFault result (D.faults keeper.new ≡ D.faults keeper.old) }
+{
+    let rows = match keeper.load() {
+        Ok(rows) => rows,
+        Err(KeepFault::Failed) => return Status::KeepFault,
+        Err(KeepFault::NoMemory) => return Status::NoMemory,
+    };
+    if rows.is_empty() {
+        return Status::WrongStore(true);
+    }
+    answer_at(form, alloc, sink, &rows, height, what)
+}
