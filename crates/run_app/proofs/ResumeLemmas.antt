@@ -195,11 +195,11 @@ pub not_asked : (form : Form) (f : RestoreFault) (what : Query) (w : Option (Lis
 not_asked form f what w rows rows' honest' leaves leaves' h same stop = (rows_left rows rows' honest' leaves leaves' same stop, inr (unresumed f rows rows' honest' h, nothing w _ refl))
 
 -- nor does one come of a keeper that keeps nothing, and nothing is said of its rows
-pub no_rows_found : (X : Type 0) (f : RestoreFault) → IsOfNothing (failed {X = X} f) → IsOfNoRows (status_of_restore f)
-no_rows_found X fault.Failed h = tt
-no_rows_found X fault.NoMemory h = tt
-no_rows_found X fault.Empty h = refl
-no_rows_found X fault.Unsound h = absurd h
+pub no_rows_found : (f : RestoreFault) → IsOfNothing (failed {X = ⊤} f) → IsOfNoRows (status_of_restore f)
+no_rows_found fault.Failed h = tt
+no_rows_found fault.NoMemory h = tt
+no_rows_found fault.Empty h = refl
+no_rows_found fault.Unsound h = absurd h
 
 -- statuses that it does not end by
 pub unresumed_busy : (f : RestoreFault) → status_of_restore f ≡ Usage → ⊥
@@ -232,11 +232,11 @@ unresumed_cause fault.NoMemory P h e = absurd cc
 unresumed_cause fault.Empty P h e = absurd cc
 unresumed_cause fault.Unsound P h e = absurd cc
 
-pub unresumed_quiet : (X : Type 0) (f : RestoreFault) (P : Type 0) → UnlessFailed (failed {X = X} f) P → UnlessKeepFault (status_of_restore f) P
-unresumed_quiet X fault.Failed P h = tt
-unresumed_quiet X fault.NoMemory P h = h
-unresumed_quiet X fault.Empty P h = h
-unresumed_quiet X fault.Unsound P h = h
+pub unresumed_quiet : (f : RestoreFault) (P : Type 0) → UnlessFailed (failed {X = ⊤} f) P → UnlessKeepFault (status_of_restore f) P
+unresumed_quiet fault.Failed P h = tt
+unresumed_quiet fault.NoMemory P h = h
+unresumed_quiet fault.Empty P h = h
+unresumed_quiet fault.Unsound P h = h
 
 -- ---- answers
 

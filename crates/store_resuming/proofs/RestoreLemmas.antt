@@ -1,6 +1,6 @@
 -- The chain of items whose rows were loaded.
 use Rattle.std.proofs.Common.{◌≡◌, ◌≢◌, ◌∙◌, ℕ, ◌<◌, ◌≤◌, Bool, List, [], ◌∷◌, length, map, All, Option, Some, None, Result, Ok, Err, IfOk, IfSome, refl, sym, ap, subst, arith, inl, inr}
-use Rattle.std.specs.Prelude.{Contains, IsErrOf, IsSome}
+use Rattle.std.specs.Prelude.{Contains, IsErrOf, IsSome, ⊤}
 use Rattle.std.specs.List.Sorted.{IsPermutation}
 use Rattle.std.proofs.lemmas.List.Sorted.{Contains-permutation, IsPermutation-map, IsPermutation-trans}
 use Rattle.sqlite_rules.specs.Lists.{Has}
@@ -262,11 +262,11 @@ never_failed fault.NoMemory OfNone list h e = absurd cc
 never_failed fault.Empty OfNone list h e = absurd cc
 never_failed fault.Unsound OfNone list h e = absurd cc
 
-pub quiet_fault : (X : Type 0) (e : RestoreFault) (P : Type 0) → P → UnlessFailed (failed {X = X} e) P
-quiet_fault X fault.Failed P p = tt
-quiet_fault X fault.NoMemory P p = p
-quiet_fault X fault.Empty P p = p
-quiet_fault X fault.Unsound P p = p
+pub quiet_fault : (e : RestoreFault) (P : Type 0) → P → UnlessFailed (failed {X = ⊤} e) P
+quiet_fault fault.Failed P p = tt
+quiet_fault fault.NoMemory P p = p
+quiet_fault fault.Empty P p = p
+quiet_fault fault.Unsound P p = p
 
 -- ---- changes
 

@@ -1,5 +1,7 @@
 -- The items of which the row is the same in both formats.
-use Rattle.std.proofs.Common.{◌≡◌, ◌∙◌, ℕ, zero, suc, ◌+◌, ◌≤◌, Bool, false, List, [], ◌∷◌, ◌++◌, length, take, drop, replicate, refl, sym, ap, ap₂, arith}
+use Rattle.std.proofs.Common.{◌≡◌, ◌∙◌, ℕ, zero, suc, ◌+◌, ◌*◌, ◌≤◌, ◌<◌, Bool, true, false, List, [], ◌∷◌, ◌++◌, length, take, drop, replicate, refl, sym, ap, ap₂, arith}
+use Rattle.std.specs.List.{flat_map}
+use Rattle.base_io.specs.Rows.{Pair}
 use Rattle.base_roles.specs.declared.items.Item.{Item}
 use Rattle.base_roles.specs.declared.items.Item.TheVariants as item
 use Rattle.store_rows.specs.declared.format.Format.TheVariants.{First, Second}

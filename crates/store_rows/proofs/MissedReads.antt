@@ -1,5 +1,5 @@
 -- A ring in the second format is read as it is spelled, and so is one in either format.
-use Rattle.std.proofs.Common.{◌≡◌, ◌∙◌, ℕ, ◌^◌, ◌<◌, Bool, cond, List, ◌++◌, length, Ok, Err, sym, ap, ap₂, subst, append_assoc, arith}
+use Rattle.std.proofs.Common.{◌≡◌, ◌∙◌, ℕ, ◌^◌, ◌<◌, ◌≤◌, Bool, true, false, cond, List, ◌++◌, length, Ok, Err, refl, sym, ap, ap₂, subst, append_assoc, arith}
 use Rattle.std.specs.Int.{w32}
 use Rattle.base_coins.specs.Steps.{◌>>=◌}
 use Rattle.store_rows.specs.declared.fault.RowFault.TheVariants.{BadRow}

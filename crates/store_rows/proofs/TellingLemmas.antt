@@ -1,5 +1,5 @@
 -- What the rows of items tell before they are read.
-use Rattle.std.proofs.Common.{◌≡◌, ◌∙◌, ℕ, Bool, List, ◌++◌, length, Option, Some, None, Result, Ok, Err, refl, sym, ap}
+use Rattle.std.proofs.Common.{◌≡◌, ◌∙◌, ℕ, ◌<◌, Bool, true, false, List, ◌++◌, length, Option, Some, None, Result, Ok, Err, refl, sym, ap, subst}
 use Rattle.std.specs.Int.{w32}
 use Rattle.base_coins.specs.Steps.{◌>>=◌}
 use Rattle.base_io.specs.Rows.{Pair}

@@ -48,10 +48,10 @@ pub returns-in-Err-clause-keep_cause : goal.returns-in-Err-clause-keep_cause
 returns-in-Err-clause-keep_cause g c = rw c.status_of_restore.ensures (unresumed_cause c.in-Err.fault _ c.in-Err.ensures.cause)
 
 pub returns-in-Err-clause-keep_quiet : goal.returns-in-Err-clause-keep_quiet
-returns-in-Err-clause-keep_quiet g c = rw c.status_of_restore.ensures (unresumed_quiet _ c.in-Err.fault _ c.in-Err.ensures.quiet)
+returns-in-Err-clause-keep_quiet g c = rw c.status_of_restore.ensures (unresumed_quiet c.in-Err.fault _ c.in-Err.ensures.quiet)
 
 pub returns-in-Ok-clause-unkept : goal.returns-in-Ok-clause-unkept
 returns-in-Ok-clause-unkept g c = λ off. absurd (c.in-Ok.ensures.unkept off)
 
 pub returns-in-Err-clause-unkept : goal.returns-in-Err-clause-unkept
-returns-in-Err-clause-unkept g c = rw c.status_of_restore.ensures (λ off. (no_rows_found _ c.in-Err.fault (c.in-Err.ensures.unkept off), nothing_done _ _))
+returns-in-Err-clause-unkept g c = rw c.status_of_restore.ensures (λ off. (no_rows_found c.in-Err.fault (c.in-Err.ensures.unkept off), nothing_done _ _))

@@ -18,7 +18,7 @@ pub returns-in-Err-chain_told-clause-cause : goal.returns-in-Err-chain_told-clau
 returns-in-Err-chain_told-clause-cause g c = λ bad. absurd (never_failed c.in-Err-chain_told.fault AreOfNone _ c.in-Err-chain_told.ensures.fault bad)
 
 pub returns-in-Err-chain_told-clause-quiet : goal.returns-in-Err-chain_told-clause-quiet
-returns-in-Err-chain_told-clause-quiet g c = quiet_fault _ c.in-Err-chain_told.fault _ c.in-Ok.ensures.quiet
+returns-in-Err-chain_told-clause-quiet g c = quiet_fault c.in-Err-chain_told.fault _ c.in-Ok.ensures.quiet
 
 pub returns-in-Ok-changes_from-clause-unkept : goal.returns-in-Ok-changes_from-clause-unkept
 returns-in-Ok-changes_from-clause-unkept g c = λ off. absurd (c.in-Ok.ensures.unkept off)
