@@ -108,7 +108,10 @@ pub(crate) fn keep<S: Source, K: Sink, D: Keeper>(
 {
     match read_history(alloc, keeper) {
         Ok(history) => {
-            carry_out_kept::<Brand, S, K, D>(form, alloc, mode, source, sink, keeper, history).0
+            let (status, _) = carry_out_kept::<Brand, S, K, D>(
+                form, alloc, mode, source, sink, keeper, history,
+            );
+            status
         }
         Err(fault) => status_of_open(fault),
     }

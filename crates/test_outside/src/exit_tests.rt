@@ -55,7 +55,10 @@ fn are_left(
 ) -> bool {
     match kept {
         Some(lines) => are_behind(rt, fronts, lines, rows),
-        None => are_same(&begun(rt, fronts, start).1, rows),
+        None => {
+            let (_, began) = begun(rt, fronts, start);
+            are_same(&began, rows)
+        }
     }
 }
 

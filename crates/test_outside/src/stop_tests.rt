@@ -118,7 +118,8 @@ fn lines_left(
     match lines_of(rt, fronts, rows) {
         Some(lines) => Some(lines),
         None => {
-            if written.is_empty() && are_same(&begun(rt, fronts, start).1, rows) {
+            let (_, began) = begun(rt, fronts, start);
+            if written.is_empty() && are_same(&began, rows) {
                 Some(start.lines)
             } else {
                 None
@@ -183,7 +184,8 @@ fn stops(
 /// of the log, or those of the database file.
 fn loses_nothing(rt: &(impl Abort + AllocGlobal), start: Start, is_log: bool) -> bool {
     let fronts = make_fronts(rt);
-    let store = files_of(rt, &begun(rt, &fronts, start).1);
+    let (_, began) = begun(rt, &fronts, start);
+    let store = files_of(rt, &began);
     for calls in 0..TRIES {
         let (log, db) = if is_log { (calls, ALL) } else { (ALL, calls) };
         match stops(rt, &fronts, start, &store, log, db) {

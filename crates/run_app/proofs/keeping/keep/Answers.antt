@@ -5,25 +5,25 @@ use Rattle.run_app.proofs.OpenLemmas.{is_unopened, mode_unopened, never_bad_stor
 use Rattle.run_app.proofs.WayLemmas.{committing_few, kept_before}
 use Rattle.run_app.proofs.keeping.keep.Goals as goal
 
-pub carry_out_kept-requires-clause-few : goal.carry_out_kept-requires-clause-few
-carry_out_kept-requires-clause-few g c = committing_few c.args.mode c.requires.commits
+pub carry_out_kept-status-requires-clause-few : goal.carry_out_kept-status-requires-clause-few
+carry_out_kept-status-requires-clause-few g c = committing_few c.args.mode c.requires.commits
 
-pub carry_out_kept-requires-clause-takes : goal.carry_out_kept-requires-clause-takes
-carry_out_kept-requires-clause-takes g c = λ changes distinct. c.read_history.ensures.takes changes (c.requires.takes changes distinct)
+pub carry_out_kept-status-requires-clause-takes : goal.carry_out_kept-status-requires-clause-takes
+carry_out_kept-status-requires-clause-takes g c = λ changes distinct. c.read_history.ensures.takes changes (c.requires.takes changes distinct)
 
 pub returns-in-Ok-clause-ends : goal.returns-in-Ok-clause-ends
 returns-in-Ok-clause-ends g c =
     let e = c.read_history.ensures in
     inl (record {
-      ends = kept_before c.args.form c.args.mode c.requires.commits _ _ _ _ _ _ _ _ _ _ _ _ _ e.same c.in-Ok.ensures.told e.stop c.carry_out_kept.ensures.honest c.carry_out_kept.ensures.ends;
-      became = become_before _ _ _ e.same c.carry_out_kept.ensures.became;
-      history = c.carry_out_kept.ensures.history;
+      ends = kept_before c.args.form c.args.mode c.requires.commits _ _ _ _ _ _ _ _ _ _ _ _ _ e.same c.in-Ok.ensures.told e.stop c.carry_out_kept-status.ensures.honest c.carry_out_kept-status.ensures.ends;
+      became = become_before _ _ _ e.same c.carry_out_kept-status.ensures.became;
+      history = c.carry_out_kept-status.ensures.history;
     })
 
 pub returns-in-Ok-clause-unkept : goal.returns-in-Ok-clause-unkept
 returns-in-Ok-clause-unkept g c = λ off.
-    let unkept = c.carry_out_kept.ensures.unkept (g.met.D.Keeper.keeps_alike c.read_history.new.keeper c.args.keeper.now ∙ off) in
-    (unkept, never_bad_store c.args.form c.args.mode _ _ _ _ _ _ _ _ _ c.carry_out_kept.result.0 c.requires.commits c.carry_out_kept.ensures.ends unkept)
+    let unkept = c.carry_out_kept-status.ensures.unkept (g.met.D.Keeper.keeps_alike c.read_history.new.keeper c.args.keeper.now ∙ off) in
+    (unkept, never_bad_store c.args.form c.args.mode _ _ _ _ _ _ _ _ _ c.carry_out_kept-status.result.0 c.requires.commits c.carry_out_kept-status.ensures.ends unkept)
 
 pub returns-in-Err-clause-ends : goal.returns-in-Err-clause-ends
 returns-in-Err-clause-ends g c =
