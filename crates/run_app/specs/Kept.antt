@@ -32,9 +32,9 @@ pub record Keeping (b : Began) (chain : Option Chained) (told : Option (List Pai
   pub settled : LeavesRows leaves told
 
 -- A keeper after calls: it is honest only if it was, takes what it took, and its count of faults has not fallen.
-pub record IsLater (honest honest' : Type 0) (takes takes' : List Change → Type 0) (faults faults' : ℕ) : Type 0 where
-  pub honest : honest' → honest
-  pub takes : (changes : List Change) → takes changes → takes' changes
+pub record IsLater (then_honest now_honest : Type 0) (took taking : List Change → Type 0) (faults faults' : ℕ) : Type 0 where
+  pub honest : now_honest → then_honest
+  pub takes : (changes : List Change) → took changes → taking changes
   pub count : faults ≤ faults'
 
 -- these are the rows of what lines have led to, in the format that is written, of which each item
