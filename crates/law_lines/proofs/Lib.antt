@@ -3,5 +3,6 @@ mod EndLemmas
 mod FactLemmas
 mod OtherLemmas
 mod ReportLemmas
+mod RunLemmas
 mod ValueLemmas
 mod WrittenLemmas
