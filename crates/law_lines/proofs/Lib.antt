@@ -1,8 +1,6 @@
 mod BurnLemmas
-mod EndLemmas
 mod FactLemmas
 mod OtherLemmas
 mod ReportLemmas
 mod RunLemmas
 mod ValueLemmas
-mod WrittenLemmas

@@ -1,5 +1,4 @@
 pub mod Laws
-pub mod Lines
 pub mod Ranges
 pub mod Reading
 pub mod Runs

@@ -1,0 +1,155 @@
+-- Values are read from what is written of them: numbers, names and addresses; and whole trees, whose texts are UTF-8.
+use Rattle.std.specs.Result.{result_ok}
+use Rattle.std.specs.List.{AllByRecursion}
+use Rattle.std.specs.Str.{IsUtf8}
+use Rattle.std.proofs.Common.{◌≡◌, ℕ, suc, ◌^◌, ◌<◌, ◌≤◌, Bool, true, false, List, [], ◌∷◌, ◌++◌, map, cond, Some, None, Option, option_and_then, Result, Ok, Err, decimal, refl, ap, ◌∙◌, arith}
+use Rattle.std.proofs.lemmas.Fmt.{decimal_is_IsNumeral_wide, length-decimal-le_wide, IsAscii-decimal}
+use Rattle.std.proofs.lemmas.Str.{IsUtf8-append, IsUtf8-from_ascii}
+use Rattle.json.proofs.Printed.Utf8.{are_ascii, IsUtf8-are_ascii, IsUtf8-quoted}
+use Rattle.json.specs.Print.{quoted}
+use Rattle.serde_json.specs.Data.{Data, boolean, number, unsigned, string, array, object, Items, no_items, item, Members, no_members, member, put}
+use Rattle.serde_json.specs.Find.{get, as_array}
+use Rattle.serde_json.specs.Read.{max_depth}
+use Rattle.serde_json.specs.View.{items_of}
+use Rattle.serde_json.specs.Written.{compact_text, comma_if, items_text, members_text}
+use Rattle.base_decimals.proofs.Inverse.{number_some}
+use Rattle.base_types.specs.Address.{IsAddress}
+use Rattle.base_types.specs.Denom.{denom_of, is_denom}
+use Rattle.base_types.specs.Modules.{module_of, user_from, user_or_none}
+use Rattle.base_types.proofs.AddressLemmas.{address_of-address_text}
+use Rattle.base_types.proofs.DigitLemmas.{address_text_is_utf8}
+use Rattle.base_bech32.specs.declared.form.Form.{Form}
+use Rattle.base_bech32.specs.declared.form.Form.TheVariants.{Hex, Bech32}
+use Rattle.base_bech32.specs.Spelling.{is_prefix}
+use Rattle.base_bech32.proofs.SpellingLemmas.{spelling_is_ascii, spelling_is_read}
+use Rattle.base_coins.specs.Steps.{◌>>=◌}
+use Rattle.base_messages.specs.declared.faults.LineFault.{LineFault}
+use Rattle.base_messages.specs.declared.faults.LineFault.TheVariants.{BadShape}
+use Rattle.line_json.specs.Addresses.{account_prefix, bytes_in, bytes_text, operator_in, operator_prefix, operator_text, user_in, user_text}
+use Rattle.line_json.specs.Members.{amount_of, member_at}
+use Rattle.line_json.specs.Nested.{each_element, list_at, with_front}
+use Rattle.line_json.specs.Reading.{or_fault, tree_of}
+use Rattle.line_json.proofs.ReadingLemmas.{are_digits_model, tree_found}
+use Rattle.line_json.proofs.WrittenLemmas.{AreElements, AreMembers, IsPlain, array_plain, count_plain, deeper, no_element, no_member, object_plain, one_element, one_member, read_written, string_plain}
+
+-- ---- numbers and names
+
+pub amount_is_read : (n : ℕ) → n < 10 ^ 38 → amount_of (decimal n) ≡ Some n
+amount_is_read n small =
+    let is = decimal_is_IsNumeral_wide n (omega (arith, small)) in
+    number_some 38 (decimal n) is.0.0 (length-decimal-le_wide 38 n (omega arith) small (omega (arith, small))) (are_digits_model.from (decimal n) is.0.1)
+    ∙ ap Some is.1
+
+pub denom_is_read : (name : List ℕ) → is_denom name ≡ true → denom_of name ≡ Some name
+denom_is_read name h = ap (λ b. cond b (Some name) None) h
+
+-- ---- addresses
+
+pub bytes_back : (f : Form) (prefix bytes : List ℕ) → IsAddress bytes → bytes_in f prefix (bytes_text f prefix bytes) ≡ Some bytes
+bytes_back Hex prefix bytes h = address_of-address_text bytes h
+bytes_back Bech32 prefix bytes h = ap result_ok (spelling_is_read prefix bytes h)
+
+pub user_back : (f : Form) (bytes : List ℕ) → IsAddress bytes → module_of bytes ≡ None → user_in f (user_text f bytes) ≡ Some bytes
+user_back f bytes h none = ap (option_and_then user_from) (bytes_back f account_prefix bytes h) ∙ ap (user_or_none bytes) none
+
+pub operator_back : (f : Form) (bytes : List ℕ) → IsAddress bytes → module_of bytes ≡ None → operator_in f (operator_text f bytes) ≡ Some bytes
+operator_back f bytes h none = ap (option_and_then user_from) (bytes_back f operator_prefix bytes h) ∙ ap (user_or_none bytes) none
+
+pub bytes_text_is_utf8 : (f : Form) (prefix bytes : List ℕ) → is_prefix prefix ≡ true → IsUtf8 (bytes_text f prefix bytes)
+bytes_text_is_utf8 Hex prefix bytes h = address_text_is_utf8 bytes
+bytes_text_is_utf8 Bech32 prefix bytes h = IsUtf8-from_ascii _ (spelling_is_ascii prefix bytes h)
+
+-- ---- trees
+
+-- a tree that nests no deeper, is read back from its text, and whose text is UTF-8
+pub record IsBack (k : ℕ) (d : Data) : Type 0 where
+  pub plain : IsPlain k d
+  pub utf8 : IsUtf8 (compact_text d)
+
+-- elements of which each is
+pub record AreBack (k : ℕ) (ds : Items) : Type 0 where
+  pub elements : AreElements k ds
+  pub utf8 : (later : Bool) → IsUtf8 (items_text later ds)
+
+-- members of which each is, and which make an object whole that has others
+pub record HaveBack (k : ℕ) (found ms whole : Members) : Type 0 where
+  pub members : AreMembers k found ms whole
+  pub utf8 : (later : Bool) → IsUtf8 (members_text later ms)
+
+pub tree_back : (d : Data) → IsBack max_depth d → tree_of (compact_text d) ≡ Ok d
+tree_back d h = tree_found (compact_text d) d h.utf8 (read_written d h.plain)
+
+pub back_deeper : (k n : ℕ) (d : Data) → k ≤ n → IsBack k d → IsBack n d
+back_deeper k n d more h = record { plain = deeper k n d more h.plain; utf8 = h.utf8 }
+
+pub string_back : (k : ℕ) (s : List ℕ) → IsUtf8 s → IsBack k (string s)
+string_back k s u = record { plain = string_plain k s; utf8 = IsUtf8-quoted s u }
+
+pub count_back : (k n : ℕ) → n < 2 ^ 64 → IsBack k (number (unsigned n))
+count_back k n small = record { plain = count_plain k n small; utf8 = IsUtf8-from_ascii (decimal n) (IsAscii-decimal n small) }
+
+pub flag_back : (k : ℕ) (b : Bool) → IsBack k (boolean b)
+flag_back k true = record { plain = record { numbers = tt; shallow = omega arith; back = refl }; utf8 = IsUtf8-are_ascii _ refl }
+flag_back k false = record { plain = record { numbers = tt; shallow = omega arith; back = refl }; utf8 = IsUtf8-are_ascii _ refl }
+
+-- one byte in front
+byte_then : (x : ℕ) (xs : List ℕ) → are_ascii (x ∷ []) ≡ true → IsUtf8 xs → IsUtf8 (x ∷ xs)
+byte_then x xs e u = IsUtf8-append (x ∷ []) xs (IsUtf8-are_ascii (x ∷ []) e) u
+
+comma_is_utf8 : (later : Bool) → IsUtf8 (comma_if later)
+comma_is_utf8 true = IsUtf8-are_ascii _ refl
+comma_is_utf8 false = IsUtf8-are_ascii _ refl
+
+no_element_back : (k : ℕ) → AreBack k no_items
+no_element_back k = record { elements = no_element k; utf8 = λ later. IsUtf8-are_ascii _ refl }
+
+element_back : (k : ℕ) (d : Data) (ds : Items) → IsBack k d → AreBack k ds → AreBack k (item d ds)
+element_back k d ds h g = record {
+  elements = one_element k d ds h.plain g.elements;
+  utf8 = λ later. IsUtf8-append (comma_if later) (compact_text d ++ items_text true ds) (comma_is_utf8 later) (IsUtf8-append (compact_text d) (items_text true ds) h.utf8 (g.utf8 true));
+}
+
+pub array_back : (k : ℕ) (ds : Items) → AreBack k ds → IsBack (suc k) (array ds)
+array_back k ds h = record { plain = array_plain k ds h.elements; utf8 = byte_then 91 (items_text false ds) refl (h.utf8 false) }
+
+pub elements_back : {A : Type 0} (k : ℕ) (form : A → Data) (xs : List A) → AllByRecursion (λ x. IsBack k (form x)) xs → AreBack k (items_of (map form xs))
+elements_back k form [] h = no_element_back k
+elements_back k form (x ∷ xs) h = element_back k (form x) (items_of (map form xs)) h.0 (elements_back k form xs h.1)
+
+pub no_more : {k : ℕ} {found : Members} → HaveBack k found no_members found
+no_more = record { members = no_member _ _; utf8 = λ later. IsUtf8-are_ascii _ refl }
+
+pub one_more : {k : ℕ} {name : List ℕ} {d : Data} {found ms all : Members} → are_ascii name ≡ true → IsBack k d → HaveBack k (put name d found) ms all → HaveBack k found (member name d ms) all
+one_more {k} {name} {d} {found} {ms} {all} e h g = record {
+  members = one_member k name d found ms all h.plain g.members;
+  utf8 = λ later. IsUtf8-append (comma_if later) (quoted name ++ 58 ∷ (compact_text d ++ members_text true ms)) (comma_is_utf8 later)
+      (IsUtf8-append (quoted name) (58 ∷ (compact_text d ++ members_text true ms)) (IsUtf8-quoted name (IsUtf8-are_ascii name e))
+      (byte_then 58 (compact_text d ++ members_text true ms) refl (IsUtf8-append (compact_text d) (members_text true ms) h.utf8 (g.utf8 true))));
+}
+
+pub object_back : (k : ℕ) (ms : Members) → HaveBack k no_members ms ms → IsBack (suc k) (object ms)
+object_back k ms h = record { plain = object_plain k ms h.members; utf8 = byte_then 123 (members_text false ms) refl (h.utf8 false) }
+
+-- ---- reading
+
+-- a step of reading that gave something
+pub next_is : {A B : Type 0} (r : Result A LineFault) (a : A) (k : A → Result B LineFault) → r ≡ Ok a → (r >>= k) ≡ k a
+next_is r a k h = ap (λ q. q >>= k) h
+
+-- a member that is there, and of its form
+pub member_read : {A : Type 0} (form : Data → Option A) (n : ℕ) (name : List ℕ) (d v : Data) (a : A) → get name d ≡ Some v → form v ≡ Some a → member_at form n name d ≡ Ok a
+member_read form n name d v a g h = ap (λ o. or_fault (BadShape n) (option_and_then form o)) g ∙ ap (or_fault (BadShape n)) h
+
+-- every element of a list
+each_read : {A : Type 0} (form : Data → Result A LineFault) (data_of : A → Data) (xs : List A) → AllByRecursion (λ x. form (data_of x) ≡ Ok x) xs → each_element form (items_of (map data_of xs)) ≡ Ok xs
+each_read form data_of [] h = refl
+each_read form data_of (x ∷ xs) h =
+    let rest : Items = items_of (map data_of xs) in
+    next_is (form (data_of x)) x (λ y. with_front (y ∷ []) (each_element form rest)) h.0 ∙ ap (with_front (x ∷ [])) (each_read form data_of xs h.1)
+
+-- a member that is a list
+pub list_read : {A : Type 0} (form : Data → Result A LineFault) (data_of : A → Data) (n : ℕ) (name : List ℕ) (d : Data) (xs : List A) → get name d ≡ Some (array (items_of (map data_of xs)))
+    → AllByRecursion (λ x. form (data_of x) ≡ Ok x) xs → list_at form n name d ≡ Ok xs
+list_read form data_of n name d xs g h =
+    let items : Items = items_of (map data_of xs) in
+    next_is (member_at as_array n name d) items (each_element form) (member_read as_array n name d (array items) items g refl) ∙ each_read form data_of xs h
