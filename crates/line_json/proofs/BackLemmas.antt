@@ -2,9 +2,11 @@
 use Rattle.std.specs.Result.{result_ok}
 use Rattle.std.specs.List.{AllByRecursion}
 use Rattle.std.specs.Str.{IsUtf8}
-use Rattle.std.proofs.Common.{◌≡◌, ℕ, suc, ◌^◌, ◌<◌, ◌≤◌, Bool, true, false, List, [], ◌∷◌, ◌++◌, map, cond, Some, None, Option, option_and_then, Result, Ok, Err, decimal, refl, ap, ◌∙◌, arith}
+use Rattle.std.proofs.Common.{◌≡◌, ℕ, zero, suc, ◌+◌, ◌/◌, ◌%◌, ◌^◌, ◌<◌, ◌≤◌, ◌==◌, nat_lt, Bool, true, false, List, [], ◌∷◌, ◌++◌, All, map, cond, Some, None, Option, option_and_then, Result, Ok, decimal, refl, ap, ◌∙◌, arith, ltb-true}
 use Rattle.std.proofs.lemmas.Fmt.{decimal_is_IsNumeral_wide, length-decimal-le_wide, IsAscii-decimal}
+use Rattle.std.proofs.lemmas.List.Elements.{All-append, All-cons, All-nil}
 use Rattle.std.proofs.lemmas.Str.{IsUtf8-append, IsUtf8-from_ascii}
+use Rattle.std.proofs.lemmas.Str.Ascii.{IsAscii-from_all}
 use Rattle.json.proofs.Printed.Utf8.{are_ascii, IsUtf8-are_ascii, IsUtf8-quoted}
 use Rattle.json.specs.Print.{quoted}
 use Rattle.serde_json.specs.Data.{Data, boolean, number, unsigned, string, array, object, Items, no_items, item, Members, no_members, member, put}
@@ -14,10 +16,14 @@ use Rattle.serde_json.specs.View.{items_of}
 use Rattle.serde_json.specs.Written.{compact_text, comma_if, items_text, members_text}
 use Rattle.base_decimals.proofs.Inverse.{number_some}
 use Rattle.base_types.specs.Address.{IsAddress}
+use Rattle.base_types.specs.Calendar.{date_of, end_of_time}
 use Rattle.base_types.specs.Denom.{denom_of, is_denom}
 use Rattle.base_types.specs.Modules.{module_of, user_from, user_or_none}
+use Rattle.base_types.specs.Moment.{clock_text, date_text, digits, fraction_text, moment_text, two}
 use Rattle.base_types.proofs.AddressLemmas.{address_of-address_text}
+use Rattle.base_types.proofs.DateLemmas.{bounds_of, date_of-is}
 use Rattle.base_types.proofs.DigitLemmas.{address_text_is_utf8}
+use Rattle.base_types.proofs.MomentLemmas.{quotient_below, rest_below}
 use Rattle.base_bech32.specs.declared.form.Form.{Form}
 use Rattle.base_bech32.specs.declared.form.Form.TheVariants.{Hex, Bech32}
 use Rattle.base_bech32.specs.Spelling.{is_prefix}
@@ -58,6 +64,67 @@ operator_back f bytes h none = ap (option_and_then user_from) (bytes_back f oper
 pub bytes_text_is_utf8 : (f : Form) (prefix bytes : List ℕ) → is_prefix prefix ≡ true → IsUtf8 (bytes_text f prefix bytes)
 bytes_text_is_utf8 Hex prefix bytes h = address_text_is_utf8 bytes
 bytes_text_is_utf8 Bech32 prefix bytes h = IsUtf8-from_ascii _ (spelling_is_ascii prefix bytes h)
+
+-- ---- moments
+
+abbrev IsSmall : ℕ → Type 0
+IsSmall byte = byte < 128
+
+small : (b : ℕ) → nat_lt b 128 ≡ true → IsSmall b
+small b e = ltb-true b 128 e
+
+two_small : (n : ℕ) → n < 100 → All IsSmall (two n)
+two_small n h =
+    let high : 48 + n / 10 < 128 = omega (arith, h) in
+    let low : 48 + n % 10 < 128 = omega arith in
+    All-cons IsSmall (48 + n / 10) _ high (All-cons IsSmall (48 + n % 10) [] low (All-nil IsSmall))
+
+digit_small : (d : ℕ) → d < 10 → IsSmall (48 + d)
+digit_small d h = omega (arith, h)
+
+digits_small : (p n : ℕ) → n < 10 ^ p → All IsSmall (digits p n)
+digits_small zero n h = All-nil IsSmall
+digits_small (suc p) n h = by (n == 0)
+  where
+    by : (b : Bool) → All IsSmall (cond b [] ((48 + n / 10 ^ p) ∷ digits p (n % 10 ^ p)))
+    by true = All-nil IsSmall
+    by false = All-cons IsSmall (48 + n / 10 ^ p) (digits p (n % 10 ^ p)) (digit_small (n / 10 ^ p) (quotient_below n p h)) (digits_small p (n % 10 ^ p) (rest_below n p))
+
+fraction_small : (n : ℕ) → n < 10 ^ 9 → All IsSmall (fraction_text n)
+fraction_small n h = by (n == 0)
+  where
+    by : (b : Bool) → All IsSmall (cond b [] (46 ∷ digits 9 n))
+    by true = All-nil IsSmall
+    by false = All-cons IsSmall 46 (digits 9 n) (small 46 refl) (digits_small 9 n h)
+
+-- a mark, and two digits
+marked_small : (mark n : ℕ) → nat_lt mark 128 ≡ true → n < 100 → All IsSmall (mark ∷ two n)
+marked_small mark n e h = All-cons IsSmall mark (two n) (small mark e) (two_small n h)
+
+date_small : (date : ℕ × ℕ × ℕ) → (date.0 < 10000) × (date.1 < 100) × (date.2 < 100) → All IsSmall (date_text date)
+date_small (y, m, d) b =
+    let high : y / 100 < 100 = omega (arith, b.0) in
+    let low : y % 100 < 100 = omega arith in
+    All-append IsSmall _ _ (All-append IsSmall _ _ (All-append IsSmall _ _ (two_small (y / 100) high) (two_small (y % 100) low)) (marked_small 45 m refl b.1)) (marked_small 45 d refl b.2)
+
+clock_small : (s : ℕ) → s < 86400 → All IsSmall (84 ∷ clock_text s)
+clock_small s h =
+    let hours : s / 3600 < 100 = omega (arith, h) in
+    let minutes : s / 60 % 60 < 100 = omega arith in
+    let seconds : s % 60 < 100 = omega arith in
+    All-cons IsSmall 84 (clock_text s) (small 84 refl)
+    (All-append IsSmall _ _ (All-append IsSmall _ _ (two_small (s / 3600) hours) (marked_small 58 (s / 60 % 60) refl minutes)) (marked_small 58 (s % 60) refl seconds))
+
+pub moment_text_is_utf8 : (nanos : ℕ) → nanos < end_of_time → IsUtf8 (moment_text nanos)
+unfolding moment_text
+moment_text_is_utf8 nanos h =
+    let day : nanos / 86400000000000 ≤ 2932896 = omega (arith, h) in
+    let second : nanos / 1000000000 % 86400 < 86400 = omega arith in
+    let part : nanos % 1000000000 < 1000000000 = omega arith in
+    let bounds = bounds_of (nanos / 86400000000000) (date_of (nanos / 86400000000000)) (date_of-is (nanos / 86400000000000) day) in
+    IsUtf8-from_ascii _ (IsAscii-from_all _
+    (All-append IsSmall _ _ (All-append IsSmall _ _ (All-append IsSmall _ _ (date_small (date_of (nanos / 86400000000000)) bounds) (clock_small (nanos / 1000000000 % 86400) second)) (fraction_small (nanos % 1000000000) part))
+    (All-cons IsSmall 90 [] (small 90 refl) (All-nil IsSmall))))
 
 -- ---- trees
 
@@ -153,3 +220,32 @@ pub list_read : {A : Type 0} (form : Data → Result A LineFault) (data_of : A �
 list_read form data_of n name d xs g h =
     let items : Items = items_of (map data_of xs) in
     next_is (member_at as_array n name d) items (each_element form) (member_read as_array n name d (array items) items g refl) ∙ each_read form data_of xs h
+
+-- ---- values of several members
+
+pub read_one : {A T : Type 0} (g : A → T) (r : Result A LineFault) (a : A) → r ≡ Ok a → (r >>= (λ x. Ok (g x))) ≡ Ok (g a)
+read_one g r a h = ap (λ q. q >>= (λ x. Ok (g x))) h
+
+pub read_two : {A B T : Type 0} (g : A → B → T) (r : Result A LineFault) (a : A) (s : Result B LineFault) (b : B) → r ≡ Ok a → s ≡ Ok b
+    → (r >>= (λ x. s >>= (λ y. Ok (g x y)))) ≡ Ok (g a b)
+read_two g r a s b h k = ap (λ q. q >>= (λ x. s >>= (λ y. Ok (g x y)))) h ∙ read_one (g a) s b k
+
+pub read_three : {A B C T : Type 0} (g : A → B → C → T) (r : Result A LineFault) (a : A) (s : Result B LineFault) (b : B) (t : Result C LineFault) (c : C) → r ≡ Ok a → s ≡ Ok b → t ≡ Ok c
+    → (r >>= (λ x. s >>= (λ y. t >>= (λ z. Ok (g x y z))))) ≡ Ok (g a b c)
+read_three g r a s b t c h k l = ap (λ q. q >>= (λ x. s >>= (λ y. t >>= (λ z. Ok (g x y z))))) h ∙ read_two (g a) s b t c k l
+
+pub read_four : {A B C D T : Type 0} (g : A → B → C → D → T) (r : Result A LineFault) (a : A) (s : Result B LineFault) (b : B) (t : Result C LineFault) (c : C) (u : Result D LineFault) (d : D)
+    → r ≡ Ok a → s ≡ Ok b → t ≡ Ok c → u ≡ Ok d → (r >>= (λ x. s >>= (λ y. t >>= (λ z. u >>= (λ w. Ok (g x y z w)))))) ≡ Ok (g a b c d)
+read_four g r a s b t c u d h k l m = ap (λ q. q >>= (λ x. s >>= (λ y. t >>= (λ z. u >>= (λ w. Ok (g x y z w)))))) h ∙ read_three (g a) s b t c u d k l m
+
+pub read_five : {A B C D E T : Type 0} (g : A → B → C → D → E → T) (r : Result A LineFault) (a : A) (s : Result B LineFault) (b : B) (t : Result C LineFault) (c : C) (u : Result D LineFault) (d : D) (v : Result E LineFault) (e : E)
+    → r ≡ Ok a → s ≡ Ok b → t ≡ Ok c → u ≡ Ok d → v ≡ Ok e
+    → (r >>= (λ x. s >>= (λ y. t >>= (λ z. u >>= (λ w. v >>= (λ o. Ok (g x y z w o))))))) ≡ Ok (g a b c d e)
+read_five g r a s b t c u d v e h k l m n =
+    ap (λ q. q >>= (λ x. s >>= (λ y. t >>= (λ z. u >>= (λ w. v >>= (λ o. Ok (g x y z w o))))))) h ∙ read_four (g a) s b t c u d v e k l m n
+
+pub read_six : {A B C D E F T : Type 0} (g : A → B → C → D → E → F → T) (r : Result A LineFault) (a : A) (s : Result B LineFault) (b : B) (t : Result C LineFault) (c : C) (u : Result D LineFault) (d : D) (v : Result E LineFault) (e : E) (i : Result F LineFault) (j : F)
+    → r ≡ Ok a → s ≡ Ok b → t ≡ Ok c → u ≡ Ok d → v ≡ Ok e → i ≡ Ok j
+    → (r >>= (λ x. s >>= (λ y. t >>= (λ z. u >>= (λ w. v >>= (λ o. i >>= (λ p. Ok (g x y z w o p)))))))) ≡ Ok (g a b c d e j)
+read_six g r a s b t c u d v e i j h k l m n p =
+    ap (λ q. q >>= (λ x. s >>= (λ y. t >>= (λ z. u >>= (λ w. v >>= (λ o. i >>= (λ f. Ok (g x y z w o f)))))))) h ∙ read_five (g a) s b t c u d v e i j k l m n p
