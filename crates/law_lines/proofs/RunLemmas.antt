@@ -2,7 +2,7 @@
 use Rattle.std.specs.Prelude.{All, Contains, IfOk, ◌⊎◌}
 use Rattle.std.specs.List.{flat_map}
 use Rattle.std.proofs.Common.{◌≡◌, ℕ, ◌+◌, List, [], ◌∷◌, ◌++◌, map, inl, inr, Result, Ok, Err, refl, sym, ap, subst, ◌∙◌, append_assoc, append-nil}
-use Rattle.std.proofs.lemmas.List.Elements.{All-contains, All-map, All-contains_itself, All-nil, All-weaker, Contains-append_cases}
+use Rattle.std.proofs.lemmas.List.Elements.{All-contains, All-map, All-contains_itself, All-weaker, Contains-append_cases}
 use Rattle.base_bech32.specs.declared.form.Form.{Form}
 use Rattle.base_coins.specs.Coins.{Money}
 use Rattle.base_roles.specs.Holdings.{supply_of}

@@ -1,14 +1,13 @@
 -- The record of an ended period stands exactly while its validator does and something refers to it.
-use Rattle.std.proofs.Common.{◌≡◌, ◌∙◌, ℕ, zero, suc, ◌==◌, Bool, List, Option, Some, None, inl, inr, refl, sym, ap, subst}
-use Rattle.std.specs.Prelude.{◌↔◌, ◌⊎◌, if◌then◌else◌, is_some}
+use Rattle.std.proofs.Common.{◌≡◌, ◌∙◌, ℕ, zero, suc, ◌==◌, List, Option, Some, None, inl, inr, refl, sym, ap}
+use Rattle.std.specs.Prelude.{◌⊎◌, if◌then◌else◌, is_some}
 use Rattle.base_roles.specs.declared.entities.Historical.{Historical}
 use Rattle.base_roles.specs.declared.entities.StartingInfo.{StartingInfo}
-use Rattle.base_roles.specs.declared.entities.Validator.{Validator}
 use Rattle.base_roles.specs.Entries.{at}
 use Rattle.base_roles.specs.Staked.{validator_at}
 use Rattle.base_types.specs.Orders.{addr_cmp}
 use Rattle.rule_modules.specs.Chain.{State, shared_in}
-use Rattle.rule_modules.specs.Periods.{Periods, Rewards, ratio_at, references_of, starts_of}
+use Rattle.rule_modules.specs.Periods.{Periods, ratio_at, references_of, starts_of}
 use Rattle.rule_modules.specs.Sound.{IsSound}
 use Rattle.mod_periods.specs.Kept.{record_of}
 use Rattle.mod_periods.specs.Stands.{history_of, references_at, references_in}

@@ -1,10 +1,10 @@
 -- Addresses, coins and messages of the generated input are read back from what is written of them.
 use Rattle.std.specs.List.{list_all}
-use Rattle.std.proofs.Common.{◌≡◌, ℕ, zero, suc, ◌^◌, ◌<◌, ◌≤◌, ◌==◌, ◌&&◌, nat_lt, Bool, true, false, List, [], ◌∷◌, ◌++◌, map, Some, None, option_map, Result, Ok, codes, refl, sym, ap, subst, ◌∙◌, arith, ltb-true, lt-ltb}
+use Rattle.std.proofs.Common.{◌≡◌, ℕ, zero, suc, ◌^◌, ◌<◌, ◌==◌, nat_lt, Bool, true, false, List, [], ◌∷◌, ◌++◌, map, Some, None, option_map, Ok, codes, refl, sym, ap, subst, ◌∙◌, arith, ltb-true, lt-ltb}
 use Rattle.std.specs.Prelude.{if◌then◌else◌}
 use Rattle.std.proofs.lemmas.Bool.{and_parts}
 use Rattle.hex.specs.Hex.{IsBytes}
-use Rattle.serde_json.specs.Data.{Data, array, no_items, item, string}
+use Rattle.serde_json.specs.Data.{Data, no_items, string}
 use Rattle.serde_json.specs.Find.{get}
 use Rattle.base_types.specs.declared.account.Account.TheVariants as account
 use Rattle.base_types.specs.Accounts.{account_from}
@@ -14,7 +14,6 @@ use Rattle.base_bech32.specs.declared.form.Form.{Form}
 use Rattle.base_coins.specs.declared.coin.Coin.{Coin}
 use Rattle.base_coins.specs.Coins.{Money}
 use Rattle.base_coins.specs.Steps.{◌>>=◌}
-use Rattle.base_messages.specs.declared.faults.LineFault.{LineFault}
 use Rattle.base_messages.specs.declared.message.Send.{Send}
 use Rattle.base_messages.specs.declared.message.Delegate.{Delegate}
 use Rattle.base_messages.specs.declared.message.Undelegate.{Undelegate}
@@ -25,7 +24,7 @@ use Rattle.base_messages.specs.declared.message.Msg.{Msg}
 use Rattle.base_messages.specs.declared.message.Msg.TheVariants as msg
 use Rattle.line_json.specs.Addresses.{account_in, account_prefix, account_text_in, cons_in, cons_prefix, cons_text, operator_in, operator_prefix, operator_text, user_in, user_text}
 use Rattle.line_json.specs.Coin.{coin_of, coins_at, money_of}
-use Rattle.line_json.specs.Members.{amount_of, member_at, number_in, spelled_by}
+use Rattle.line_json.specs.Members.{amount_of, number_in, spelled_by}
 use Rattle.line_json.specs.Messages.{begin_redelegate_of, delegate_of, kind_of, message_of, send_of, undelegate_of, withdraw_commission_of, withdraw_reward_of}
 use Rattle.line_json.specs.Nested.{list_at}
 use Rattle.line_json.specs.Values.{account_data, coins_data, cons_data, count_data, operator_data, user_data, whole_data}

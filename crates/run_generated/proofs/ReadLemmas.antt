@@ -1,7 +1,7 @@
 -- The lines of the generated input are read as its genesis and its blocks.
 use Rattle.std.specs.Prelude.{if◌then◌else◌, flat_map}
 use Rattle.std.specs.List.{AllByRecursion}
-use Rattle.std.proofs.Common.{◌≡◌, ℕ, suc, ◌+◌, ◌-◌, ◌*◌, ◌/◌, ◌%◌, ◌^◌, ◌<◌, ◌≤◌, ◌==◌, Bool, true, false, not, List, [], ◌∷◌, ◌++◌, map, Some, None, Result, Ok, codes, refl, ap, ◌∙◌, arith}
+use Rattle.std.proofs.Common.{◌≡◌, ℕ, suc, ◌+◌, ◌-◌, ◌*◌, ◌/◌, ◌%◌, ◌^◌, ◌<◌, ◌≤◌, ◌==◌, Bool, true, false, not, List, [], ◌∷◌, map, Some, Result, Ok, codes, refl, ap, ◌∙◌, arith}
 use Rattle.serde_json.specs.Data.{Data, boolean}
 use Rattle.serde_json.specs.Find.{as_bool}
 use Rattle.serde_json.specs.Read.{max_depth}
@@ -13,7 +13,6 @@ use Rattle.base_types.specs.Calendar.{end_of_time}
 use Rattle.base_types.specs.Moment.{moment_of, moment_text}
 use Rattle.base_types.proofs.MomentLemmas.{moment_of-moment_text}
 use Rattle.base_bech32.specs.declared.form.Form.{Form}
-use Rattle.base_bech32.specs.declared.form.Form.TheVariants.{Hex, Bech32}
 use Rattle.base_coins.specs.Steps.{◌>>=◌}
 use Rattle.base_roles.specs.declared.messages.Evidence.{Evidence}
 use Rattle.base_roles.specs.declared.messages.Vote.{Vote}
@@ -29,26 +28,23 @@ use Rattle.base_messages.specs.declared.message.Msg.{Msg}
 use Rattle.line_json.specs.Addresses.{account_in, cons_in, operator_in, user_in}
 use Rattle.line_json.specs.Block.{block_of, block_of_tree, evidence_of, tx_of as tx_read_of, vote_of}
 use Rattle.line_json.specs.Genesis.{account_of_tree, delegation_of, genesis_of, genesis_of_tree, validator_of}
-use Rattle.line_json.specs.Line.{line_of}
 use Rattle.line_json.specs.Lines.{lines_of}
 use Rattle.line_json.specs.Members.{amount_of, number_in, spelled_by}
 use Rattle.line_json.specs.Messages.{message_of as message_read_of}
 use Rattle.line_json.specs.Params.{params_of}
 use Rattle.line_json.specs.Reading.{tree_of}
 use Rattle.line_json.specs.Values.{account_data, cons_data, count_data, decimal_data, moment_data, operator_data, user_data, whole_data}
-use Rattle.line_json.proofs.BackLemmas.{IsBack, amount_is_read, array_back, back_deeper, count_back, elements_back, flag_back, list_read, member_read, moment_text_is_utf8, next_is, no_more, object_back, one_more, read_five, read_four, read_six, read_three, read_two, string_back, tree_back}
+use Rattle.line_json.proofs.BackLemmas.{IsBack, amount_is_read, array_back, back_deeper, count_back, elements_back, flag_back, list_read, member_read, moment_text_is_utf8, next_is, no_more, object_back, one_more, read_five, read_four, read_one, read_six, read_three, read_two, string_back, tree_back}
 use Rattle.line_json.proofs.EndLemmas.{first_line}
-use Rattle.line_json.proofs.ReadingOnLiterals.{reading_on_literals}
+use Rattle.line_json.proofs.SpelledOnLiterals.{spelled_on_literals}
 use Rattle.line_json.proofs.TextLemmas.{dec_text_is_utf8, denom_is_utf8}
 use Rattle.run_generated.specs.declared.choices.Choices.{Choices}
 use Rattle.run_generated.specs.Drawing.{in_turn, next, numbers_from}
-use Rattle.run_generated.specs.Input.{account_at, address, block_drawn, blocks_of, choices_drawn, coin, coins, delegation_at, evidence_drawn, first_genesis, message_of, parameters, payer_of, signer, time_at, tx_drawn, tx_of, uatom, validator_at, vote_drawn}
+use Rattle.run_generated.specs.Input.{account_at, address, block_drawn, blocks_of, choices_drawn, coins, delegation_at, evidence_drawn, first_genesis, message_of, parameters, signer, time_at, tx_drawn, uatom, validator_at, vote_drawn}
 use Rattle.run_generated.specs.Lines.{block_data, block_line, delegation_data, evidence_data, genesis_data, holder_data, list_data, message_data, params_data, tx_data, validator_data, vote_data}
-use Rattle.run_generated.specs.Reading.{GeneratedIsRead, IsReadAs, SpellInTurn}
-use Rattle.run_generated.specs.Writing.{generated_text}
+use Rattle.run_generated.specs.Reading.{GeneratedIsRead, SpellInTurn}
 use Rattle.run_generated.proofs.EachLemmas.{each_in_turn, each_of, evidence_so, numbers_within, txs_so}
-use Rattle.run_generated.proofs.MessageLemmas.{IsMessageBack, account_read, alone, coins_one, coins_read, coins_written, commission_back, cons_read, cons_written, delegate_back, either_back, number_read, operator_read, operator_written, redelegate_back, reward_back, send_back, undelegate_back, user_read, user_written, whole_written, word_written}
-use Rattle.run_generated.proofs.OnLiterals.{gen_on_literals}
+use Rattle.run_generated.proofs.MessageLemmas.{IsMessageBack, account_read, coins_read, coins_written, commission_back, cons_read, cons_written, delegate_back, either_back, number_read, operator_read, operator_written, redelegate_back, reward_back, send_back, undelegate_back, user_read, user_written, whole_written, word_written}
 
 -- ---- moments
 
@@ -268,9 +264,13 @@ delegation_back f n h =
     record { read = e; written = object_back 0 _ (one_more refl (whole_written 0 10000000 (omega arith)) (one_more refl (user_written f 0 (address n)) (one_more refl (operator_written f 0 (address n)) no_more))) }
 
 params_read : (f : Form) → params_of f (params_data f parameters) ≡ Ok parameters
-unfolding reading_on_literals gen_on_literals
-params_read Hex = refl
-params_read Bech32 = refl
+unfolding params_of spelled_on_literals
+params_read f =
+    let d : Data = params_data f parameters in
+    let small : 39 < 256 = omega arith in
+    let e = read_one {T = Params} (λ authority. record parameters { authority = authority }) _ (address 39)
+    (member_read (spelled_by (user_in f)) 25 (codes "authority") d (user_data f (address 39)) (address 39) refl (user_read f 39 small)) in
+    e
 
 params_written : (f : Form) → IsBack 1 (params_data f parameters)
 params_written f =
