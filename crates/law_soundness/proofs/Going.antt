@@ -1,5 +1,5 @@
 -- What holds of blocks that go on from a sound state, put together.
-use Rattle.std.proofs.Common.{ℕ, ◌+◌, ◌^◌, ◌<◌, List, length}
+use Rattle.std.proofs.Common.{◌+◌, ◌^◌, ◌<◌, List, length}
 use Rattle.base_messages.specs.declared.block.Block.{Block}
 use Rattle.rule_machine.specs.Machine.{run_of}
 use Rattle.rule_machine.specs.Promises.{AreInput}

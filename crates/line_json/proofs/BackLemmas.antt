@@ -2,7 +2,8 @@
 use Rattle.std.specs.Result.{result_ok}
 use Rattle.std.specs.List.{AllByRecursion}
 use Rattle.std.specs.Str.{IsUtf8}
-use Rattle.std.proofs.Common.{◌≡◌, ℕ, zero, suc, ◌+◌, ◌/◌, ◌%◌, ◌^◌, ◌<◌, ◌≤◌, ◌==◌, nat_lt, Bool, true, false, List, [], ◌∷◌, ◌++◌, All, map, cond, Some, None, Option, option_and_then, Result, Ok, decimal, refl, ap, ◌∙◌, arith, ltb-true}
+use Rattle.std.proofs.Common.{◌≡◌, ℕ, zero, suc, ◌+◌, ◌/◌, ◌%◌, ◌^◌, ◌<◌, ◌≤◌, ◌==◌, ◌&&◌, nat_lt, Bool, true, false, List, [], ◌∷◌, ◌++◌, All, map, cond, Some, None, Option, option_and_then, Result, Ok, decimal, refl, ap, ◌∙◌, arith, ltb-true}
+use Rattle.std.proofs.lemmas.Bool.{and_parts}
 use Rattle.std.proofs.lemmas.Fmt.{decimal_is_IsNumeral_wide, length-decimal-le_wide, IsAscii-decimal}
 use Rattle.std.proofs.lemmas.List.Elements.{All-append, All-cons, All-nil}
 use Rattle.std.proofs.lemmas.Str.{IsUtf8-append, IsUtf8-from_ascii}
@@ -138,10 +139,15 @@ pub record AreBack (k : ℕ) (ds : Items) : Type 0 where
   pub elements : AreElements k ds
   pub utf8 : (later : Bool) → IsUtf8 (items_text later ds)
 
+-- the names of members are ASCII
+abbrev pub are_named : Members → Bool
+are_named no_members = true
+are_named (member name d ms) = are_ascii name && are_named ms
+
 -- members of which each is, and which make an object whole that has others
 pub record HaveBack (k : ℕ) (found ms whole : Members) : Type 0 where
   pub members : AreMembers k found ms whole
-  pub utf8 : (later : Bool) → IsUtf8 (members_text later ms)
+  pub utf8 : (later : Bool) → are_named ms ≡ true → IsUtf8 (members_text later ms)
 
 pub tree_back : (d : Data) → IsBack max_depth d → tree_of (compact_text d) ≡ Ok d
 tree_back d h = tree_found (compact_text d) d h.utf8 (read_written d h.plain)
@@ -184,18 +190,20 @@ elements_back k form [] h = no_element_back k
 elements_back k form (x ∷ xs) h = element_back k (form x) (items_of (map form xs)) h.0 (elements_back k form xs h.1)
 
 pub no_more : {k : ℕ} {found : Members} → HaveBack k found no_members found
-no_more = record { members = no_member _ _; utf8 = λ later. IsUtf8-are_ascii _ refl }
+no_more = record { members = no_member _ _; utf8 = λ later e. IsUtf8-are_ascii _ refl }
 
-pub one_more : {k : ℕ} {name : List ℕ} {d : Data} {found ms all : Members} → are_ascii name ≡ true → IsBack k d → HaveBack k (put name d found) ms all → HaveBack k found (member name d ms) all
-one_more {k} {name} {d} {found} {ms} {all} e h g = record {
+pub one_more : {k : ℕ} {name : List ℕ} {d : Data} {found ms all : Members} → IsBack k d → HaveBack k (put name d found) ms all → HaveBack k found (member name d ms) all
+one_more {k} {name} {d} {found} {ms} {all} h g = record {
   members = one_member k name d found ms all h.plain g.members;
-  utf8 = λ later. IsUtf8-append (comma_if later) (quoted name ++ 58 ∷ (compact_text d ++ members_text true ms)) (comma_is_utf8 later)
-      (IsUtf8-append (quoted name) (58 ∷ (compact_text d ++ members_text true ms)) (IsUtf8-quoted name (IsUtf8-are_ascii name e))
-      (byte_then 58 (compact_text d ++ members_text true ms) refl (IsUtf8-append (compact_text d) (members_text true ms) h.utf8 (g.utf8 true))));
+  utf8 = λ later e.
+      let p = and_parts (are_ascii name) (are_named ms) e in
+      IsUtf8-append (comma_if later) (quoted name ++ 58 ∷ (compact_text d ++ members_text true ms)) (comma_is_utf8 later)
+      (IsUtf8-append (quoted name) (58 ∷ (compact_text d ++ members_text true ms)) (IsUtf8-quoted name (IsUtf8-are_ascii name p.0))
+      (byte_then 58 (compact_text d ++ members_text true ms) refl (IsUtf8-append (compact_text d) (members_text true ms) h.utf8 (g.utf8 true p.1))));
 }
 
-pub object_back : (k : ℕ) (ms : Members) → HaveBack k no_members ms ms → IsBack (suc k) (object ms)
-object_back k ms h = record { plain = object_plain k ms h.members; utf8 = byte_then 123 (members_text false ms) refl (h.utf8 false) }
+pub object_back : (k : ℕ) (ms : Members) → HaveBack k no_members ms ms → are_named ms ≡ true → IsBack (suc k) (object ms)
+object_back k ms h e = record { plain = object_plain k ms h.members; utf8 = byte_then 123 (members_text false ms) refl (h.utf8 false e) }
 
 -- ---- reading
 

@@ -93,7 +93,7 @@ coin_read n h =
     e
 
 pub coin_written : (n : ℕ) → n < 10 ^ 38 → IsBack 1 (one_coin (coin n))
-coin_written n h = object_back 0 _ (one_more refl (whole_written 0 n h) (one_more refl (string_back 0 uatom (denom_is_utf8 uatom refl)) no_more))
+coin_written n h = object_back 0 _ (one_more (whole_written 0 n h) (one_more (string_back 0 uatom (denom_is_utf8 uatom refl)) no_more)) refl
 
 -- one coin, as a list of coins
 pub coins_one : (n : ℕ) → 0 < n → coins n ≡ (uatom, n) ∷ []
@@ -136,7 +136,7 @@ module _ (f : Form) where
       let g = read_one {T = Msg} (λ x. msg.Delegate x) (delegate_of f d) m e in
       record {
         read = g;
-        written = object_back 2 _ (one_more refl (back_deeper 1 2 _ (omega arith) (coin_written n hn)) (one_more refl (user_written f 2 (address a)) (one_more refl (kind_written (codes "delegate") refl) (one_more refl (operator_written f 2 (address b)) no_more))));
+        written = object_back 2 _ (one_more (back_deeper 1 2 _ (omega arith) (coin_written n hn)) (one_more (user_written f 2 (address a)) (one_more (kind_written (codes "delegate") refl) (one_more (operator_written f 2 (address b)) no_more)))) refl;
       }
 
   pub undelegate_back : (a b n : ℕ) → a < 256 → b < 256 → n < 10 ^ 38 → IsMessageBack f (msg.Undelegate (record { delegator = address a; validator = address b; amount = coin n }))
@@ -151,7 +151,7 @@ module _ (f : Form) where
       let g = read_one {T = Msg} (λ x. msg.Undelegate x) (undelegate_of f d) m e in
       record {
         read = g;
-        written = object_back 2 _ (one_more refl (back_deeper 1 2 _ (omega arith) (coin_written n hn)) (one_more refl (user_written f 2 (address a)) (one_more refl (kind_written (codes "undelegate") refl) (one_more refl (operator_written f 2 (address b)) no_more))));
+        written = object_back 2 _ (one_more (back_deeper 1 2 _ (omega arith) (coin_written n hn)) (one_more (user_written f 2 (address a)) (one_more (kind_written (codes "undelegate") refl) (one_more (operator_written f 2 (address b)) no_more)))) refl;
       }
 
   pub redelegate_back : (a b c n : ℕ) → a < 256 → b < 256 → c < 256 → n < 10 ^ 38
@@ -168,8 +168,8 @@ module _ (f : Form) where
       let g = read_one {T = Msg} (λ x. msg.BeginRedelegate x) (begin_redelegate_of f d) m e in
       record {
         read = g;
-        written = object_back 2 _ (one_more refl (back_deeper 1 2 _ (omega arith) (coin_written n hn)) (one_more refl (user_written f 2 (address a)) (one_more refl (kind_written (codes "begin_redelegate") refl)
-            (one_more refl (operator_written f 2 (address b)) (one_more refl (operator_written f 2 (address c)) no_more)))));
+        written = object_back 2 _ (one_more (back_deeper 1 2 _ (omega arith) (coin_written n hn)) (one_more (user_written f 2 (address a)) (one_more (kind_written (codes "begin_redelegate") refl)
+            (one_more (operator_written f 2 (address b)) (one_more (operator_written f 2 (address c)) no_more))))) refl;
       }
 
   pub reward_back : (a b : ℕ) → a < 256 → b < 256 → IsMessageBack f (msg.WithdrawReward (record { delegator = address a; validator = address b }))
@@ -183,7 +183,7 @@ module _ (f : Form) where
       let g = read_one {T = Msg} (λ x. msg.WithdrawReward x) (withdraw_reward_of f d) m e in
       record {
         read = g;
-        written = object_back 2 _ (one_more refl (user_written f 2 (address a)) (one_more refl (kind_written (codes "withdraw_reward") refl) (one_more refl (operator_written f 2 (address b)) no_more)));
+        written = object_back 2 _ (one_more (user_written f 2 (address a)) (one_more (kind_written (codes "withdraw_reward") refl) (one_more (operator_written f 2 (address b)) no_more))) refl;
       }
 
   pub commission_back : (b : ℕ) → b < 256 → IsMessageBack f (msg.WithdrawCommission (record { validator = address b }))
@@ -196,7 +196,7 @@ module _ (f : Form) where
       let g = read_one {T = Msg} (λ x. msg.WithdrawCommission x) (withdraw_commission_of f d) m e in
       record {
         read = g;
-        written = object_back 2 _ (one_more refl (kind_written (codes "withdraw_commission") refl) (one_more refl (operator_written f 2 (address b)) no_more));
+        written = object_back 2 _ (one_more (kind_written (codes "withdraw_commission") refl) (one_more (operator_written f 2 (address b)) no_more)) refl;
       }
 
   alone_back : (a b n : ℕ) → a < 256 → b < 256 → 0 < n → n < 10 ^ 38 → IsMessageBack f (msg.Send (record { from = address a; to = account.User (address b); coins = alone n }))
@@ -211,7 +211,7 @@ module _ (f : Form) where
       let g = read_one {T = Msg} (λ x. msg.Send x) (send_of f d) m e in
       record {
         read = g;
-        written = object_back 2 _ (one_more refl (coins_written n hn) (one_more refl (user_written f 2 (address a)) (one_more refl (kind_written (codes "send") refl) (one_more refl (user_written f 2 (address b)) no_more))));
+        written = object_back 2 _ (one_more (coins_written n hn) (one_more (user_written f 2 (address a)) (one_more (kind_written (codes "send") refl) (one_more (user_written f 2 (address b)) no_more)))) refl;
       }
 
   pub send_back : (a b n : ℕ) → a < 256 → b < 256 → 0 < n → n < 10 ^ 38 → IsMessageBack f (msg.Send (record { from = address a; to = account.User (address b); coins = coins n }))

@@ -96,7 +96,7 @@ vote_back f n signed h =
     (member_read as_bool 72 (codes "signed") d (boolean signed) signed refl refl) in
     record {
       read = e;
-      written = object_back 0 _ (one_more refl (cons_written f 0 (signer n)) (one_more refl (count_written 0 10 (omega arith)) (one_more refl (flag_back 0 signed) no_more)));
+      written = object_back 0 _ (one_more (cons_written f 0 (signer n)) (one_more (count_written 0 10 (omega arith)) (one_more (flag_back 0 signed) no_more))) refl;
     }
 
 evidence_back : (f : Form) (n height : ℕ) → n < 256 → height ≤ 100000 → IsValueBack (evidence_of f) (evidence_data f) 1 (record { cons = signer n; height = height; time = time_at height; power = 10 })
@@ -111,7 +111,7 @@ evidence_back f n height h l =
     (member_read number_in 76 (codes "power") d (count_data 10) 10 refl refl) in
     record {
       read = e;
-      written = object_back 0 _ (one_more refl (cons_written f 0 (signer n)) (one_more refl (count_written 0 height l) (one_more refl (count_written 0 10 (omega arith)) (one_more refl (moment_written 0 height l) no_more))));
+      written = object_back 0 _ (one_more (cons_written f 0 (signer n)) (one_more (count_written 0 height l) (one_more (count_written 0 10 (omega arith)) (one_more (moment_written 0 height l) no_more)))) refl;
     }
 
 -- ---- transactions
@@ -164,8 +164,8 @@ paid_back f payer m h k =
     (list_read (message_read_of f) (message_data f) 82 (codes "msgs") d (m ∷ []) refl (k.read, tt)) in
     record {
       read = e;
-      written = object_back 4 _ (one_more refl (back_deeper 2 4 _ (omega arith) (coins_written 1000 (omega arith)))
-          (one_more refl (array_back 3 _ (elements_back 3 (message_data f) (m ∷ []) (k.written, tt))) (one_more refl (user_written f 4 (address payer)) no_more)));
+      written = object_back 4 _ (one_more (back_deeper 2 4 _ (omega arith) (coins_written 1000 (omega arith)))
+          (one_more (array_back 3 _ (elements_back 3 (message_data f) (m ∷ []) (k.written, tt))) (one_more (user_written f 4 (address payer)) no_more))) refl;
     }
 
 either_payer : (f : Form) (b : Bool) (x y : ℕ) (m : Msg) → x < 256 → y < 256 → IsMessageBack f m
@@ -198,9 +198,9 @@ block_from f height votes evidence txs l hv he ht =
     (list_read (tx_read_of f) (tx_data f) 65 (codes "txs") d txs refl (all_read (tx_read_of f) (tx_data f) 5 txs ht)) in
     record {
       read = e;
-      written = object_back 6 _ (one_more refl (back_deeper 2 6 _ (omega arith) (list_written (evidence_of f) (evidence_data f) 1 evidence he)) (one_more refl (count_written 6 height l)
-          (one_more refl (word_written 6 (codes "block") refl) (one_more refl (moment_written 6 height l)
-          (one_more refl (list_written (tx_read_of f) (tx_data f) 5 txs ht) (one_more refl (back_deeper 2 6 _ (omega arith) (list_written (vote_of f) (vote_data f) 1 votes hv)) no_more)))));
+      written = object_back 6 _ (one_more (back_deeper 2 6 _ (omega arith) (list_written (evidence_of f) (evidence_data f) 1 evidence he)) (one_more (count_written 6 height l)
+          (one_more (word_written 6 (codes "block") refl) (one_more (moment_written 6 height l)
+          (one_more (list_written (tx_read_of f) (tx_data f) 5 txs ht) (one_more (back_deeper 2 6 _ (omega arith) (list_written (vote_of f) (vote_data f) 1 votes hv)) no_more)))))) refl;
     }
 
 block_back : (f : Form) (height x : ℕ) → height ≤ 100000 → IsValueBack (block_of_tree f) (block_data f) 7 (block_drawn height x).value
@@ -229,7 +229,7 @@ account_back f n h =
     let e = read_two {T = GenesisAccount} (λ x y. record { address = x; coins = y }) _ (account.User (address n)) _ (coins 1000000000)
     (member_read (spelled_by (account_in f)) 30 (codes "address") d (account_data f (account.User (address n))) (account.User (address n)) refl (account_read f n h))
     (coins_read 1000000000 31 (codes "coins") d (omega arith) (omega arith) refl) in
-    record { read = e; written = object_back 2 _ (one_more refl (user_written f 2 (address n)) (one_more refl (coins_written 1000000000 (omega arith)) no_more)) }
+    record { read = e; written = object_back 2 _ (one_more (user_written f 2 (address n)) (one_more (coins_written 1000000000 (omega arith)) no_more)) refl }
 
 decimal_written : (k n : ℕ) → IsBack k (decimal_data n)
 decimal_written k n = string_back k _ (dec_text_is_utf8 n)
@@ -249,8 +249,8 @@ validator_back f n h =
     (member_read (spelled_by amount_of) 45 (codes "min_self_delegation") d (whole_data 1) 1 refl (amount_is_read 1 (omega arith))) in
     record {
       read = e;
-      written = object_back 0 _ (one_more refl (cons_written f 0 (signer n)) (one_more refl (decimal_written 0 (10 ^ 17)) (one_more refl (decimal_written 0 (5 * 10 ^ 17))
-          (one_more refl (whole_written 0 1 (omega arith)) (one_more refl (operator_written f 0 (address n)) (one_more refl (decimal_written 0 (10 ^ 17)) no_more))))));
+      written = object_back 0 _ (one_more (cons_written f 0 (signer n)) (one_more (decimal_written 0 (10 ^ 17)) (one_more (decimal_written 0 (5 * 10 ^ 17))
+          (one_more (whole_written 0 1 (omega arith)) (one_more (operator_written f 0 (address n)) (one_more (decimal_written 0 (10 ^ 17)) no_more)))))) refl;
     }
 
 delegation_back : (f : Form) (n : ℕ) → n < 256 → IsValueBack (delegation_of f) (delegation_data f) 1 (delegation_at n)
@@ -261,7 +261,7 @@ delegation_back f n h =
     (member_read (spelled_by (user_in f)) 50 (codes "delegator") d (user_data f (address n)) (address n) refl (user_read f n h))
     (member_read (spelled_by (operator_in f)) 51 (codes "validator") d (operator_data f (address n)) (address n) refl (operator_read f n h))
     (member_read (spelled_by amount_of) 52 (codes "amount") d (whole_data 10000000) 10000000 refl (amount_is_read 10000000 (omega arith))) in
-    record { read = e; written = object_back 0 _ (one_more refl (whole_written 0 10000000 (omega arith)) (one_more refl (user_written f 0 (address n)) (one_more refl (operator_written f 0 (address n)) no_more))) }
+    record { read = e; written = object_back 0 _ (one_more (whole_written 0 10000000 (omega arith)) (one_more (user_written f 0 (address n)) (one_more (operator_written f 0 (address n)) no_more))) refl }
 
 params_read : (f : Form) → params_of f (params_data f parameters) ≡ Ok parameters
 unfolding params_of spelled_on_literals
@@ -274,11 +274,11 @@ params_read f =
 
 params_written : (f : Form) → IsBack 1 (params_data f parameters)
 params_written f =
-    object_back 0 _ (one_more refl (user_written f 0 (address 39)) (one_more refl (string_back 0 uatom (denom_is_utf8 uatom refl)) (one_more refl (decimal_written 0 (2 * 10 ^ 16))
-    (one_more refl (count_written 0 600 (omega arith)) (one_more refl (count_back 0 172800 (omega arith)) (one_more refl (count_written 0 100000 (omega arith)) (one_more refl (count_written 0 7 (omega arith))
-    (one_more refl (count_written 0 8 (omega arith)) (one_more refl (decimal_written 0 0) (one_more refl (decimal_written 0 (5 * 10 ^ 17)) (one_more refl (count_back 0 1000000 (omega arith))
-    (one_more refl (count_written 0 100 (omega arith)) (one_more refl (decimal_written 0 (5 * 10 ^ 16)) (one_more refl (decimal_written 0 (10 ^ 14)) (one_more refl (count_written 0 1000 (omega arith))
-    (one_more refl (flag_back 0 true) no_more))))))))))))))))
+    object_back 0 _ (one_more (user_written f 0 (address 39)) (one_more (string_back 0 uatom (denom_is_utf8 uatom refl)) (one_more (decimal_written 0 (2 * 10 ^ 16))
+    (one_more (count_written 0 600 (omega arith)) (one_more (count_back 0 172800 (omega arith)) (one_more (count_written 0 100000 (omega arith)) (one_more (count_written 0 7 (omega arith))
+    (one_more (count_written 0 8 (omega arith)) (one_more (decimal_written 0 0) (one_more (decimal_written 0 (5 * 10 ^ 17)) (one_more (count_back 0 1000000 (omega arith))
+    (one_more (count_written 0 100 (omega arith)) (one_more (decimal_written 0 (5 * 10 ^ 16)) (one_more (decimal_written 0 (10 ^ 14)) (one_more (count_written 0 1000 (omega arith))
+    (one_more (flag_back 0 true) no_more)))))))))))))))) refl
 
 -- what holds of each number up to a greatest one holds of what is made of each
 each_at : {A : Type 0} (P : A → Type 0) (form : ℕ → A) (most : ℕ) → ((n : ℕ) → n ≤ most → P (form n)) → (ns : List ℕ) → AllByRecursion (λ n. n ≤ most) ns → AllByRecursion P (map form ns)
@@ -301,9 +301,9 @@ genesis_from f accounts validators delegations ha hv hd =
     (list_read (delegation_of f) (delegation_data f) 6 (codes "delegations") d delegations refl (all_read (delegation_of f) (delegation_data f) 1 delegations hd)) in
     record {
       read = e;
-      written = object_back 4 _ (one_more refl (list_written (account_of_tree f) (holder_data f) 3 accounts ha) (one_more refl (back_deeper 2 4 _ (omega arith) (list_written (delegation_of f) (delegation_data f) 1 delegations hd))
-          (one_more refl (word_written 4 (codes "genesis") refl) (one_more refl (back_deeper 1 4 _ (omega arith) (params_written f)) (one_more refl (moment_written 4 0 (omega arith))
-          (one_more refl (back_deeper 2 4 _ (omega arith) (list_written (validator_of f) (validator_data f) 1 validators hv)) no_more))))));
+      written = object_back 4 _ (one_more (list_written (account_of_tree f) (holder_data f) 3 accounts ha) (one_more (back_deeper 2 4 _ (omega arith) (list_written (delegation_of f) (delegation_data f) 1 delegations hd))
+          (one_more (word_written 4 (codes "genesis") refl) (one_more (back_deeper 1 4 _ (omega arith) (params_written f)) (one_more (moment_written 4 0 (omega arith))
+          (one_more (back_deeper 2 4 _ (omega arith) (list_written (validator_of f) (validator_data f) 1 validators hv)) no_more)))))) refl;
     }
 
 genesis_back : (f : Form) → IsValueBack (genesis_of_tree f) (genesis_data f) 5 first_genesis
