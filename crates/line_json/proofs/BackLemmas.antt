@@ -78,18 +78,18 @@ two_small : (n : ℕ) → n < 100 → All IsSmall (two n)
 two_small n h =
     let high : 48 + n / 10 < 128 = omega (arith, h) in
     let low : 48 + n % 10 < 128 = omega arith in
-    All-cons IsSmall (48 + n / 10) _ high (All-cons IsSmall (48 + n % 10) [] low (All-nil IsSmall))
+    All-cons IsSmall (48 + n / 10) ((48 + n % 10) ∷ []) high (All-cons IsSmall (48 + n % 10) [] low (All-nil IsSmall))
 
 digit_small : (d : ℕ) → d < 10 → IsSmall (48 + d)
 digit_small d h = omega (arith, h)
 
 digits_small : (p n : ℕ) → n < 10 ^ p → All IsSmall (digits p n)
 digits_small zero n h = All-nil IsSmall
-digits_small (suc p) n h = by (n == 0)
+digits_small (suc p) n h = by (n == 0) (digits_small p (n % 10 ^ p) (rest_below n p))
   where
-    by : (b : Bool) → All IsSmall (cond b [] ((48 + n / 10 ^ p) ∷ digits p (n % 10 ^ p)))
-    by true = All-nil IsSmall
-    by false = All-cons IsSmall (48 + n / 10 ^ p) (digits p (n % 10 ^ p)) (digit_small (n / 10 ^ p) (quotient_below n p h)) (digits_small p (n % 10 ^ p) (rest_below n p))
+    by : (b : Bool) → All IsSmall (digits p (n % 10 ^ p)) → All IsSmall (cond b [] ((48 + n / 10 ^ p) ∷ digits p (n % 10 ^ p)))
+    by true rest = All-nil IsSmall
+    by false rest = All-cons IsSmall (48 + n / 10 ^ p) (digits p (n % 10 ^ p)) (digit_small (n / 10 ^ p) (quotient_below n p h)) rest
 
 fraction_small : (n : ℕ) → n < 10 ^ 9 → All IsSmall (fraction_text n)
 fraction_small n h = by (n == 0)
@@ -106,7 +106,10 @@ date_small : (date : ℕ × ℕ × ℕ) → (date.0 < 10000) × (date.1 < 100) �
 date_small (y, m, d) b =
     let high : y / 100 < 100 = omega (arith, b.0) in
     let low : y % 100 < 100 = omega arith in
-    All-append IsSmall _ _ (All-append IsSmall _ _ (All-append IsSmall _ _ (two_small (y / 100) high) (two_small (y % 100) low)) (marked_small 45 m refl b.1)) (marked_small 45 d refl b.2)
+    let year : List ℕ = two (y / 100) ++ two (y % 100) in
+    All-append IsSmall (year ++ 45 ∷ two m) (45 ∷ two d)
+    (All-append IsSmall year (45 ∷ two m) (All-append IsSmall (two (y / 100)) (two (y % 100)) (two_small (y / 100) high) (two_small (y % 100) low)) (marked_small 45 m refl b.1))
+    (marked_small 45 d refl b.2)
 
 clock_small : (s : ℕ) → s < 86400 → All IsSmall (84 ∷ clock_text s)
 clock_small s h =
@@ -114,7 +117,20 @@ clock_small s h =
     let minutes : s / 60 % 60 < 100 = omega arith in
     let seconds : s % 60 < 100 = omega arith in
     All-cons IsSmall 84 (clock_text s) (small 84 refl)
-    (All-append IsSmall _ _ (All-append IsSmall _ _ (two_small (s / 3600) hours) (marked_small 58 (s / 60 % 60) refl minutes)) (marked_small 58 (s % 60) refl seconds))
+    (All-append IsSmall (two (s / 3600) ++ 58 ∷ two (s / 60 % 60)) (58 ∷ two (s % 60))
+    (All-append IsSmall (two (s / 3600)) (58 ∷ two (s / 60 % 60)) (two_small (s / 3600) hours) (marked_small 58 (s / 60 % 60) refl minutes))
+    (marked_small 58 (s % 60) refl seconds))
+
+-- the parts of a moment's text
+parts_small : (date : ℕ × ℕ × ℕ) (s part : ℕ) → (date.0 < 10000) × (date.1 < 100) × (date.2 < 100) → s < 86400 → part < 10 ^ 9
+    → IsUtf8 (date_text date ++ 84 ∷ clock_text s ++ fraction_text part ++ 90 ∷ [])
+parts_small date s part hd hs hp =
+    let day : List ℕ = date_text date ++ 84 ∷ clock_text s in
+    let all : List ℕ = day ++ fraction_text part ++ 90 ∷ [] in
+    IsUtf8-from_ascii all (IsAscii-from_all all
+    (All-append IsSmall (day ++ fraction_text part) (90 ∷ [])
+    (All-append IsSmall day (fraction_text part) (All-append IsSmall (date_text date) (84 ∷ clock_text s) (date_small date hd) (clock_small s hs)) (fraction_small part hp))
+    (All-cons IsSmall 90 [] (small 90 refl) (All-nil IsSmall))))
 
 pub moment_text_is_utf8 : (nanos : ℕ) → nanos < end_of_time → IsUtf8 (moment_text nanos)
 unfolding moment_text
@@ -122,10 +138,8 @@ moment_text_is_utf8 nanos h =
     let day : nanos / 86400000000000 ≤ 2932896 = omega (arith, h) in
     let second : nanos / 1000000000 % 86400 < 86400 = omega arith in
     let part : nanos % 1000000000 < 1000000000 = omega arith in
-    let bounds = bounds_of (nanos / 86400000000000) (date_of (nanos / 86400000000000)) (date_of-is (nanos / 86400000000000) day) in
-    IsUtf8-from_ascii _ (IsAscii-from_all _
-    (All-append IsSmall _ _ (All-append IsSmall _ _ (All-append IsSmall _ _ (date_small (date_of (nanos / 86400000000000)) bounds) (clock_small (nanos / 1000000000 % 86400) second)) (fraction_small (nanos % 1000000000) part))
-    (All-cons IsSmall 90 [] (small 90 refl) (All-nil IsSmall))))
+    parts_small (date_of (nanos / 86400000000000)) (nanos / 1000000000 % 86400) (nanos % 1000000000)
+    (bounds_of (nanos / 86400000000000) (date_of (nanos / 86400000000000)) (date_of-is (nanos / 86400000000000) day)) second part
 
 -- ---- trees
 
