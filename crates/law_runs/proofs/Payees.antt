@@ -165,8 +165,8 @@ payment_among : (who operator : List ℕ) (w x : State) (k : TellsPayment who op
     → (reward : Money) × (coins : Money) × Contains k.told (fact.Paid who operator (payee_of (shared_in w) who) reward coins)
 payment_among who operator w x k =
     let f : Fact = fact.Paid who operator (payee_of (shared_in w) who) k.reward k.coins in
-    let last : List Fact = f ∷ fact.Started who operator k.period k.stake ∷ [] in
-    (k.reward, k.coins, subst (λ fs. Contains fs f) (sym k.told_is) (Contains-append_right k.before last f (first_among f _)))
+    let start : List Fact = fact.Started who operator k.period k.stake ∷ [] in
+    (k.reward, k.coins, subst (λ fs. Contains fs f) (sym k.told_is) (Contains-append_right k.before (f ∷ start) f (first_among f start)))
   where
     first_among : (f : Fact) (fs : List Fact) → Contains (f ∷ fs) f
     first_among f fs = All-head (Contains (f ∷ fs)) f fs (All-contains_itself (f ∷ fs))
@@ -444,4 +444,4 @@ pub none_in : {A : Type 0} (x : A) (xs : List A) → xs ≡ [] → Contains xs x
 none_in x xs e c = All-contains (λ y. ⊥) [] x (All-nil (λ y. ⊥)) (subst (λ ys. Contains ys x) e c)
 
 pub nothing_tells_no_reward : NothingTellsNoReward
-nothing_tells_no_reward m w t = none_in _ t.told (sym (append_cancel_left w.view.facts [] t.told (append-nil w.view.facts ∙ t.facts_are))) t.reward.2
+nothing_tells_no_reward m w t = none_in (fact.Paid m.delegator m.validator (payee_of (shared_in w) m.delegator) t.reward.0 t.reward.1) t.told (sym (append_cancel_left w.view.facts [] t.told (append-nil w.view.facts ∙ t.facts_are))) t.reward.2
