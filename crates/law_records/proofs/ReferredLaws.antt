@@ -23,7 +23,7 @@ counted zero h e = refl
 counted (suc c) h e = absurd cc
 
 uncounted : (c : ℕ) (h : Historical) → c ≡ 0 → (if c == 0 then None else Some h) ≡ None
-uncounted c h e = ap (λ n. if n == 0 then None else Some h) e
+uncounted c h e = ap (λ (n : ℕ). if n == 0 then None else Some h) e
 
 -- no record is due where there are no periods, or nothing refers to one
 none_due : (o : Option Periods) (starts : List StartingInfo) (n : ℕ) → history_of o starts n ≡ None → (o ≡ None) ⊎ (references_in o starts n ≡ 0)

@@ -3,8 +3,11 @@ use Rattle.std.proofs.Common.{◌≡◌, ℕ, ◌+◌, ◌<◌, ◌≤◌, ◌==
 use Rattle.std.specs.Prelude.{IfOk, if◌then◌else◌, nat_le}
 use Rattle.base_decimals.specs.declared.over.Over.{Over}
 use Rattle.base_types.specs.declared.account.Account.{Account}
-use Rattle.base_coins.specs.Coins.{Money}
+use Rattle.base_types.specs.declared.account.Account.TheVariants as account
+use Rattle.base_types.specs.declared.account.Module.TheVariants as holder
+use Rattle.base_coins.specs.Coins.{Money, fractions, whole_coins}
 use Rattle.base_coins.specs.declared.coin.Coin.{Coin}
+use Rattle.base_shares.specs.Shares.{value_even_of}
 use Rattle.base_roles.specs.declared.entities.Validator.{Validator}
 use Rattle.base_roles.specs.declared.facts.Fact.{Fact}
 use Rattle.base_roles.specs.declared.facts.Fact.TheVariants as fact
@@ -20,8 +23,8 @@ use Rattle.rule_modules.specs.Amounts.{is_empty}
 use Rattle.rule_modules.specs.Chain.{State, chain_told, staked_in}
 use Rattle.rule_modules.specs.Conditions.{has_most_unbondings}
 use Rattle.rule_modules.specs.Delegating.{is_wrong}
-use Rattle.rule_modules.specs.Distribution.{Shared, current_taken, ended, reward_due, reward_renewed, reward_withdrawn}
-use Rattle.rule_modules.specs.Periods.{period_ended, periods_of}
+use Rattle.rule_modules.specs.Distribution.{Shared, current_taken, ended, payee_of, reward_due, reward_renewed, reward_withdrawn}
+use Rattle.rule_modules.specs.Periods.{period_ended, periods_of, reward_at, start_of}
 use Rattle.rule_modules.specs.Purses.{paid_out, pooled_told}
 use Rattle.rule_modules.specs.Unbonding.{shares_to_unbond}
 use Rattle.rule_modules.specs.Unbondings.{entries_of, undelegated}
@@ -75,19 +78,27 @@ ended_tells v d u =
 
 due_tells : (v : Validator) (who : List ℕ) (shares : ℕ) (d : Shared) (u : View) → IfOk (reward_due v who shares d u) (λ q. length u.facts < length q.2.facts)
 due_tells v who shares d u =
-    on_bind (ended v d u) _ _ (λ z e. on_bind _ _ _ (λ full f. from_if (λ y. length u.facts < length y.2.facts) (ended v d u) z e (ended_tells v d u)))
+    on_bind (ended v d u) _ _ (λ z e.
+    on_bind (reward_at (start_of z.1.rewards who v.operator) (periods_of z.1.rewards v.operator) z.0 z.2.ctx.height (value_even_of v.tokens v.shares shares)) _ _ (λ full f. from_if (λ y. length u.facts < length y.2.facts) (ended v d u) z e (ended_tells v d u)))
 
 withdrawn_tells : (v : Validator) (who : List ℕ) (shares : ℕ) (d : Shared) (u : View) → IfOk (reward_withdrawn v who shares d u) (λ y. length u.facts < length y.2.facts)
 withdrawn_tells v who shares d u =
     on_bind (reward_due v who shares d u) _ _ (λ q e. on_bind (paid_out v.operator q.0 q.1.purses) _ _ (λ r f.
     let first : length u.facts < length q.2.facts = from_if (λ y. length u.facts < length y.2.facts) (reward_due v who shares d u) q e (due_tells v who shares d u) in
-    one_longer (length u.facts) _ _ (at_most _ _ _ (less _ _ first) (at_most _ _ _ (sent_longer _ _ _ q.2.facts) (pooled_longer _ _)))))
+    let from : Account = account.Module holder.Distribution in
+    let to : Account = account.User (payee_of q.1 who) in
+    let coins : Money = whole_coins r.0 in
+    let sent : List Fact = transfer_told from to coins q.2.facts in
+    let all : List Fact = pooled_told (fractions r.0) sent in
+    one_longer (length u.facts) all (fact.Paid who v.operator (payee_of q.1 who) r.0 coins)
+    (at_most (length u.facts) (length q.2.facts) (length all) (less (length u.facts) (length q.2.facts) first)
+    (at_most (length q.2.facts) (length sent) (length all) (sent_longer from to coins q.2.facts) (pooled_longer (fractions r.0) sent)))))
 
 renewed_tells : (v : Validator) (who : List ℕ) (shares : ℕ) (d : Shared) (u : View) → IfOk (reward_renewed v who shares d u) (λ y. length u.facts < length y.2.facts)
 renewed_tells v who shares d u =
     on_bind (reward_withdrawn v who shares d u) _ _ (λ y e.
     let first : length u.facts < length y.2.facts = from_if (λ z. length u.facts < length z.2.facts) (reward_withdrawn v who shares d u) y e (withdrawn_tells v who shares d u) in
-    one_longer (length u.facts) y.2.facts _ (less _ _ first))
+    one_longer (length u.facts) y.2.facts _ (less (length u.facts) (length y.2.facts) first))
 
 taken_tells : (s : Staked) (who operator : List ℕ) (d : Shared) (u : View) → IfOk (reward_taken s who operator d u) (λ x. length u.facts < length x.2.facts)
 taken_tells s who operator d u =

@@ -1,6 +1,6 @@
 -- Addresses, coins and messages of the generated input are read back from what is written of them.
 use Rattle.std.specs.List.{list_all}
-use Rattle.std.proofs.Common.{◌≡◌, ℕ, zero, suc, ◌^◌, ◌<◌, ◌==◌, nat_lt, Bool, true, false, List, [], ◌∷◌, ◌++◌, map, Some, None, option_map, Ok, codes, refl, sym, ap, subst, ◌∙◌, arith, ltb-true, lt-ltb}
+use Rattle.std.proofs.Common.{◌≡◌, ℕ, zero, suc, ◌^◌, ◌<◌, ◌==◌, nat_lt, Bool, true, false, List, [], ◌∷◌, ◌++◌, map, Some, None, option_map, Result, Ok, codes, refl, sym, ap, subst, ◌∙◌, arith, ltb-true, lt-ltb}
 use Rattle.std.specs.Prelude.{if◌then◌else◌}
 use Rattle.std.proofs.lemmas.Bool.{and_parts}
 use Rattle.hex.specs.Hex.{IsBytes}
@@ -14,6 +14,7 @@ use Rattle.base_bech32.specs.declared.form.Form.{Form}
 use Rattle.base_coins.specs.declared.coin.Coin.{Coin}
 use Rattle.base_coins.specs.Coins.{Money}
 use Rattle.base_coins.specs.Steps.{◌>>=◌}
+use Rattle.base_messages.specs.declared.faults.LineFault.{LineFault}
 use Rattle.base_messages.specs.declared.message.Send.{Send}
 use Rattle.base_messages.specs.declared.message.Delegate.{Delegate}
 use Rattle.base_messages.specs.declared.message.Undelegate.{Undelegate}
@@ -111,7 +112,8 @@ pub coins_read : (n number : ℕ) (name : List ℕ) (d : Data) → 0 < n → n <
 unfolding coins_at
 coins_read n number name d p h g =
     let listed : list_at coin_of number name d ≡ Ok (coin n ∷ []) = list_read coin_of one_coin number name d (coin n ∷ []) g (coin_read n h, tt) in
-    ap (λ r. r >>= (λ cs. money_of number (map (λ c. (c.denom, c.amount)) cs))) listed ∙ ap Ok (coins_one n p)
+    ap (λ (r : Result (List Coin) LineFault). r >>= (λ (cs : List Coin). money_of number (map (λ (c : Coin). (c.denom, c.amount)) cs))) listed
+    ∙ ap (λ (m : Money). Ok m) (coins_one n p)
 
 -- ---- messages
 
