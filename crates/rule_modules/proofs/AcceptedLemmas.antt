@@ -7,7 +7,7 @@ use Rattle.base_types.specs.declared.account.Account.TheVariants as account
 use Rattle.base_types.specs.declared.account.Module.TheVariants as holder
 use Rattle.base_coins.specs.Coins.{Money, fractions, whole_coins}
 use Rattle.base_coins.specs.declared.coin.Coin.{Coin}
-use Rattle.base_shares.specs.Shares.{value_even_of}
+use Rattle.base_shares.specs.Shares.{value_cut_of, value_even_of}
 use Rattle.base_roles.specs.declared.entities.Validator.{Validator}
 use Rattle.base_roles.specs.declared.facts.Fact.{Fact}
 use Rattle.base_roles.specs.declared.facts.Fact.TheVariants as fact
@@ -24,7 +24,7 @@ use Rattle.rule_modules.specs.Chain.{State, chain_told, staked_in}
 use Rattle.rule_modules.specs.Conditions.{has_most_unbondings}
 use Rattle.rule_modules.specs.Delegating.{is_wrong}
 use Rattle.rule_modules.specs.Distribution.{Shared, current_taken, ended, payee_of, reward_due, reward_renewed, reward_withdrawn}
-use Rattle.rule_modules.specs.Periods.{period_ended, periods_of, reward_at, start_of}
+use Rattle.rule_modules.specs.Periods.{last_ended, period_ended, periods_of, reward_at, start_of}
 use Rattle.rule_modules.specs.Purses.{paid_out, pooled_told}
 use Rattle.rule_modules.specs.Unbonding.{shares_to_unbond}
 use Rattle.rule_modules.specs.Unbondings.{entries_of, undelegated}
@@ -74,7 +74,7 @@ less a b h = omega (arith, h)
 ended_tells : (v : Validator) (d : Shared) (u : View) → IfOk (ended v d u) (λ z. length u.facts < length z.2.facts)
 ended_tells v d u =
     on_bind (current_taken v d.purses) _ _ (λ t e. on_bind (period_ended t.0 (periods_of d.rewards v.operator)) _ _ (λ r f.
-    one_longer (length u.facts) (pooled_told t.1 u.facts) _ (pooled_longer t.1 u.facts)))
+    one_longer (length u.facts) (pooled_told t.1 u.facts) (fact.Period v.operator (last_ended r.1) r.0) (pooled_longer t.1 u.facts)))
 
 due_tells : (v : Validator) (who : List ℕ) (shares : ℕ) (d : Shared) (u : View) → IfOk (reward_due v who shares d u) (λ q. length u.facts < length q.2.facts)
 due_tells v who shares d u =
@@ -98,7 +98,7 @@ renewed_tells : (v : Validator) (who : List ℕ) (shares : ℕ) (d : Shared) (u 
 renewed_tells v who shares d u =
     on_bind (reward_withdrawn v who shares d u) _ _ (λ y e.
     let first : length u.facts < length y.2.facts = from_if (λ z. length u.facts < length z.2.facts) (reward_withdrawn v who shares d u) y e (withdrawn_tells v who shares d u) in
-    one_longer (length u.facts) y.2.facts _ (less (length u.facts) (length y.2.facts) first))
+    one_longer (length u.facts) y.2.facts (fact.Started who v.operator (last_ended (periods_of y.1.rewards v.operator)) (value_cut_of v.tokens v.shares shares)) (less (length u.facts) (length y.2.facts) first))
 
 taken_tells : (s : Staked) (who operator : List ℕ) (d : Shared) (u : View) → IfOk (reward_taken s who operator d u) (λ x. length u.facts < length x.2.facts)
 taken_tells s who operator d u =
