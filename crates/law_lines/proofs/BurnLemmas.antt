@@ -13,10 +13,10 @@ use Rattle.law_soundness.proofs.Starting.{supplies_fall_by_burns}
 use Rattle.law_lines.specs.Laws.{SuppliesFallByWrittenBurns, told_of}
 use Rattle.law_lines.proofs.ReportLemmas.{reports_read}
 
-abbrev facts_alone : List (ℕ × Fact) → List Fact
+abbrev pub facts_alone : List (ℕ × Fact) → List Fact
 facts_alone told = map (λ t. t.1) told
 
-facts_first : (h : ℕ) (facts : List Fact) (rest : List (ℕ × Fact)) → facts_alone (map (λ told. (h, told)) facts ++ rest) ≡ facts ++ facts_alone rest
+pub facts_first : (h : ℕ) (facts : List Fact) (rest : List (ℕ × Fact)) → facts_alone (map (λ told. (h, told)) facts ++ rest) ≡ facts ++ facts_alone rest
 facts_first h [] rest = refl
 facts_first h (x ∷ xs) rest = ap (λ l. x ∷ l) (facts_first h xs rest)
 

@@ -17,8 +17,9 @@ use Rattle.line_json.specs.Members.{as_count}
 use Rattle.line_json.specs.Values.{count_data}
 use Rattle.law_lines.specs.Ranges.{IsCount, IsFact}
 use Rattle.law_lines.specs.Reading.{allocated_of, burn_of, changed_of, commission_of, fact_in, of_validator, paid_of, params_changed_of, period_of, pooled_of, slashed_of, started_of, told_by, transfer_of}
-use Rattle.law_lines.proofs.ValueLemmas.{account_is_read, amount_is_read, coins_are_read, dec_coins_are_read, decimal_is_read, denom_is_read, module_is_read, operator_is_read, status_is_read, user_is_read}
-use Rattle.law_lines.proofs.WrittenLemmas.{IsPlain, count, decimals, deeper, end, more, read_written, text, whole, whole_object}
+use Rattle.line_json.proofs.BackLemmas.{amount_is_read, denom_is_read}
+use Rattle.law_lines.proofs.ValueLemmas.{account_is_read, coins_are_read, dec_coins_are_read, decimal_is_read, module_is_read, operator_is_read, status_is_read, user_is_read}
+use Rattle.line_json.proofs.WrittenLemmas.{IsPlain, count, decimals, deeper, end, more, read_written, text, whole, whole_object}
 
 -- ---- members, one after another
 

@@ -1,9 +1,8 @@
 mod BurnLemmas
-mod EndLemmas
 mod FactLemmas
 mod OtherLemmas
 mod ReportLemmas
 mod StatementLemmas
 mod TextLemmas
+mod RunLemmas
 mod ValueLemmas
-mod WrittenLemmas

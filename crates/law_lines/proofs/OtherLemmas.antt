@@ -14,7 +14,7 @@ use Rattle.line_json.specs.Written.{block_data, genesis_data}
 use Rattle.law_lines.specs.Ranges.{IsCount, IsOutcome, IsReason}
 use Rattle.law_lines.specs.Reading.{fact_in, told_by}
 use Rattle.law_lines.proofs.FactLemmas.{read_as}
-use Rattle.law_lines.proofs.WrittenLemmas.{IsPlain, count, end, more, text, whole, whole_object}
+use Rattle.line_json.proofs.WrittenLemmas.{IsPlain, count, end, more, text, whole, whole_object}
 
 -- data that is read back, and tells no fact
 abbrev TellsNothing : Form → Data → Type 0

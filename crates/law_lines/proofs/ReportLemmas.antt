@@ -15,7 +15,7 @@ use Rattle.line_json.specs.Written.{block_data, genesis_data, text_of_block, tex
 use Rattle.law_lines.specs.Laws.{BlocksAreRead, GenesesTellNoFact, ReportsAreRead, told_of}
 use Rattle.law_lines.specs.Ranges.{IsCount, IsFact, IsReport, IsTxReport}
 use Rattle.law_lines.specs.Reading.{fact_in, facts_in}
-use Rattle.law_lines.proofs.EndLemmas.{first_line}
+use Rattle.line_json.proofs.EndLemmas.{first_line}
 use Rattle.law_lines.proofs.FactLemmas.{fact_is_read}
 use Rattle.law_lines.proofs.OtherLemmas.{no_fact_of_block, no_fact_of_genesis, no_fact_of_outcome}
 

@@ -33,9 +33,10 @@ use Rattle.mod_statement.specs.declared.statement.Statement.{Statement}
 use Rattle.line_statements.specs.Entries.{allocated_of, entries_data, entry_data, entry_of, kind_of, slashed_of, started_of}
 use Rattle.line_statements.specs.Statements.{statement_data, statement_of, statement_of_tree, text_of_statement}
 use Rattle.law_lines.specs.Statements.{AreDecCoins, IsEntry, IsStated, StatementsAreRead, StatementsDiffer, StatementsInTextsAreRead, statements_in}
-use Rattle.law_lines.proofs.EndLemmas.{first_line}
+use Rattle.line_json.proofs.EndLemmas.{first_line}
 use Rattle.law_lines.proofs.TextLemmas.{AreSpelled, IsSpelled, amount_is_utf8, count, element, elements, end, members, more, no_elements, operator_is_utf8, spelled_deeper, text, tree_spelled, user_is_utf8}
-use Rattle.law_lines.proofs.ValueLemmas.{amount_is_read, decimal_is_read, denom_is_read, operator_is_read, user_is_read}
+use Rattle.law_lines.proofs.ValueLemmas.{decimal_is_read, operator_is_read, user_is_read}
+use Rattle.line_json.proofs.BackLemmas.{amount_is_read, denom_is_read}
 
 -- ---- one step after another
 

@@ -16,7 +16,7 @@ use Rattle.base_types.proofs.DigitLemmas.{address_text_is_utf8}
 use Rattle.line_json.specs.Addresses.{account_prefix, operator_prefix, operator_text, user_text}
 use Rattle.line_json.specs.Reading.{tree_of}
 use Rattle.line_json.proofs.ReadingLemmas.{tree_found}
-use Rattle.law_lines.proofs.WrittenLemmas.{AreElements, AreMembers, IsPlain, array_plain, count_plain, deeper, no_element, no_member, object_plain, one_element, one_member, read_written, string_plain}
+use Rattle.line_json.proofs.WrittenLemmas.{AreElements, AreMembers, IsPlain, array_plain, count_plain, deeper, no_element, no_member, object_plain, one_element, one_member, read_written, string_plain}
 
 byte_then : (b : ℕ) (bytes : List ℕ) → are_ascii (b ∷ []) ≡ true → IsUtf8 bytes → IsUtf8 (b ∷ bytes)
 byte_then b bytes low u = IsUtf8-append (b ∷ []) bytes (IsUtf8-are_ascii (b ∷ []) low) u

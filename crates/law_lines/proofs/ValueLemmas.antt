@@ -1,48 +1,33 @@
 -- Values are read from what is written of them.
-use Rattle.std.specs.Result.{result_ok}
-use Rattle.std.proofs.Common.{◌≡◌, ℕ, ◌^◌, ◌<◌, List, [], ◌∷◌, map, true, cond, Some, None, Option, option_and_then, option_map, decimal, refl, ap, ◌∙◌, arith}
-use Rattle.std.proofs.lemmas.Fmt.{decimal_is_IsNumeral_wide, length-decimal-le_wide}
+use Rattle.std.proofs.Common.{◌≡◌, ℕ, ◌^◌, ◌<◌, List, [], ◌∷◌, map, Some, None, Option, option_and_then, option_map, refl, ap, ◌∙◌}
 use Rattle.std.proofs.lemmas.List.Elements.{All-head, All-tail}
 use Rattle.serde_json.specs.Data.{Data}
 use Rattle.serde_json.specs.View.{items_of}
-use Rattle.base_decimals.proofs.Inverse.{number_some, written_read}
+use Rattle.base_decimals.proofs.Inverse.{written_read}
 use Rattle.base_types.specs.declared.account.Account.{Account}
 use Rattle.base_types.specs.declared.account.Account.TheVariants as account
 use Rattle.base_types.specs.declared.account.Module.{Module}
 use Rattle.base_types.specs.declared.account.Module.TheVariants.{FeeCollector, Bonded, NotBonded, Distribution}
 use Rattle.base_types.specs.declared.status.BondStatus.{BondStatus}
 use Rattle.base_types.specs.declared.status.BondStatus.TheVariants as status
-use Rattle.base_types.specs.Denom.{denom_of, is_denom}
 use Rattle.base_types.specs.Maybe.{◌>>=◌}
-use Rattle.base_types.specs.Modules.{module_name, user_from, user_or_none}
+use Rattle.base_types.specs.Modules.{module_name, user_from}
 use Rattle.base_types.proofs.AccountLemmas.{address_of-module_name}
-use Rattle.base_types.proofs.AddressLemmas.{address_of-address_text}
 use Rattle.base_bech32.specs.declared.form.Form.{Form}
 use Rattle.base_bech32.specs.declared.form.Form.TheVariants.{Hex, Bech32}
-use Rattle.base_bech32.proofs.SpellingLemmas.{spelling_is_read}
 use Rattle.base_coins.specs.Coins.{Money}
-use Rattle.line_json.specs.Addresses.{account_prefix, account_text_in, operator_in, operator_prefix, operator_text, user_in, user_text}
-use Rattle.line_json.specs.Members.{amount_of}
+use Rattle.line_json.specs.Addresses.{account_text_in, operator_in, operator_text, user_in, user_text}
 use Rattle.line_json.specs.Values.{coin_data, coins_data, dec_coins_data, decimal_data, status_name, whole_data}
-use Rattle.line_json.proofs.ReadingLemmas.{are_digits_model}
+use Rattle.line_json.proofs.BackLemmas.{amount_is_read, denom_is_read, operator_back, user_back}
 use Rattle.law_lines.specs.Ranges.{AreCoins, IsAccount, IsCoin, IsUser}
 use Rattle.law_lines.specs.Reading.{account_named, amount_in, coin_in, coins_in, decimal_in, each, meant, modules, statuses, user_or_named}
 
 -- ---- numbers
 
-pub amount_is_read : (n : ℕ) → n < 10 ^ 38 → amount_of (decimal n) ≡ Some n
-amount_is_read n small =
-    let is = decimal_is_IsNumeral_wide n (omega (arith, small)) in
-    number_some 38 (decimal n) is.0.0 (length-decimal-le_wide 38 n (omega arith) small (omega (arith, small))) (are_digits_model.from (decimal n) is.0.1)
-    ∙ ap Some is.1
-
 pub decimal_is_read : (n : ℕ) → n < 10 ^ 38 → decimal_in (decimal_data n) ≡ Some n
 decimal_is_read n small = written_read n small
 
 -- ---- names
-
-pub denom_is_read : (name : List ℕ) → is_denom name ≡ true → denom_of name ≡ Some name
-denom_is_read name h = ap (λ b. cond b (Some name) None) h
 
 pub module_is_read : (m : Module) → meant modules (module_name m) ≡ Some m
 module_is_read FeeCollector = refl
@@ -58,14 +43,10 @@ status_is_read status.Unbonded = refl
 -- ---- addresses
 
 pub user_is_read : (f : Form) (bytes : List ℕ) → IsUser bytes → user_in f (user_text f bytes) ≡ Some bytes
-user_is_read Hex bytes h = ap (option_and_then user_from) (address_of-address_text bytes h.0) ∙ ap (user_or_none bytes) h.1
-user_is_read Bech32 bytes h =
-    ap (λ r. option_and_then user_from (result_ok r)) (spelling_is_read account_prefix bytes h.0) ∙ ap (user_or_none bytes) h.1
+user_is_read f bytes h = user_back f bytes h.0 h.1
 
 pub operator_is_read : (f : Form) (bytes : List ℕ) → IsUser bytes → operator_in f (operator_text f bytes) ≡ Some bytes
-operator_is_read Hex bytes h = ap (option_and_then user_from) (address_of-address_text bytes h.0) ∙ ap (user_or_none bytes) h.1
-operator_is_read Bech32 bytes h =
-    ap (λ r. option_and_then user_from (result_ok r)) (spelling_is_read operator_prefix bytes h.0) ∙ ap (user_or_none bytes) h.1
+operator_is_read f bytes h = operator_back f bytes h.0 h.1
 
 -- a module's name is no text of an address
 no_user : (f : Form) (m : Module) → user_in f (module_name m) ≡ None

@@ -1,6 +1,6 @@
 pub mod Laws
-pub mod Lines
 pub mod Ranges
 pub mod Reading
 pub mod Statements
+pub mod Runs
 pub mod Worked

@@ -19,7 +19,7 @@ use Rattle.base_roles.specs.declared.facts.Fact.{Fact}
 use Rattle.base_roles.specs.declared.facts.Fact.TheVariants as fact
 use Rattle.line_json.specs.Addresses.{operator_in, user_in}
 use Rattle.line_json.specs.Members.{amount_of, as_count, spelled_by}
-use Rattle.law_lines.specs.Lines.{lines_of}
+use Rattle.line_json.specs.Lines.{lines_of}
 
 -- ---- words
 

@@ -10,7 +10,7 @@ use Rattle.mod_statement.specs.declared.entry.Entry.{Entry}
 use Rattle.mod_statement.specs.declared.entry.Entry.TheVariants as entry
 use Rattle.mod_statement.specs.declared.statement.Statement.{Statement}
 use Rattle.line_statements.specs.Statements.{statement_data, statement_of, text_of_statement}
-use Rattle.law_lines.specs.Lines.{lines_of}
+use Rattle.line_json.specs.Lines.{lines_of}
 use Rattle.law_lines.specs.Ranges.{IsAmount, IsUser}
 
 -- ---- what the types of values give

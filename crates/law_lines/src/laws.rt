@@ -2,6 +2,7 @@
 
 ghost use Rattle.law_lines.specs.Laws.{BlocksAreRead, FactsAreRead, GenesesTellNoFact, ReportsAreRead, SuppliesFallByWrittenBurns};
 ghost use Rattle.law_lines.specs.Statements.{StatementsAreRead, StatementsDiffer, StatementsInTextsAreRead};
+ghost use Rattle.law_lines.specs.Runs.{RunsAreWritten};
 ghost use Rattle.law_lines.specs.Worked.{LinesTell, LinesTellNothing};
 
 /// The line of a fact is read as the fact, at the height of its block.
@@ -35,6 +36,13 @@ pub fn statements_are_read()
     ensures read { StatementsAreRead }
     ensures texts { StatementsInTextsAreRead }
     ensures differ { StatementsDiffer }
+{}
+
+/// What the lines of a replay tell to a reader who has its text alone: each supply falls by what the lines of burns come to; each
+/// line of a payment is that of a fair withdrawal that was logged, whose coins were sent right before; and it goes to the payee
+/// of the moment.
+pub fn runs_are_written()
+    ensures { RunsAreWritten }
 {}
 
 /// Worked lines, computed from the definitions.

@@ -18,6 +18,7 @@ pub mod PeriodLemmas
 pub mod RangeLaws
 pub mod RatioLaws
 pub mod RecordLaws
+pub mod ReferredLaws
 pub mod RewardLists
 pub mod RewardPass
 pub mod RingLaws

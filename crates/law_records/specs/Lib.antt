@@ -5,3 +5,4 @@ pub mod Laws
 pub mod Listed
 pub mod PassLaws
 pub mod Records
+pub mod Referred

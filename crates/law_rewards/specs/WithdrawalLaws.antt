@@ -90,19 +90,22 @@ RewardsRunWhereHeld =
     → is_some (span_of who (history_of v.operator w.log []) None)
     ≡ is_some (delegation w.mine.staked who v.operator)
 
--- A payment of a delegation's reward is told last but for its new start.
-pub record TellsPayment (who operator : List ℕ) (new : State) : Type 0 where
+-- A message adds a payment of a delegation's reward to the facts, last but for its new start. It goes to the payee of the
+-- state before.
+pub record TellsPayment (who operator : List ℕ) (old new : State) : Type 0 where
+  pub told : List Fact
+  pub facts_are : new.view.facts ≡ old.view.facts ++ told
   pub before : List Fact
-  pub to : List ℕ
   pub reward : Money
   pub coins : Money
   pub period : ℕ
   pub stake : ℕ
-  pub facts_are : new.view.facts ≡ before ++ fact.Paid who operator to reward coins ∷ fact.Started who operator period stake ∷ []
+  pub told_is : told
+      ≡ before ++ fact.Paid who operator (payee_of (shared_in old) who) reward coins ∷ fact.Started who operator period stake ∷ []
 
 -- so a message that asks for a reward, and is not refused, tells a payment
 abbrev pub RewardsAreTold : Type 0
-RewardsAreTold = (who operator : List ℕ) (w : State) → IsSound w → IfOk (withdraw_reward who operator w) (TellsPayment who operator)
+RewardsAreTold = (who operator : List ℕ) (w : State) → IsSound w → IfOk (withdraw_reward who operator w) (TellsPayment who operator w)
 
 -- A step adds to the log and to the facts. Each entry that it adds is fair by the log up to it; the
 -- payments that it tells are those of the withdrawals that it logs, one for one and in their order;

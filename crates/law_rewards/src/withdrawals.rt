@@ -52,7 +52,7 @@ pub fn blocks_pay_fairly()
     ensures { BlocksPayFairly }
 {}
 
-/// A message that asks for a reward, and is not refused, tells its payment.
+/// A message that asks for a reward, and is not refused, adds its payment to the facts, to the payee of the state before.
 #[tactic(auto, using(crate::proofs::Told::rewards_are_told))]
 pub fn rewards_are_told()
     ensures { RewardsAreTold }

@@ -3,6 +3,7 @@ pub mod Ends
 pub mod Going
 pub mod Moments
 pub mod Payees
+pub mod Paying
 pub mod Reading
 pub mod Running
 pub mod Saying

@@ -1,8 +1,8 @@
--- Each payment of a reward that a block of a run tells goes to the payee of the moment.
+-- Each payment of a reward that a block of a run tells goes to the payee of the moment, and each reward that is asked for is told.
 use Rattle.std.proofs.Common.{◌≡◌, ◌∙◌, ℕ, suc, ◌+◌, ◌^◌, ◌<◌, ◌≤◌, inl, inr, Bool, true, false, cond, List, [], ◌∷◌, ◌++◌, length, Result, Ok, Err, refl, sym, ap, subst, arith, append-nil, append_assoc}
 use Rattle.std.specs.Prelude.{All, IfOk, Contains, unwrap_or, ◌⊎◌, ⊤}
 use Rattle.std.proofs.lemmas.List.{append_cancel_left}
-use Rattle.std.proofs.lemmas.List.Elements.{All-append, All-cons, All-contains, All-head, All-nil, All-push, All-tail, Contains-append_cases}
+use Rattle.std.proofs.lemmas.List.Elements.{All-append, All-cons, All-contains, All-contains_itself, All-head, All-nil, All-push, All-tail, Contains-append_cases, Contains-append_right}
 use Rattle.base_types.specs.declared.account.Account.{Account as Holder}
 use Rattle.base_types.specs.declared.account.Account.TheVariants as account
 use Rattle.base_types.specs.declared.account.Module.TheVariants as holder
@@ -30,7 +30,7 @@ use Rattle.rule_machine.specs.GenesisState.{chain_started, without_facts}
 use Rattle.rule_machine.specs.Machine.{Step, TxStep, block_checked, step, tx_applied, txs_applied}
 use Rattle.rule_machine.specs.Messages.{effect_of}
 use Rattle.rule_machine.specs.Promises.{AreCarriedOut, EndsSo, MessageHasCoins, TxHasCoins}
-use Rattle.rule_modules.proofs.GoingLemmas.{on_bind, on_lifted, on_next, on_stop}
+use Rattle.rule_modules.proofs.GoingLemmas.{if_ok, on_bind, on_lifted, on_next, on_stop}
 use Rattle.rule_modules.specs.Chain.{State, begin_block, end_block, shared_in}
 use Rattle.rule_modules.specs.Distribution.{Shared, payee_of, records_made, started}
 use Rattle.rule_modules.specs.Effects.{fee_paid, set_withdraw_address}
@@ -43,16 +43,18 @@ use Rattle.law_soundness.proofs.Moves.{fee_fits}
 use Rattle.law_soundness.proofs.Points.{MessageLeft, StateFits, StateLeft, at_moment, to_fits}
 use Rattle.law_soundness.proofs.Running.{HaveCoins, StepFits, block_fits}
 use Rattle.law_soundness.proofs.Starting.{IsWellStarted, room, started_well}
-use Rattle.law_soundness.proofs.Steps.{from_if, on_lifted_then, weaker_if}
+use Rattle.law_soundness.proofs.Steps.{and_also, from_if, on_lifted_then, weaker_if}
 use Rattle.law_soundness.proofs.Transactions.{WholeFits, fits_on, message_fits, tx_fits, whole_without}
 use Rattle.law_soundness.specs.Kept.{InTurn, begun_by}
 use Rattle.law_rewards.proofs.Carried.{IsCarried, IsPlain}
 use Rattle.law_rewards.proofs.Paying.{Pays}
 use Rattle.law_rewards.proofs.Staking.{PaysIn}
 use Rattle.law_rewards.proofs.Together.{messages_keep_reached}
+use Rattle.law_rewards.proofs.Told.{rewards_are_told}
 use Rattle.law_rewards.specs.States.{AreReached}
+use Rattle.law_rewards.specs.WithdrawalLaws.{TellsPayment}
 use Rattle.law_rewards.specs.Withdrawals.{is_payment, paid_by, payments_in, payments_of}
-use Rattle.law_runs.specs.Payees.{BlockPaysPayees, IsToldByMessage, IsToPayee, PayeesAreOfTheMoment, RunPaysPayees, TxPaysPayees}
+use Rattle.law_runs.specs.Payees.{BlockPaysPayees, IsToldByMessage, IsToPayee, NothingTellsNoReward, PayeesAreOfTheMoment, RunPaysPayees, TellInTurn, TellsItsPart, TxPaysPayees, TxTellsRewards}
 use Rattle.law_runs.proofs.Carrying.{begin_carried, end_carried, message_carried}
 use Rattle.law_runs.proofs.Running.{block_reached, both_if, kept_at, message_kept, sound_at, tx_reached}
 use Rattle.law_runs.proofs.Saying.{HasPaid, begun_paid, end_paid, message_paid}
@@ -158,10 +160,48 @@ message_payees m w c s r =
     (both_if (effect_of m w) (PaysIn w) (λ x. KeepPayees t w.log x.hooks.0 x.log) (message_paid m w c s r)
     (message_carried (KeepPayees t w.log) (payees_carried t w.log) m w tt s (nothing_kept w.hooks.0 w.log))) (λ x k. pays_payees w x k.0 k.1)
 
+-- what a message tells that asks for a reward has its payment
+payment_among : (who operator : List ℕ) (w x : State) (k : TellsPayment who operator w x)
+    → (reward : Money) × (coins : Money) × Contains k.told (fact.Paid who operator (payee_of (shared_in w) who) reward coins)
+payment_among who operator w x k =
+    let f : Fact = fact.Paid who operator (payee_of (shared_in w) who) k.reward k.coins in
+    let start : List Fact = fact.Started who operator k.period k.stake ∷ [] in
+    (k.reward, k.coins, subst (λ fs. Contains fs f) (sym k.told_is) (Contains-append_right k.before (f ∷ start) f (first_among f start)))
+  where
+    first_among : (f : Fact) (fs : List Fact) → Contains (f ∷ fs) f
+    first_among f fs = All-head (Contains (f ∷ fs)) f fs (All-contains_itself (f ∷ fs))
+
+-- each message that is carried out tells its part
+message_tells : (m : Msg) (w x : State) → IsSound w → effect_of m w ≡ Ok x → PaysPayees w x → TellsItsPart m w x
+message_tells (msg.WithdrawReward m) w x s e k =
+    let t : TellsPayment m.delegator m.validator w x = from_if (TellsPayment m.delegator m.validator w) (effect_of (msg.WithdrawReward m) w) x e (rewards_are_told m.delegator m.validator w s) in
+    record { told = t.told; facts_are = t.facts_are; reward = payment_among m.delegator m.validator w x t }
+message_tells (msg.Send m) w x s e k = record { told = k.told; facts_are = k.facts_are; reward = tt }
+message_tells (msg.CreateValidator m) w x s e k = record { told = k.told; facts_are = k.facts_are; reward = tt }
+message_tells (msg.EditValidator m) w x s e k = record { told = k.told; facts_are = k.facts_are; reward = tt }
+message_tells (msg.Delegate m) w x s e k = record { told = k.told; facts_are = k.facts_are; reward = tt }
+message_tells (msg.Undelegate m) w x s e k = record { told = k.told; facts_are = k.facts_are; reward = tt }
+message_tells (msg.BeginRedelegate m) w x s e k = record { told = k.told; facts_are = k.facts_are; reward = tt }
+message_tells (msg.CancelUnbonding m) w x s e k = record { told = k.told; facts_are = k.facts_are; reward = tt }
+message_tells (msg.Unjail m) w x s e k = record { told = k.told; facts_are = k.facts_are; reward = tt }
+message_tells (msg.WithdrawCommission m) w x s e k = record { told = k.told; facts_are = k.facts_are; reward = tt }
+message_tells (msg.SetWithdrawAddress m) w x s e k = record { told = k.told; facts_are = k.facts_are; reward = tt }
+message_tells (msg.FundCommunityPool m) w x s e k = record { told = k.told; facts_are = k.facts_are; reward = tt }
+message_tells (msg.CommunityPoolSpend m) w x s e k = record { told = k.told; facts_are = k.facts_are; reward = tt }
+message_tells (msg.UpdateParams m) w x s e k = record { told = k.told; facts_are = k.facts_are; reward = tt }
+
 -- so it is with each message in turn, from the state before it
 abbrev PayInTurn : List Msg → State → Type 0
 PayInTurn [] w = Unit {0}
-PayInTurn (m ∷ ms) w = IfOk (effect_of m w) (λ x. PaysPayees w x × PayInTurn ms x)
+PayInTurn (m ∷ ms) w = IfOk (effect_of m w) (λ x. (PaysPayees w x × TellsItsPart m w x) × PayInTurn ms x)
+
+-- messages that are carried out tell their parts in turn
+told_in_turn : (ms : List Msg) (w end : State) → PayInTurn ms w → AreCarriedOut effect_of ms w end → TellInTurn ms w end
+told_in_turn [] w end p e = e
+told_in_turn (m ∷ ms) w end p e =
+    let x : State = e.0 in
+    let k : (PaysPayees w x × TellsItsPart m w x) × PayInTurn ms x = from_if (λ y. (PaysPayees w y × TellsItsPart m w y) × PayInTurn ms y) (effect_of m w) x e.1 p in
+    (x, e.1, k.0.1, told_in_turn ms x end k.1 e.2)
 
 -- a message tells a fact, from the state that those before it led to
 record IsToldAmong (ms : List Msg) (w : State) (f : Fact) : Type 0 where
@@ -199,8 +239,8 @@ told_among : (ms : List Msg) (w end : State) (f : Fact) → PayInTurn ms w → A
 told_among [] w end f p e h = inl (subst (λ x. Contains x.view.facts f) e h)
 told_among (m ∷ ms) w end f p e h =
     let x : State = e.0 in
-    let k : PaysPayees w x × PayInTurn ms x = from_if (λ y. PaysPayees w y × PayInTurn ms y) (effect_of m w) x e.1 p in
-    by x e.1 k.0 (told_among ms x end f k.1 e.2 h)
+    let k : (PaysPayees w x × TellsItsPart m w x) × PayInTurn ms x = from_if (λ y. (PaysPayees w y × TellsItsPart m w y) × PayInTurn ms y) (effect_of m w) x e.1 p in
+    by x e.1 k.0.0 (told_among ms x end f k.1 e.2 h)
   where
     here : (x : State) → effect_of m w ≡ Ok x → (k : PaysPayees w x) → Contains w.view.facts f ⊎ Contains k.told f → Contains w.view.facts f ⊎ IsToldAmong (m ∷ ms) w f
     here x e k (inl old) = inl old
@@ -248,10 +288,35 @@ module _ (some : List (List ℕ)) (few : length some ≤ 1_000_000) where
   messages_payees T c (m ∷ ms) w a h r =
       let first : MessageHasCoins m = All-head MessageHasCoins m ms a in
       let sound : IsSound w = sound_at some few T w h.fits in
-      weaker_if (effect_of m w) (λ x. (MessageLeft P T w x × AreReached x) × PaysPayees w x) (λ x. PaysPayees w x × PayInTurn ms x)
-      (both_if (effect_of m w) (λ x. MessageLeft P T w x × AreReached x) (PaysPayees w)
-      (both_if (effect_of m w) (MessageLeft P T w) AreReached (message_fits P T m w first h.fits h.whole) (kept_at (effect_of m w) w r (message_kept m w first sound))) (message_payees m w first sound r))
-      (λ x k. (k.1, messages_payees T c ms x (All-tail MessageHasCoins m ms a) (fits_on P T c w x h k.0.0) k.0.1))
+      if_ok (λ x. (PaysPayees w x × TellsItsPart m w x) × PayInTurn ms x) (effect_of m w) (λ x e.
+      let k = from_if (λ y. (MessageLeft P T w y × AreReached y) × PaysPayees w y) (effect_of m w) x e
+      (both_if (effect_of m w) (λ y. MessageLeft P T w y × AreReached y) (PaysPayees w)
+      (both_if (effect_of m w) (MessageLeft P T w) AreReached (message_fits P T m w first h.fits h.whole) (kept_at (effect_of m w) w r (message_kept m w first sound))) (message_payees m w first sound r)) in
+      and_also (and_also k.1 (message_tells m w x sound e k.1)) (messages_payees T c ms x (All-tail MessageHasCoins m ms a) (fits_on P T c w x h k.0.0) k.0.1))
+
+  -- the messages of a transaction do, from what the fee left
+  paid_turn : (T : List ℕ → ℕ) (c : Ctx) (tx : Tx) (w paid : State) → TxHasCoins tx → WholeFits P T c w → AreReached w → fee_paid tx.payer tx.fee (without_facts w) ≡ Ok paid → PayInTurn tx.msgs paid
+  paid_turn T c tx w paid a h r e =
+      let w0 : State = without_facts w in
+      let there : List ℕ → ℕ = total_in w0.view in
+      let anew : WholeFits P there c w0 = whole_without P T c w h in
+      let r0 : AreReached w0 = (λ d u found. r d u found) in
+      let k = from_if (StateLeft P there w0) (fee_paid tx.payer tx.fee w0) paid e (fee_fits P there tx.payer tx.fee a.fee w0 anew.fits) in
+      let reached : AreReached paid = from_if AreReached (fee_paid tx.payer tx.fee w0) paid e
+      (kept_at (fee_paid tx.payer tx.fee w0) w0 r0 (messages_keep_reached.fees tx.payer tx.fee a.fee w0 (sound_at some few there w0 anew.fits))) in
+      messages_payees there c tx.msgs paid a.messages (fits_on P there c w0 paid anew (at_moment P there w0 paid k)) reached
+
+  tx_tells : (T : List ℕ → ℕ) (c : Ctx) (tx : Tx) (w : State) → TxHasCoins tx → WholeFits P T c w → AreReached w → TxTellsRewards tx w
+  tx_tells T c tx w a h r accepted =
+      let end : TxStep = tx_applied tx w in
+      let k = by end.report.outcome end.report.facts end.state accepted (transactions_end_by effect_of tx w) in
+      record { paid = k.0; fee = k.1; messages = k.2; facts_are = k.3 }
+    where
+      by : (o : Outcome) (facts : List Fact) (end : State) → o ≡ Accepted → EndsSo effect_of tx w o facts end
+          → (paid : State) × (fee_paid tx.payer tx.fee (without_facts w) ≡ Ok paid) × TellInTurn tx.msgs paid end × (facts ≡ end.view.facts)
+      by Accepted facts end q e = (e.0, e.1, told_in_turn tx.msgs e.0 end (paid_turn T c tx w e.0 a h r e.1) e.2, e.3)
+      by FeeUnpaid facts end q e = absurd cc
+      by (Refused place why) facts end q e = absurd cc
 
   tx_payees : (T : List ℕ → ℕ) (c : Ctx) (tx : Tx) (w : State) → TxHasCoins tx → WholeFits P T c w → AreReached w → TxPaysPayees tx w
   tx_payees T c tx w a h r who operator to reward coins there =
@@ -263,15 +328,6 @@ module _ (some : List (List ℕ)) (few : length some ≤ 1_000_000) where
 
       w0 : State
       w0 = without_facts w
-
-      T0 : List ℕ → ℕ
-      T0 = total_in w0.view
-
-      h0 : WholeFits P T0 c w0
-      h0 = whole_without P T c w h
-
-      r0 : AreReached w0
-      r0 = λ d u found. r d u found
 
       -- the fee tells no payment
       no_fee : (paid : State) → fee_paid tx.payer tx.fee w0 ≡ Ok paid → Contains paid.view.facts f → ⊥
@@ -297,22 +353,16 @@ module _ (some : List (List ℕ)) (few : length some ≤ 1_000_000) where
       }
 
       by : (o : Outcome) (facts : List Fact) (end : State) → EndsSo effect_of tx w o facts end → Contains facts f → IsToldByMessage tx w f
-      by Accepted facts end e h =
-          let k = from_if (StateLeft P T0 w0) (fee_paid tx.payer tx.fee w0) e.0 e.1 (fee_fits P T0 tx.payer tx.fee a.fee w0 h0.fits) in
-          let reached : AreReached e.0 = from_if AreReached (fee_paid tx.payer tx.fee w0) e.0 e.1
-          (kept_at (fee_paid tx.payer tx.fee w0) w0 r0 (messages_keep_reached.fees tx.payer tx.fee a.fee w0 (sound_at some few T0 w0 h0.fits))) in
-          let turn : PayInTurn tx.msgs e.0 = messages_payees T0 c tx.msgs e.0 a.messages (fits_on P T0 c w0 e.0 h0 (at_moment P T0 w0 e.0 k)) reached in
-          behind e.0 e.1 (told_among tx.msgs e.0 end f turn e.2 (subst (λ fs. Contains fs f) e.3 h))
+      by Accepted facts end e h = behind e.0 e.1 (told_among tx.msgs e.0 end f (paid_turn T c tx w e.0 a h r e.1) e.2 (subst (λ fs. Contains fs f) e.3 h))
       by FeeUnpaid facts end e h = absurd (All-contains IsNoPayment [] f (All-nil IsNoPayment) (subst (λ fs. Contains fs f) e.2 h))
       by (Refused place why) facts end e h = absurd (no_fee e.0 e.1 (subst (λ fs. Contains fs f) e.4 h))
 
-  txs_payees : (T : List ℕ → ℕ) (c : Ctx) (txs : List Tx) (w : State) → All TxHasCoins txs → WholeFits P T c w → AreReached w → InTurn TxPaysPayees txs w
-  txs_payees T c [] w a h r = tt
+  txs_payees : (T : List ℕ → ℕ) (c : Ctx) (txs : List Tx) (w : State) → All TxHasCoins txs → WholeFits P T c w → AreReached w → InTurn TxPaysPayees txs w × InTurn TxTellsRewards txs w
+  txs_payees T c [] w a h r = and_also tt tt
   txs_payees T c (tx ∷ txs) w a h r =
-      let first : TxHasCoins tx = All-head TxHasCoins tx txs a in (
-        tx_payees T c tx w first h r,
-        txs_payees (total_in (without_facts w).view) c txs (tx_applied tx w).state (All-tail TxHasCoins tx txs a) (tx_fits P T c tx w first h) (tx_reached some few T c tx w first h r),
-      )
+      let first : TxHasCoins tx = All-head TxHasCoins tx txs a in
+      let rest = txs_payees (total_in (without_facts w).view) c txs (tx_applied tx w).state (All-tail TxHasCoins tx txs a) (tx_fits P T c tx w first h) (tx_reached some few T c tx w first h r) in
+      and_also (and_also (tx_payees T c tx w first h r) rest.0) (and_also (tx_tells T c tx w first h r) rest.1)
 
 -- ---- a block
 
@@ -345,11 +395,14 @@ module _ (some : List (List ℕ)) (few : length some ≤ 1_000_000) where
       on_lifted RatioLimit (begin_block b.votes b.evidence w1) _ _ (λ begun g.
       let k = from_if (λ x. HasPaid some few b w x × All (IsToPayee w) x.view.facts) (begun_by b w) begun g (begun_payees b w (begun_paid some few b T w h r space (same_tt t e))) in
       let done : State = (txs_applied b.txs begun).state in
+      let told = txs_payees some few (total_in w1.view) w1.view.ctx b.txs begun coins k.0.begun_is.fits k.0.reached in
       on_lifted_then RatioLimit (end_block (without_facts done)) _ (λ x. All (IsToPayee done) x.view.facts) _ (end_payees done) (λ ended j. record {
         begun = begun;
         begins = g;
+        parts = (refl, refl, refl);
         first = k.1;
-        txs = txs_payees some few (total_in w1.view) w1.view.ctx b.txs begun coins k.0.begun_is.fits k.0.reached;
+        txs = told.0;
+        asked = told.1;
         last = j;
       })))
     where
@@ -384,3 +437,11 @@ payees_are_of_the_moment = λ r.
     let reached : AreReached r.start.state = from_if (λ x. AreReached x.state) (chain_started r.genesis) r.start r.started (genesis_is_reached r.genesis r.good) in
     run_payees s.sound.few.some s.sound.few.few r.blocks (total_in r.start.state.view) r.start.state r.input.coins (to_fits r.start.state s.sound) reached
     (room r.start.state.view.ctx.height (length r.blocks) s.height r.input.few)
+
+-- ---- what tells no payment
+
+pub none_in : {A : Type 0} (x : A) (xs : List A) → xs ≡ [] → Contains xs x → ⊥
+none_in x xs e c = All-contains (λ y. ⊥) [] x (All-nil (λ y. ⊥)) (subst (λ ys. Contains ys x) e c)
+
+pub nothing_tells_no_reward : NothingTellsNoReward
+nothing_tells_no_reward m w t = none_in (fact.Paid m.delegator m.validator (payee_of (shared_in w) m.delegator) t.reward.0 t.reward.1) t.told (sym (append_cancel_left w.view.facts [] t.told (append-nil w.view.facts ∙ t.facts_are))) t.reward.2

@@ -97,7 +97,7 @@ sent_behind first before [] h = tt
 sent_behind first before (f ∷ fs) h =
     (one_behind first before f h.0, subst (λ m. AreSent m fs) (sym (append_assoc first before (f ∷ []))) (sent_behind first (before ++ f ∷ []) fs h.1))
 
-both_sent : (fs gs : List Fact) → AreSent [] fs → AreSent [] gs → AreSent [] (fs ++ gs)
+pub both_sent : (fs gs : List Fact) → AreSent [] fs → AreSent [] gs → AreSent [] (fs ++ gs)
 both_sent fs gs h k = sent_joined [] fs gs h (subst (λ m. AreSent m gs) (append-nil fs) (sent_behind fs [] gs k))
 
 -- ---- steps

@@ -4,7 +4,8 @@
 ghost use Rattle.law_runs.specs.RunLaws.{RunsKeepReached, GenesisIsReached, RunsAreReached, RunsRunWhereHeld, RunsLogOutstanding, BlocksSayFairly, RunsSayFairly};
 ghost use Rattle.law_runs.specs.Going.{GenesisIsStarted, BlocksGoFairly, RunsGoFairly};
 ghost use Rattle.law_runs.specs.Moments.{RunsLogFairly, MomentsOfRunsDoNotMatter};
-ghost use Rattle.law_runs.specs.Payees.{PayeesAreOfTheMoment};
+ghost use Rattle.law_runs.specs.Payees.{NothingTellsNoReward, PayeesAreOfTheMoment};
+ghost use Rattle.law_runs.specs.Paying.{RunsPayFairly};
 ghost use Rattle.law_runs.specs.Readers.{RunsTellFairly};
 ghost use Rattle.rule_machine.specs.Promises.{ClaimsAreBracketed, ShortfallsAreBounded};
 
@@ -99,10 +100,22 @@ pub fn runs_go_fairly()
 
 /// Each payment of a reward that a block of a run tells goes to the payee of the moment: one that a message tells to the withdraw
 /// address that the delegator has in the state before that message, one of a block's beginning to the one at the end of the block
-/// before, and one of its end to the one behind its last transaction.
+/// before, and one of its end to the one behind its last transaction. And each message that asks for a reward, in a transaction
+/// that is carried out, tells a payment of it.
 #[tactic(auto, using(crate::proofs::Payees::payees_are_of_the_moment))]
 pub fn payees_are_of_the_moment()
     ensures { PayeesAreOfTheMoment }
+{}
+
+/// All of what blocks of a replay pay, and say of it, at once.
+pub fn runs_pay_fairly()
+    ensures { RunsPayFairly }
+{}
+
+/// A message that asks for a reward and changes nothing tells no payment of it.
+#[tactic(auto, using(crate::proofs::Payees::nothing_tells_no_reward))]
+pub fn nothing_tells_no_reward()
+    ensures { NothingTellsNoReward }
 {}
 
 /// What a run logs behind its genesis is fair, each entry by the log up to it.

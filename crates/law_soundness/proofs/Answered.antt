@@ -65,7 +65,7 @@ blocks_are_answered b w coins s few = by (block_checked b w) (begun_by b w) refl
 
 -- ---- runs
 
-all_answered : (some : List (List ℕ)) (few : length some ≤ 1_000_000) (blocks : List Block) (T : List ℕ → ℕ) (w : State) → HaveCoins blocks → StateFits (Contains some) T w → w.view.ctx.height + length blocks < 2 ^ 63 → AnsweredAlong blocks w
+pub all_answered : (some : List (List ℕ)) (few : length some ≤ 1_000_000) (blocks : List Block) (T : List ℕ → ℕ) (w : State) → HaveCoins blocks → StateFits (Contains some) T w → w.view.ctx.height + length blocks < 2 ^ 63 → AnsweredAlong blocks w
 all_answered some few [] T w c h room = tt
 all_answered some few (b ∷ blocks) T w c h room = (
   blocks_are_answered b w coins (from_fits w some T few h) (here (length blocks) room),

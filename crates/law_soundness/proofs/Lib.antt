@@ -14,6 +14,7 @@ pub mod Fitting
 pub mod Following
 pub mod Founding
 pub mod Giving
+pub mod Going
 pub mod Halfway
 pub mod Hooking
 pub mod Leaving

@@ -1,4 +1,5 @@
 pub mod Causes
+pub mod Going
 pub mod Kept
 pub mod Ranges
 pub mod StepLaws

@@ -23,7 +23,7 @@ use Rattle.base_messages.specs.declared.message.Msg.{Msg}
 use Rattle.rule_machine.specs.Machine.{step, tx_applied, run_of}
 use Rattle.rule_machine.specs.Messages.{effect_of}
 use Rattle.rule_machine.specs.Promises.{MessageHasCoins, TxHasCoins, AreInput, facts_of}
-use Rattle.law_soundness.specs.Kept.{BlockIsAnswered, RefusalIsNamed, InBlocks}
+use Rattle.law_soundness.specs.Kept.{BlockIsAnswered, InBlocks, TxIsJudged}
 
 -- the state after a step is sound
 abbrev pub IsSoundAfter : State → State → Type 0
@@ -166,7 +166,6 @@ RedelegationsNameConditions = (who source target : List ℕ) (coin : Coin) → I
 abbrev pub BlocksAreAnswered : Type 0
 BlocksAreAnswered = (b : Block) (w : State) → All TxHasCoins b.txs → IsSound w → w.view.ctx.height + 1 < 2 ^ 63 → BlockIsAnswered b w (step b w)
 
--- Wherever blocks lead to from a sound state, each refusal that a transaction's report tells is named so.
+-- Wherever blocks lead to from a sound state, each transaction is judged by the conditions of its messages.
 abbrev pub RunsNameConditions : Type 0
-RunsNameConditions = (blocks : List Block) (w : State) → AreInput blocks → IsSound w → w.view.ctx.height + length blocks < 2 ^ 63
-    → InBlocks (λ tx u. RefusalIsNamed tx u (tx_applied tx u).report.outcome) blocks w
+RunsNameConditions = (blocks : List Block) (w : State) → AreInput blocks → IsSound w → w.view.ctx.height + length blocks < 2 ^ 63 → InBlocks TxIsJudged blocks w

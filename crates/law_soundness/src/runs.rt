@@ -2,7 +2,8 @@
 //! laws as functions that do nothing, whose contracts are the laws.
 
 ghost use Rattle.law_soundness.specs.Ranges.{SoundIsInRange, RunsAreInRange};
-ghost use Rattle.law_soundness.specs.Kept.{RefusalsAreNamed, RunsAreAnswered};
+ghost use Rattle.law_soundness.specs.Going.{RunsGoSoundly};
+ghost use Rattle.law_soundness.specs.Kept.{FullListsTakeNoMore, RefusalsAreNamed, RunsAreAnswered};
 ghost use Rattle.law_soundness.specs.StepLaws.{RunsLowerSupplies, RunsNameConditions};
 ghost use Rattle.rule_modules.specs.StepLaws.{SoundIsKept, OnlyBurnsLowerSupplies};
 ghost use Rattle.rule_machine.specs.Promises.{GenesisIsSound, RunsAreSound, AccountsHoldWhatIsOwed, SuppliesFallByBurns};
@@ -47,18 +48,31 @@ pub fn supplies_fall_by_burns()
     ensures { SuppliesFallByBurns }
 {}
 
-/// Wherever blocks lead to from a sound state, each refusal names the first condition that held of the state before its
-/// message, which is sound.
+/// Wherever blocks lead to from a sound state, each message that is carried out met a sound state of which none of its
+/// conditions held, and each that is refused is by the first of its conditions that held.
 #[tactic(auto, using(crate::proofs::Refusals::runs_name_conditions))]
 pub fn runs_name_conditions()
     ensures { RunsNameConditions }
 {}
 
-/// Wherever blocks lead to from a good genesis, each refusal names the first condition that held of the state before
-/// its message, which is sound.
+/// Wherever blocks lead to from a good genesis, each message that is carried out met a sound state of which none of its
+/// conditions held, and each that is refused is by the first of its conditions that held.
 #[tactic(auto, using(crate::proofs::Refusals::refusals_are_named))]
 pub fn refusals_are_named()
     ensures { RefusalsAreNamed }
+{}
+
+/// A list of entries that has the most takes no more: no undelegation that met one was carried out.
+#[tactic(auto, using(crate::proofs::Refusals::full_lists_take_no_more))]
+pub fn full_lists_take_no_more()
+    ensures { FullListsTakeNoMore }
+{}
+
+/// Blocks from any sound state, and so those of each replay, lead to a sound state, in which the accounts hold what they owe;
+/// supplies fall by burns; messages are judged by their conditions; and each block is answered, or has a fault that has its cause.
+#[tactic(auto, using(crate::proofs::Going::runs_go_soundly))]
+pub fn runs_go_soundly()
+    ensures { RunsGoSoundly }
 {}
 
 /// Wherever blocks lead to from a good genesis, each is answered, or has the fault of the first condition against it or a limit

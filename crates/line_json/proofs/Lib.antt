@@ -1,4 +1,6 @@
+pub mod BackLemmas
 pub mod CoinLemmas
+pub mod EndLemmas
 pub mod ListLemmas
 pub mod OnWritten
 pub mod PlaceLemmas
@@ -9,3 +11,4 @@ pub mod TapeLemmas
 pub mod TextLemmas
 pub mod TreeLemmas
 pub mod WritingLemmas
+pub mod WrittenLemmas

@@ -4,6 +4,7 @@ pub mod Coin
 pub mod Facts
 pub mod Genesis
 pub mod Line
+pub mod Lines
 pub mod Members
 pub mod Messages
 pub mod Nested

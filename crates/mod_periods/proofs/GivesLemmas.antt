@@ -13,7 +13,7 @@ use Rattle.base_roles.specs.Entries.{at}
 use Rattle.base_roles.specs.Orders.{pair_cmp}
 use Rattle.base_roles.specs.Flow.{◌>>=◌}
 use Rattle.mod_sums.specs.Faults.{IsExcessOf}
-use Rattle.mod_periods.specs.Answers.{Gives}
+use Rattle.mod_periods.specs.Answers.{Gives, OnLimit}
 use Rattle.mod_periods.specs.Earning.{kept_reward, CanEarn}
 use Rattle.mod_periods.specs.Kept.{Kept, current_of, record_of, info_of}
 use Rattle.rule_modules.specs.Periods.{Periods, Rewards, periods_of, start_of, ratio_at, last_ended, earned, stretches_of, reward_of, reward_at, reward_after}
@@ -117,3 +117,8 @@ after-excess k r o delegator increment height value (hook.Over over) h is excess
     = ap (λ x. x >>= λ ended. reward_at (start_of r delegator o) ended.1 (last_ended ended.1) height value) (ended-err k r o there.0 h there.1 increment over excess) in
     subst (λ d. Gives d (Err (hook.Over over))) (sym due) refl
 after-excess k r o delegator increment height value hook.NoMemory h is excess = gives-none (reward_after (start_of r delegator o) (periods_of r o) increment height value)
+
+-- what stands anyway stands where a limit was met
+pub on_limit : {A : Type 0} (fault : HookFault) (P : Type 0) → P → OnLimit {A = A} (Err fault) P
+on_limit (hook.Over over) P p = p
+on_limit hook.NoMemory P p = tt

@@ -5,7 +5,7 @@ ghost use Rattle.std.specs.Prelude.{◌≡◌, ℕ, List, ◌+◌, ◌*◌, ◌�
 ghost use Rattle.base_roles.specs.declared.faults.HookFault.TheVariants.{NoMemory};
 ghost use Rattle.base_roles.specs.declared.facts.Fact.TheVariants as fact;
 ghost use Rattle.base_roles.specs.declared.entities.StartingInfo.{StartingInfo};
-ghost use Rattle.mod_periods.specs.Answers.{Ends, Gives};
+ghost use Rattle.mod_periods.specs.Answers.{Ends, Gives, OnLimit};
 ghost use Rattle.mod_periods.specs.Earning.{events_since};
 ghost use Rattle.mod_periods.specs.Kept.{current_of, info_of, events_of, new_records};
 ghost use Rattle.rule_modules.specs.Periods.{Rewards, initial_records, period_ended, periods_of, last_ended, event_recorded, start_of, reward_at, reward_after, with_periods, without_periods, with_start, without_start};
@@ -78,7 +78,7 @@ impl F1 {
     /// (`IncrementValidatorPeriod`). Answers the period that ended, and tells it with its ratio.
     ///
     /// The errors are `NoMemory` and `Over`, which comes exactly where an amount of the new ratio reaches 10^38
-    /// units, with the operands of the first such sum; else where the period is 10^18.
+    /// units, with the operands of the first such sum; else where the period is 10^18. Then all records stay as they were.
     pub fn end_period<L: Ledger>(
         &mut self,
         alloc: Global,
@@ -93,6 +93,7 @@ impl F1 {
             (period_ended increment.now (periods_of r operator.now))
             self.new.kept facts.new result }
         ensures untold { OnErr result (facts.new ≡ facts.old) }
+        ensures limit { OnLimit result (self.new.kept ≡ self.old.kept) }
         ensures records { RecordsGoOn self.old self.new result }
         ensures cost { steps.new ≤ steps.old + 6 }
     {

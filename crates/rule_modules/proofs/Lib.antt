@@ -1,3 +1,4 @@
+pub mod AcceptedLemmas
 pub mod BesideLemmas
 pub mod EntryLemmas
 pub mod GoingLemmas

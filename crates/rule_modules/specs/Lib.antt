@@ -1,3 +1,4 @@
+pub mod Accepted
 pub mod Allocation
 pub mod Amounts
 pub mod Answers

@@ -1,5 +1,6 @@
 //! Laws of the rules, each a theorem that its function's contract names.
 
+ghost use Rattle.rule_modules.specs.Accepted.{UndelegationsFindRoom, WithdrawalsTell};
 ghost use Rattle.rule_modules.specs.RefusalOrder.{AreRefusedAnywhere};
 ghost use Rattle.rule_modules.specs.Ties.{SetIsDecided, TestsDecide, RingCountsMisses, SameReward, ReferencesAfterEnd, ReferencesAfterStart, ReferencesAfterEvent};
 
@@ -40,4 +41,12 @@ pub fn references_follow_the_records()
 #[tactic(auto, using(crate::proofs::RefusalLemmas::are_refused_anywhere))]
 pub fn refusals_name_conditions()
     ensures { AreRefusedAnywhere }
+{}
+
+/// In every state, an undelegation that is carried out met a list of entries that had room, and a withdrawal of a reward tells
+/// something.
+#[tactic(auto, using(crate::proofs::AcceptedLemmas::undelegations_find_room, crate::proofs::AcceptedLemmas::withdrawals_tell))]
+pub fn accepted_messages_did()
+    ensures room { UndelegationsFindRoom }
+    ensures told { WithdrawalsTell }
 {}

@@ -15,12 +15,13 @@ ghost use Rattle.store_history.specs.Held.{TakesDistinct};
 ghost use Rattle.run_app.specs.Unkept.{ModeUnkept};
 ghost use Rattle.run_app.specs.Outcome.{HasBegun, RunEnds, most_bytes, UnlessReadFault, UnlessWriteFault};
 ghost use Rattle.run_app.specs.Parts.{FinishStatus, Stands};
-ghost use Rattle.rule_machine.specs.Promises.{AccountsHoldWhatIsOwed, AllTransactionsEnd, ClaimsAreBracketed, RunsAreSound, ShortfallsAreBounded, SuppliesFallByBurns};
-ghost use Rattle.law_soundness.specs.Kept.{RefusalsAreNamed, RunsAreAnswered};
-ghost use Rattle.law_runs.specs.Going.{RunsGoFairly};
+ghost use Rattle.rule_machine.specs.Promises.{AllTransactionsEnd, ClaimsAreBracketed, ShortfallsAreBounded};
+ghost use Rattle.law_soundness.specs.Going.{RunsGoSoundly};
+ghost use Rattle.law_lines.specs.Runs.{RunsAreWritten};
+ghost use Rattle.law_records.specs.Referred.{RecordsGoWithReferences};
 ghost use Rattle.law_runs.specs.Moments.{MomentsOfRunsDoNotMatter};
-ghost use Rattle.law_runs.specs.Payees.{PayeesAreOfTheMoment};
-ghost use Rattle.law_runs.specs.Readers.{RunsTellFairly};
+ghost use Rattle.law_runs.specs.Paying.{RunsPayFairly};
+ghost use Rattle.run_trial.specs.Generated.{TrialIsOfItsLines};
 ghost use Rattle.run_app.specs.Rejoined.{RunsGoOn};
 ghost use Rattle.run_app.specs.Laws.{AnswersAreReplays, LinesAreReplayed};
 
@@ -37,15 +38,14 @@ use base_bech32::Form;
 use base_io::{KeepFault, Keeper, Sink, Source, read_at_most};
 use chain_whole::Chain;
 use json::Scratch;
+use law_lines::laws::runs_are_written;
+use law_records::histories::records_go_with_references;
 use law_runs::runs::{
-    claims_are_bracketed, moments_of_runs_do_not_matter, payees_are_of_the_moment, runs_go_fairly,
-    runs_tell_fairly, shortfalls_are_bounded,
+    claims_are_bracketed, moments_of_runs_do_not_matter, runs_pay_fairly, shortfalls_are_bounded,
 };
-use law_soundness::runs::{
-    accounts_hold_what_is_owed, refusals_are_named, runs_are_answered, runs_are_sound,
-    supplies_fall_by_burns,
-};
+use law_soundness::runs::runs_go_soundly;
 use rule_machine::all_transactions_end;
+use run_trial::trial_is_of_its_lines;
 use run_words::{Mode, read_words};
 use std::alloc::Global;
 use store_commits::has_rows;
@@ -389,31 +389,25 @@ pub fn run<S: Source, K: Sink, D: Keeper>(
     // A stopped and a resumed run print what one run prints; and wherever lines lead, a run may go on.
     ensures continued { (form : Form) → RunsGoOn form }
     // What holds of each replay.
-    ensures sound { RunsAreSound }
-    ensures accounts { AccountsHoldWhatIsOwed }
-    ensures supplies { SuppliesFallByBurns }
+    ensures runs { RunsGoSoundly }
     ensures transactions { AllTransactionsEnd }
-    ensures refusals { RefusalsAreNamed }
-    ensures faults { RunsAreAnswered }
     ensures rewards { ClaimsAreBracketed }
-    ensures payments { RunsGoFairly }
-    ensures told { RunsTellFairly }
-    ensures payees { PayeesAreOfTheMoment }
+    ensures payments { RunsPayFairly }
     ensures moments { MomentsOfRunsDoNotMatter }
     ensures shortfalls { ShortfallsAreBounded }
+    ensures lines { RunsAreWritten }
+    ensures generated { TrialIsOfItsLines }
+    ensures records { RecordsGoWithReferences }
 {
-    runs_are_sound();
-    accounts_hold_what_is_owed();
-    supplies_fall_by_burns();
+    runs_go_soundly();
     all_transactions_end();
-    refusals_are_named();
-    runs_are_answered();
     claims_are_bracketed();
-    runs_go_fairly();
-    runs_tell_fairly();
-    payees_are_of_the_moment();
+    runs_pay_fairly();
     moments_of_runs_do_not_matter();
     shortfalls_are_bounded();
+    runs_are_written();
+    trial_is_of_its_lines();
+    records_go_with_references();
     match read_words(alloc, words) {
         Ok(command) => perform(alloc, command, source, sink, keeper),
         Err(fault) => status_of_words(fault),

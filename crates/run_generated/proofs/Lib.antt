@@ -1,5 +1,8 @@
 pub mod DrawLemmas
+pub mod EachLemmas
 pub mod LineLemmas
+mod MessageLemmas
 pub mod OnLiterals
+pub mod ReadLemmas
 mod TokenLemmas
 mod WritingLemmas

@@ -6,7 +6,8 @@
 //! [`generate`] gives the line at a place, and [`write_input`] writes all of them to a sink; [`write_text`] writes a
 //! text.
 //!
-//! [`input_by_example`] holds worked rows, and [`lines_stand_at_their_places`] the law of `generate`.
+//! [`input_by_example`] holds worked rows, [`lines_stand_at_their_places`] the law of `generate`, and [`generated_is_read`]
+//! that the lines are read back.
 #![tactic(auto)]
 
 mod block;
@@ -28,4 +29,4 @@ pub use drawing::Generator;
 pub use genesis::first_genesis;
 pub use input::{write_input, write_text};
 pub use lines::{push_block_line, push_genesis_line};
-pub use worked::{input_by_example, lines_stand_at_their_places};
+pub use worked::{generated_is_read, input_by_example, lines_stand_at_their_places};

@@ -1,42 +1,18 @@
 -- The generated input is input: its coins are lists of coins, and no condition keeps its genesis from starting a chain.
-use Rattle.std.proofs.Common.{◌≡◌, ◌∙◌, ap, refl, arith, ℕ, zero, suc, ◌+◌, ◌/◌, ◌%◌, ◌^◌, ◌<◌, ◌≤◌, ◌==◌, Bool, true, false, List, [], ◌∷◌, length, None}
+use Rattle.std.proofs.Common.{◌≡◌, refl, arith, ℕ, ◌+◌, ◌/◌, ◌%◌, ◌^◌, ◌<◌, ◌≤◌, ◌==◌, Bool, true, false, [], ◌∷◌, length, None}
 use Rattle.std.specs.Prelude.{if◌then◌else◌, All}
-use Rattle.std.specs.List.{AllByRecursion}
 use Rattle.std.proofs.lemmas.List.Elements.{All-cons, All-nil}
 use Rattle.base_coins.specs.Coins.{IsMoney}
 use Rattle.base_coins.proofs.Order.{money_from_rises}
 use Rattle.base_messages.specs.declared.block.Block.{Block}
-use Rattle.base_messages.specs.declared.block.Tx.{Tx}
 use Rattle.base_messages.specs.declared.message.Msg.{Msg}
 use Rattle.rule_machine.specs.GenesisConditions.{start_condition}
 use Rattle.rule_machine.specs.Promises.{AreInput, MessageHasCoins, TxHasCoins}
 use Rattle.run_generated.specs.declared.choices.Choices.{Choices}
-use Rattle.run_generated.specs.Drawing.{Draw, in_turn, next, numbers_from}
-use Rattle.run_generated.specs.Input.{block_drawn, blocks_of, choices_drawn, coins, evidence_drawn, first_genesis, message_of, tx_drawn, tx_of, uatom, vote_drawn}
+use Rattle.run_generated.specs.Drawing.{next, numbers_from}
+use Rattle.run_generated.specs.Input.{block_drawn, blocks_of, choices_drawn, coins, first_genesis, message_of, tx_drawn, tx_of, uatom}
+use Rattle.run_generated.proofs.EachLemmas.{each_so, so_many, txs_so}
 use Rattle.run_trial.specs.Generated.{GeneratedIsInput}
-
--- ---- what is drawn in turn
-
--- as many values as there are numbers
-length_drawn : {A : Type 0} (draw : ℕ → Draw A) (ns : List ℕ) (x : ℕ) → length (in_turn draw ns x).value ≡ length ns
-length_drawn draw [] x = refl
-length_drawn draw (n ∷ ns) x = ap suc (length_drawn draw ns (draw n x).state)
-
-length_numbers : (first many : ℕ) → length (numbers_from first many) ≡ many
-length_numbers first zero = refl
-length_numbers first (suc many) = ap suc (length_numbers (first + 1) many)
-
-pub so_many : {A : Type 0} (draw : ℕ → Draw A) (first many x : ℕ) → length (in_turn draw (numbers_from first many) x).value ≡ many
-so_many draw first many x = length_drawn draw (numbers_from first many) x ∙ length_numbers first many
-
--- what holds of whatever a draw gives holds of all that is drawn
-each_so : {A : Type 0} (P : A → Type 0) (draw : ℕ → Draw A) → ((n x : ℕ) → P (draw n x).value) → (ns : List ℕ) (x : ℕ) → All P (in_turn draw ns x).value
-each_so P draw h [] x = All-nil P
-each_so P draw h (n ∷ ns) x = All-cons P (draw n x).value (in_turn draw ns (draw n x).state).value (h n x) (each_so P draw h ns (draw n x).state)
-
-pub each_in_turn : {A : Type 0} (P : A → Type 0) (draw : ℕ → Draw A) → ((n x : ℕ) → P (draw n x).value) → (ns : List ℕ) (x : ℕ) → AllByRecursion P (in_turn draw ns x).value
-each_in_turn P draw h [] x = tt
-each_in_turn P draw h (n ∷ ns) x = (h n x, each_in_turn P draw h ns (draw n x).state)
 
 -- ---- transactions
 
@@ -68,15 +44,6 @@ drawn_has_coins x =
     tx_has_coins (choices_drawn x).value amount.0 amount.1
 
 -- ---- blocks
-
-below_four : (y : ℕ) → y % 4 < 4
-below_four y = omega arith
-
--- what holds of up to three transactions that are drawn holds of those of a block
-pub txs_so : (P : List Tx → Type 0) → ((many x : ℕ) → many < 4 → P (in_turn (λ place. tx_drawn) (numbers_from 0 many) x).value) → (height x : ℕ) → P (block_drawn height x).value.txs
-txs_so P h height x =
-    let s = (evidence_drawn height (in_turn vote_drawn (numbers_from 0 10) x).state).state in
-    h (next s / 2 ^ 33 % 4) (next s) (below_four (next s / 2 ^ 33))
 
 block_has_coins : (height x : ℕ) → All TxHasCoins (block_drawn height x).value.txs
 block_has_coins = txs_so (All TxHasCoins) (λ many x h. each_so TxHasCoins (λ place. tx_drawn) (λ place y. drawn_has_coins y) (numbers_from 0 many) x)

@@ -19,7 +19,8 @@ use Rattle.run_generated.specs.Input.{block_drawn, blocks_of, first_genesis, tx_
 use Rattle.run_trial.specs.Summary.{accepted_in, burned_in, refused_in}
 use Rattle.run_trial.specs.Generated.{CountsHaveRoom}
 use Rattle.run_trial.proofs.Burned.{IsNothingBut, all_burned, burned_of_all}
-use Rattle.run_trial.proofs.Inputs.{each_in_turn, generated_is_input, so_many, txs_so}
+use Rattle.run_generated.proofs.EachLemmas.{each_in_turn, so_many, txs_so}
+use Rattle.run_trial.proofs.Inputs.{generated_is_input}
 use Rattle.run_trial.proofs.Reported.{HasFew, blocks_reported, few_reported, three_each}
 
 -- ---- what was burned

@@ -4,8 +4,8 @@
 //! blocks come to: how many transactions were carried out and how many were not, and what was burned. [`push_summary`]
 //! appends the line of a summary: the counts, and what there is at the end.
 //!
-//! [`generated_is_input`] and [`counts_have_room`] are laws: a chain takes the generated input, and its counts have
-//! room.
+//! [`generated_is_input`], [`counts_have_room`] and [`trial_is_of_its_lines`] are laws: a chain takes the generated
+//! input, its counts have room, and the summary is that of the lines of the input.
 #![tactic(auto)]
 
 mod counting;
@@ -17,6 +17,6 @@ mod trying;
 
 pub use counts::Counts;
 pub use fault::TrialFault;
-pub use laws::{counts_have_room, generated_is_input};
+pub use laws::{counts_have_room, generated_is_input, trial_is_of_its_lines};
 pub use line::push_summary;
 pub use trying::try_input;

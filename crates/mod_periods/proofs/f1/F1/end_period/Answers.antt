@@ -1,7 +1,8 @@
-use Rattle.std.proofs.Common.{◌≡◌, ◌∷◌, [], ◌++◌, sym, ap, subst, ◌∙◌, is_some}
+use Rattle.std.proofs.Common.{◌≡◌, ◌∷◌, [], ◌++◌, refl, sym, ap, subst, ◌∙◌, is_some}
 use Rattle.base_roles.specs.declared.facts.Fact.TheVariants.{Period}
 use Rattle.mod_periods.specs.Kept.{current_of}
 use Rattle.mod_periods.specs.Stands.{KeepsRewards, IsKept}
+use Rattle.mod_periods.proofs.GivesLemmas.{on_limit}
 use Rattle.mod_periods.proofs.RatioLemmas.{last-stands, end-answers, end-faults}
 use Rattle.mod_periods.proofs.f1.F1.end_period.Goals as goal
 
@@ -16,6 +17,9 @@ returns-in-Err-clause-ended g c r h =
     end-faults c.self.inside.tables.kept c.args.self.now.kept r c.args.operator.now c.args.increment.now c.args.facts.now c.args.facts.now c.in-Err.fault
     (subst (λ t. KeepsRewards t.kept r) (sym same) h) (ap (λ t. is_some (current_of t.kept c.args.operator.now)) same ∙ c.requires.validator.initialised)
     c.in-Err.ensures.fault
+
+pub returns-in-Err-clause-limit : goal.returns-in-Err-clause-limit
+returns-in-Err-clause-limit c = on_limit c.in-Err.fault (c.args.self.now.kept ≡ c.args.self.now.kept) refl
 
 pub returns-clause-ended : goal.returns-clause-ended
 returns-clause-ended g c r h =

@@ -7,7 +7,7 @@ use Rattle.json.proofs.Printed.Strings.{escape_byte_plain}
 use Rattle.serde_json.specs.Data.{Num, unsigned, negative, float, Data, null, boolean, number, string, array, object, Items, no_items, item, Members, no_members, member}
 use Rattle.serde_json.specs.Written.{compact_text, items_text, members_text, comma_if, number_text}
 use Rattle.line_json.specs.Line.{line_of}
-use Rattle.law_lines.specs.Lines.{lines_from, lines_of}
+use Rattle.line_json.specs.Lines.{lines_from, lines_of}
 
 -- no byte ends a line
 abbrev pub has_no_end : List ℕ → Bool
