@@ -52,11 +52,11 @@ module _ {K V : Type 0} where
   name_in key stored (Filled value) = stored
   name_in key stored (Renamed name value) = name.value
 
-  -- no value stands here
-  abbrev pub is_empty : Slot K V → Bool
-  is_empty Empty = true
-  is_empty (Filled value) = false
-  is_empty (Renamed name value) = false
+  -- a value stands here
+  abbrev pub is_full : Slot K V → Bool
+  is_full Empty = false
+  is_full (Filled value) = true
+  is_full (Renamed name value) = true
 
   -- what stands at the places, without their stamps
   abbrev pub slots : List (K × Place K V) → List (K × Slot K V)

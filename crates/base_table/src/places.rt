@@ -139,7 +139,7 @@ impl<K: Ord + Copied, V: Copied> Places<K, V> {
             key,
             value,
         )?;
-        let len = len_after(self.here.len, !before.is_empty(), has);
+        let len = len_after(self.here.len, before.is_full(), has);
         note(
             &mut self.log,
             self.depth > 0,

@@ -1,7 +1,7 @@
 //! A place of a key.
 
 ghost use Rattle.std.specs.Prelude.{◌≡◌, option_map};
-ghost use Rattle.base_table.specs.Places.{entry_of, is_empty};
+ghost use Rattle.base_table.specs.Places.{entry_of, is_full};
 
 /// What stands at the place of a key.
 #[derive(Drop)]
@@ -28,11 +28,11 @@ impl<K, V> Slot<K, V> {
         }
     }
 
-    /// Whether no value stands here.
-    pub(crate) fn is_empty(&self) -> bool
-        ensures { result ≡ is_empty self.now }
+    /// Whether a value stands here.
+    pub(crate) fn is_full(&self) -> bool
+        ensures { result ≡ is_full self.now }
     {
-        matches!(self, Slot::Empty)
+        matches!(self, Slot::Filled(_) | Slot::Renamed(_, _))
     }
 }
 

@@ -133,7 +133,7 @@ fn clear_empty<K: Ord + Copied, V: Copied>(tree: &mut BTreeMap<K, Place<K, V>>, 
     let Some(place) = tree.get(key) else {
         return;
     };
-    if place.slot.is_empty() {
+    if !place.slot.is_full() {
         tree.remove(key);
     }
 }

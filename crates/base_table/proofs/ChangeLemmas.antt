@@ -1,0 +1,117 @@
+-- A change of a place by one search: what is seen, what is listed and how the place is stamped.
+use Rattle.std.specs.Prelude.{◌≡◌, ℕ, ◌+◌, Bool, true, false, List, [], ◌∷◌, ◌++◌, length, Option, Some, None, is_some, option_map, unwrap_or, refl, if◌then◌else◌}
+use Rattle.std.proofs.Common.{sym, ◌∙◌, ap, subst, arith}
+use Rattle.std.specs.declared.cmp.Ordering.{Ordering}
+use Rattle.std.specs.Cmp.{IsTotalOrder, tied_itself}
+use Rattle.std.specs.List.Sorted.{IsStrictlySortedBy}
+use Rattle.std.specs.Map.{keys_of, lookup, lookup_entry, lookup_key}
+use Rattle.std.specs.Option.{option_to_list}
+use Rattle.std.specs.Ordering.{is_eq}
+use Rattle.std.specs.BTreeMap.{insert_entry, is_at}
+use Rattle.base_table.specs.declared.slot.Place.{Place}
+use Rattle.base_table.specs.declared.slot.Slot.{Slot}
+use Rattle.base_table.specs.declared.slot.Slot.TheVariants.{Empty}
+use Rattle.base_table.specs.Places.{changed, entry_of, filled, is_listed_at, name_in, pair_of, slot_at, slots, stamps, unlisted, AreNamed, AreStamped, IsNamed}
+use Rattle.base_table.specs.Tabled.{key_in, value_at}
+use Rattle.base_table.proofs.EachLemmas.{insert-each, keys-each, lookup-each, lookup_key-each}
+use Rattle.base_table.proofs.EntryLemmas.{lookup_is, lookup_key_is}
+use Rattle.base_table.proofs.PlaceLemmas.{entry-filled, filled-changed, found_entry, insert-same, name-filled, name_under, pair_is, shown, value-absent, AreNamed-insert}
+use Rattle.base_table.proofs.StampLemmas.{listed-by_stamp, tied_pair, unlisted-without, AreStamped-push}
+
+none_of : {X : Type 0} (o : Option X) → is_some o ≡ false → o ≡ None
+none_of None h = refl
+none_of (Some x) h = cc
+
+append_nothing : {A : Type 0} (xs : List A) → xs ≡ xs ++ []
+append_nothing [] = refl
+append_nothing (x ∷ xs) = ap (λ l. x ∷ l) (append_nothing xs)
+
+-- what is listed of a key, by the entry that stands there
+pair_at : {K V : Type 0} (R : K → K → Ordering) (es : List (K × V)) (k : K) (e : Option (K × V)) → lookup_entry (is_at (R k)) es ≡ e → pair_of k e ≡ (key_in R es k, value_at R es k)
+pair_at R es k e is =
+    pair_is k e ∙ (λ i. (unwrap_or (option_map (λ x. x.0) (sym is i)) k, option_map (λ x. x.1) (sym is i)))
+    ∙ sym (λ i. (unwrap_or (lookup_key_is (is_at (R k)) es i) k, lookup_is (is_at (R k)) es i))
+
+module _ {K V : Type 0} {R : K → K → Ordering} (o : IsTotalOrder R) (ps : List (K × Place K V)) (k : K) (sorted : IsStrictlySortedBy R (keys_of ps)) where
+  pub sorted-slots : IsStrictlySortedBy R (keys_of (slots ps))
+  sorted-slots = subst (IsStrictlySortedBy R) (sym (keys-each (λ p. p.slot) ps)) sorted
+
+  sorted-stamps : IsStrictlySortedBy R (keys_of (stamps ps))
+  sorted-stamps = subst (IsStrictlySortedBy R) (sym (keys-each (λ p. p.stamp) ps)) sorted
+
+  -- what is seen once something stands at the place of the key
+  module _ (named : AreNamed R (slots ps)) (qs : List (K × Place K V)) (new : Place K V) (value : Option V) (made : qs ≡ insert_entry R ps k new) (here : IsNamed R k new.slot) where
+    pub slots-made : slots qs ≡ insert_entry R (slots ps) k new.slot
+    slots-made = ap slots made ∙ insert-each (λ p. p.slot) R ps k new
+
+    pub named-made : AreNamed R (slots qs)
+    named-made = subst (AreNamed R) (sym slots-made) (AreNamed-insert o (slots ps) k new.slot here named)
+
+    pub filled-made : entry_of (key_in R (slots ps) k) new.slot ≡ option_map (λ v. (key_in R (filled (slots ps)) k, v)) value → filled (slots qs) ≡ changed R k value (filled (slots ps))
+    filled-made shows = ap filled slots-made ∙ filled-changed o k (slots ps) sorted-slots named new.slot value here shows
+
+  stamps-made : (qs : List (K × Place K V)) (new : Place K V) (s : ℕ) → qs ≡ insert_entry R ps k new → new.stamp ≡ s → stamps qs ≡ insert_entry R (stamps ps) k s
+  stamps-made qs new s made is = ap stamps made ∙ insert-each (λ p. p.stamp) R ps k new ∙ ap (insert_entry R (stamps ps) k) is
+
+  -- where the key has a place
+  module _ (ts : List (K × Option V)) (stored : K) (place : Place K V) (named : AreNamed R (slots ps)) (stamped : AreStamped R 0 ts (stamps ps))
+      (key : lookup_key (is_at (R k)) ps ≡ Some stored) (found : lookup (is_at (R k)) ps ≡ Some place) where
+    pub slot_here : lookup (is_at (R k)) (slots ps) ≡ Some place.slot
+    slot_here = lookup-each (λ p. p.slot) (is_at (R k)) ps ∙ ap (option_map (λ p. p.slot)) found
+
+    stamp_here : lookup (is_at (R k)) (stamps ps) ≡ Some place.stamp
+    stamp_here = lookup-each (λ p. p.stamp) (is_at (R k)) ps ∙ ap (option_map (λ p. p.stamp)) found
+
+    pub before-found : place.slot ≡ slot_at R (slots ps) k
+    before-found = sym (ap (λ l. unwrap_or l Empty) slot_here)
+
+    entry_here : lookup_entry (is_at (R k)) (filled (slots ps)) ≡ entry_of stored place.slot
+    entry_here = entry-filled o k (slots ps) sorted-slots named ∙ ap shown (found_entry (is_at (R k)) (slots ps) stored place.slot (sym (lookup_key-each (λ p. p.slot) (is_at (R k)) ps ∙ key)) (sym slot_here))
+
+    pub unlisted-found : (if is_listed_at R ts place.stamp k then None else Some (pair_of k (entry_of stored place.slot))) ≡ unlisted R ts (filled (slots ps)) k
+    unlisted-found = λ i. if listed-by_stamp o ts (stamps ps) k place.stamp stamped stamp_here i then None else Some (pair_at R (filled (slots ps)) k (entry_of stored place.slot) entry_here i)
+
+    pub shows-found : (slot : Slot K V) (value : Option V) → entry_of (key_in R (slots ps) k) slot ≡ option_map (λ v. (name_in k (key_in R (slots ps) k) place.slot, v)) value
+        → entry_of (key_in R (slots ps) k) slot ≡ option_map (λ v. (key_in R (filled (slots ps)) k, v)) value
+    shows-found slot value is =
+        is ∙ sym (ap (λ n. option_map (λ v. (n, v)) value) (name-filled o k (slots ps) sorted-slots named ∙ ap (name_under k (key_in R (slots ps) k)) slot_here))
+
+    pub stamped-found : (qs : List (K × Place K V)) (new : Place K V) (u : Option (K × Option V)) → u ≡ unlisted R ts (filled (slots ps)) k → new.stamp ≡ (if is_some u then length ts else place.stamp)
+        → qs ≡ insert_entry R ps k new → AreStamped R 0 (ts ++ option_to_list u) (stamps qs)
+    stamped-found qs new u is stamp made =
+        subst (AreStamped R 0 (ts ++ option_to_list u)) (sym (stamps-made qs new _ made stamp))
+        (subst (λ u. AreStamped R 0 (ts ++ option_to_list u) (insert_entry R (stamps ps) k (if is_some u then length ts else place.stamp))) (sym is) (by (is_some (value_at R ts k)) refl))
+      where
+        pair : K × Option V
+        pair = (key_in R (filled (slots ps)) k, value_at R (filled (slots ps)) k)
+
+        by : (b : Bool) → is_some (value_at R ts k) ≡ b
+            → AreStamped R 0 (ts ++ option_to_list (if b then None else Some (key_in R (filled (slots ps)) k, value_at R (filled (slots ps)) k))) (insert_entry R (stamps ps) k (if is_some (if b then None else Some (key_in R (filled (slots ps)) k, value_at R (filled (slots ps)) k)) then length ts else place.stamp))
+        by true listed = subst (λ l. AreStamped R 0 l (insert_entry R (stamps ps) k place.stamp)) (append_nothing ts) (subst (AreStamped R 0 ts) (sym (insert-same o k place.stamp (stamps ps) sorted-stamps stamp_here)) stamped)
+        by false none = AreStamped-push o 0 ts (stamps ps) k (key_in R (filled (slots ps)) k, value_at R (filled (slots ps)) k) (tied_pair o (filled (slots ps)) k) (none_of (value_at R ts k) none) stamped
+
+  -- where it has none
+  module _ (ts : List (K × Option V)) (named : AreNamed R (slots ps)) (stamped : AreStamped R 0 ts (stamps ps)) (missed : lookup (is_at (R k)) ps ≡ None) where
+    no_slot : lookup (is_at (R k)) (slots ps) ≡ None
+    no_slot = lookup-each (λ p. p.slot) (is_at (R k)) ps ∙ ap (option_map (λ p. p.slot)) missed
+
+    not_listed : value_at R ts k ≡ None
+    not_listed = unlisted-without o 0 ts (stamps ps) k stamped (lookup-each (λ p. p.stamp) (is_at (R k)) ps ∙ ap (option_map (λ p. p.stamp)) missed)
+
+    pub before-new : Empty ≡ slot_at R (slots ps) k
+    before-new = sym (ap (λ l. unwrap_or l Empty) no_slot)
+
+    pub unlisted-new : (name : K) → name ≡ k → Some (name, None) ≡ unlisted R ts (filled (slots ps)) k
+    unlisted-new name is =
+        (λ i. Some (is i, None))
+        ∙ (λ i. if sym (ap is_some not_listed) i then None else Some (pair_at R (filled (slots ps)) k None (value-absent o k (slots ps) sorted-slots named no_slot) i))
+
+    pub shows-new : (slot : Slot K V) (value : Option V) → entry_of (key_in R (slots ps) k) slot ≡ option_map (λ v. (key_in R (slots ps) k, v)) value
+        → entry_of (key_in R (slots ps) k) slot ≡ option_map (λ v. (key_in R (filled (slots ps)) k, v)) value
+    shows-new slot value is =
+        is ∙ sym (ap (λ n. option_map (λ v. (n, v)) value) (name-filled o k (slots ps) sorted-slots named ∙ ap (name_under k (key_in R (slots ps) k)) no_slot))
+
+    pub stamped-new : (qs : List (K × Place K V)) (new : Place K V) (name : K) → name ≡ k → new.stamp ≡ length ts → qs ≡ insert_entry R ps k new → AreStamped R 0 (ts ++ (name, None) ∷ []) (stamps qs)
+    stamped-new qs new name is stamp made =
+        subst (AreStamped R 0 (ts ++ (name, None) ∷ [])) (sym (stamps-made qs new (length ts) made stamp))
+        (AreStamped-push o 0 ts (stamps ps) k (name, None) (ap (is_at (R k)) is ∙ ap is_eq (tied_itself o k)) not_listed stamped)

@@ -1,0 +1,113 @@
+-- What stamps tell of the touched list.
+use Rattle.std.specs.Prelude.{◌≡◌, ℕ, zero, suc, ◌+◌, Bool, true, false, cond, List, [], ◌∷◌, ◌++◌, length, Option, Some, None, is_some, unwrap_or, refl, if◌then◌else◌}
+use Rattle.std.proofs.Common.{sym, ◌∙◌, ap, subst, arith}
+use Rattle.std.specs.declared.cmp.Ordering.{Ordering}
+use Rattle.std.specs.Cmp.{IsTotalOrder, alike_right, tied_itself}
+use Rattle.std.specs.List.{slice_get, AllByRecursion, IsDistinct}
+use Rattle.std.specs.Map.{keys_of, lookup}
+use Rattle.std.specs.Option.{option_to_list}
+use Rattle.std.specs.Ordering.{eq_by_cmp, is_eq}
+use Rattle.std.specs.BTreeMap.{insert_entry, is_at}
+use Rattle.base_types.proofs.MapLemmas.{at-put, equal}
+use Rattle.base_table.specs.Places.{is_listed_at, is_pair_of, unlisted, AreStamped}
+use Rattle.base_table.specs.Tabled.{key_in, touched_with, value_at}
+use Rattle.base_table.proofs.EntryLemmas.{tied_lookup}
+use Rattle.base_table.proofs.RestoredLemmas.{key_in-tied}
+
+later : (n i : ℕ) → suc n + i ≡ n + suc i
+later n i = omega arith
+
+further : (n i : ℕ) → n ≡ suc n + i → ⊥
+further n i same = omega arith
+
+there : {A : Type 0} {n m : A} (o : Option A) → o ≡ Some n → o ≡ Some m → n ≡ m
+there {n = n} {m = m} o a b = ap (λ x. unwrap_or x n) (sym a ∙ b)
+
+module _ {K : Type 0} {R : K → K → Ordering} (o : IsTotalOrder R) {V : Type 0} where
+  -- keys that tie, the other way round
+  turned : (x y : K) → is_at (R x) y ≡ true → is_at (R y) x ≡ true
+  turned x y t = ap is_eq (sym (o.congr x y x (equal _ t)) ∙ tied_itself o x)
+
+  turned-apart : (x y : K) → is_at (R x) y ≡ false → is_at (R y) x ≡ false
+  turned-apart x y apart = elim (is_at (R y) x) as (λ b. is_at (R y) x ≡ b → b ≡ false) [
+    | true ↦ λ t. sym (turned y x t) ∙ apart
+    | false ↦ λ t. refl
+  ] refl
+
+  -- a key without a place is not listed
+  pub unlisted-without : (n : ℕ) (ts : List (K × Option V)) (ss : List (K × ℕ)) (k : K) → AreStamped R n ts ss → lookup (is_at (R k)) ss ≡ None → value_at R ts k ≡ None
+  unlisted-without n [] ss k h none = refl
+  unlisted-without n (t ∷ ts) ss k h none = elim (is_at (R k) t.0) as (λ b. is_at (R k) t.0 ≡ b → cond b (Some t.1) (lookup (is_at (R k)) ts) ≡ None) [
+    | true ↦ λ tied. let found : None ≡ Some n = sym none ∙ tied_lookup o k t.0 tied ss ∙ h.0 in cc
+    | false ↦ λ apart. unlisted-without (suc n) ts ss k h.1 none
+  ] refl
+
+  -- a listed key is listed where its place says
+  where_listed : (n s : ℕ) (ts : List (K × Option V)) (ss : List (K × ℕ)) (k : K) → AreStamped R n ts ss → lookup (is_at (R k)) ss ≡ Some s → is_some (value_at R ts k) ≡ true
+      → (i : ℕ) × (s ≡ n + i) × (is_pair_of R k (slice_get ts i) ≡ true)
+  where_listed n s [] ss k h at listed = cc
+  where_listed n s (t ∷ ts) ss k h at listed = elim (is_at (R k) t.0) as (λ b. is_at (R k) t.0 ≡ b → is_some (cond b (Some t.1) (lookup (is_at (R k)) ts)) ≡ true → (i : ℕ) × (s ≡ n + i) × (is_pair_of R k (slice_get (t ∷ ts) i) ≡ true)) [
+    | true ↦ λ tied listed. (0, there _ at (tied_lookup o k t.0 tied ss ∙ h.0), tied)
+    | false ↦ λ apart listed. let rest = where_listed (suc n) s ts ss k h.1 at listed in (suc rest.0, rest.1 ∙ later n rest.0, rest.2)
+  ] refl listed
+
+  -- what is found at a stamp is listed
+  listed_at : (ts : List (K × Option V)) (i : ℕ) (k : K) → is_pair_of R k (slice_get ts i) ≡ true → is_some (value_at R ts k) ≡ true
+  listed_at [] i k found = cc
+  listed_at (t ∷ ts) zero k found = ap (λ b. is_some (cond b (Some t.1) (lookup (is_at (R k)) ts))) found
+  listed_at (t ∷ ts) (suc i) k found = elim (is_at (R k) t.0) as (λ b. is_some (cond b (Some t.1) (lookup (is_at (R k)) ts)) ≡ true) [ true ↦ refl | false ↦ listed_at ts i k found ]
+
+  -- so the stamp of a place tells whether its key is listed
+  pub listed-by_stamp : (ts : List (K × Option V)) (ss : List (K × ℕ)) (k : K) (s : ℕ) → AreStamped R 0 ts ss → lookup (is_at (R k)) ss ≡ Some s → is_listed_at R ts s k ≡ is_some (value_at R ts k)
+  listed-by_stamp ts ss k s h at = elim (is_listed_at R ts s k) as (λ b. is_listed_at R ts s k ≡ b → b ≡ is_some (value_at R ts k)) [
+    | true ↦ λ found. sym (listed_at ts s k found)
+    | false ↦ λ missed. elim (is_some (value_at R ts k)) as (λ c. is_some (value_at R ts k) ≡ c → false ≡ c) [
+      | true ↦ λ listed. let w = where_listed 0 s ts ss k h at listed in sym missed ∙ ap (λ i. is_listed_at R ts i k) w.1 ∙ w.2
+      | false ↦ λ none. refl
+    ] refl
+  ] refl
+
+  -- a key that is not listed yet is stamped as the next
+  pub AreStamped-push : (n : ℕ) (ts : List (K × Option V)) (ss : List (K × ℕ)) (k : K) (t : K × Option V) → is_at (R k) t.0 ≡ true → value_at R ts k ≡ None → AreStamped R n ts ss → AreStamped R n (ts ++ t ∷ []) (insert_entry R ss k (n + length ts))
+  AreStamped-push n [] ss k t tied none h = (at-put R o ss k t.0 (n + 0) ∙ ap (λ b. cond b (Some (n + 0)) (lookup (is_at (R t.0)) ss)) (turned k t.0 tied) ∙ ap (λ m. Some m) (omega arith), tt)
+  AreStamped-push n (u ∷ ts) ss k t tied none h = elim (is_at (R k) u.0) as (λ b. is_at (R k) u.0 ≡ b → cond b (Some u.1) (lookup (is_at (R k)) ts) ≡ None → AreStamped R n (u ∷ ts ++ t ∷ []) (insert_entry R ss k (n + suc (length ts)))) [
+    | true ↦ λ found none. cc
+    | false ↦ λ apart none. (
+      at-put R o ss k u.0 (n + suc (length ts)) ∙ ap (λ b. cond b (Some (n + suc (length ts))) (lookup (is_at (R u.0)) ss)) (turned-apart k u.0 apart) ∙ h.0,
+      subst (λ m. AreStamped R (suc n) (ts ++ t ∷ []) (insert_entry R ss k m)) (later n (length ts)) (AreStamped-push (suc n) ts ss k t tied none h.1),
+    )
+  ] refl none
+
+  -- no key is listed twice
+  apart_later : (n i : ℕ) (k : K) (ts : List (K × Option V)) (ss : List (K × ℕ)) → lookup (is_at (R k)) ss ≡ Some n → AreStamped R (suc n + i) ts ss → AllByRecursion (λ y. eq_by_cmp R k y ≡ false) (keys_of ts)
+  apart_later n i k [] ss at h = tt
+  apart_later n i k (t ∷ ts) ss at h = (
+    elim (is_at (R k) t.0) as (λ b. is_at (R k) t.0 ≡ b → b ≡ false) [
+      | true ↦ λ tied. absurd (further n i (there _ at (tied_lookup o k t.0 tied ss ∙ h.0)))
+      | false ↦ λ apart. refl
+    ] refl,
+    apart_later n (suc i) k ts ss at (subst (λ m. AreStamped R m ts ss) (later (suc n) i) h.1),
+  )
+
+  distinct-cons : (k : K) (ks : List K) → AllByRecursion (λ y. eq_by_cmp R k y ≡ false) ks → IsDistinct (eq_by_cmp R) ks → IsDistinct (eq_by_cmp R) (k ∷ ks)
+  unfolding IsDistinct
+  distinct-cons k ks apart rest = (apart, rest)
+
+  distinct-none : IsDistinct (eq_by_cmp R) []
+  unfolding IsDistinct
+  distinct-none = tt
+
+  pub distinct : (n : ℕ) (ts : List (K × Option V)) (ss : List (K × ℕ)) → AreStamped R n ts ss → IsDistinct (eq_by_cmp R) (keys_of ts)
+  distinct n [] ss h = distinct-none
+  distinct n (t ∷ ts) ss h = distinct-cons t.0 (keys_of ts) (apart_later n 0 t.0 ts ss h.0 (subst (λ m. AreStamped R m ts ss) (omega arith) h.1)) (distinct (suc n) ts ss h.1)
+
+  -- the list once what is yet to be listed is listed
+  pub listed_with : (ts : List (K × Option V)) (es : List (K × V)) (k : K) → ts ++ option_to_list (unlisted R ts es k) ≡ touched_with R ts es k
+  listed_with ts es k = elim (is_some (value_at R ts k)) as (λ b. ts ++ option_to_list (if b then None else Some (key_in R es k, value_at R es k)) ≡ (if b then ts else ts ++ (key_in R es k, value_at R es k) ∷ [])) [ true ↦ nothing ts | false ↦ refl ]
+    where
+      nothing : {A : Type 0} (xs : List A) → xs ++ [] ≡ xs
+      nothing [] = refl
+      nothing (x ∷ xs) = ap (λ l. x ∷ l) (nothing xs)
+
+  pub tied_pair : (es : List (K × V)) (k : K) → is_at (R k) (key_in R es k) ≡ true
+  tied_pair es k = key_in-tied o es k k ∙ ap is_eq (tied_itself o k)
