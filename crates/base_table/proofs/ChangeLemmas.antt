@@ -1,6 +1,6 @@
 -- A change of a place by one search: what is seen, what is listed and how the place is stamped.
 use Rattle.std.specs.Prelude.{◌≡◌, ℕ, ◌+◌, Bool, true, false, List, [], ◌∷◌, ◌++◌, length, Option, Some, None, is_some, option_map, unwrap_or, refl, if◌then◌else◌}
-use Rattle.std.proofs.Common.{sym, ◌∙◌, ap, subst, arith}
+use Rattle.std.proofs.Common.{sym, ◌∙◌, ap, subst}
 use Rattle.std.specs.declared.cmp.Ordering.{Ordering}
 use Rattle.std.specs.Cmp.{IsTotalOrder, tied_itself}
 use Rattle.std.specs.List.Sorted.{IsStrictlySortedBy}
@@ -11,9 +11,9 @@ use Rattle.std.specs.BTreeMap.{insert_entry, is_at}
 use Rattle.base_table.specs.declared.slot.Place.{Place}
 use Rattle.base_table.specs.declared.slot.Slot.{Slot}
 use Rattle.base_table.specs.declared.slot.Slot.TheVariants.{Empty}
-use Rattle.base_table.specs.Places.{changed, entry_of, filled, is_listed_at, name_in, pair_of, slot_at, slots, stamps, unlisted, AreNamed, AreStamped, IsNamed}
+use Rattle.base_table.specs.Places.{changed, entry_of, filled, name_in, pair_of, slot_at, slot_of, slots, stamp_of, stamps, unlisted, value_stamped, AreNamed, AreStamped, IsNamed}
 use Rattle.base_table.specs.Tabled.{key_in, value_at}
-use Rattle.base_table.proofs.EachLemmas.{insert-each, keys-each, lookup-each, lookup_key-each}
+use Rattle.base_table.proofs.EachLemmas.{insert-each, lookup-each, lookup_key-each, sorted-each}
 use Rattle.base_table.proofs.EntryLemmas.{lookup_is, lookup_key_is}
 use Rattle.base_table.proofs.PlaceLemmas.{entry-filled, filled-changed, found_entry, insert-same, name-filled, name_under, pair_is, shown, value-absent, AreNamed-insert}
 use Rattle.base_table.proofs.StampLemmas.{listed-by_stamp, tied_pair, unlisted-without, AreStamped-push}
@@ -34,15 +34,15 @@ pair_at R es k e is =
 
 module _ {K V : Type 0} {R : K → K → Ordering} (o : IsTotalOrder R) (ps : List (K × Place K V)) (k : K) (sorted : IsStrictlySortedBy R (keys_of ps)) where
   pub sorted-slots : IsStrictlySortedBy R (keys_of (slots ps))
-  sorted-slots = subst (IsStrictlySortedBy R) (sym (keys-each (λ p. p.slot) ps)) sorted
+  sorted-slots = sorted-each slot_of R ps sorted
 
   sorted-stamps : IsStrictlySortedBy R (keys_of (stamps ps))
-  sorted-stamps = subst (IsStrictlySortedBy R) (sym (keys-each (λ p. p.stamp) ps)) sorted
+  sorted-stamps = sorted-each stamp_of R ps sorted
 
   -- what is seen once something stands at the place of the key
   module _ (named : AreNamed R (slots ps)) (qs : List (K × Place K V)) (new : Place K V) (value : Option V) (made : qs ≡ insert_entry R ps k new) (here : IsNamed R k new.slot) where
     pub slots-made : slots qs ≡ insert_entry R (slots ps) k new.slot
-    slots-made = ap slots made ∙ insert-each (λ p. p.slot) R ps k new
+    slots-made = ap slots made ∙ insert-each slot_of R ps k new
 
     pub named-made : AreNamed R (slots qs)
     named-made = subst (AreNamed R) (sym slots-made) (AreNamed-insert o (slots ps) k new.slot here named)
@@ -51,25 +51,25 @@ module _ {K V : Type 0} {R : K → K → Ordering} (o : IsTotalOrder R) (ps : Li
     filled-made shows = ap filled slots-made ∙ filled-changed o k (slots ps) sorted-slots named new.slot value here shows
 
   stamps-made : (qs : List (K × Place K V)) (new : Place K V) (s : ℕ) → qs ≡ insert_entry R ps k new → new.stamp ≡ s → stamps qs ≡ insert_entry R (stamps ps) k s
-  stamps-made qs new s made is = ap stamps made ∙ insert-each (λ p. p.stamp) R ps k new ∙ ap (insert_entry R (stamps ps) k) is
+  stamps-made qs new s made is = ap stamps made ∙ insert-each stamp_of R ps k new ∙ ap (insert_entry R (stamps ps) k) is
 
   -- where the key has a place
   module _ (ts : List (K × Option V)) (stored : K) (place : Place K V) (named : AreNamed R (slots ps)) (stamped : AreStamped R 0 ts (stamps ps))
       (key : lookup_key (is_at (R k)) ps ≡ Some stored) (found : lookup (is_at (R k)) ps ≡ Some place) where
     pub slot_here : lookup (is_at (R k)) (slots ps) ≡ Some place.slot
-    slot_here = lookup-each (λ p. p.slot) (is_at (R k)) ps ∙ ap (option_map (λ p. p.slot)) found
+    slot_here = lookup-each slot_of (is_at (R k)) ps ∙ ap (option_map slot_of) found
 
     stamp_here : lookup (is_at (R k)) (stamps ps) ≡ Some place.stamp
-    stamp_here = lookup-each (λ p. p.stamp) (is_at (R k)) ps ∙ ap (option_map (λ p. p.stamp)) found
+    stamp_here = lookup-each stamp_of (is_at (R k)) ps ∙ ap (option_map stamp_of) found
 
     pub before-found : place.slot ≡ slot_at R (slots ps) k
     before-found = sym (ap (λ l. unwrap_or l Empty) slot_here)
 
     entry_here : lookup_entry (is_at (R k)) (filled (slots ps)) ≡ entry_of stored place.slot
-    entry_here = entry-filled o k (slots ps) sorted-slots named ∙ ap shown (found_entry (is_at (R k)) (slots ps) stored place.slot (sym (lookup_key-each (λ p. p.slot) (is_at (R k)) ps ∙ key)) (sym slot_here))
+    entry_here = entry-filled o k (slots ps) sorted-slots named ∙ ap shown (found_entry (is_at (R k)) (slots ps) stored place.slot (sym (lookup_key-each slot_of (is_at (R k)) ps ∙ key)) (sym slot_here))
 
-    pub unlisted-found : (if is_listed_at R ts place.stamp k then None else Some (pair_of k (entry_of stored place.slot))) ≡ unlisted R ts (filled (slots ps)) k
-    unlisted-found = λ i. if listed-by_stamp o ts (stamps ps) k place.stamp stamped stamp_here i then None else Some (pair_at R (filled (slots ps)) k (entry_of stored place.slot) entry_here i)
+    pub unlisted-found : (if is_some (value_stamped R ts place.stamp k) then None else Some (pair_of k (entry_of stored place.slot))) ≡ unlisted R ts (filled (slots ps)) k
+    unlisted-found = λ i. if is_some (listed-by_stamp o ts (stamps ps) k place.stamp stamped stamp_here i) then None else Some (pair_at R (filled (slots ps)) k (entry_of stored place.slot) entry_here i)
 
     pub shows-found : (slot : Slot K V) (value : Option V) → entry_of (key_in R (slots ps) k) slot ≡ option_map (λ v. (name_in k (key_in R (slots ps) k) place.slot, v)) value
         → entry_of (key_in R (slots ps) k) slot ≡ option_map (λ v. (key_in R (filled (slots ps)) k, v)) value
@@ -93,10 +93,10 @@ module _ {K V : Type 0} {R : K → K → Ordering} (o : IsTotalOrder R) (ps : Li
   -- where it has none
   module _ (ts : List (K × Option V)) (named : AreNamed R (slots ps)) (stamped : AreStamped R 0 ts (stamps ps)) (missed : lookup (is_at (R k)) ps ≡ None) where
     no_slot : lookup (is_at (R k)) (slots ps) ≡ None
-    no_slot = lookup-each (λ p. p.slot) (is_at (R k)) ps ∙ ap (option_map (λ p. p.slot)) missed
+    no_slot = lookup-each slot_of (is_at (R k)) ps ∙ ap (option_map slot_of) missed
 
     not_listed : value_at R ts k ≡ None
-    not_listed = unlisted-without o 0 ts (stamps ps) k stamped (lookup-each (λ p. p.stamp) (is_at (R k)) ps ∙ ap (option_map (λ p. p.stamp)) missed)
+    not_listed = unlisted-without o 0 ts (stamps ps) k stamped (lookup-each stamp_of (is_at (R k)) ps ∙ ap (option_map stamp_of) missed)
 
     pub before-new : Empty ≡ slot_at R (slots ps) k
     before-new = sym (ap (λ l. unwrap_or l Empty) no_slot)

@@ -1,6 +1,6 @@
 -- Places told by what stands there, or by their stamps.
-use Rattle.std.specs.Prelude.{◌≡◌, Bool, true, false, cond, List, [], ◌∷◌, Option, Some, None, option_map, refl}
-use Rattle.std.proofs.Common.{ap}
+use Rattle.std.specs.Prelude.{◌≡◌, Bool, true, false, cond, List, [], ◌∷◌, Some, option_map, refl}
+use Rattle.std.proofs.Common.{sym, ap, subst}
 use Rattle.std.specs.declared.cmp.Ordering.{Ordering}
 use Rattle.std.specs.declared.cmp.Ordering.TheVariants.{Less, Equal, Greater}
 use Rattle.std.specs.declared.ops.Bound.{Bound}
@@ -8,6 +8,7 @@ use Rattle.std.specs.declared.ops.Bound.TheVariants.{Unbounded}
 use Rattle.std.specs.Ordering.{match_ordering}
 use Rattle.std.specs.BTreeMap.{insert_entry}
 use Rattle.std.specs.BTreeMap.Range.{entries_between, range_contains}
+use Rattle.std.specs.List.Sorted.{IsStrictlySortedBy}
 use Rattle.std.specs.Map.{keys_of, lookup, lookup_key, remove_entry, set_value}
 use Rattle.base_table.specs.Places.{each}
 
@@ -15,6 +16,9 @@ module _ {K X Y : Type 0} (f : X → Y) where
   pub keys-each : (ps : List (K × X)) → keys_of (each f ps) ≡ keys_of ps
   keys-each [] = refl
   keys-each (p ∷ ps) = ap (λ l. p.0 ∷ l) (keys-each ps)
+
+  pub sorted-each : (R : K → K → Ordering) (ps : List (K × X)) → IsStrictlySortedBy R (keys_of ps) → IsStrictlySortedBy R (keys_of (each f ps))
+  sorted-each R ps sorted = subst (IsStrictlySortedBy R) (sym (keys-each ps)) sorted
 
   pub lookup-each : (test : K → Bool) (ps : List (K × X)) → lookup test (each f ps) ≡ option_map f (lookup test ps)
   lookup-each test [] = refl

@@ -1,21 +1,24 @@
 -- What stamps tell of the touched list.
-use Rattle.std.specs.Prelude.{◌≡◌, ℕ, zero, suc, ◌+◌, Bool, true, false, cond, List, [], ◌∷◌, ◌++◌, length, Option, Some, None, is_some, unwrap_or, refl, if◌then◌else◌}
+use Rattle.std.specs.Prelude.{◌≡◌, ℕ, zero, suc, ◌+◌, true, false, cond, List, [], ◌∷◌, ◌++◌, length, Option, Some, None, is_some, unwrap_or, refl, if◌then◌else◌}
 use Rattle.std.proofs.Common.{sym, ◌∙◌, ap, subst, arith}
 use Rattle.std.specs.declared.cmp.Ordering.{Ordering}
-use Rattle.std.specs.Cmp.{IsTotalOrder, alike_right, tied_itself}
+use Rattle.std.specs.Cmp.{IsTotalOrder, tied_itself}
 use Rattle.std.specs.List.{slice_get, AllByRecursion, IsDistinct}
 use Rattle.std.specs.Map.{keys_of, lookup}
 use Rattle.std.specs.Option.{option_to_list}
 use Rattle.std.specs.Ordering.{eq_by_cmp, is_eq}
 use Rattle.std.specs.BTreeMap.{insert_entry, is_at}
 use Rattle.base_types.proofs.MapLemmas.{at-put, equal}
-use Rattle.base_table.specs.Places.{is_listed_at, is_pair_of, unlisted, AreStamped}
+use Rattle.base_table.specs.Places.{pair_value, unlisted, value_stamped, AreStamped}
 use Rattle.base_table.specs.Tabled.{key_in, touched_with, value_at}
 use Rattle.base_table.proofs.EntryLemmas.{tied_lookup}
 use Rattle.base_table.proofs.RestoredLemmas.{key_in-tied}
 
 later : (n i : ℕ) → suc n + i ≡ n + suc i
 later n i = omega arith
+
+plus_none : (n : ℕ) → n ≡ n + 0
+plus_none n = omega arith
 
 further : (n i : ℕ) → n ≡ suc n + i → ⊥
 further n i same = omega arith
@@ -43,29 +46,27 @@ module _ {K : Type 0} {R : K → K → Ordering} (o : IsTotalOrder R) {V : Type 
   ] refl
 
   -- a listed key is listed where its place says
-  where_listed : (n s : ℕ) (ts : List (K × Option V)) (ss : List (K × ℕ)) (k : K) → AreStamped R n ts ss → lookup (is_at (R k)) ss ≡ Some s → is_some (value_at R ts k) ≡ true
-      → (i : ℕ) × (s ≡ n + i) × (is_pair_of R k (slice_get ts i) ≡ true)
-  where_listed n s [] ss k h at listed = cc
-  where_listed n s (t ∷ ts) ss k h at listed = elim (is_at (R k) t.0) as (λ b. is_at (R k) t.0 ≡ b → is_some (cond b (Some t.1) (lookup (is_at (R k)) ts)) ≡ true → (i : ℕ) × (s ≡ n + i) × (is_pair_of R k (slice_get (t ∷ ts) i) ≡ true)) [
-    | true ↦ λ tied listed. (0, there _ at (tied_lookup o k t.0 tied ss ∙ h.0), tied)
-    | false ↦ λ apart listed. let rest = where_listed (suc n) s ts ss k h.1 at listed in (suc rest.0, rest.1 ∙ later n rest.0, rest.2)
+  where_listed : (n s : ℕ) (ts : List (K × Option V)) (ss : List (K × ℕ)) (k : K) (old : Option V) → AreStamped R n ts ss → lookup (is_at (R k)) ss ≡ Some s → value_at R ts k ≡ Some old
+      → (i : ℕ) × (s ≡ n + i) × (pair_value R k (slice_get ts i) ≡ Some old)
+  where_listed n s [] ss k old h at listed = cc
+  where_listed n s (t ∷ ts) ss k old h at listed = elim (is_at (R k) t.0) as (λ b. is_at (R k) t.0 ≡ b → cond b (Some t.1) (lookup (is_at (R k)) ts) ≡ Some old → (i : ℕ) × (s ≡ n + i) × (pair_value R k (slice_get (t ∷ ts) i) ≡ Some old)) [
+    | true ↦ λ tied listed. (0, there _ at (tied_lookup o k t.0 tied ss ∙ h.0) ∙ plus_none n, ap (λ b. if b then Some t.1 else None) tied ∙ listed)
+    | false ↦ λ apart listed. let rest = where_listed (suc n) s ts ss k old h.1 at listed in (suc rest.0, rest.1 ∙ later n rest.0, rest.2)
   ] refl listed
 
-  -- what is found at a stamp is listed
-  listed_at : (ts : List (K × Option V)) (i : ℕ) (k : K) → is_pair_of R k (slice_get ts i) ≡ true → is_some (value_at R ts k) ≡ true
-  listed_at [] i k found = cc
-  listed_at (t ∷ ts) zero k found = ap (λ b. is_some (cond b (Some t.1) (lookup (is_at (R k)) ts))) found
-  listed_at (t ∷ ts) (suc i) k found = elim (is_at (R k) t.0) as (λ b. is_some (cond b (Some t.1) (lookup (is_at (R k)) ts)) ≡ true) [ true ↦ refl | false ↦ listed_at ts i k found ]
+  -- of a key that is not listed nothing is told at any stamp
+  nowhere : (ts : List (K × Option V)) (i : ℕ) (k : K) → value_at R ts k ≡ None → pair_value R k (slice_get ts i) ≡ None
+  nowhere [] i k none = refl
+  nowhere (t ∷ ts) zero k none = elim (is_at (R k) t.0) as (λ b. cond b (Some t.1) (lookup (is_at (R k)) ts) ≡ None → (if b then Some t.1 else None) ≡ None) [ true ↦ λ none. none | false ↦ λ none. refl ] none
+  nowhere (t ∷ ts) (suc i) k none = elim (is_at (R k) t.0) as (λ b. cond b (Some t.1) (lookup (is_at (R k)) ts) ≡ None → pair_value R k (slice_get ts i) ≡ None) [ true ↦ λ none. cc | false ↦ λ none. nowhere ts i k none ] none
 
-  -- so the stamp of a place tells whether its key is listed
-  pub listed-by_stamp : (ts : List (K × Option V)) (ss : List (K × ℕ)) (k : K) (s : ℕ) → AreStamped R 0 ts ss → lookup (is_at (R k)) ss ≡ Some s → is_listed_at R ts s k ≡ is_some (value_at R ts k)
-  listed-by_stamp ts ss k s h at = elim (is_listed_at R ts s k) as (λ b. is_listed_at R ts s k ≡ b → b ≡ is_some (value_at R ts k)) [
-    | true ↦ λ found. sym (listed_at ts s k found)
-    | false ↦ λ missed. elim (is_some (value_at R ts k)) as (λ c. is_some (value_at R ts k) ≡ c → false ≡ c) [
-      | true ↦ λ listed. let w = where_listed 0 s ts ss k h at listed in sym missed ∙ ap (λ i. is_listed_at R ts i k) w.1 ∙ w.2
-      | false ↦ λ none. refl
-    ] refl
-  ] refl
+  -- so the stamp of a place tells what the list says of its key
+  pub listed-by_stamp : (ts : List (K × Option V)) (ss : List (K × ℕ)) (k : K) (s : ℕ) → AreStamped R 0 ts ss → lookup (is_at (R k)) ss ≡ Some s → value_stamped R ts s k ≡ value_at R ts k
+  listed-by_stamp ts ss k s h at = by (value_at R ts k) refl
+    where
+      by : (v : Option (Option V)) → value_at R ts k ≡ v → value_stamped R ts s k ≡ v
+      by None none = nowhere ts s k none
+      by (Some old) is = let w = where_listed 0 s ts ss k old h at is in ap (λ i. value_stamped R ts i k) w.1 ∙ w.2
 
   -- a key that is not listed yet is stamped as the next
   pub AreStamped-push : (n : ℕ) (ts : List (K × Option V)) (ss : List (K × ℕ)) (k : K) (t : K × Option V) → is_at (R k) t.0 ≡ true → value_at R ts k ≡ None → AreStamped R n ts ss → AreStamped R n (ts ++ t ∷ []) (insert_entry R ss k (n + length ts))

@@ -58,13 +58,19 @@ module _ {K V : Type 0} where
   is_full (Filled value) = true
   is_full (Renamed name value) = true
 
-  -- what stands at the places, without their stamps
-  abbrev pub slots : List (K × Place K V) → List (K × Slot K V)
-  slots ps = each (λ place. place.slot) ps
+  -- what stands at a place, and its stamp
+  abbrev pub slot_of : Place K V → Slot K V
+  slot_of place = place.slot
 
-  -- the stamps of the places
+  abbrev pub stamp_of : Place K V → ℕ
+  stamp_of place = place.stamp
+
+  -- what stands at the places, and their stamps
+  abbrev pub slots : List (K × Place K V) → List (K × Slot K V)
+  slots ps = each slot_of ps
+
   abbrev pub stamps : List (K × Place K V) → List (K × ℕ)
-  stamps ps = each (λ place. place.stamp) ps
+  stamps ps = each stamp_of ps
 
   -- the pair that is listed of this key, where this entry stands under it
   abbrev pub pair_of : K → Option (K × V) → K × Option V
@@ -82,14 +88,14 @@ module _ {K V : Type 0} where
     changed key None es = remove_entry (is_at (cmp key)) es
     changed key (Some value) es = insert_entry cmp es key value
 
-    -- this is a pair of this key
-    abbrev pub is_pair_of : K → Option (K × Option V) → Bool
-    is_pair_of key None = false
-    is_pair_of key (Some pair) = is_at (cmp key) pair.0
+    -- the value that this pair tells of a key, where it is a pair of the key
+    abbrev pub pair_value : K → Option (K × Option V) → Option (Option V)
+    pair_value key None = None
+    pair_value key (Some pair) = if is_at (cmp key) pair.0 then Some pair.1 else None
 
-    -- the touched list has this key at this stamp
-    abbrev pub is_listed_at : List (K × Option V) → ℕ → K → Bool
-    is_listed_at touched stamp key = is_pair_of key (slice_get touched stamp)
+    -- the value that the touched list tells of a key at this stamp
+    abbrev pub value_stamped : List (K × Option V) → ℕ → K → Option (Option V)
+    value_stamped touched stamp key = pair_value key (slice_get touched stamp)
 
     -- what is yet to be listed of a key that is touched
     abbrev pub unlisted : List (K × Option V) → List (K × V) → K → Option (K × Option V)

@@ -3,9 +3,9 @@
 ghost use Rattle.std.specs.Prelude.{◌≡◌, ◌++◌, Some, None, true, is_some, option_map, IfOk, OnErr, if◌then◌else◌};
 ghost use Rattle.std.specs.BTreeMap.{insert_entry, is_at};
 ghost use Rattle.std.specs.declared.cmp.Ordering.{Ordering};
-ghost use Rattle.std.specs.Option.{option_to_list};
+ghost use Rattle.std.specs.Option.{option_copied, option_to_list};
 ghost use Rattle.base_table.specs.declared.slot.Slot.{Slot};
-ghost use Rattle.base_table.specs.Places.{changed, entry_of, filled, is_listed_at, name_in, pair_of, slot_at, slots, stamps, unlisted, AreNamed, AreStamped, IsNamed};
+ghost use Rattle.base_table.specs.Places.{changed, entry_of, filled, name_in, pair_of, slot_at, slots, stamps, unlisted, value_stamped, AreNamed, AreStamped, IsNamed};
 
 use crate::slot::{Place, Slot};
 use base_types::{Copied, TableFault};
@@ -60,7 +60,7 @@ pub(crate) fn exchange<K: Ord + Copied, V: Copied>(
         Entry::Occupied(mut entry) => {
             let unlisted = to_list(touched, entry.key(), entry.get(), key)?;
             let slot = filling(alloc, &entry.get().slot, key, value)?;
-            let stamp = stamp_of(&unlisted, entry.get().stamp, touched.len());
+            let stamp = next_stamp(&unlisted, entry.get().stamp, touched.len());
             let place = entry.insert(Place { slot, stamp });
             Ok(Found {
                 before: place.slot,
@@ -84,7 +84,7 @@ fn fresh<K, V>(value: Option<V>, stamp: usize) -> Place<K, V>
 }
 
 /// The stamp of a place once its key is listed: the next one, where it is yet to be listed.
-fn stamp_of<P>(unlisted: &Option<P>, stamp: usize, next: usize) -> usize
+fn next_stamp<P>(unlisted: &Option<P>, stamp: usize, next: usize) -> usize
     ensures { result ≡ (if is_some unlisted.now then next else stamp) }
 {
     if unlisted.is_some() { next } else { stamp }
@@ -98,10 +98,10 @@ fn to_list<K: Ord + Copied, V: Copied>(
     place: &Place<K, V>,
     key: &K,
 ) -> Result<Option<(K, Option<V>)>, TableFault>
-    ensures { IfOk result (λ pair. pair ≡ (if is_listed_at K.cmp touched.now place.now.stamp key.now
+    ensures { IfOk result (λ pair. pair ≡ (if is_some (value_stamped K.cmp touched.now place.now.stamp key.now)
         then None else Some (pair_of key.now (entry_of stored.now place.now.slot)))) }
 {
-    if is_listed(touched, place.stamp, key) {
+    if listed_at(touched, place.stamp, key).is_some() {
         return Ok(None);
     }
     match place.slot.entry(stored) {
@@ -110,13 +110,17 @@ fn to_list<K: Ord + Copied, V: Copied>(
     }
 }
 
-/// Whether the touched list has this key at this stamp.
-fn is_listed<K: Ord, V>(touched: &[(K, Option<V>)], stamp: usize, key: &K) -> bool
-    ensures { result ≡ is_listed_at K.cmp touched.now stamp key.now }
+/// The value that the touched list tells of this key at this stamp.
+pub(crate) fn listed_at<'a, K: Ord, V>(
+    touched: &'a [(K, Option<V>)],
+    stamp: usize,
+    key: &K,
+) -> Option<&'a Option<V>>
+    ensures { option_copied result ≡ value_stamped K.cmp touched.now stamp key.now }
 {
     match touched.get(stamp) {
-        Some((listed, _)) => key == listed,
-        None => false,
+        Some((listed, value)) if key == listed => Some(value),
+        _ => None,
     }
 }
 

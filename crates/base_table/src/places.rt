@@ -11,7 +11,7 @@ ghost use Rattle.std.specs.Range.Bound.{bound_map};
 ghost use Rattle.base_table.specs.Places.{bound_above, changed, len_changed};
 ghost use Rattle.base_table.specs.Tabled.{entry_above, entry_from, touched_with, value_at};
 
-use crate::change::{Found, exchange};
+use crate::change::{Found, exchange, listed_at};
 use crate::slot::Place;
 use crate::undo::{Point, Undo, clear, close, rewind, sweep};
 use crate::walk::{find, first_from};
@@ -90,6 +90,16 @@ impl<K: Ord + Copied, V: Copied> Places<K, V> {
         // It tells that the keys ascend.
         let _ = self.tree.len();
         &self.touched
+    }
+
+    /// The value that the touched list tells of a key.
+    pub(crate) fn touched_value(&self, key: &K) -> Option<&Option<V>>
+        ensures { option_copied result ≡ value_at K.cmp self.now.touched key.now }
+    {
+        match self.tree.get(key) {
+            Some(place) => listed_at(&self.touched, place.stamp, key),
+            None => None,
+        }
     }
 
     /// The entry under a key.

@@ -215,6 +215,14 @@ impl<K: Ord + Copied, V: Copied> Table<K, V> {
         self.places.touched()
     }
 
+    /// The value that a touched key had when the table was last settled, `Some(None)` where it had none. It
+    /// answers None for a key that is not touched. It counts no step.
+    pub fn touched_value(&self, key: &K) -> Option<&Option<V>>
+        ensures { option_copied result ≡ value_at K.cmp self.now.touched key.now }
+    {
+        self.places.touched_value(key)
+    }
+
     /// Settles the table: no key counts as touched any more. It takes no memory.
     pub fn settle(&mut self)
         requires closed { self.old.marks ≡ [] }
