@@ -2,9 +2,10 @@
 
 ghost use Rattle.std.specs.Prelude.{◌≡◌, ◌+◌, ◌^◌, [], false, length, ◌<◌, IsOk, if◌then◌else◌, is_some, option_map, IfOk, OnOk, OnErr, IsErrOf, IsTrue, ◌↔◌};
 ghost use Rattle.std.specs.List.Sorted.{IsStrictlySortedBy};
-ghost use Rattle.std.specs.BTreeMap.{is_at};
+ghost use Rattle.std.specs.BTreeMap.{insert_entry, is_at};
 ghost use Rattle.std.specs.Map.{keys_of, remove_entry};
 ghost use Rattle.std.specs.Option.{option_copied};
+ghost use Rattle.base_table.specs.Restored.{restored, KeepsSettled};
 ghost use Rattle.base_table.specs.Tabled.{empty_table, entry_above, entry_from, settled_now, spent_now, touched_with, value_at, with_mark, with_value, without_key, IsForgotten, IsGoneBack, TellsSettled};
 
 use crate::places::Places;
@@ -104,7 +105,7 @@ impl<K: Ord + Copied, V: Copied> Table<K, V> {
         if self.spent {
             return Err(TableFault::Spent);
         }
-        match self.places.change(key, Some(value)) {
+        match put_in(&mut self.places, key, value) {
             Ok(()) => Ok(()),
             Err(_) => {
                 self.spent = true;
@@ -232,6 +233,26 @@ impl<K: Ord + Copied, V: Copied> Table<K, V> {
     }
 }
 
+/// Puts a value under a key, and touches the key. Where memory is wanting, nothing changes.
+fn put_in<K: Ord + Copied, V: Copied>(
+    places: &mut Places<K, V>,
+    key: &K,
+    value: V,
+) -> Result<(), TableFault>
+    ensures places { OnOk result (places.new ≡ record places.old {
+        entries = insert_entry K.cmp places.old.entries key.now value;
+        touched = touched_with K.cmp places.old.touched
+          (restored K.cmp places.old.touched places.old.entries) key.now;
+      }) }
+    ensures settled { OnOk result (KeepsSettled K.cmp places.old.touched places.old.entries
+        places.new.touched places.new.entries) }
+    ensures err { OnErr result (places.new ≡ places.old) }
+{
+    // It tells that the keys ascend.
+    let _ = places.len();
+    places.change(key, Some(value))
+}
+
 /// Takes a key out and touches it, and answers a copy of the value that it had. Where memory is wanting,
 /// nothing changes.
 fn take_out<K: Ord + Copied, V: Copied>(
@@ -240,11 +261,16 @@ fn take_out<K: Ord + Copied, V: Copied>(
 ) -> Result<Option<V>, TableFault>
     ensures value { IfOk result (λ value. value ≡ value_at K.cmp places.old.entries key.now) }
     ensures places { OnOk result (places.new ≡ record places.old {
-      entries = remove_entry (is_at (K.cmp key.now)) places.old.entries;
-      touched = touched_with K.cmp places.old.touched places.old.entries key.now;
-    }) }
+        entries = remove_entry (is_at (K.cmp key.now)) places.old.entries;
+        touched = touched_with K.cmp places.old.touched
+          (restored K.cmp places.old.touched places.old.entries) key.now;
+      }) }
+    ensures settled { OnOk result (KeepsSettled K.cmp places.old.touched places.old.entries
+        places.new.touched places.new.entries) }
     ensures err { OnErr result (places.new ≡ places.old) }
 {
+    // It tells that the keys ascend.
+    let _ = places.len();
     let value = match places.get(key) {
         Some((_, value)) => Some(value.copied()?),
         None => None,
