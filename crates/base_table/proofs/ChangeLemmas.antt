@@ -1,6 +1,6 @@
 -- A change of a place by one search: what is seen, what is listed and how the place is stamped.
-use Rattle.std.specs.Prelude.{◌≡◌, ℕ, ◌+◌, Bool, true, false, List, [], ◌∷◌, ◌++◌, length, Option, Some, None, is_some, option_map, unwrap_or, refl, if◌then◌else◌}
-use Rattle.std.proofs.Common.{sym, ◌∙◌, ap, subst}
+use Rattle.std.specs.Prelude.{◌≡◌, ℕ, ◌+◌, ◌<◌, ◌≤◌, Bool, true, false, List, [], ◌∷◌, ◌++◌, length, Option, Some, None, is_some, option_map, unwrap_or, refl, if◌then◌else◌}
+use Rattle.std.proofs.Common.{sym, ◌∙◌, ap, subst, arith}
 use Rattle.std.specs.declared.cmp.Ordering.{Ordering}
 use Rattle.std.specs.Cmp.{IsTotalOrder, tied_itself}
 use Rattle.std.specs.List.Sorted.{IsStrictlySortedBy}
@@ -11,11 +11,11 @@ use Rattle.std.specs.BTreeMap.{insert_entry, is_at}
 use Rattle.base_table.specs.declared.slot.Place.{Place}
 use Rattle.base_table.specs.declared.slot.Slot.{Slot}
 use Rattle.base_table.specs.declared.slot.Slot.TheVariants.{Empty}
-use Rattle.base_table.specs.Places.{changed, entry_of, filled, name_in, pair_of, slot_at, slot_of, slots, stamp_of, stamps, unlisted, value_stamped, AreNamed, AreStamped, IsNamed}
+use Rattle.base_table.specs.Places.{changed, entry_of, filled, is_full, len_changed, name_in, pair_of, slot_at, slot_of, slots, stamp_of, stamps, unlisted, value_stamped, AreNamed, AreStamped, IsNamed}
 use Rattle.base_table.specs.Tabled.{key_in, value_at}
-use Rattle.base_table.proofs.EachLemmas.{insert-each, lookup-each, lookup_key-each, sorted-each}
+use Rattle.base_table.proofs.EachLemmas.{insert-each, length-each, lookup-each, lookup_key-each, sorted-each}
 use Rattle.base_table.proofs.EntryLemmas.{lookup_is, lookup_key_is}
-use Rattle.base_table.proofs.PlaceLemmas.{entry-filled, filled-changed, found_entry, insert-same, name-filled, name_under, pair_is, shown, value-absent, AreNamed-insert}
+use Rattle.base_table.proofs.PlaceLemmas.{entry-filled, filled-changed, found_entry, full-value, length-changed, length-filled, insert-same, name-filled, name_under, pair_is, shown, sorted-filled, value-absent, AreNamed-insert}
 use Rattle.base_table.proofs.StampLemmas.{listed-by_stamp, tied_pair, unlisted-without, AreStamped-push}
 
 none_of : {X : Type 0} (o : Option X) → is_some o ≡ false → o ≡ None
@@ -52,6 +52,23 @@ module _ {K V : Type 0} {R : K → K → Ordering} (o : IsTotalOrder R) (ps : Li
 
   stamps-made : (qs : List (K × Place K V)) (new : Place K V) (s : ℕ) → qs ≡ insert_entry R ps k new → new.stamp ≡ s → stamps qs ≡ insert_entry R (stamps ps) k s
   stamps-made qs new s made is = ap stamps made ∙ insert-each stamp_of R ps k new ∙ ap (insert_entry R (stamps ps) k) is
+
+  -- how many entries are seen before and after
+  pub few-seen : length (filled (slots ps)) ≤ length ps
+  few-seen = let seen = length-filled (slots ps) in let all = length-each slot_of ps in omega arith
+
+  pub some-seen : (named : AreNamed R (slots ps)) → is_full (slot_at R (slots ps) k) ≡ true → 0 < length (filled (slots ps))
+  some-seen named full = by (filled (slots ps)) (sym (full-value o k (slots ps) sorted-slots named) ∙ full)
+    where
+      by : (es : List (K × V)) → is_some (value_at R es k) ≡ true → 0 < length es
+      by [] found = cc
+      by (e ∷ es) found = omega arith
+
+  pub count-changed : (named : AreNamed R (slots ps)) (qs : List (K × Place K V)) (value : Option V) (here len : ℕ) (had has : Bool) → here ≡ length (filled (slots ps)) → had ≡ is_full (slot_at R (slots ps) k) → has ≡ is_some value
+      → len ≡ len_changed here had has → filled (slots qs) ≡ changed R k value (filled (slots ps)) → len ≡ length (filled (slots qs))
+  count-changed named qs value here len had has here_is had_is has_is is made =
+      is ∙ (λ i. len_changed (here_is i) ((had_is ∙ full-value o k (slots ps) sorted-slots named) i) (has_is i))
+      ∙ sym (length-changed o k value (filled (slots ps)) (sorted-filled o (slots ps) sorted-slots named)) ∙ ap length (sym made)
 
   -- where the key has a place
   module _ (ts : List (K × Option V)) (stored : K) (place : Place K V) (named : AreNamed R (slots ps)) (stamped : AreStamped R 0 ts (stamps ps))

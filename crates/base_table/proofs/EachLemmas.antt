@@ -1,5 +1,5 @@
 -- Places told by what stands there, or by their stamps.
-use Rattle.std.specs.Prelude.{◌≡◌, Bool, true, false, cond, List, [], ◌∷◌, Some, option_map, refl}
+use Rattle.std.specs.Prelude.{◌≡◌, suc, length, Bool, true, false, cond, List, [], ◌∷◌, Some, option_map, refl}
 use Rattle.std.proofs.Common.{sym, ap, subst}
 use Rattle.std.specs.declared.cmp.Ordering.{Ordering}
 use Rattle.std.specs.declared.cmp.Ordering.TheVariants.{Less, Equal, Greater}
@@ -16,6 +16,10 @@ module _ {K X Y : Type 0} (f : X → Y) where
   pub keys-each : (ps : List (K × X)) → keys_of (each f ps) ≡ keys_of ps
   keys-each [] = refl
   keys-each (p ∷ ps) = ap (λ l. p.0 ∷ l) (keys-each ps)
+
+  pub length-each : (ps : List (K × X)) → length (each f ps) ≡ length ps
+  length-each [] = refl
+  length-each (p ∷ ps) = ap (λ n. suc n) (length-each ps)
 
   pub sorted-each : (R : K → K → Ordering) (ps : List (K × X)) → IsStrictlySortedBy R (keys_of ps) → IsStrictlySortedBy R (keys_of (each f ps))
   sorted-each R ps sorted = subst (IsStrictlySortedBy R) (sym (keys-each ps)) sorted
