@@ -16,7 +16,7 @@ use Rattle.base_table.specs.Tabled.{key_in, value_at}
 use Rattle.base_table.proofs.EachLemmas.{insert-each, length-each, lookup-each, lookup_key-each, sorted-each}
 use Rattle.base_table.proofs.EntryLemmas.{lookup_is, lookup_key_is}
 use Rattle.base_table.proofs.PlaceLemmas.{entry-filled, filled-changed, found_entry, full-value, length-changed, length-filled, insert-same, name-filled, name_under, pair_is, shown, sorted-filled, value-absent, AreNamed-insert}
-use Rattle.base_table.proofs.StampLemmas.{listed-by_stamp, tied_pair, unlisted-without, AreStamped-push}
+use Rattle.base_table.proofs.StampLemmas.{listed-by_stamp, tied_pair, unlisted-without, zero_plus, AreStamped-push}
 
 none_of : {X : Type 0} (o : Option X) → is_some o ≡ false → o ≡ None
 none_of None h = refl
@@ -99,13 +99,12 @@ module _ {K V : Type 0} {R : K → K → Ordering} (o : IsTotalOrder R) (ps : Li
         subst (AreStamped R 0 (ts ++ option_to_list u)) (sym (stamps-made qs new _ made stamp))
         (subst (λ u. AreStamped R 0 (ts ++ option_to_list u) (insert_entry R (stamps ps) k (if is_some u then length ts else place.stamp))) (sym is) (by (is_some (value_at R ts k)) refl))
       where
-        pair : K × Option V
-        pair = (key_in R (filled (slots ps)) k, value_at R (filled (slots ps)) k)
-
         by : (b : Bool) → is_some (value_at R ts k) ≡ b
             → AreStamped R 0 (ts ++ option_to_list (if b then None else Some (key_in R (filled (slots ps)) k, value_at R (filled (slots ps)) k))) (insert_entry R (stamps ps) k (if is_some (if b then None else Some (key_in R (filled (slots ps)) k, value_at R (filled (slots ps)) k)) then length ts else place.stamp))
         by true listed = subst (λ l. AreStamped R 0 l (insert_entry R (stamps ps) k place.stamp)) (append_nothing ts) (subst (AreStamped R 0 ts) (sym (insert-same o k place.stamp (stamps ps) sorted-stamps stamp_here)) stamped)
-        by false none = AreStamped-push o 0 ts (stamps ps) k (key_in R (filled (slots ps)) k, value_at R (filled (slots ps)) k) (tied_pair o (filled (slots ps)) k) (none_of (value_at R ts k) none) stamped
+        by false none =
+            subst (λ n. AreStamped R 0 (ts ++ (key_in R (filled (slots ps)) k, value_at R (filled (slots ps)) k) ∷ []) (insert_entry R (stamps ps) k n)) (zero_plus (length ts))
+            (AreStamped-push o 0 ts (stamps ps) k (key_in R (filled (slots ps)) k, value_at R (filled (slots ps)) k) (tied_pair o (filled (slots ps)) k) (none_of (value_at R ts k) none) stamped)
 
   -- where it has none
   module _ (ts : List (K × Option V)) (named : AreNamed R (slots ps)) (stamped : AreStamped R 0 ts (stamps ps)) (missed : lookup (is_at (R k)) ps ≡ None) where
@@ -131,4 +130,5 @@ module _ {K V : Type 0} {R : K → K → Ordering} (o : IsTotalOrder R) (ps : Li
     pub stamped-new : (qs : List (K × Place K V)) (new : Place K V) (name : K) → name ≡ k → new.stamp ≡ length ts → qs ≡ insert_entry R ps k new → AreStamped R 0 (ts ++ (name, None) ∷ []) (stamps qs)
     stamped-new qs new name is stamp made =
         subst (AreStamped R 0 (ts ++ (name, None) ∷ [])) (sym (stamps-made qs new (length ts) made stamp))
-        (AreStamped-push o 0 ts (stamps ps) k (name, None) (ap (is_at (R k)) is ∙ ap is_eq (tied_itself o k)) not_listed stamped)
+        (subst (λ n. AreStamped R 0 (ts ++ (name, None) ∷ []) (insert_entry R (stamps ps) k n)) (zero_plus (length ts))
+        (AreStamped-push o 0 ts (stamps ps) k (name, None) (ap (is_at (R k)) is ∙ ap is_eq (tied_itself o k)) not_listed stamped))

@@ -36,7 +36,7 @@ module _ {K V : Type 0} {R : K → K → Ordering} (o : IsTotalOrder R) where
   -- a place is written to before another is made, or after
   set-placed : (q k : K) (t s : Slot K V) (ps : List (K × Slot K V)) → is_at (R q) k ≡ false → set_value (is_at (R q)) (insert_entry R ps k s) t ≡ insert_entry R (set_value (is_at (R q)) ps t) k s
   set-placed q k t s [] other = ap (λ b. cond b ((k, t) ∷ []) ((k, s) ∷ [])) other
-  set-placed q k t s (p ∷ ps) other = by (R k p.0) (is_at (R q) p.0) refl refl
+  set-placed q k t s (p ∷ ps) other = by (R k p.0) (is_at (R q) p.0) refl refl (set-placed q k t s ps other)
     where
       rest : List (K × Slot K V)
       rest = set_value (is_at (R q)) ps t
@@ -45,19 +45,19 @@ module _ {K V : Type 0} {R : K → K → Ordering} (o : IsTotalOrder R) where
       put_in true r is = ap (λ r. match_ordering r ((k, s) ∷ (p.0, t) ∷ ps) ((p.0, s) ∷ ps) ((p.0, t) ∷ insert_entry R ps k s)) is
       put_in false r is = ap (λ r. match_ordering r ((k, s) ∷ p ∷ rest) ((p.0, s) ∷ rest) (p ∷ insert_entry R rest k s)) is
 
-      written : (r : Ordering) (b : Bool) → R k p.0 ≡ r → is_at (R q) p.0 ≡ b
+      written : (r : Ordering) (b : Bool) → R k p.0 ≡ r → is_at (R q) p.0 ≡ b → set_value (is_at (R q)) (insert_entry R ps k s) t ≡ insert_entry R rest k s
           → set_value (is_at (R q)) (match_ordering r ((k, s) ∷ p ∷ ps) ((p.0, s) ∷ ps) (p ∷ insert_entry R ps k s)) t ≡ match_ordering r ((k, s) ∷ cond b ((p.0, t) ∷ ps) (p ∷ rest)) ((p.0, s) ∷ cond b ps rest) (cond b ((p.0, t) ∷ insert_entry R ps k s) (p ∷ insert_entry R rest k s))
-      written Less b is at = ap (λ c. cond c ((k, t) ∷ p ∷ ps) ((k, s) ∷ set_value (is_at (R q)) (p ∷ ps) t)) other ∙ ap (λ c. (k, s) ∷ cond c ((p.0, t) ∷ ps) (p ∷ rest)) at
-      written Equal b is at =
+      written Less b is at further = ap (λ c. cond c ((k, t) ∷ p ∷ ps) ((k, s) ∷ set_value (is_at (R q)) (p ∷ ps) t)) other ∙ ap (λ c. (k, s) ∷ cond c ((p.0, t) ∷ ps) (p ∷ rest)) at
+      written Equal b is at further =
           let apart : is_at (R q) p.0 ≡ false = sym (ap is_eq (alike_right o k p.0 q is)) ∙ other in
           ap (λ c. cond c ((p.0, t) ∷ ps) ((p.0, s) ∷ rest)) apart ∙ ap (λ c. (p.0, s) ∷ cond c ps rest) (sym apart ∙ at)
-      written Greater b is at =
+      written Greater b is at further =
           ap (λ c. cond c ((p.0, t) ∷ insert_entry R ps k s) (p ∷ set_value (is_at (R q)) (insert_entry R ps k s) t)) at
-          ∙ ap (λ l. cond b ((p.0, t) ∷ insert_entry R ps k s) (p ∷ l)) (set-placed q k t s ps other)
+          ∙ ap (λ l. cond b ((p.0, t) ∷ insert_entry R ps k s) (p ∷ l)) further
 
-      by : (r : Ordering) (b : Bool) → R k p.0 ≡ r → is_at (R q) p.0 ≡ b → set_value (is_at (R q)) (insert_entry R (p ∷ ps) k s) t ≡ insert_entry R (set_value (is_at (R q)) (p ∷ ps) t) k s
-      by r b is at =
-          ap (λ x. set_value (is_at (R q)) (match_ordering x ((k, s) ∷ p ∷ ps) ((p.0, s) ∷ ps) (p ∷ insert_entry R ps k s)) t) is ∙ written r b is at
+      by : (r : Ordering) (b : Bool) → R k p.0 ≡ r → is_at (R q) p.0 ≡ b → set_value (is_at (R q)) (insert_entry R ps k s) t ≡ insert_entry R rest k s → set_value (is_at (R q)) (insert_entry R (p ∷ ps) k s) t ≡ insert_entry R (set_value (is_at (R q)) (p ∷ ps) t) k s
+      by r b is at further =
+          ap (λ x. set_value (is_at (R q)) (match_ordering x ((k, s) ∷ p ∷ ps) ((p.0, s) ∷ ps) (p ∷ insert_entry R ps k s)) t) is ∙ written r b is at further
           ∙ sym (put_in b r is) ∙ ap (λ c. insert_entry R (cond c ((p.0, t) ∷ ps) (p ∷ rest)) k s) (sym at)
 
   module _ (k : K) (ps : List (K × Slot K V)) (none : lookup (is_at (R k)) ps ≡ None) where

@@ -20,8 +20,17 @@ later n i = omega arith
 plus_none : (n : ℕ) → n ≡ n + 0
 plus_none n = omega arith
 
+pub zero_plus : (n : ℕ) → 0 + n ≡ n
+zero_plus n = omega arith
+
+step : (n i : ℕ) → suc (suc n + i) ≡ suc n + suc i
+step n i = omega arith
+
 further : (n i : ℕ) → n ≡ suc n + i → ⊥
 further n i same = omega arith
+
+no_some : {A : Type 0} (x : A) → Some x ≡ None → ⊥
+no_some x h = cc
 
 there : {A : Type 0} {n m : A} (o : Option A) → o ≡ Some n → o ≡ Some m → n ≡ m
 there {n = n} {m = m} o a b = ap (λ x. unwrap_or x n) (sym a ∙ b)
@@ -66,13 +75,13 @@ module _ {K : Type 0} {R : K → K → Ordering} (o : IsTotalOrder R) {V : Type 
     where
       by : (v : Option (Option V)) → value_at R ts k ≡ v → value_stamped R ts s k ≡ v
       by None none = nowhere ts s k none
-      by (Some old) is = let w = where_listed 0 s ts ss k old h at is in ap (λ i. value_stamped R ts i k) w.1 ∙ w.2
+      by (Some old) is = let w = where_listed 0 s ts ss k old h at is in ap (λ i. value_stamped R ts i k) (w.1 ∙ zero_plus w.0) ∙ w.2
 
   -- a key that is not listed yet is stamped as the next
   pub AreStamped-push : (n : ℕ) (ts : List (K × Option V)) (ss : List (K × ℕ)) (k : K) (t : K × Option V) → is_at (R k) t.0 ≡ true → value_at R ts k ≡ None → AreStamped R n ts ss → AreStamped R n (ts ++ t ∷ []) (insert_entry R ss k (n + length ts))
-  AreStamped-push n [] ss k t tied none h = (at-put R o ss k t.0 (n + 0) ∙ ap (λ b. cond b (Some (n + 0)) (lookup (is_at (R t.0)) ss)) (turned k t.0 tied) ∙ ap (λ m. Some m) (omega arith), tt)
+  AreStamped-push n [] ss k t tied none h = (at-put R o ss k t.0 (n + 0) ∙ ap (λ b. cond b (Some (n + 0)) (lookup (is_at (R t.0)) ss)) (turned k t.0 tied) ∙ ap (λ m. Some m) (sym (plus_none n)), tt)
   AreStamped-push n (u ∷ ts) ss k t tied none h = elim (is_at (R k) u.0) as (λ b. is_at (R k) u.0 ≡ b → cond b (Some u.1) (lookup (is_at (R k)) ts) ≡ None → AreStamped R n (u ∷ ts ++ t ∷ []) (insert_entry R ss k (n + suc (length ts)))) [
-    | true ↦ λ found none. cc
+    | true ↦ λ found none. absurd (no_some u.1 none)
     | false ↦ λ apart none. (
       at-put R o ss k u.0 (n + suc (length ts)) ∙ ap (λ b. cond b (Some (n + suc (length ts))) (lookup (is_at (R u.0)) ss)) (turned-apart k u.0 apart) ∙ h.0,
       subst (λ m. AreStamped R (suc n) (ts ++ t ∷ []) (insert_entry R ss k m)) (later n (length ts)) (AreStamped-push (suc n) ts ss k t tied none h.1),
@@ -87,7 +96,7 @@ module _ {K : Type 0} {R : K → K → Ordering} (o : IsTotalOrder R) {V : Type 
       | true ↦ λ tied. absurd (further n i (there _ at (tied_lookup o k t.0 tied ss ∙ h.0)))
       | false ↦ λ apart. refl
     ] refl,
-    apart_later n (suc i) k ts ss at (subst (λ m. AreStamped R m ts ss) (later (suc n) i) h.1),
+    apart_later n (suc i) k ts ss at (subst (λ m. AreStamped R m ts ss) (step n i) h.1),
   )
 
   distinct-cons : (k : K) (ks : List K) → AllByRecursion (λ y. eq_by_cmp R k y ≡ false) ks → IsDistinct (eq_by_cmp R) ks → IsDistinct (eq_by_cmp R) (k ∷ ks)
@@ -100,7 +109,7 @@ module _ {K : Type 0} {R : K → K → Ordering} (o : IsTotalOrder R) {V : Type 
 
   pub distinct : (n : ℕ) (ts : List (K × Option V)) (ss : List (K × ℕ)) → AreStamped R n ts ss → IsDistinct (eq_by_cmp R) (keys_of ts)
   distinct n [] ss h = distinct-none
-  distinct n (t ∷ ts) ss h = distinct-cons t.0 (keys_of ts) (apart_later n 0 t.0 ts ss h.0 (subst (λ m. AreStamped R m ts ss) (omega arith) h.1)) (distinct (suc n) ts ss h.1)
+  distinct n (t ∷ ts) ss h = distinct-cons t.0 (keys_of ts) (apart_later n 0 t.0 ts ss h.0 (subst (λ m. AreStamped R m ts ss) (plus_none (suc n)) h.1)) (distinct (suc n) ts ss h.1)
 
   -- the list once what is yet to be listed is listed
   pub listed_with : (ts : List (K × Option V)) (es : List (K × V)) (k : K) → ts ++ option_to_list (unlisted R ts es k) ≡ touched_with R ts es k
