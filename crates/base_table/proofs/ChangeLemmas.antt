@@ -100,7 +100,7 @@ module _ {K V : Type 0} {R : K → K → Ordering} (o : IsTotalOrder R) (ps : Li
         (subst (λ u. AreStamped R 0 (ts ++ option_to_list u) (insert_entry R (stamps ps) k (if is_some u then length ts else place.stamp))) (sym is) (by (is_some (value_at R ts k)) refl))
       where
         by : (b : Bool) → is_some (value_at R ts k) ≡ b
-            → AreStamped R 0 (ts ++ option_to_list (if b then None else Some (key_in R (filled (slots ps)) k, value_at R (filled (slots ps)) k))) (insert_entry R (stamps ps) k (if is_some (if b then None else Some (key_in R (filled (slots ps)) k, value_at R (filled (slots ps)) k)) then length ts else place.stamp))
+            → AreStamped R 0 (ts ++ option_to_list (if b then None else Some (key_in R (filled (slots ps)) k, value_at R (filled (slots ps)) k))) (insert_entry R (stamps ps) k (if is_some {T = K × Option V} (if b then None else Some (key_in R (filled (slots ps)) k, value_at R (filled (slots ps)) k)) then length ts else place.stamp))
         by true listed = subst (λ l. AreStamped R 0 l (insert_entry R (stamps ps) k place.stamp)) (append_nothing ts) (subst (AreStamped R 0 ts) (sym (insert-same o k place.stamp (stamps ps) sorted-stamps stamp_here)) stamped)
         by false none =
             subst (λ n. AreStamped R 0 (ts ++ (key_in R (filled (slots ps)) k, value_at R (filled (slots ps)) k) ∷ []) (insert_entry R (stamps ps) k n)) (zero_plus (length ts))

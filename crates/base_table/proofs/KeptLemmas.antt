@@ -138,8 +138,8 @@ module _ {K V : Type 0} {R : K → K → Ordering} where
 
   -- without a mark other places that show the same will do
   pub IsKept-swept : (us : List (Undo K V)) (here : Point) (depth : ℕ) (ps qs : List (K × Slot K V)) → IsKept R us here depth ps → marks_of R us here.marks ps ≡ [] → filled qs ≡ filled ps → AreNamed R qs → IsKept R us here depth qs
-  IsKept-swept us here depth ps qs kept open same named =
-      let nothing : us ≡ [] = kept.closed (sym kept.count ∙ ap length open) in
+  IsKept-swept us here depth ps qs kept shut same named =
+      let nothing : us ≡ [] = kept.closed (sym kept.count ∙ ap length shut) in
       record {
         count = length-marks_of R us here.marks qs ps ∙ kept.count;
         closed = kept.closed;
@@ -150,4 +150,4 @@ module _ {K V : Type 0} {R : K → K → Ordering} where
 
   -- and no mark is open by them
   pub marks-swept : (us : List (Undo K V)) (m : ℕ) (ps qs : List (K × Slot K V)) → marks_of R us m ps ≡ [] → marks_of R us m qs ≡ []
-  marks-swept us m ps qs open = empty (marks_of R us m qs) (length-marks_of R us m qs ps ∙ ap length open)
+  marks-swept us m ps qs shut = empty (marks_of R us m qs) (length-marks_of R us m qs ps ∙ ap length shut)

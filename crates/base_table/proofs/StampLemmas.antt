@@ -35,7 +35,15 @@ no_some x h = cc
 there : {A : Type 0} {n m : A} (o : Option A) → o ≡ Some n → o ≡ Some m → n ≡ m
 there {n = n} {m = m} o a b = ap (λ x. unwrap_or x n) (sym a ∙ b)
 
-module _ {K : Type 0} {R : K → K → Ordering} (o : IsTotalOrder R) {V : Type 0} where
+distinct-cons : {K : Type 0} (R : K → K → Ordering) (k : K) (ks : List K) → AllByRecursion (λ y. eq_by_cmp R k y ≡ false) ks → IsDistinct (eq_by_cmp R) ks → IsDistinct (eq_by_cmp R) (k ∷ ks)
+unfolding IsDistinct
+distinct-cons R k ks apart rest = (apart, rest)
+
+distinct-none : {K : Type 0} (R : K → K → Ordering) → IsDistinct (eq_by_cmp R) []
+unfolding IsDistinct
+distinct-none R = tt
+
+module _ {K : Type 0} {R : K → K → Ordering} (o : IsTotalOrder R) where
   -- keys that tie, the other way round
   turned : (x y : K) → is_at (R x) y ≡ true → is_at (R y) x ≡ true
   turned x y t = ap is_eq (sym (o.congr x y x (equal _ t)) ∙ tied_itself o x)
@@ -46,6 +54,7 @@ module _ {K : Type 0} {R : K → K → Ordering} (o : IsTotalOrder R) {V : Type 
     | false ↦ λ t. refl
   ] refl
 
+module _ {K : Type 0} {R : K → K → Ordering} (o : IsTotalOrder R) {V : Type 0} where
   -- a key without a place is not listed
   pub unlisted-without : (n : ℕ) (ts : List (K × Option V)) (ss : List (K × ℕ)) (k : K) → AreStamped R n ts ss → lookup (is_at (R k)) ss ≡ None → value_at R ts k ≡ None
   unlisted-without n [] ss k h none = refl
@@ -79,11 +88,11 @@ module _ {K : Type 0} {R : K → K → Ordering} (o : IsTotalOrder R) {V : Type 
 
   -- a key that is not listed yet is stamped as the next
   pub AreStamped-push : (n : ℕ) (ts : List (K × Option V)) (ss : List (K × ℕ)) (k : K) (t : K × Option V) → is_at (R k) t.0 ≡ true → value_at R ts k ≡ None → AreStamped R n ts ss → AreStamped R n (ts ++ t ∷ []) (insert_entry R ss k (n + length ts))
-  AreStamped-push n [] ss k t tied none h = (at-put R o ss k t.0 (n + 0) ∙ ap (λ b. cond b (Some (n + 0)) (lookup (is_at (R t.0)) ss)) (turned k t.0 tied) ∙ ap (λ m. Some m) (sym (plus_none n)), tt)
+  AreStamped-push n [] ss k t tied none h = (at-put R o ss k t.0 (n + 0) ∙ ap (λ b. cond b (Some (n + 0)) (lookup (is_at (R t.0)) ss)) (turned o k t.0 tied) ∙ ap (λ m. Some m) (sym (plus_none n)), tt)
   AreStamped-push n (u ∷ ts) ss k t tied none h = elim (is_at (R k) u.0) as (λ b. is_at (R k) u.0 ≡ b → cond b (Some u.1) (lookup (is_at (R k)) ts) ≡ None → AreStamped R n (u ∷ ts ++ t ∷ []) (insert_entry R ss k (n + suc (length ts)))) [
     | true ↦ λ found none. absurd (no_some u.1 none)
     | false ↦ λ apart none. (
-      at-put R o ss k u.0 (n + suc (length ts)) ∙ ap (λ b. cond b (Some (n + suc (length ts))) (lookup (is_at (R u.0)) ss)) (turned-apart k u.0 apart) ∙ h.0,
+      at-put R o ss k u.0 (n + suc (length ts)) ∙ ap (λ b. cond b (Some (n + suc (length ts))) (lookup (is_at (R u.0)) ss)) (turned-apart o k u.0 apart) ∙ h.0,
       subst (λ m. AreStamped R (suc n) (ts ++ t ∷ []) (insert_entry R ss k m)) (later n (length ts)) (AreStamped-push (suc n) ts ss k t tied none h.1),
     )
   ] refl none
@@ -99,17 +108,9 @@ module _ {K : Type 0} {R : K → K → Ordering} (o : IsTotalOrder R) {V : Type 
     apart_later n (suc i) k ts ss at (subst (λ m. AreStamped R m ts ss) (step n i) h.1),
   )
 
-  distinct-cons : (k : K) (ks : List K) → AllByRecursion (λ y. eq_by_cmp R k y ≡ false) ks → IsDistinct (eq_by_cmp R) ks → IsDistinct (eq_by_cmp R) (k ∷ ks)
-  unfolding IsDistinct
-  distinct-cons k ks apart rest = (apart, rest)
-
-  distinct-none : IsDistinct (eq_by_cmp R) []
-  unfolding IsDistinct
-  distinct-none = tt
-
   pub distinct : (n : ℕ) (ts : List (K × Option V)) (ss : List (K × ℕ)) → AreStamped R n ts ss → IsDistinct (eq_by_cmp R) (keys_of ts)
-  distinct n [] ss h = distinct-none
-  distinct n (t ∷ ts) ss h = distinct-cons t.0 (keys_of ts) (apart_later n 0 t.0 ts ss h.0 (subst (λ m. AreStamped R m ts ss) (plus_none (suc n)) h.1)) (distinct (suc n) ts ss h.1)
+  distinct n [] ss h = distinct-none R
+  distinct n (t ∷ ts) ss h = distinct-cons R t.0 (keys_of ts) (apart_later n 0 t.0 ts ss h.0 (subst (λ m. AreStamped R m ts ss) (plus_none (suc n)) h.1)) (distinct (suc n) ts ss h.1)
 
   -- the list once what is yet to be listed is listed
   pub listed_with : (ts : List (K × Option V)) (es : List (K × V)) (k : K) → ts ++ option_to_list (unlisted R ts es k) ≡ touched_with R ts es k

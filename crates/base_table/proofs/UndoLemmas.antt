@@ -30,6 +30,14 @@ AreUnmarked (u ∷ us) = (u.point.marks ≡ 0) × AreUnmarked us
 pub get_or-within : {A : Type 0} (xs : List A) (i : ℕ) (d e : A) → i < length xs → get_or xs i d ≡ get_or xs i e
 get_or-within xs i d e within = let a = drop_more xs i d within in let b = drop_more xs i e within in let same : get_or xs i d ∷ drop (i + 1) xs ≡ get_or xs i e ∷ drop (i + 1) xs = sym a ∙ b in cc
 
+-- what is there stays as it is written to
+there-set : {K X : Type 0} (look test : K → Bool) (ps : List (K × X)) (x : X) → is_some (lookup look ps) ≡ true → is_some (lookup look (set_value test ps x)) ≡ true
+there-set look test [] x h = h
+there-set look test (p ∷ ps) x h = elim (test p.0) as (λ c. is_some (lookup look (cond c ((p.0, x) ∷ ps) (p ∷ set_value test ps x))) ≡ true) [
+  | true ↦ elim (look p.0) as (λ b. is_some (cond b (Some p.1) (lookup look ps)) ≡ true → is_some (cond b (Some x) (lookup look ps)) ≡ true) [ true ↦ λ h. refl | false ↦ λ h. h ] h
+  | false ↦ elim (look p.0) as (λ b. is_some (cond b (Some p.1) (lookup look ps)) ≡ true → is_some (cond b (Some p.1) (lookup look (set_value test ps x))) ≡ true) [ true ↦ λ h. refl | false ↦ λ h. there-set look test ps x h ] h
+]
+
 module _ {K V : Type 0} (R : K → K → Ordering) where
   rewound-append : (us ws : List (Undo K V)) (ps : List (K × Slot K V)) → rewound R (us ++ ws) ps ≡ rewound R us (rewound R ws ps)
   rewound-append [] ws ps = refl
@@ -142,13 +150,6 @@ module _ {K V : Type 0} (R : K → K → Ordering) where
   no_marks us m ps none h = ap (λ n. marks_of R us n ps) none ∙ append-nil (marks_below R us ps) ∙ unmarked us ps h
 
   -- that changes have their places stays as places are written to
-  there-set : {X : Type 0} (look test : K → Bool) (ps : List (K × X)) (x : X) → is_some (lookup look ps) ≡ true → is_some (lookup look (set_value test ps x)) ≡ true
-  there-set look test [] x h = h
-  there-set look test (p ∷ ps) x h = elim (test p.0) as (λ c. is_some (lookup look (cond c ((p.0, x) ∷ ps) (p ∷ set_value test ps x))) ≡ true) [
-    | true ↦ elim (look p.0) as (λ b. is_some (cond b (Some p.1) (lookup look ps)) ≡ true → is_some (cond b (Some x) (lookup look ps)) ≡ true) [ true ↦ λ h. refl | false ↦ λ h. h ] h
-    | false ↦ elim (look p.0) as (λ b. is_some (cond b (Some p.1) (lookup look ps)) ≡ true → is_some (cond b (Some p.1) (lookup look (set_value test ps x))) ≡ true) [ true ↦ λ h. refl | false ↦ λ h. there-set look test ps x h ] h
-  ]
-
   pub HavePlaces-set : (us : List (Undo K V)) (test : K → Bool) (ps : List (K × Slot K V)) (s : Slot K V) → HavePlaces R us ps → HavePlaces R us (set_value test ps s)
   HavePlaces-set [] test ps s h = tt
   HavePlaces-set (u ∷ us) test ps s h = (there-set (is_at (R u.key)) test ps s h.0, HavePlaces-set us test ps s h.1)
