@@ -148,6 +148,6 @@ module _ {K V : Type 0} {R : K → K → Ordering} where
         placed = subst (λ ws. HavePlaces R ws qs) (sym nothing) tt;
       }
 
-  -- and no mark is open by them
-  pub marks-swept : (us : List (Undo K V)) (m : ℕ) (ps qs : List (K × Slot K V)) → marks_of R us m ps ≡ [] → marks_of R us m qs ≡ []
-  marks-swept us m ps qs shut = empty (marks_of R us m qs) (length-marks_of R us m qs ps ∙ ap length shut)
+-- and no mark is open by them
+pub marks-swept : {K V : Type 0} (R : K → K → Ordering) (us : List (Undo K V)) (m : ℕ) (ps qs : List (K × Slot K V)) → marks_of R us m ps ≡ [] → marks_of R us m qs ≡ []
+marks-swept R us m ps qs shut = empty (marks_of R us m qs) (length-marks_of R us m qs ps ∙ ap length shut)
