@@ -1,11 +1,9 @@
 -- The entries of one delegator, from its least key on, end before another delegator's.
-use Rattle.std.proofs.Common.{◌≡◌, ◌∙◌, ℕ, ◌<◌, ◌≤◌, Bool, true, false, cond, List, [], ◌∷◌, Some, None, length, refl, sym, ap, subst, arith}
-use Rattle.std.specs.Prelude.{◌&&◌, ◌||◌, ◌==◌, suc, zero, nat_lt, All, filter}
-use Rattle.std.proofs.lemmas.Bool.Decides.{nat_tests}
+use Rattle.std.proofs.Common.{◌≡◌, ◌∙◌, ℕ, Bool, true, false, cond, List, [], ◌∷◌, Some, None, refl, sym, ap, subst}
+use Rattle.std.specs.Prelude.{◌&&◌, ◌||◌, All, filter}
 use Rattle.std.specs.declared.cmp.Ordering.{Ordering}
 use Rattle.std.specs.declared.cmp.Ordering.TheVariants.{Less, Equal, Greater}
-use Rattle.std.specs.Ordering.{is_eq, is_lt, is_le, nat_cmp, ordering_then, ordering_reverse}
-use Rattle.std.specs.Cmp.Lexicographic.{slice_cmp}
+use Rattle.std.specs.Ordering.{is_eq, is_lt, is_le, ordering_then, ordering_reverse}
 use Rattle.std.specs.List.{AllByRecursion}
 use Rattle.std.specs.List.Sorted.{IsStrictlySortedBy}
 use Rattle.std.specs.Map.{keys_of}
@@ -17,33 +15,9 @@ use Rattle.base_roles.specs.declared.entities.RedelegationEntry.{RedelegationEnt
 use Rattle.base_roles.specs.Orders.{triple_cmp, same_addr}
 use Rattle.rule_modules.specs.Redelegations.{RedelegationLists, is_transitive}
 use Rattle.rule_modules.proofs.OrderLemmas.{addr_total}
-use Rattle.mod_entries.specs.Lists.{IsAddr}
-use Rattle.mod_redelegation.specs.Own.{are_addrs, own_entries, own_entry, least_addr}
+use Rattle.mod_entries.specs.Least.{le_both, least_addr, least_is}
+use Rattle.mod_redelegation.specs.Own.{are_addrs, own_entries, own_entry}
 use Rattle.mod_redelegation.proofs.OrderLemmas.{Key}
-
--- ---- no address comes before the least
-
--- so many zero bytes
-abbrev zeros : ℕ → List ℕ
-zeros zero = []
-zeros (suc n) = 0 ∷ zeros n
-
-le_zero : (x : ℕ) (rest : Ordering) → is_le rest ≡ true → is_le (ordering_then (nat_cmp 0 x) rest) ≡ true
-le_zero x rest h = by (nat_lt 0 x) (0 == x) refl refl
-  where
-    by : (b c : Bool) → nat_lt 0 x ≡ b → (0 == x) ≡ c → is_le (ordering_then (cond b Less (cond c Equal Greater)) rest) ≡ true
-    by true c p q = refl
-    by false true p q = h
-    by false false p q = let few : x ≤ 0 = grind (arith, nat_tests, p) in let some : 0 < x = grind (arith, nat_tests, q) in absurd (omega (arith, few, some))
-
-zeros-least : (n : ℕ) (a : List ℕ) → length a ≡ n → is_le (slice_cmp nat_cmp (zeros n) a) ≡ true
-zeros-least zero [] e = refl
-zeros-least zero (x ∷ a) e = absurd (omega (arith, e))
-zeros-least (suc n) [] e = absurd (omega (arith, e))
-zeros-least (suc n) (x ∷ a) e = let f : length a ≡ n = omega (arith, e) in le_zero x (slice_cmp nat_cmp (zeros n) a) (zeros-least n a f)
-
-least_is : (a : List ℕ) → IsAddr a → is_le (addr_cmp least_addr a) ≡ true
-least_is a e = zeros-least 20 a e
 
 -- ---- the delegator's own
 
@@ -102,11 +76,6 @@ module _ (d : List ℕ) where
       by Greater p ih = ap (λ q. own_entry d (first_of (cond (q && true) (x ∷ from a b t es) (from a b t es)))) greater ∙ ih ∙ sym (right false (own_test x.0.0 Greater p))
 
   -- ---- none of the delegator's own comes before its least key
-
-  le_both : (r s : Ordering) → is_le r ≡ true → is_le s ≡ true → is_le (ordering_then r s) ≡ true
-  le_both Less s p q = refl
-  le_both Equal s p q = q
-  le_both Greater s p q = p
 
   equal_own : (a : List ℕ) → same_addr a d ≡ true → addr_cmp d a ≡ Equal
   equal_own a e = by (addr_cmp d a) refl
