@@ -9,8 +9,8 @@ use Rattle.mod_signing.specs.Kept.{kept_of}
 use Rattle.mod_signing.proofs.WalkLemmas.{signing_change, signings-all, signings-more, signings-same}
 use Rattle.mod_signing.proofs.walk.changes_into.Goals as goal
 
-pub loop-cons-preserved-in-Continue-branch-2 : goal.loop-cons-preserved-in-Continue-branch-2
-loop-cons-preserved-in-Continue-branch-2 g c =
+pub loop-cons-preserved-in-Continue-branch-3 : goal.loop-cons-preserved-in-Continue-branch-3
+loop-cons-preserved-in-Continue-branch-3 g c =
     let settled = c.args.rows.now.settled in
     let rows = c.args.rows.now.entries in
     let es = c.args.entries.now.entries in
@@ -18,7 +18,7 @@ loop-cons-preserved-in-Continue-branch-2 g c =
     let place = c.loop-cons.cons-index in
     let pair = c.loop-cons-item.result in
     let change : signing_change settled rows pair.0 pair.1 (at cons_cmp es pair.0) ≡ Some c.in-Some.change
-    = ap (signing_change settled rows pair.0 pair.1) (sym c.get-now.ensures.value) ∙ sym c.in_ok-change_of.ensures ∙ c.in-Some.is in
+    = ap (signing_change settled rows pair.0 pair.1) (sym c.get-now.ensures.value) ∙ sym c.in_ok-change.ensures ∙ c.in-Some.is in
     signings-more settled rows c.args.out.now.items touched es c.loop-cons.out.items c.push.new.self.items (drop place touched) (drop (place + 1) touched) pair.0 pair.1 c.in-Some.change
     c.loop-cons.invariant (touched-next touched place pair c.loop-cons-test.true c.loop-cons-item.is) change c.in_ok-push.ensures.items
 
@@ -30,9 +30,9 @@ loop-cons-preserved g c =
     let touched = c.touched.result.now in
     let place = c.loop-cons.cons-index in
     let pair = c.loop-cons-item.result in
-    let none : c.in_ok-change_of.field-0 ≡ None = search rules in
+    let none : c.in_ok-change.field-0 ≡ None = search rules in
     let change : signing_change settled rows pair.0 pair.1 (at cons_cmp es pair.0) ≡ None
-    = ap (signing_change settled rows pair.0 pair.1) (sym c.get-now.ensures.value) ∙ sym c.in_ok-change_of.ensures ∙ none in
+    = ap (signing_change settled rows pair.0 pair.1) (sym c.get-now.ensures.value) ∙ sym c.in_ok-change.ensures ∙ none in
     signings-same settled rows c.args.out.now.items touched es c.loop-cons.out.items (drop place touched) (drop (place + 1) touched) pair.0 pair.1
     c.loop-cons.invariant (touched-next touched place pair c.loop-cons-test.true c.loop-cons-item.is) change
 
