@@ -101,16 +101,16 @@ module _ {K E : Type 0} (cmp : K → K → Ordering) (total : IsTotalOrder cmp) 
     sources-put list changed = by stood (at cmp u key) refl is
       where
         by : (b : Bool) (o : Option (List E)) → at cmp u key ≡ o → b ≡ is_some o → AreSourced cmp source u2 (if b then w else queued addr_cmp cmp key (Some (source key)) w)
-        by true None e s = absurd cc
+        by true None e s = let clash : true ≡ false = s in absurd cc
         by true (Some es) e s = kept (Some list) changed (sym (ap (source_of source key) e))
         by false None e s = moved (Some list) changed None e
-        by false (Some es) e s = absurd cc
+        by false (Some es) e s = let clash : false ≡ true = s in absurd cc
 
     pub sources-taken : ((k : K) → at cmp u2 k ≡ cond (is_at (cmp k) key) None (at cmp u k)) → AreSourced cmp source u2 (if stood then unqueued addr_cmp cmp key (Some (source key)) w else w)
     sources-taken changed = by stood (at cmp u key) refl is
       where
         by : (b : Bool) (o : Option (List E)) → at cmp u key ≡ o → b ≡ is_some o → AreSourced cmp source u2 (if b then unqueued addr_cmp cmp key (Some (source key)) w else w)
-        by true None e s = absurd cc
+        by true None e s = let clash : true ≡ false = s in absurd cc
         by true (Some es) e s = moved None changed (Some es) e
         by false None e s = kept None changed (sym (ap (source_of source key) e))
-        by false (Some es) e s = absurd cc
+        by false (Some es) e s = let clash : false ≡ true = s in absurd cc
