@@ -11,7 +11,7 @@ use Rattle.std.specs.BTreeMap.{insert_entry, is_at}
 use Rattle.base_table.specs.declared.slot.Place.{Place}
 use Rattle.base_table.specs.declared.slot.Slot.{Slot}
 use Rattle.base_table.specs.declared.slot.Slot.TheVariants.{Empty}
-use Rattle.base_table.specs.Places.{changed, entry_of, filled, is_full, len_changed, name_in, pair_of, slot_at, slot_of, slots, stamp_of, stamps, unlisted, value_stamped, AreNamed, AreStamped, IsNamed}
+use Rattle.base_table.specs.Places.{changed, entry_of, filled, is_full, len_changed, name_in, pair_of, slot_at, slot_of, slots, stamp_of, stamps, unlisted, value_stamped, AreNamed, AreStamped, IsExchanged, IsNamed}
 use Rattle.base_table.specs.Tabled.{key_in, value_at}
 use Rattle.base_table.proofs.EachLemmas.{insert-each, length-each, lookup-each, lookup_key-each, sorted-each}
 use Rattle.base_table.proofs.EntryLemmas.{lookup_is, lookup_key_is}
@@ -132,3 +132,33 @@ module _ {K V : Type 0} {R : K → K → Ordering} (o : IsTotalOrder R) (ps : Li
         subst (AreStamped R 0 (ts ++ (name, None) ∷ [])) (sym (stamps-made qs new (length ts) made stamp))
         (subst (λ n. AreStamped R 0 (ts ++ (name, None) ∷ []) (insert_entry R (stamps ps) k n)) (zero_plus (length ts))
         (AreStamped-push o 0 ts (stamps ps) k (name, None) (ap (is_at (R k)) is ∙ ap is_eq (tied_itself o k)) not_listed stamped))
+
+  -- all of it together
+  module _ (ts : List (K × Option V)) (named : AreNamed R (slots ps)) (stamped : AreStamped R 0 ts (stamps ps)) (value : Option V) (qs : List (K × Place K V)) (new : Place K V)
+      (made : qs ≡ insert_entry R ps k new) (here : IsNamed R k new.slot) where
+    pub exchanged-found : (stored : K) (place : Place K V) → lookup_key (is_at (R k)) ps ≡ Some stored → lookup (is_at (R k)) ps ≡ Some place
+        → ((name : K) → entry_of name new.slot ≡ option_map (λ v. (name_in k name place.slot, v)) value)
+        → (told : Option (K × Option V)) → told ≡ (if is_some (value_stamped R ts place.stamp k) then None else Some (pair_of k (entry_of stored place.slot)))
+        → new.stamp ≡ (if is_some told then length ts else place.stamp)
+        → (before : Slot K V) → before ≡ place.slot → IsExchanged R k value ts ps qs before told
+    exchanged-found stored place key found shows told is stamp before was =
+        let listed = is ∙ unlisted-found ts stored place named stamped key found in
+        record {
+          found = was ∙ before-found ts stored place named stamped key found;
+          made = (new.slot, slots-made named qs new value made here);
+          seen = filled-made named qs new value made here (shows-found ts stored place named stamped key found new.slot value (shows (key_in R (slots ps) k)));
+          named = named-made named qs new value made here;
+          listed = listed;
+          stamped = stamped-found ts stored place named stamped key found qs new told listed stamp made;
+        }
+
+    pub exchanged-new : lookup (is_at (R k)) ps ≡ None → ((name : K) → entry_of name new.slot ≡ option_map (λ v. (name, v)) value) → new.stamp ≡ length ts → (name : K) → name ≡ k
+        → IsExchanged R k value ts ps qs Empty (Some (name, None))
+    exchanged-new missed shows stamp name is = record {
+      found = before-new ts named stamped missed;
+      made = (new.slot, slots-made named qs new value made here);
+      seen = filled-made named qs new value made here (shows-new ts named stamped missed new.slot value (shows (key_in R (slots ps) k)));
+      named = named-made named qs new value made here;
+      listed = unlisted-new ts named stamped missed name is;
+      stamped = stamped-new ts named stamped missed qs new name is stamp made;
+    }

@@ -4,6 +4,7 @@ pub mod EachLemmas
 pub mod EntryLemmas
 pub mod KeptLemmas
 pub mod MarkLemmas
+pub mod NotedLemmas
 pub mod PlaceLemmas
 pub mod PlacedLemmas
 pub mod RestoredLemmas

@@ -2,11 +2,13 @@
 use Rattle.std.specs.Prelude.{◌≡◌, Bool, List, [], ◌∷◌, ◌++◌, Option, refl}
 use Rattle.std.proofs.Common.{sym, ◌∙◌, ap, subst}
 use Rattle.std.specs.declared.cmp.Ordering.{Ordering}
+use Rattle.std.specs.Cmp.{IsTotalOrder}
 use Rattle.std.specs.List.Sorted.{IsStrictlySortedBy}
 use Rattle.std.specs.Map.{keys_of}
 use Rattle.base_table.specs.Places.{Marked}
 use Rattle.base_table.specs.Restored.{restored, KeepsSettled, MarksRestore}
 use Rattle.base_table.specs.Tabled.{touched_with, Tabled, IsForgotten, IsGoneBack}
+use Rattle.base_table.proofs.RestoredLemmas.{touched_with-restored}
 
 module _ {K V : Type 0} (R : K → K → Ordering) where
   push : (ts : List (K × Option V)) (settled es : List (K × V)) (ms : List (List (K × V))) → MarksRestore R ts settled ms → IsStrictlySortedBy R (keys_of es) → restored R ts es ≡ settled → MarksRestore R ts settled (ms ++ es ∷ [])
@@ -57,6 +59,11 @@ module _ {K V : Type 0} (R : K → K → Ordering) where
 
     pub MarksRestore-back : MarksRestore R ts (restored R ts last) ms
     MarksRestore-back = subst (λ s. MarksRestore R ts s ms) (sym restored-latest) MarksRestore-closed
+
+-- of a key that is not listed the present entry is that at the last settling, so the list grows alike by both
+pub touched-settled : {K V : Type 0} {R : K → K → Ordering} (o : IsTotalOrder R) (f : List (K × V) → List (K × V)) (k : K) (p q : Marked K V) → IsStrictlySortedBy R (keys_of p.entries)
+    → q ≡ record p { entries = f p.entries; touched = touched_with R p.touched p.entries k } → q ≡ record p { entries = f p.entries; touched = touched_with R p.touched (restored R p.touched p.entries) k }
+touched-settled o f k p q in_order made = subst (λ ts. q ≡ record p { entries = f p.entries; touched = ts }) (sym (touched_with-restored o p.touched p.entries k in_order)) made
 
 -- a key is changed and touched
 pub changed_table : {K V : Type 0} (R : K → K → Ordering) (f : List (K × V) → List (K × V)) (k : K) (old : Tabled K V) (p q : Marked K V) (spent : Bool)

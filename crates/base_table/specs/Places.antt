@@ -158,6 +158,16 @@ module _ {K V : Type 0} where
     HavePlaces [] ps = ⊤
     HavePlaces (u ∷ us) ps = (is_some (lookup (is_at (cmp u.key)) ps) ≡ true) × HavePlaces us ps
 
+    -- What one search for a key finds and makes, where the key has this value from then on, or none: what stood at its place,
+    -- what is yet to be listed of it, and the places.
+    pub record IsExchanged (key : K) (value : Option V) (touched : List (K × Option V)) (old new : List (K × Place K V)) (before : Slot K V) (told : Option (K × Option V)) : Type 0 where
+      pub found : before ≡ slot_at (slots old) key
+      pub made : (slot : Slot K V) × (slots new ≡ insert_entry cmp (slots old) key slot)
+      pub seen : filled (slots new) ≡ changed key value (filled (slots old))
+      pub named : AreNamed (slots new)
+      pub listed : told ≡ unlisted touched (filled (slots old)) key
+      pub stamped : AreStamped 0 (touched ++ option_to_list told) (stamps new)
+
     -- what is always true of places, of the noted changes, of the latest point and of the number of open marks
     pub record IsKept (us : List (Undo K V)) (here : Point) (depth : ℕ) (ps : List (K × Slot K V)) : Type 0 where
       pub count : length (marks_of us here.marks ps) ≡ depth

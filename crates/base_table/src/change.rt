@@ -1,11 +1,10 @@
 //! A change of what stands at the place of a key, which is stamped and listed as touched.
 
-ghost use Rattle.std.specs.Prelude.{◌≡◌, ◌++◌, Some, None, true, is_some, option_map, IfOk, OnErr, if◌then◌else◌};
-ghost use Rattle.std.specs.BTreeMap.{insert_entry, is_at};
+ghost use Rattle.std.specs.Prelude.{◌≡◌, Some, None, true, length, is_some, option_map, IfOk, OnErr, if◌then◌else◌};
+ghost use Rattle.std.specs.BTreeMap.{is_at};
 ghost use Rattle.std.specs.declared.cmp.Ordering.{Ordering};
-ghost use Rattle.std.specs.Option.{option_copied, option_to_list};
-ghost use Rattle.base_table.specs.declared.slot.Slot.{Slot};
-ghost use Rattle.base_table.specs.Places.{changed, entry_of, filled, name_in, pair_of, slot_at, slots, stamps, unlisted, value_stamped, AreNamed, AreStamped, IsNamed};
+ghost use Rattle.std.specs.Option.{option_copied};
+ghost use Rattle.base_table.specs.Places.{entry_of, name_in, pair_of, slots, stamps, value_stamped, AreNamed, AreStamped, IsExchanged, IsNamed};
 
 use crate::slot::{Place, Slot};
 use base_types::{Copied, TableFault};
@@ -33,17 +32,8 @@ pub(crate) fn exchange<K: Ord + Copied, V: Copied>(
 ) -> Result<Found<K, V>, TableFault>
     requires named { AreNamed K.cmp (slots tree.old.entries) }
     requires stamped { AreStamped K.cmp 0 touched.now (stamps tree.old.entries) }
-    ensures before { IfOk result (λ found.
-        found.before ≡ slot_at K.cmp (slots tree.old.entries) key.now) }
-    ensures slots { IfOk result (λ found. (slot : Slot K V)
-        × (slots tree.new.entries ≡ insert_entry K.cmp (slots tree.old.entries) key.now slot)) }
-    ensures entries { IfOk result (λ found. filled (slots tree.new.entries)
-        ≡ changed K.cmp key.now value (filled (slots tree.old.entries))) }
-    ensures named { IfOk result (λ found. AreNamed K.cmp (slots tree.new.entries)) }
-    ensures unlisted { IfOk result (λ found. found.unlisted
-        ≡ unlisted K.cmp touched.now (filled (slots tree.old.entries)) key.now) }
-    ensures stamped { IfOk result (λ found. AreStamped K.cmp 0
-        (touched.now ++ option_to_list found.unlisted) (stamps tree.new.entries)) }
+    ensures ok { IfOk result (λ found. IsExchanged K.cmp key.now value touched.now
+        tree.old.entries tree.new.entries found.before found.unlisted) }
     ensures err { OnErr result (tree.new.entries ≡ tree.old.entries) }
 {
     // It tells that the keys ascend.
@@ -58,16 +48,50 @@ pub(crate) fn exchange<K: Ord + Copied, V: Copied>(
             })
         }
         Entry::Occupied(mut entry) => {
-            let unlisted = to_list(touched, entry.key(), entry.get(), key)?;
-            let slot = filling(alloc, &entry.get().slot, key, value)?;
-            let stamp = next_stamp(&unlisted, entry.get().stamp, touched.len());
-            let place = entry.insert(Place { slot, stamp });
+            let next = refilled(alloc, touched, entry.key(), entry.get(), key, value)?;
+            let place = entry.insert(next.place);
             Ok(Found {
                 before: place.slot,
-                unlisted,
+                unlisted: next.unlisted,
             })
         }
     }
+}
+
+/// What is to stand at a place, and what is yet to be listed of its key.
+#[derive(Drop)]
+struct Next<K, V> {
+    place: Place<K, V>,
+    unlisted: Option<(K, Option<V>)>,
+}
+
+/// What is to stand at the place of the stored key that equals a key, where the key has this value from now
+/// on, or none.
+fn refilled<K: Ord + Copied, V: Copied>(
+    alloc: Global,
+    touched: &[(K, Option<V>)],
+    stored: &K,
+    place: &Place<K, V>,
+    key: &K,
+    value: Option<V>,
+) -> Result<Next<K, V>, TableFault>
+    requires { IsNamed K.cmp key.now place.now.slot }
+    ensures named { IfOk result (λ next. IsNamed K.cmp key.now next.place.slot) }
+    ensures shows { IfOk result (λ next. (name : K) → entry_of name next.place.slot
+        ≡ option_map (λ value. (name_in key.now name place.now.slot, value)) value) }
+    ensures unlisted { IfOk result (λ next. next.unlisted
+        ≡ (if is_some (value_stamped K.cmp touched.now place.now.stamp key.now)
+        then None else Some (pair_of key.now (entry_of stored.now place.now.slot)))) }
+    ensures stamp { IfOk result (λ next. next.place.stamp
+        ≡ (if is_some next.unlisted then length touched.now else place.now.stamp)) }
+{
+    let unlisted = to_list(touched, stored, place, key)?;
+    let slot = filling(alloc, &place.slot, key, value)?;
+    let stamp = next_stamp(&unlisted, place.stamp, touched.len());
+    Ok(Next {
+        place: Place { slot, stamp },
+        unlisted,
+    })
 }
 
 /// The place of a key that had none.

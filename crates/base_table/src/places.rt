@@ -11,7 +11,7 @@ ghost use Rattle.std.specs.Range.Bound.{bound_map};
 ghost use Rattle.base_table.specs.Places.{bound_above, changed, len_changed};
 ghost use Rattle.base_table.specs.Tabled.{entry_above, entry_from, touched_with, value_at};
 
-use crate::change::{Found, exchange, listed_at};
+use crate::change::{exchange, listed_at};
 use crate::slot::Place;
 use crate::undo::{Point, Undo, clear, close, rewind, sweep};
 use crate::walk::{find, first_from};
@@ -142,24 +142,18 @@ impl<K: Ord + Copied, V: Copied> Places<K, V> {
         let noted = key.copied()?;
         self.log.reserve(1)?;
         self.touched.reserve(1)?;
-        let Found { before, unlisted } = exchange(
-            self.alloc,
-            &mut self.tree,
-            &self.touched,
-            key,
-            value,
-        )?;
-        let len = len_after(self.here.len, before.is_full(), has);
+        let found = exchange(self.alloc, &mut self.tree, &self.touched, key, value)?;
+        let len = len_after(self.here.len, found.before.is_full(), has);
         note(
             &mut self.log,
             self.depth > 0,
             Undo {
                 key: noted,
-                before,
+                before: found.before,
                 point: self.here,
             },
         );
-        list(&mut self.touched, unlisted);
+        list(&mut self.touched, found.unlisted);
         self.here = Point { marks: 0, len };
         Ok(())
     }

@@ -250,7 +250,8 @@ fn put_in<K: Ord + Copied, V: Copied>(
 {
     // It tells that the keys ascend.
     let _ = places.len();
-    places.change(key, Some(value))
+    places.change(key, Some(value))?;
+    Ok(())
 }
 
 /// Takes a key out and touches it, and answers a copy of the value that it had. Where memory is wanting,
@@ -271,12 +272,19 @@ fn take_out<K: Ord + Copied, V: Copied>(
 {
     // It tells that the keys ascend.
     let _ = places.len();
-    let value = match places.get(key) {
-        Some((_, value)) => Some(value.copied()?),
-        None => None,
-    };
+    let value = value_of(places.get(key))?;
     places.change(key, None)?;
     Ok(value)
+}
+
+/// A copy of the value of an entry, where there is one.
+fn value_of<K, V: Copied>(entry: Option<(&K, &V)>) -> Result<Option<V>, TableFault>
+    ensures { IfOk result (λ value. value ≡ option_map (λ entry. entry.1.now) entry.entry) }
+{
+    match entry {
+        Some((_, value)) => Ok(Some(value.copied()?)),
+        None => Ok(None),
+    }
 }
 
 /// Counts one step for an item of a walk, and none at its end.

@@ -1,5 +1,5 @@
 -- The way to entries by their earliest completions.
-use Rattle.std.specs.Prelude.{ℕ, nat_lt, nat_le, Bool, List, [], ◌∷◌, Option, Some, None, unwrap_or, if◌then◌else◌}
+use Rattle.std.specs.Prelude.{ℕ, nat_lt, nat_le, List, [], ◌∷◌, Option, Some, None, unwrap_or, if◌then◌else◌}
 use Rattle.std.specs.declared.cmp.Ordering.{Ordering}
 use Rattle.base_types.specs.Orders.{moment_cmp}
 use Rattle.base_roles.specs.Orders.{both_cmp}
