@@ -1,5 +1,5 @@
 -- The entries at open marks, as changes are noted and undone.
-use Rattle.std.specs.Prelude.{◌≡◌, Bool, true, false, cond, Some, is_some, ℕ, zero, suc, ◌+◌, ◌-◌, ◌<◌, ◌≤◌, List, [], ◌∷◌, ◌++◌, length, take, drop, refl}
+use Rattle.std.specs.Prelude.{◌≡◌, Bool, true, false, cond, Some, None, is_some, option_map, ℕ, zero, suc, ◌+◌, ◌-◌, ◌<◌, ◌≤◌, List, [], ◌∷◌, ◌++◌, length, take, drop, refl}
 use Rattle.std.proofs.Common.{get_or, set, sym, ◌∙◌, ap, subst, append_assoc, add-one, arith}
 use Rattle.std.proofs.lemmas.List.{append-nil, drop-set, drop_more, length-append, take-append-drop, take-set}
 use Rattle.std.specs.declared.cmp.Ordering.{Ordering}
@@ -8,9 +8,12 @@ use Rattle.std.specs.Cmp.{IsTotalOrder, tied_itself}
 use Rattle.std.specs.Map.{lookup, set_value}
 use Rattle.std.specs.Ordering.{is_eq}
 use Rattle.base_types.proofs.MapLemmas.{at-put}
+use Rattle.base_table.specs.declared.slot.Place.{Place}
 use Rattle.base_table.specs.declared.slot.Slot.{Slot}
 use Rattle.base_table.specs.declared.undo.Undo.{Undo}
-use Rattle.base_table.specs.Places.{filled, marks_below, marks_of, put_back_slot, rewound, times, Fits, FitBelow, HavePlaces}
+use Rattle.base_table.specs.Places.{filled, marks_below, marks_of, put_back_slot, rewound, slot_of, slots, stamp_of, stamps, times, Fits, FitBelow, HavePlaces}
+use Rattle.base_table.proofs.EachLemmas.{lookup-each, set-each}
+use Rattle.base_table.proofs.PlaceLemmas.{set_value-absent, set_value-same}
 
 pub length-times : {A : Type 0} (n : ℕ) (x : A) → length (times n x) ≡ n
 length-times zero x = refl
@@ -29,6 +32,20 @@ AreUnmarked (u ∷ us) = (u.point.marks ≡ 0) × AreUnmarked us
 -- within a list the default does not count
 pub get_or-within : {A : Type 0} (xs : List A) (i : ℕ) (d e : A) → i < length xs → get_or xs i d ≡ get_or xs i e
 get_or-within xs i d e within = let a = drop_more xs i d within in let b = drop_more xs i e within in let same : get_or xs i d ∷ drop (i + 1) xs ≡ get_or xs i e ∷ drop (i + 1) xs = sym a ∙ b in cc
+
+-- what stood at a place stands there again, and its stamp stays
+module _ {K V : Type 0} (test : K → Bool) (ps : List (K × Place K V)) (before : Slot K V) where
+  module _ (qs : List (K × Place K V)) (place : Place K V) (made : qs ≡ set_value test ps (record { slot = before; stamp = place.stamp })) where
+    pub slots-put_back : slots qs ≡ set_value test (slots ps) before
+    slots-put_back = ap slots made ∙ set-each slot_of test ps (record { slot = before; stamp = place.stamp })
+
+    pub stamps-put_back : lookup test ps ≡ Some place → stamps qs ≡ stamps ps
+    stamps-put_back found =
+        ap stamps made ∙ set-each stamp_of test ps (record { slot = before; stamp = place.stamp })
+        ∙ set_value-same test (stamps ps) place.stamp (lookup-each stamp_of test ps ∙ ap (option_map stamp_of) found)
+
+  pub slots-absent : lookup test ps ≡ None → slots ps ≡ set_value test (slots ps) before
+  slots-absent none = sym (set_value-absent test (slots ps) before (lookup-each slot_of test ps ∙ ap (option_map slot_of) none))
 
 -- what is there stays as it is written to
 there-set : {K X : Type 0} (look test : K → Bool) (ps : List (K × X)) (x : X) → is_some (lookup look ps) ≡ true → is_some (lookup look (set_value test ps x)) ≡ true

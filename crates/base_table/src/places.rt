@@ -203,15 +203,8 @@ impl<K: Ord + Copied, V: Copied> Places<K, V> {
         requires { self.old.marks ≡ [] }
         ensures { self.new ≡ record self.old { touched = [] } }
     {
-        if self.here.len < self.tree.len() {
-            sweep(&mut self.tree, &self.touched);
-        }
-        // A short list keeps its room; a long one is let go of, so that no later settling pays for it.
-        if self.touched.len() <= ROOM_KEPT {
-            self.touched.clear();
-        } else {
-            self.touched = Vec::new(self.alloc);
-        }
+        sweep(&mut self.tree, &self.touched, self.here.len);
+        empty(self.alloc, &mut self.touched);
     }
 }
 
@@ -255,5 +248,16 @@ fn list<P: Drop>(touched: &mut Vec<P>, unlisted: Option<P>)
 {
     if let Some(pair) = unlisted {
         touched.push_reserved(pair);
+    }
+}
+
+/// Empties a list: a short one keeps its room, and a long one is let go of, so that no later one pays for it.
+fn empty<T: Drop>(alloc: Global, list: &mut Vec<T>)
+    ensures { list.new.items ≡ [] }
+{
+    if list.len() <= ROOM_KEPT {
+        list.clear();
+    } else {
+        *list = Vec::new(alloc);
     }
 }

@@ -38,9 +38,10 @@ fn put_back<K: Ord + Copied, V: Copied>(
         ≡ put_back_slot K.cmp key.now before (slots tree.old.entries) }
     ensures stamps { stamps tree.new.entries ≡ stamps tree.old.entries }
 {
-    if let Some(place) = tree.get_mut(key) {
-        place.slot = before;
-    }
+    let Some(place) = tree.get_mut(key) else {
+        return;
+    };
+    place.slot = before;
 }
 
 /// Undoes the changes after the latest mark.
@@ -110,15 +111,19 @@ where
     }
 }
 
-/// Takes the empty places of these keys out.
+/// Takes the empty places of these keys out, where there are more places than so many entries.
 pub(crate) fn sweep<K: Ord + Copied, V: Copied>(
     tree: &mut BTreeMap<K, Place<K, V>>,
     keys: &[(K, Option<V>)],
+    len: usize,
 )
     ensures entries { filled (slots tree.new.entries) ≡ filled (slots tree.old.entries) }
     ensures named { AreNamed K.cmp (slots tree.old.entries)
         → AreNamed K.cmp (slots tree.new.entries) }
 {
+    if tree.len() <= len {
+        return;
+    }
     for (key, _) in keys {
         clear_empty(tree, key);
     }
@@ -133,7 +138,8 @@ fn clear_empty<K: Ord + Copied, V: Copied>(tree: &mut BTreeMap<K, Place<K, V>>, 
     let Some(place) = tree.get(key) else {
         return;
     };
-    if !place.slot.is_full() {
-        tree.remove(key);
+    if place.slot.is_full() {
+        return;
     }
+    tree.remove(key);
 }
