@@ -43,7 +43,7 @@ module _ {K E : Type 0} (test : K → List E → Bool) where
       by true h = (above-where cmp test p.0 u s.0, h)
       by false h = h
 
-  where_has : (u : List (K × List E)) (k : K) → Member (keys_where test u) k → (es : List E) × (Member u (k, es) × (test k es ≡ true))
+  pub where_has : (u : List (K × List E)) (k : K) → Member (keys_where test u) k → (es : List E) × (Member u (k, es) × (test k es ≡ true))
   where_has [] k m = absurd m
   where_has (p ∷ u) k m = by (test p.0 p.1) refl (where_has u k) m
     where
@@ -52,7 +52,7 @@ module _ {K E : Type 0} (test : K → List E → Bool) where
       by true q more (inr n) = let r = more n in (r.0, (inr r.1.0, r.1.1))
       by false q more n = let r = more n in (r.0, (inr r.1.0, r.1.1))
 
-  has_where : (u : List (K × List E)) (k : K) (es : List E) → Member u (k, es) → test k es ≡ true → Member (keys_where test u) k
+  pub has_where : (u : List (K × List E)) (k : K) (es : List E) → Member u (k, es) → test k es ≡ true → Member (keys_where test u) k
   has_where [] k es m q = absurd m
   has_where (p ∷ u) k es m q = by (test p.0 p.1) refl (λ n. has_where u k es n q) m
     where
