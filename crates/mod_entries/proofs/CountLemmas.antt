@@ -94,6 +94,14 @@ filter_passes p (y ∷ xs) x m = by (p y) refl (filter_passes p xs x) m
     by true q more (inr n) = more n
     by false q more n = more n
 
+pub all-passes : {A : Type 0} (p : A → Bool) (xs : List A) → AllByRecursion (λ x. p x ≡ true) (filter p xs)
+all-passes p [] = tt
+all-passes {A} p (x ∷ xs) = by (p x) refl (all-passes p xs)
+  where
+    by : (b : Bool) → p x ≡ b → AllByRecursion (λ (y : A). p y ≡ true) (filter p xs) → AllByRecursion (λ (y : A). p y ≡ true) (cond b (x ∷ filter p xs) (filter p xs))
+    by true q more = (q, more)
+    by false q more = more
+
 pub of_member : {A : Type 0} (P : A → Type 0) (xs : List A) → AllByRecursion P xs → (x : A) → Member xs x → P x
 of_member P [] h x m = absurd m
 of_member P (y ∷ xs) h x (inl e) = subst P e h.0

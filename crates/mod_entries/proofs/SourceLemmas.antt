@@ -1,10 +1,10 @@
 -- The keys that stand under a source are those of the entries from the operator, in the same order, and side by side.
-use Rattle.std.proofs.Common.{◌≡◌, ◌∙◌, ℕ, Bool, true, false, cond, List, [], ◌∷◌, Option, Some, None, refl, sym, ap, subst, inl, inr}
+use Rattle.std.proofs.Common.{◌≡◌, ◌∙◌, ℕ, Bool, true, false, cond, List, [], ◌∷◌, Option, Some, None, refl, sym, ap, inl, inr}
 use Rattle.std.specs.Prelude.{◌&&◌, All, filter, option_map}
 use Rattle.std.specs.declared.cmp.Ordering.{Ordering}
 use Rattle.std.specs.declared.cmp.Ordering.TheVariants.{Less, Equal, Greater}
-use Rattle.std.specs.Ordering.{is_eq, is_le, is_lt, ordering_then, ordering_reverse}
-use Rattle.std.specs.Cmp.{IsTotalOrder, eq_by_cmp_equiv, tied_itself}
+use Rattle.std.specs.Ordering.{is_eq, is_le, is_lt, ordering_then}
+use Rattle.std.specs.Cmp.{IsTotalOrder, tied_itself}
 use Rattle.std.specs.BTreeMap.{is_at}
 use Rattle.std.specs.List.{AllByRecursion}
 use Rattle.std.specs.List.Sorted.{IsStrictlySortedBy}
@@ -25,8 +25,9 @@ use Rattle.mod_entries.specs.Slashed.{is_from}
 use Rattle.mod_entries.specs.Sources.{from_operator, own_key, source_of, AreSourced, IsLeast, Sources}
 use Rattle.mod_entries.specs.Walked.{keys_where}
 use Rattle.mod_entries.specs.Ways.{standing}
-use Rattle.mod_entries.proofs.CountLemmas.{filter_member, filter_passes, next-member, of_member}
+use Rattle.mod_entries.proofs.CountLemmas.{all-passes, filter_member, filter_passes, next-member, of_member}
 use Rattle.mod_entries.proofs.DueLemmas.{ascend-where, found_list, has_where, member_list, where_has}
+use Rattle.mod_entries.proofs.SideLemmas.{if_of_addr, same_equal, same_turned, side-first}
 use Rattle.mod_entries.proofs.WayLemmas.{source_total}
 
 -- what stands under the operator
@@ -42,73 +43,29 @@ module _ (a : List ℕ) where
   same : (b : List ℕ) → same_addr b a ≡ true → b ≡ a
   same b h = exact_bytes b a (equal (addr_cmp b a) h)
 
-  turned : (b : List ℕ) → same_addr b a ≡ is_at (addr_cmp a) b
-  turned b = (eq_by_cmp_equiv addr_total).symm b a
-
-  own_test : (b : List ℕ) (r : Ordering) → addr_cmp a b ≡ r → same_addr b a ≡ is_eq (ordering_reverse r)
-  own_test b r p = ap is_eq (addr_total.antisymm b a ∙ ap ordering_reverse p)
-
   itself : same_addr a a ≡ true
   itself = ap is_eq (tied_itself addr_total a)
 
   -- ---- the first place from one of the operator's on
 
   module _ {K : Type 0} (cmp : K → K → Ordering) where
-    later : (x y : List ℕ × K) → addr_cmp a x.0 ≡ Less → both_cmp addr_cmp cmp x y ≡ Less → addr_cmp a y.0 ≡ Less
-    later x y p q = by (addr_cmp x.0 y.0) refl
-      where
-        by : (r : Ordering) → addr_cmp x.0 y.0 ≡ r → addr_cmp a y.0 ≡ Less
-        by Less e = addr_total.trans a x.0 y.0 p e
-        by Equal e = subst (λ b. addr_cmp a b ≡ Less) (exact_bytes x.0 y.0 e) p
-        by Greater e = let clash : Less ≡ Greater = sym q ∙ ap (λ r. ordering_then r (cmp x.1 y.1)) e in absurd cc
-
-    later-none : (x : List ℕ × K) → addr_cmp a x.0 ≡ Less → (w : Sources K) → AllByRecursion (λ y. both_cmp addr_cmp cmp x y ≡ Less) (keys_of w) → under a w ≡ []
-    later-none x p [] h = refl
-    later-none x p (e ∷ w) h = ap (λ b. cond b (e ∷ under a w) (under a w)) (own_test e.0.0 Less (later x e.0 p h.0)) ∙ later-none x p w h.1
-
     -- the places from this one of the operator's on, told by a test of how it compares
     abbrev from : K → (Ordering → Bool) → Sources K → Sources K
     from k t w = filter (λ e. t (both_cmp addr_cmp cmp (a, k) e.0) && true) w
 
+    own_key_is : (o : Option ((List ℕ × K) × Bool)) → own_key a o ≡ option_map (λ e. e.0.1) (if_of_addr (λ (x : List ℕ × K). x.0) (λ (x y : List ℕ × K). cmp x.1 y.1) a o)
+    own_key_is None = refl
+    own_key_is (Some e) = elim (same_addr e.0.0 a) as (λ b. cond b (Some e.0.1) None ≡ option_map (λ (e : (List ℕ × K) × Bool). e.0.1) (cond b (Some e) None)) [ true ↦ refl | false ↦ refl ]
+
     own-first : (k : K) (t : Ordering → Bool) → t Less ≡ true → t Greater ≡ false → (w : Sources K) → IsStrictlySortedBy (both_cmp addr_cmp cmp) (keys_of w)
         → own_key a (first_of (from k t w)) ≡ option_map (λ e. e.0.1) (first_of (from k t (under a w)))
-    unfolding IsStrictlySortedBy
-    own-first k t less greater [] s = refl
-    own-first k t less greater (x ∷ w) s = by (addr_cmp a x.0.0) refl (own-first k t less greater w s.1)
-      where
-        inner : Ordering
-        inner = cmp k x.0.1
-
-        own : Sources K
-        own = under a w
-
-        all : AllByRecursion (λ y. both_cmp addr_cmp cmp x.0 y ≡ Less) (keys_of w)
-        all = s.0
-
-        key : Sources K → Option K
-        key es = option_map (λ (e : (List ℕ × K) × Bool). e.0.1) (first_of es)
-
-        right : (q : Bool) → same_addr x.0.0 a ≡ q → key (from k t (cond (same_addr x.0.0 a) (x ∷ own) own)) ≡ key (from k t (cond q (x ∷ own) own))
-        right q e = ap (λ p. key (from k t (cond p (x ∷ own) own))) e
-
-        here : (q : Bool) → same_addr x.0.0 a ≡ true → own_key a (first_of (from k t w)) ≡ key (from k t own)
-            → own_key a (first_of (cond (q && true) (x ∷ from k t w) (from k t w))) ≡ key (cond (q && true) (x ∷ from k t own) (from k t own))
-        here true e ih = ap (λ p. cond p (Some x.0.1) None) e
-        here false e ih = ih
-
-        by : (r : Ordering) → addr_cmp a x.0.0 ≡ r → own_key a (first_of (from k t w)) ≡ key (from k t own)
-            → own_key a (first_of (cond (t (ordering_then r inner) && true) (x ∷ from k t w) (from k t w))) ≡ key (from k t (cond (same_addr x.0.0 a) (x ∷ own) own))
-        by Less p ih =
-            ap (λ q. own_key a (first_of (cond (q && true) (x ∷ from k t w) (from k t w)))) less ∙ ap (λ q. cond q (Some x.0.1) None) (own_test x.0.0 Less p)
-            ∙ sym (right false (own_test x.0.0 Less p) ∙ ap (λ l. key (from k t l)) (later-none x.0 p w all))
-        by Equal p ih =
-            here (t inner) (own_test x.0.0 Equal p) ih
-            ∙ sym (right true (own_test x.0.0 Equal p) ∙ ap (λ r. key (cond (t (ordering_then r inner) && true) (x ∷ from k t own) (from k t own))) p)
-        by Greater p ih = ap (λ q. own_key a (first_of (cond (q && true) (x ∷ from k t w) (from k t w)))) greater ∙ ih ∙ sym (right false (own_test x.0.0 Greater p))
+    own-first k t less greater w s =
+        own_key_is (first_of (from k t w))
+        ∙ ap (option_map (λ (e : (List ℕ × K) × Bool). e.0.1)) (side-first (λ (x : List ℕ × K). x.0) (λ (x y : List ℕ × K). cmp x.1 y.1) (a, k) t less greater w s)
 
     -- among the operator's, keys alone tell the places
     by_key : (k : K) (x : List ℕ × K) → same_addr x.0 a ≡ true → both_cmp addr_cmp cmp (a, k) x ≡ cmp k x.1
-    by_key k x h = ap (λ r. ordering_then r (cmp k x.1)) (equal (addr_cmp a x.0) (sym (turned x.0) ∙ h))
+    by_key k x h = ap (λ r. ordering_then r (cmp k x.1)) (same_equal a x.0 h)
 
     -- the operator's places are its keys in their order
     first-under : (k : K) (t : Ordering → Bool) (w : Sources K) → option_map (λ e. e.0.1) (first_of (from k t (under a w))) ≡ first_of (filter (λ y. t (cmp k y) && true) (keys_under (under a w)))
@@ -188,7 +145,7 @@ module _ (a : List ℕ) where
       (s : IsStrictlySortedBy cmp (keys_of u)) (sw : IsStrictlySortedBy (both_cmp addr_cmp cmp) (keys_of w)) (h : AreSourced cmp source u w) where
     stands : (k : K) (es : List E) → at cmp u k ≡ Some es → same_addr (source k) a ≡ true → at (both_cmp addr_cmp cmp) w (a, k) ≡ Some true
     stands k es e q =
-        h a k ∙ ap (λ o. standing addr_cmp a (source_of source k o)) e ∙ ap (λ b. cond b (Some true) None) (sym (turned (source k)) ∙ q)
+        h a k ∙ ap (λ o. standing addr_cmp a (source_of source k o)) e ∙ ap (λ b. cond b (Some true) None) (sym (same_turned a (source k)) ∙ q)
 
     stood : (k : K) (b : Bool) → at (both_cmp addr_cmp cmp) w (a, k) ≡ Some b → (es : List E) × (at cmp u k ≡ Some es) × (same_addr (source k) a ≡ true)
     stood k b e = by (at cmp u k) refl (sym (h a k) ∙ e)
@@ -199,7 +156,7 @@ module _ (a : List ℕ) where
 
         by : (o : Option (List E)) → at cmp u k ≡ o → standing addr_cmp a (source_of source k o) ≡ Some b → (es : List E) × (at cmp u k ≡ Some es) × (same_addr (source k) a ≡ true)
         by None f g = absurd cc
-        by (Some es) f g = (es, f, turned (source k) ∙ test (is_at (addr_cmp a) (source k)) g)
+        by (Some es) f g = (es, f, same_turned a (source k) ∙ test (is_at (addr_cmp a) (source k)) g)
 
     from-under : (k : K) → Member (keys_under (under a w)) k → Member (keys_where (is_from source a) u) k
     from-under k m =
@@ -290,17 +247,9 @@ module _ {K E : Type 0} (cmp : K → K → Ordering) (source : K → List ℕ) (
 -- ---- entries from an operator are told once
 
 module _ {K E : Type 0} (source : K → List ℕ) (a : List ℕ) where
-  all_own : (u : List (K × List E)) → AllByRecursion (λ e. same_addr (source e.0) a ≡ true) (from_operator source a u)
-  all_own [] = tt
-  all_own (x ∷ u) = by (same_addr (source x.0) a) refl (all_own u)
-    where
-      by : (q : Bool) → same_addr (source x.0) a ≡ q → AllByRecursion (λ e. same_addr (source e.0) a ≡ true) (from_operator source a u) → AllByRecursion (λ e. same_addr (source e.0) a ≡ true) (cond q (x ∷ from_operator source a u) (from_operator source a u))
-      by true p more = (p, more)
-      by false p more = more
-
   filter_all : (v : List (K × List E)) → AllByRecursion (λ e. same_addr (source e.0) a ≡ true) v → from_operator source a v ≡ v
   filter_all [] h = refl
   filter_all (x ∷ v) h = ap (λ q. cond q (x ∷ from_operator source a v) (from_operator source a v)) h.0 ∙ ap (λ l. x ∷ l) (filter_all v h.1)
 
   pub own-again : (u : List (K × List E)) → from_operator source a (from_operator source a u) ≡ from_operator source a u
-  own-again u = filter_all (from_operator source a u) (all_own u)
+  own-again u = filter_all (from_operator source a u) (all-passes (λ (e : K × List E). same_addr (source e.0) a) u)
