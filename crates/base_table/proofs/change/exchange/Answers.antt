@@ -8,17 +8,20 @@ use Rattle.base_table.proofs.EachLemmas.{lookup-each}
 use Rattle.base_table.proofs.PlaceLemmas.{named_at}
 use Rattle.base_table.proofs.change.exchange.Goals as goal
 
-pub refilled-next-requires : goal.refilled-next-requires
-refilled-next-requires g c =
+pub refilled-requires : goal.refilled-requires
+refilled-requires g c =
     let ps = c.args.tree.now.entries in
     let found : lookup (is_at (g.K.Ord.cmp c.args.key.now)) ps ≡ Some c.get.result.now = subst (λ k. lookup (is_at (g.K.Ord.cmp k)) ps ≡ Some c.get.result.now) c.in_ok-copied.ensures.same (sym c.in_ok-entry.ensures.value ∙ c.get.ensures) in
     named_at g.met.K.Ord.total c.args.key.now (slots ps) c.get.result.now.slot c.requires.named (lookup-each slot_of (is_at (g.K.Ord.cmp c.args.key.now)) ps ∙ ap (option_map slot_of) found)
 
-pub returns-in-Vacant-clause-ok : goal.returns-in-Vacant-clause-ok
-returns-in-Vacant-clause-ok g c = ?
+pub returns-in_err-name-in-Vacant-clause-err : goal.returns-in_err-name-in-Vacant-clause-err
+returns-in_err-name-in-Vacant-clause-err g c = ?
 
-pub returns-in-Occupied-clause-ok : goal.returns-in-Occupied-clause-ok
-returns-in-Occupied-clause-ok g c =
+pub returns-in_ok-name-in-Vacant-clause-ok : goal.returns-in_ok-name-in-Vacant-clause-ok
+returns-in_ok-name-in-Vacant-clause-ok g c = ?
+
+pub returns-in_ok-next-in-Occupied-clause-ok : goal.returns-in_ok-next-in-Occupied-clause-ok
+returns-in_ok-next-in-Occupied-clause-ok g c =
     let cmp = g.K.Ord.cmp in
     let ps = c.args.tree.now.entries in
     let k = c.args.key.now in
