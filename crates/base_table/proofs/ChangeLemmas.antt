@@ -1,4 +1,4 @@
--- A change of a place by one search: what is seen, what is listed and how the place is stamped.
+-- A change of a place: what is seen, what is listed and how the place is stamped.
 use Rattle.std.specs.Prelude.{◌≡◌, ℕ, ◌+◌, ◌<◌, ◌≤◌, Bool, true, false, List, [], ◌∷◌, ◌++◌, length, Option, Some, None, is_some, option_map, unwrap_or, refl, if◌then◌else◌}
 use Rattle.std.proofs.Common.{sym, ◌∙◌, ap, subst, arith}
 use Rattle.std.specs.declared.cmp.Ordering.{Ordering}
@@ -11,7 +11,7 @@ use Rattle.std.specs.BTreeMap.{insert_entry, is_at}
 use Rattle.base_table.specs.declared.slot.Place.{Place}
 use Rattle.base_table.specs.declared.slot.Slot.{Slot}
 use Rattle.base_table.specs.declared.slot.Slot.TheVariants.{Empty}
-use Rattle.base_table.specs.Places.{changed, entry_of, filled, is_full, len_changed, name_in, pair_of, slot_at, slot_of, slots, stamp_of, stamps, unlisted, value_stamped, AreNamed, AreStamped, IsExchanged, IsNamed}
+use Rattle.base_table.specs.Places.{changed, entry_of, filled, is_full, len_changed, name_in, pair_of, slot_at, slot_of, slot_or, slots, stamp_of, stamps, unlisted, value_stamped, AreNamed, AreStamped, IsExchanged, IsNamed}
 use Rattle.base_table.specs.Tabled.{key_in, value_at}
 use Rattle.base_table.proofs.EachLemmas.{insert-each, length-each, lookup-each, lookup_key-each, sorted-each}
 use Rattle.base_table.proofs.EntryLemmas.{lookup_is, lookup_key_is}
@@ -25,6 +25,10 @@ none_of (Some x) h = cc
 append_nothing : {A : Type 0} (xs : List A) → xs ≡ xs ++ []
 append_nothing [] = refl
 append_nothing (x ∷ xs) = ap (λ l. x ∷ l) (append_nothing xs)
+
+slot_of_some : {K V : Type 0} (o : Option (Place K V)) → slot_or o ≡ unwrap_or (option_map slot_of o) Empty
+slot_of_some None = refl
+slot_of_some (Some place) = refl
 
 -- what is listed of a key, by the entry that stands there
 pair_at : {K V : Type 0} (R : K → K → Ordering) (es : List (K × V)) (k : K) (e : Option (K × V)) → lookup_entry (is_at (R k)) es ≡ e → pair_of k e ≡ (key_in R es k, value_at R es k)
@@ -79,9 +83,6 @@ module _ {K V : Type 0} {R : K → K → Ordering} (o : IsTotalOrder R) (ps : Li
     stamp_here : lookup (is_at (R k)) (stamps ps) ≡ Some place.stamp
     stamp_here = lookup-each stamp_of (is_at (R k)) ps ∙ ap (option_map stamp_of) found
 
-    pub before-found : place.slot ≡ slot_at R (slots ps) k
-    before-found = sym (ap (λ l. unwrap_or l Empty) slot_here)
-
     entry_here : lookup_entry (is_at (R k)) (filled (slots ps)) ≡ entry_of stored place.slot
     entry_here = entry-filled o k (slots ps) sorted-slots named ∙ ap shown (found_entry (is_at (R k)) (slots ps) stored place.slot (sym (lookup_key-each slot_of (is_at (R k)) ps ∙ key)) (sym slot_here))
 
@@ -114,9 +115,6 @@ module _ {K V : Type 0} {R : K → K → Ordering} (o : IsTotalOrder R) (ps : Li
     not_listed : value_at R ts k ≡ None
     not_listed = unlisted-without o 0 ts (stamps ps) k stamped (lookup-each stamp_of (is_at (R k)) ps ∙ ap (option_map stamp_of) missed)
 
-    pub before-new : Empty ≡ slot_at R (slots ps) k
-    before-new = sym (ap (λ l. unwrap_or l Empty) no_slot)
-
     pub unlisted-new : (name : K) → name ≡ k → Some (name, None) ≡ unlisted R ts (filled (slots ps)) k
     unlisted-new name is =
         (λ i. Some (is i, None))
@@ -136,15 +134,18 @@ module _ {K V : Type 0} {R : K → K → Ordering} (o : IsTotalOrder R) (ps : Li
   -- all of it together
   module _ (ts : List (K × Option V)) (named : AreNamed R (slots ps)) (stamped : AreStamped R 0 ts (stamps ps)) (value : Option V) (qs : List (K × Place K V)) (new : Place K V)
       (made : qs ≡ insert_entry R ps k new) (here : IsNamed R k new.slot) where
+    slot_there : slot_or (lookup (is_at (R k)) ps) ≡ slot_at R (slots ps) k
+    slot_there = slot_of_some (lookup (is_at (R k)) ps) ∙ ap (λ l. unwrap_or l Empty) (sym (lookup-each slot_of (is_at (R k)) ps))
+
     pub exchanged-found : (stored : K) (place : Place K V) → lookup_key (is_at (R k)) ps ≡ Some stored → lookup (is_at (R k)) ps ≡ Some place
         → ((name : K) → entry_of name new.slot ≡ option_map (λ v. (name_in k name place.slot, v)) value)
         → (told : Option (K × Option V)) → told ≡ (if is_some (value_stamped R ts place.stamp k) then None else Some (pair_of k (entry_of stored place.slot)))
         → new.stamp ≡ (if is_some told then length ts else place.stamp)
-        → (before : Slot K V) → before ≡ place.slot → IsExchanged R k value ts ps qs before told
+        → (before : Slot K V) → before ≡ slot_or (lookup (is_at (R k)) ps) → IsExchanged R k value ts ps qs before told
     exchanged-found stored place key found shows told is stamp before was =
         let listed = is ∙ unlisted-found ts stored place named stamped key found in
         record {
-          found = was ∙ before-found ts stored place named stamped key found;
+          found = was ∙ slot_there;
           made = (new.slot, slots-made named qs new value made here);
           seen = filled-made named qs new value made here (shows-found ts stored place named stamped key found new.slot value (shows (key_in R (slots ps) k)));
           named = named-made named qs new value made here;
@@ -152,13 +153,13 @@ module _ {K V : Type 0} {R : K → K → Ordering} (o : IsTotalOrder R) (ps : Li
           stamped = stamped-found ts stored place named stamped key found qs new told listed stamp made;
         }
 
-    pub exchanged-new : lookup (is_at (R k)) ps ≡ None → ((name : K) → entry_of name new.slot ≡ option_map (λ v. (name, v)) value) → new.stamp ≡ length ts → (name : K) → name ≡ k
-        → IsExchanged R k value ts ps qs Empty (Some (name, None))
-    exchanged-new missed shows stamp name is = record {
-      found = before-new ts named stamped missed;
+    pub exchanged-new : lookup (is_at (R k)) ps ≡ None → ((name : K) → entry_of name new.slot ≡ option_map (λ v. (name, v)) value) → new.stamp ≡ length ts
+        → (told : Option (K × Option V)) → told ≡ Some (k, None) → (before : Slot K V) → before ≡ slot_or (lookup (is_at (R k)) ps) → IsExchanged R k value ts ps qs before told
+    exchanged-new missed shows stamp told is before was = record {
+      found = was ∙ slot_there;
       made = (new.slot, slots-made named qs new value made here);
       seen = filled-made named qs new value made here (shows-new ts named stamped missed new.slot value (shows (key_in R (slots ps) k)));
       named = named-made named qs new value made here;
-      listed = unlisted-new ts named stamped missed name is;
-      stamped = stamped-new ts named stamped missed qs new name is stamp made;
+      listed = is ∙ unlisted-new ts named stamped missed k refl;
+      stamped = subst (λ u. AreStamped R 0 (ts ++ option_to_list u) (stamps qs)) (sym is) (stamped-new ts named stamped missed qs new k refl stamp made);
     }

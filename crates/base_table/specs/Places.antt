@@ -65,6 +65,11 @@ module _ {K V : Type 0} where
   abbrev pub stamp_of : Place K V → ℕ
   stamp_of place = place.stamp
 
+  -- what stands at a place, and nothing where there is none
+  abbrev pub slot_or : Option (Place K V) → Slot K V
+  slot_or None = Empty
+  slot_or (Some place) = place.slot
+
   -- what stands at the places, and their stamps
   abbrev pub slots : List (K × Place K V) → List (K × Slot K V)
   slots ps = each slot_of ps
@@ -158,7 +163,7 @@ module _ {K V : Type 0} where
     HavePlaces [] ps = ⊤
     HavePlaces (u ∷ us) ps = (is_some (lookup (is_at (cmp u.key)) ps) ≡ true) × HavePlaces us ps
 
-    -- What one search for a key finds and makes, where the key has this value from then on, or none: what stood at its place,
+    -- What a change of a key finds and makes, where the key has this value from then on, or none: what stood at its place,
     -- what is yet to be listed of it, and the places.
     pub record IsExchanged (key : K) (value : Option V) (touched : List (K × Option V)) (old new : List (K × Place K V)) (before : Slot K V) (told : Option (K × Option V)) : Type 0 where
       pub found : before ≡ slot_at (slots old) key

@@ -1,16 +1,16 @@
 //! A change of what stands at the place of a key, which is stamped and listed as touched.
 
 ghost use Rattle.std.specs.Prelude.{◌≡◌, Some, None, true, length, is_some, option_map, IfOk, OnErr, if◌then◌else◌};
-ghost use Rattle.std.specs.BTreeMap.{is_at};
+ghost use Rattle.std.specs.BTreeMap.{insert_entry, is_at};
+ghost use Rattle.std.specs.Map.{lookup};
 ghost use Rattle.std.specs.declared.cmp.Ordering.{Ordering};
 ghost use Rattle.std.specs.Option.{option_copied};
-ghost use Rattle.base_table.specs.Places.{entry_of, name_in, pair_of, slots, stamps, value_stamped, AreNamed, AreStamped, IsExchanged, IsNamed};
+ghost use Rattle.base_table.specs.Places.{entry_of, name_in, pair_of, slot_or, slots, stamps, value_stamped, AreNamed, AreStamped, IsExchanged, IsNamed};
 
 use crate::slot::{Place, Slot};
 use base_types::{Copied, TableFault};
 use std::alloc::Global;
 use std::collections::BTreeMap;
-use std::collections::btree_map::Entry;
 
 /// What a change finds at the place of its key.
 #[derive(Drop)]
@@ -22,7 +22,7 @@ pub(crate) struct Found<K, V> {
 }
 
 /// Lets a key have this value, or none, and answers what stood at its place. A key that is yet to be listed
-/// is stamped as the next of the list. It takes one search. Where memory is wanting, nothing changes.
+/// is stamped as the next of the list. It takes two searches. Where memory is wanting, nothing changes.
 pub(crate) fn exchange<K: Ord + Copied, V: Copied>(
     alloc: Global,
     tree: &mut BTreeMap<K, Place<K, V>>,
@@ -38,23 +38,46 @@ pub(crate) fn exchange<K: Ord + Copied, V: Copied>(
 {
     // It tells that the keys ascend.
     let _ = tree.len();
-    match tree.entry(key.copied()?)? {
-        Entry::Vacant(entry) => {
-            let name = key.copied()?;
-            entry.insert(fresh(value, touched.len()));
-            Ok(Found {
-                before: Slot::Empty,
-                unlisted: Some((name, None)),
-            })
+    match tree.get_key_value(key) {
+        Some((stored, place)) => {
+            let next = refilled(alloc, touched, stored, place, key, value)?;
+            write(tree, key, next)
         }
-        Entry::Occupied(mut entry) => {
-            let next = refilled(alloc, touched, entry.key(), entry.get(), key, value)?;
-            let place = entry.insert(next.place);
-            Ok(Found {
-                before: place.slot,
-                unlisted: next.unlisted,
-            })
+        None => {
+            let next = entered(key, value, touched.len())?;
+            write(tree, key, next)
         }
+    }
+}
+
+/// Lets this stand at the place of a key, which keeps its key where there is one. Where memory is wanting,
+/// nothing changes.
+fn write<K: Ord + Copied, V: Copied>(
+    tree: &mut BTreeMap<K, Place<K, V>>,
+    key: &K,
+    next: Next<K, V>,
+) -> Result<Found<K, V>, TableFault>
+    ensures ok { IfOk result (λ found.
+        (tree.new.entries ≡ insert_entry K.cmp tree.old.entries key.now next.place)
+        × (found.before ≡ slot_or (lookup (is_at (K.cmp key.now)) tree.old.entries))
+        × (found.unlisted ≡ next.unlisted)) }
+    ensures err { OnErr result (tree.new.entries ≡ tree.old.entries) }
+{
+    let name = key.copied()?;
+    let was = tree.insert(name, next.place)?;
+    Ok(Found {
+        before: slot_in(was),
+        unlisted: next.unlisted,
+    })
+}
+
+/// What stood at a place, and nothing where there was none.
+fn slot_in<K, V>(place: Option<Place<K, V>>) -> Slot<K, V>
+    ensures { result ≡ slot_or place }
+{
+    match place {
+        Some(place) => place.slot,
+        None => Slot::Empty,
     }
 }
 
@@ -91,6 +114,25 @@ fn refilled<K: Ord + Copied, V: Copied>(
     Ok(Next {
         place: Place { slot, stamp },
         unlisted,
+    })
+}
+
+/// What is to stand at the place of a key that has none yet.
+fn entered<K: Ord + Copied, V: Copied>(
+    key: &K,
+    value: Option<V>,
+    stamp: usize,
+) -> Result<Next<K, V>, TableFault>
+    ensures named { IfOk result (λ next. IsNamed K.cmp key.now next.place.slot) }
+    ensures shows { IfOk result (λ next. (name : K)
+        → entry_of name next.place.slot ≡ option_map (λ value. (name, value)) value) }
+    ensures unlisted { IfOk result (λ next. next.unlisted ≡ Some (key.now, None)) }
+    ensures stamp { IfOk result (λ next. next.place.stamp ≡ stamp) }
+{
+    let name = key.copied()?;
+    Ok(Next {
+        place: fresh(value, stamp),
+        unlisted: Some((name, None)),
     })
 }
 

@@ -18,7 +18,7 @@ returns-in-Ok-clause-queue g c =
     let u = c.args.lists.now.entries in
     let queue : c.forget.new.self.queue.entries ≡ queued moment_cmp cmp key (earliest made c.args.list) (unqueued moment_cmp cmp key (earliest made (list_at cmp u key)) c.args.ways.now.queue.entries)
     = ap (λ t. t.entries) c.forget.ensures.queue.rest ∙ c.in-Ok.ensures.queue
-    ∙ (λ i. queued moment_cmp cmp key ((c.earliest-now.ensures ∙ ap (earliest made) c.as_slice.ensures) i) (unqueued moment_cmp cmp key (c.stood_at.ensures.first i) (ap (λ t. t.entries) c.in_ok-mark.ensures.queue i))) in
+    ∙ (λ i. queued moment_cmp cmp key ((c.earliest-now.ensures ∙ ap (earliest made) c.as_slice.ensures) i) (unqueued moment_cmp cmp key (c.stood_at-stood.ensures.first i) (ap (λ t. t.entries) c.in_ok-mark.ensures.queue i))) in
     let lists : c.put_all.new.lists.entries ≡ with cmp u key c.args.list = ap (λ t. t.entries) c.in-Ok.ensures.lists in
     subst (λ es. IsQueue cmp made es c.forget.new.self.queue.entries) (sym lists)
     (subst (IsQueue cmp made (with cmp u key c.args.list)) (sym queue)
@@ -32,9 +32,9 @@ returns-in-Ok-clause-sources g c =
     let key = c.args.key.now in
     let u = c.args.lists.now.entries in
     let sources = ap (λ t. t.entries) c.forget.ensures.sources.rest ∙ c.in-Ok.ensures.sources
-    ∙ (λ i. if c.stood_at.result.0 then ap (λ t. t.entries) c.in_ok-mark.ensures.sources i else queued addr_cmp cmp key (Some (source key)) (ap (λ t. t.entries) c.in_ok-mark.ensures.sources i)) in
+    ∙ (λ i. if c.stood_at-stood.result.0 then ap (λ t. t.entries) c.in_ok-mark.ensures.sources i else queued addr_cmp cmp key (Some (source key)) (ap (λ t. t.entries) c.in_ok-mark.ensures.sources i)) in
     let lists : c.put_all.new.lists.entries ≡ with cmp u key c.args.list = ap (λ t. t.entries) c.in-Ok.ensures.lists in
     subst (λ es. AreSourced cmp source es c.forget.new.self.sources.entries) (sym lists)
     (subst (AreSourced cmp source (with cmp u key c.args.list)) (sym sources)
     (sources-put cmp g.met.K.Ord.total g.met.K.EntryKey.exact u (with cmp u key c.args.list) key source c.args.ways.now.sources.entries c.requires.sources c.known-2.ensures.sources
-    c.stood_at.result.0 c.stood_at.ensures.stood c.args.list (λ k. at-put cmp g.met.K.Ord.total u key k c.args.list)))
+    c.stood_at-stood.result.0 c.stood_at-stood.ensures.stood c.args.list (λ k. at-put cmp g.met.K.Ord.total u key k c.args.list)))

@@ -18,7 +18,7 @@ returns-in-Ok-clause-queue g c =
     let u = c.args.lists.now.entries in
     let queue : c.forget.new.self.queue.entries ≡ unqueued moment_cmp cmp key (earliest made (list_at cmp u key)) c.args.ways.now.queue.entries
     = ap (λ t. t.entries) c.forget.ensures.queue.rest ∙ c.in-Ok.ensures.queue
-    ∙ (λ i. unqueued moment_cmp cmp key (c.stood_at.ensures.first i) (ap (λ t. t.entries) c.in_ok-mark.ensures.queue i)) in
+    ∙ (λ i. unqueued moment_cmp cmp key (c.stood_at-stood.ensures.first i) (ap (λ t. t.entries) c.in_ok-mark.ensures.queue i)) in
     let lists : c.take_all.new.lists.entries ≡ without cmp u key = ap (λ t. t.entries) c.in-Ok.ensures.lists in
     subst (λ es. IsQueue cmp made es c.forget.new.self.queue.entries) (sym lists)
     (subst (IsQueue cmp made (without cmp u key)) (sym queue)
@@ -32,9 +32,9 @@ returns-in-Ok-clause-sources g c =
     let key = c.args.key.now in
     let u = c.args.lists.now.entries in
     let sources = ap (λ t. t.entries) c.forget.ensures.sources.rest ∙ c.in-Ok.ensures.sources
-    ∙ (λ i. if c.stood_at.result.0 then unqueued addr_cmp cmp key (Some (source key)) (ap (λ t. t.entries) c.in_ok-mark.ensures.sources i) else ap (λ t. t.entries) c.in_ok-mark.ensures.sources i) in
+    ∙ (λ i. if c.stood_at-stood.result.0 then unqueued addr_cmp cmp key (Some (source key)) (ap (λ t. t.entries) c.in_ok-mark.ensures.sources i) else ap (λ t. t.entries) c.in_ok-mark.ensures.sources i) in
     let lists : c.take_all.new.lists.entries ≡ without cmp u key = ap (λ t. t.entries) c.in-Ok.ensures.lists in
     subst (λ es. AreSourced cmp source es c.forget.new.self.sources.entries) (sym lists)
     (subst (AreSourced cmp source (without cmp u key)) (sym sources)
     (sources-taken cmp g.met.K.Ord.total g.met.K.EntryKey.exact u (without cmp u key) key source c.args.ways.now.sources.entries c.requires.sources c.known-2.ensures.sources
-    c.stood_at.result.0 c.stood_at.ensures.stood (λ k. at-taken cmp g.met.K.Ord.total u key k c.known.ensures.ordered)))
+    c.stood_at-stood.result.0 c.stood_at-stood.ensures.stood (λ k. at-taken cmp g.met.K.Ord.total u key k c.known.ensures.ordered)))
