@@ -1,7 +1,7 @@
 use Rattle.std.specs.Prelude.{◌<◌, ◌++◌, ◌∷◌, [], nat_lt, if◌then◌else◌}
 use Rattle.std.specs.Option.{option_to_list}
 use Rattle.std.proofs.Common.{sym, ◌∙◌, ap, subst, arith}
-use Rattle.base_table.specs.Places.{is_full, len_changed, slots, IsExchanged}
+use Rattle.base_table.specs.Places.{is_full, len_changed, IsExchanged}
 use Rattle.base_table.proofs.ChangeLemmas.{few-seen, some-seen}
 use Rattle.base_table.proofs.KeptLemmas.{is_open, not_open}
 use Rattle.base_table.proofs.NotedLemmas.{kept-noted, seen-noted, stamped-noted}
