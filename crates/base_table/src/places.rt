@@ -26,8 +26,8 @@ const ROOM_KEPT: usize = 64;
 
 /// Entries in the order of their keys, with open marks. A mark keeps no copy: each later change notes what
 /// undoes it. A key that is touched has a place in the tree until the table is settled, empty where it has
-/// no value, and the place is stamped with where the key is listed. So a change is one search, and going
-/// back only writes to places, which wants no memory.
+/// no value, and the place is stamped with where the key is listed. So the list is asked without a search,
+/// and going back only writes to places, which wants no memory.
 #[derive(Drop)]
 pub(crate) struct Places<K: Ord + Copied, V: Copied> {
     alloc: Global,
