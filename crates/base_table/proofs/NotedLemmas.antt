@@ -16,12 +16,23 @@ use Rattle.base_table.proofs.ChangeLemmas.{count-changed, sorted-slots}
 use Rattle.base_table.proofs.KeptLemmas.{marks-changed, seen, IsKept-changed}
 use Rattle.base_table.proofs.StampLemmas.{listed_with}
 
-module _ {K V : Type 0} {R : K → K → Ordering} (o : IsTotalOrder R) (us new : List (Undo K V)) (here : Point) (depth len : ℕ) (k noted : K) (ps qs : List (K × Place K V)) (value : Option V)
-    (ts listed : List (K × Option V)) (before : Slot K V) (told : Option (K × Option V)) (marked : Bool)
+-- the log and the list with room for one more, `log` and `list`, are those that there were
+module _ {K V : Type 0} {R : K → K → Ordering} (o : IsTotalOrder R) (us log new : List (Undo K V)) (here : Point) (depth len : ℕ) (k noted : K) (ps qs : List (K × Place K V)) (value : Option V)
+    (ts seen_list list listed : List (K × Option V)) (before : Slot K V) (told : Option (K × Option V)) (marked : Bool)
     (is_marked : marked ≡ true → 0 < depth) (not_marked : marked ≡ false → depth ≡ 0)
-    (sorted : IsStrictlySortedBy R (keys_of ps)) (kept : IsKept R us here depth (slots ps)) (x : IsExchanged R k value ts ps qs before told)
-    (same_key : noted ≡ k) (notes : new ≡ (if marked then us ++ (record { key = noted; before = before; point = here }) ∷ [] else us))
-    (lists : listed ≡ ts ++ option_to_list told) where
+    (sorted : IsStrictlySortedBy R (keys_of ps)) (kept : IsKept R us here depth (slots ps)) (exchanged : IsExchanged R k value seen_list ps qs before told)
+    (same_key : noted ≡ k) (same_log : log ≡ us) (same_list : list ≡ ts) (same_seen : seen_list ≡ list)
+    (noted_in : new ≡ (if marked then log ++ (record { key = noted; before = before; point = here }) ∷ [] else log))
+    (listed_in : listed ≡ list ++ option_to_list told) where
+  x : IsExchanged R k value ts ps qs before told
+  x = subst (λ l. IsExchanged R k value l ps qs before told) (same_seen ∙ same_list) exchanged
+
+  notes : new ≡ (if marked then us ++ (record { key = noted; before = before; point = here }) ∷ [] else us)
+  notes = subst (λ (l : List (Undo K V)). new ≡ (if marked then l ++ (record { key = noted; before = before; point = here }) ∷ [] else l)) same_log noted_in
+
+  lists : listed ≡ ts ++ option_to_list told
+  lists = listed_in ∙ ap (λ l. l ++ option_to_list told) same_list
+
   undo_is : ◌≡◌ {A = Undo K V} (record { key = noted; before = before; point = here }) (undo_of R (slots ps) here k)
   undo_is = λ i. record { key = same_key i; before = x.found i; point = here }
 

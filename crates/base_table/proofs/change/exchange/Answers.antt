@@ -38,5 +38,5 @@ returns-in_ok-next-in-None-clause-ok g c =
     if_ok (λ found. (qs ≡ insert_entry cmp ps k next.place) × (found.before ≡ slot_or (lookup (is_at (cmp k)) ps)) × (found.unlisted ≡ next.unlisted))
     (λ found. IsExchanged cmp k c.args.value c.args.touched.now ps qs found.before found.unlisted)
     (λ found h. exchanged-new g.met.K.Ord.total ps k c.len.ensures.ordered c.args.touched.now c.requires.named c.requires.stamped c.args.value qs next.place h.0 c.in_ok-next-in-None.ensures.named
-    (sym c.in-None.ensures.value) c.in_ok-next-in-None.ensures.shows (c.in_ok-next-in-None.ensures.stamp ∙ c.len-in-None.ensures) found.unlisted (h.2 ∙ c.in_ok-next-in-None.ensures.unlisted) found.before h.1)
+    (sym c.in-None.ensures.value) c.in_ok-next-in-None.ensures.shows c.in_ok-next-in-None.ensures.stamp found.unlisted (h.2 ∙ c.in_ok-next-in-None.ensures.unlisted) found.before h.1)
     c.write-in-None.result c.write-in-None.ensures.ok

@@ -1,7 +1,6 @@
-use Rattle.std.specs.Prelude.{◌<◌, ◌++◌, ◌∷◌, [], nat_lt, if◌then◌else◌}
-use Rattle.std.specs.Option.{option_to_list}
+use Rattle.std.specs.Prelude.{◌<◌, nat_lt}
 use Rattle.std.proofs.Common.{sym, ◌∙◌, ap, subst, arith}
-use Rattle.base_table.specs.Places.{is_full, len_changed, IsExchanged}
+use Rattle.base_table.specs.Places.{is_full, len_changed}
 use Rattle.base_table.proofs.ChangeLemmas.{few-seen, some-seen}
 use Rattle.base_table.proofs.KeptLemmas.{is_open, not_open}
 use Rattle.base_table.proofs.NotedLemmas.{kept-noted, seen-noted, stamped-noted}
@@ -22,27 +21,21 @@ len_after-len-requires-clause-few g c =
     omega (arith, few, len, all, small)
 
 pub invariant_of-self-2 : goal.invariant_of-self-2
-invariant_of-self-2 g c =
-    let touched = c.deref.ensures.value ∙ c.reserve-2.ensures.items in
-    let made = subst (λ ts. IsExchanged g.K.Ord.cmp c.args.key.now c.args.value ts c.self.inside.tree.entries c.exchange.new.tree.entries c.in_ok-found.found.before c.in_ok-found.found.unlisted) touched c.in_ok-found.ensures.ok in
-    let notes = c.note.ensures ∙ ap (λ l. if nat_lt 0 c.self.inside.depth then l ++ (record { key = c.in_ok-noted.noted; before = c.in_ok-found.found.before; point = c.self.inside.here }) ∷ [] else l) c.reserve.ensures.items in
-    let lists = c.list.ensures ∙ ap (λ l. l ++ option_to_list c.in_ok-found.found.unlisted) c.reserve-2.ensures.items in
-    let count = c.len_after-len.ensures ∙ (λ i. len_changed c.self.inside.here.len (c.is_full.ensures i) (c.is_some-has.ensures i)) in
-    (
-      kept-noted g.met.K.Ord.total c.self.inside.log.items c.note.new.log.items c.self.inside.here c.self.inside.depth c.len_after-len.result c.args.key.now c.in_ok-noted.noted c.self.inside.tree.entries c.exchange.new.tree.entries
-          c.args.value c.self.inside.touched.items c.list.new.touched.items c.in_ok-found.found.before c.in_ok-found.found.unlisted (nat_lt 0 c.self.inside.depth) (is_open c.self.inside.depth) (not_open c.self.inside.depth)
-          c.len.ensures.ordered c.self.invariant.0 made c.in_ok-noted.ensures.same notes lists count,
-      stamped-noted g.met.K.Ord.total c.self.inside.log.items c.note.new.log.items c.self.inside.here c.self.inside.depth c.len_after-len.result c.args.key.now c.in_ok-noted.noted c.self.inside.tree.entries c.exchange.new.tree.entries
-          c.args.value c.self.inside.touched.items c.list.new.touched.items c.in_ok-found.found.before c.in_ok-found.found.unlisted (nat_lt 0 c.self.inside.depth) (is_open c.self.inside.depth) (not_open c.self.inside.depth)
-          c.len.ensures.ordered c.self.invariant.0 made c.in_ok-noted.ensures.same notes lists,
-    )
+invariant_of-self-2 g c = (
+  kept-noted g.met.K.Ord.total c.self.inside.log.items c.reserve.new.self.items c.note.new.log.items c.self.inside.here c.self.inside.depth c.len_after-len.result c.args.key.now c.in_ok-noted.noted
+      c.self.inside.tree.entries c.exchange.new.tree.entries c.args.value c.self.inside.touched.items c.deref.result.now c.reserve-2.new.self.items c.list.new.touched.items c.in_ok-found.found.before c.in_ok-found.found.unlisted
+      (nat_lt 0 c.self.inside.depth) (is_open c.self.inside.depth) (not_open c.self.inside.depth) c.len.ensures.ordered c.self.invariant.0 c.in_ok-found.ensures.ok
+      c.in_ok-noted.ensures.same c.reserve.ensures.items c.reserve-2.ensures.items c.deref.ensures.value c.note.ensures c.list.ensures
+      (c.len_after-len.ensures ∙ (λ i. len_changed c.self.inside.here.len (c.is_full.ensures i) (c.is_some-has.ensures i))),
+  stamped-noted g.met.K.Ord.total c.self.inside.log.items c.reserve.new.self.items c.note.new.log.items c.self.inside.here c.self.inside.depth c.len_after-len.result c.args.key.now c.in_ok-noted.noted
+      c.self.inside.tree.entries c.exchange.new.tree.entries c.args.value c.self.inside.touched.items c.deref.result.now c.reserve-2.new.self.items c.list.new.touched.items c.in_ok-found.found.before c.in_ok-found.found.unlisted
+      (nat_lt 0 c.self.inside.depth) (is_open c.self.inside.depth) (not_open c.self.inside.depth) c.len.ensures.ordered c.self.invariant.0 c.in_ok-found.ensures.ok
+      c.in_ok-noted.ensures.same c.reserve.ensures.items c.reserve-2.ensures.items c.deref.ensures.value c.note.ensures c.list.ensures,
+)
 
 pub returns-clause-ok : goal.returns-clause-ok
 returns-clause-ok g c =
-    let touched = c.deref.ensures.value ∙ c.reserve-2.ensures.items in
-    let made = subst (λ ts. IsExchanged g.K.Ord.cmp c.args.key.now c.args.value ts c.self.inside.tree.entries c.exchange.new.tree.entries c.in_ok-found.found.before c.in_ok-found.found.unlisted) touched c.in_ok-found.ensures.ok in
-    let notes = c.note.ensures ∙ ap (λ l. if nat_lt 0 c.self.inside.depth then l ++ (record { key = c.in_ok-noted.noted; before = c.in_ok-found.found.before; point = c.self.inside.here }) ∷ [] else l) c.reserve.ensures.items in
-    let lists = c.list.ensures ∙ ap (λ l. l ++ option_to_list c.in_ok-found.found.unlisted) c.reserve-2.ensures.items in
-    seen-noted g.met.K.Ord.total c.self.inside.log.items c.note.new.log.items c.self.inside.here c.self.inside.depth c.len_after-len.result c.args.key.now c.in_ok-noted.noted c.self.inside.tree.entries c.exchange.new.tree.entries
-    c.args.value c.self.inside.touched.items c.list.new.touched.items c.in_ok-found.found.before c.in_ok-found.found.unlisted (nat_lt 0 c.self.inside.depth) (is_open c.self.inside.depth) (not_open c.self.inside.depth)
-    c.len.ensures.ordered c.self.invariant.0 made c.in_ok-noted.ensures.same notes lists c.args.self.now c.self.view_is
+    seen-noted g.met.K.Ord.total c.self.inside.log.items c.reserve.new.self.items c.note.new.log.items c.self.inside.here c.self.inside.depth c.len_after-len.result c.args.key.now c.in_ok-noted.noted
+    c.self.inside.tree.entries c.exchange.new.tree.entries c.args.value c.self.inside.touched.items c.deref.result.now c.reserve-2.new.self.items c.list.new.touched.items c.in_ok-found.found.before c.in_ok-found.found.unlisted
+    (nat_lt 0 c.self.inside.depth) (is_open c.self.inside.depth) (not_open c.self.inside.depth) c.len.ensures.ordered c.self.invariant.0 c.in_ok-found.ensures.ok
+    c.in_ok-noted.ensures.same c.reserve.ensures.items c.reserve-2.ensures.items c.deref.ensures.value c.note.ensures c.list.ensures c.args.self.now c.self.view_is
