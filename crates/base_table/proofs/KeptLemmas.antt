@@ -1,16 +1,20 @@
 -- What is always true of places stays, as they change and marks are opened and closed.
-use Rattle.std.specs.Prelude.{◌≡◌, ℕ, zero, suc, ◌+◌, ◌-◌, ◌<◌, Bool, true, false, List, [], ◌∷◌, ◌++◌, length, nat_lt, refl, if◌then◌else◌}
+use Rattle.std.specs.Prelude.{◌≡◌, ℕ, zero, suc, ◌+◌, ◌-◌, ◌<◌, Bool, true, false, List, [], ◌∷◌, ◌++◌, length, Option, nat_lt, refl, if◌then◌else◌}
 use Rattle.std.proofs.Common.{sym, ◌∙◌, ap, subst, arith}
 use Rattle.std.proofs.lemmas.List.{length-append}
 use Rattle.std.proofs.lemmas.Bool.Decides.{nat_tests}
 use Rattle.std.specs.declared.cmp.Ordering.{Ordering}
-use Rattle.std.specs.BTreeMap.{is_at}
-use Rattle.std.specs.Map.{lookup}
+use Rattle.std.specs.BTreeMap.{insert_entry}
+use Rattle.std.specs.Cmp.{IsTotalOrder}
+use Rattle.std.specs.List.Sorted.{IsStrictlySortedBy}
+use Rattle.std.specs.Map.{keys_of}
 use Rattle.base_table.specs.declared.slot.Slot.{Slot}
 use Rattle.base_table.specs.declared.undo.Point.{Point}
 use Rattle.base_table.specs.declared.undo.Undo.{Undo}
-use Rattle.base_table.specs.Places.{filled, marks_of, put_back_slot, undo_of, AreNamed, Fits, FitBelow, IsKept, Marked}
-use Rattle.base_table.proofs.UndoLemmas.{latest-few, length-marks_of, marks_of-more, marks_of-push, FitBelow-push}
+use Rattle.base_table.specs.Places.{filled, marks_of, put_back_slot, slot_at, undo_of, AreNamed, Fits, FitBelow, HavePlaces, IsKept, Marked}
+use Rattle.base_table.proofs.PlaceLemmas.{set-inserted}
+use Rattle.base_table.proofs.PlacedLemmas.{marks_of-placed, FitBelow-placed, Fits-placed}
+use Rattle.base_table.proofs.UndoLemmas.{has_place, latest-few, length-marks_of, marks_of-more, marks_of-push, FitBelow-push, HavePlaces-insert, HavePlaces-push}
 
 empty : {A : Type 0} (xs : List A) → length xs ≡ 0 → xs ≡ []
 empty [] h = refl
@@ -23,10 +27,11 @@ is_open depth h = grind (arith, nat_tests)
 pub not_open : (depth : ℕ) → nat_lt 0 depth ≡ false → depth ≡ 0
 not_open depth h = grind (arith, nat_tests)
 
--- what is seen, where it was seen as `old`
-pub seen : {K V : Type 0} (old : Marked K V) (es es2 : List (K × V)) (ms ms2 : List (List (K × V))) (f : List (K × V) → List (K × V))
-    → ◌≡◌ {A = Marked K V} (record { entries = es; marks = ms }) old → es2 ≡ f es → ms2 ≡ ms → ◌≡◌ {A = Marked K V} (record { entries = es2; marks = ms2 }) (record { entries = f old.entries; marks = old.marks })
-seen old es es2 ms ms2 f is e m = λ i. record { entries = (e ∙ ap (λ x. f x.entries) is) i; marks = (m ∙ ap (λ x. x.marks) is) i }
+-- what is seen and listed, where it was `old`
+pub seen : {K V : Type 0} (old : Marked K V) (es es2 : List (K × V)) (ms ms2 : List (List (K × V))) (ts ts2 : List (K × Option V)) (f : List (K × V) → List (K × V)) (g : List (K × Option V) → List (K × V) → List (K × Option V))
+    → ◌≡◌ {A = Marked K V} (record { entries = es; marks = ms; touched = ts }) old → es2 ≡ f es → ms2 ≡ ms → ts2 ≡ g ts es
+    → ◌≡◌ {A = Marked K V} (record { entries = es2; marks = ms2; touched = ts2 }) (record { entries = f old.entries; marks = old.marks; touched = g old.touched old.entries })
+seen old es es2 ms ms2 ts ts2 f g is e m t = λ i. record { entries = (e ∙ ap (λ x. f x.entries) is) i; marks = (m ∙ ap (λ x. x.marks) is) i; touched = (t ∙ ap (λ x. g x.touched x.entries) is) i }
 
 -- one less than a list with one more
 pub fewer : {A : Type 0} (xs all : List A) (x : A) (n : ℕ) → xs ++ x ∷ [] ≡ all → length all ≡ n → length xs ≡ n - 1
@@ -34,11 +39,15 @@ fewer xs all x n is count = let e : length (xs ++ x ∷ []) ≡ n = ap length is
 
 module _ {K V : Type 0} {R : K → K → Ordering} where
   -- a change of the place of a key, which is noted while a mark is open
-  module _ (us new : List (Undo K V)) (here : Point) (depth len : ℕ) (k : K) (ps qs : List (K × Slot K V)) (marked : Bool)
+  module _ (o : IsTotalOrder R) (us new : List (Undo K V)) (here : Point) (depth len : ℕ) (k : K) (ps qs : List (K × Slot K V)) (slot : Slot K V) (marked : Bool)
       (is_marked : marked ≡ true → 0 < depth) (not_marked : marked ≡ false → depth ≡ 0)
+      (sorted : IsStrictlySortedBy R (keys_of ps))
       (kept : IsKept R us here depth ps)
       (noted : new ≡ (if marked then us ++ undo_of R ps here k ∷ [] else us))
-      (undone : marked ≡ true → put_back_slot R k (lookup (is_at (R k)) ps) qs ≡ ps) where
+      (made : qs ≡ insert_entry R ps k slot) where
+    undone : put_back_slot R k (slot_at R ps k) qs ≡ insert_entry R ps k (slot_at R ps k)
+    undone = ap (put_back_slot R k (slot_at R ps k)) made ∙ set-inserted o k slot (slot_at R ps k) ps
+
     pub marks-changed : marks_of R new 0 qs ≡ marks_of R us here.marks ps
     marks-changed = by marked refl
       where
@@ -53,7 +62,7 @@ module _ {K V : Type 0} {R : K → K → Ordering} where
         by : (b : Bool) → marked ≡ b → marks_of R new 0 qs ≡ marks_of R us here.marks ps
         by true is =
             ap (λ ws. marks_of R ws 0 qs) (noted ∙ ap (λ b. if b then us ++ undo_of R ps here k ∷ [] else us) is)
-            ∙ marks_of-push R us (undo_of R ps here k) qs ∙ ap (marks_of R us here.marks) (undone is)
+            ∙ marks_of-push R us (undo_of R ps here k) qs ∙ ap (marks_of R us here.marks) undone ∙ marks_of-placed o us k ps sorted kept.placed here.marks
         by false is = ap (λ ws. marks_of R ws 0 qs) (noted ∙ ap (λ b. if b then us ++ undo_of R ps here k ∷ [] else us) is) ∙ none (not_marked is)
 
     pub IsKept-changed : len ≡ length (filled qs) → AreNamed R qs → IsKept R new (record { marks = 0; len = len }) depth qs
@@ -62,17 +71,28 @@ module _ {K V : Type 0} {R : K → K → Ordering} where
       closed = λ none. closed marked refl none;
       fits = record { len = count; named = named };
       below = below marked refl;
+      placed = placed marked refl;
     }
       where
+        with_it : (b : Bool) → marked ≡ b → new ≡ (if b then us ++ undo_of R ps here k ∷ [] else us)
+        with_it b is = noted ∙ ap (λ b. if b then us ++ undo_of R ps here k ∷ [] else us) is
+
         closed : (b : Bool) → marked ≡ b → depth ≡ 0 → new ≡ []
         closed true is none = let some = is_marked is in absurd (omega arith)
-        closed false is none = noted ∙ ap (λ b. if b then us ++ undo_of R ps here k ∷ [] else us) is ∙ kept.closed none
+        closed false is none = with_it false is ∙ kept.closed none
 
         below : (b : Bool) → marked ≡ b → FitBelow R new qs
         below true is =
-            subst (λ ws. FitBelow R ws qs) (sym (noted ∙ ap (λ b. if b then us ++ undo_of R ps here k ∷ [] else us) is))
-            (FitBelow-push R us (undo_of R ps here k) qs (subst (Fits R here) (sym (undone is)) kept.fits) (subst (FitBelow R us) (sym (undone is)) kept.below))
-        below false is = subst (λ ws. FitBelow R ws qs) (sym (noted ∙ ap (λ b. if b then us ++ undo_of R ps here k ∷ [] else us) is ∙ kept.closed (not_marked is))) tt
+            subst (λ ws. FitBelow R ws qs) (sym (with_it true is))
+            (FitBelow-push R us (undo_of R ps here k) qs (subst (Fits R here) (sym undone) (Fits-placed o us k ps sorted kept.placed here kept.fits))
+            (subst (FitBelow R us) (sym undone) (FitBelow-placed o us k ps sorted kept.placed kept.below)))
+        below false is = subst (λ ws. FitBelow R ws qs) (sym (with_it false is ∙ kept.closed (not_marked is))) tt
+
+        placed : (b : Bool) → marked ≡ b → HavePlaces R new qs
+        placed true is =
+            subst (λ ws. HavePlaces R ws qs) (sym (with_it true is)) (subst (HavePlaces R (us ++ undo_of R ps here k ∷ [])) (sym made)
+            (HavePlaces-push R us (undo_of R ps here k) (insert_entry R ps k slot) (HavePlaces-insert R o us k ps slot kept.placed) (has_place R o k ps slot)))
+        placed false is = subst (λ ws. HavePlaces R ws qs) (sym (with_it false is ∙ kept.closed (not_marked is))) tt
 
   -- one more mark at the latest point
   pub IsKept-marked : (us : List (Undo K V)) (here : Point) (depth more : ℕ) (ps : List (K × Slot K V)) → more ≡ depth + 1 → IsKept R us here depth ps → IsKept R us (record { marks = here.marks + 1; len = here.len }) more ps
@@ -81,31 +101,53 @@ module _ {K V : Type 0} {R : K → K → Ordering} where
     closed = λ none. absurd (omega arith);
     fits = record { len = kept.fits.len; named = kept.fits.named };
     below = kept.below;
+    placed = kept.placed;
   }
 
   -- once a mark is closed: without another the changes are forgotten
-  module _ (us new : List (Undo K V)) (marks len depth : ℕ) (ps qs : List (K × Slot K V))
+  module _ (us new : List (Undo K V)) (marks len depth : ℕ) (ps : List (K × Slot K V))
       (count : length (marks_of R us marks ps) ≡ depth)
-      (fits : Fits R (record { marks = marks; len = len }) ps) (below : FitBelow R us ps)
-      (some : 0 < depth → (qs ≡ ps) × (new ≡ us)) (none : depth ≡ 0 → new ≡ []) (same : filled qs ≡ filled ps) (named : AreNamed R ps → AreNamed R qs) where
-    pub marks-closed : marks_of R new marks qs ≡ marks_of R us marks ps
+      (fits : Fits R (record { marks = marks; len = len }) ps) (below : FitBelow R us ps) (placed : HavePlaces R us ps)
+      (some : 0 < depth → new ≡ us) (none : depth ≡ 0 → new ≡ []) where
+    pub marks-closed : marks_of R new marks ps ≡ marks_of R us marks ps
     marks-closed = by depth refl
       where
-        by : (d : ℕ) → depth ≡ d → marks_of R new marks qs ≡ marks_of R us marks ps
+        by : (d : ℕ) → depth ≡ d → marks_of R new marks ps ≡ marks_of R us marks ps
         by zero is =
             let few = latest-few R us marks ps in
             let m : marks ≡ 0 = omega arith in
-            (λ i. marks_of R (none is i) (m i) qs) ∙ sym (empty (marks_of R us marks ps) (count ∙ is))
-        by (suc d) is = let both = some (omega arith) in λ i. marks_of R (both.1 i) marks (both.0 i)
+            (λ i. marks_of R (none is i) (m i) ps) ∙ sym (empty (marks_of R us marks ps) (count ∙ is))
+        by (suc d) is = ap (λ ws. marks_of R ws marks ps) (some (omega arith))
 
-    pub IsKept-closed : IsKept R new (record { marks = marks; len = len }) depth qs
+    pub IsKept-closed : IsKept R new (record { marks = marks; len = len }) depth ps
     IsKept-closed = record {
       count = ap length marks-closed ∙ count;
       closed = none;
-      fits = record { len = fits.len ∙ ap length (sym same); named = named fits.named };
+      fits = fits;
       below = by depth refl;
+      placed = there depth refl;
     }
       where
-        by : (d : ℕ) → depth ≡ d → FitBelow R new qs
-        by zero is = subst (λ ws. FitBelow R ws qs) (sym (none is)) tt
-        by (suc d) is = let both = some (omega arith) in subst (λ ws. FitBelow R ws qs) (sym both.1) (subst (FitBelow R us) (sym both.0) below)
+        by : (d : ℕ) → depth ≡ d → FitBelow R new ps
+        by zero is = subst (λ ws. FitBelow R ws ps) (sym (none is)) tt
+        by (suc d) is = subst (λ ws. FitBelow R ws ps) (sym (some (omega arith))) below
+
+        there : (d : ℕ) → depth ≡ d → HavePlaces R new ps
+        there zero is = subst (λ ws. HavePlaces R ws ps) (sym (none is)) tt
+        there (suc d) is = subst (λ ws. HavePlaces R ws ps) (sym (some (omega arith))) placed
+
+  -- without a mark other places that show the same will do
+  pub IsKept-swept : (us : List (Undo K V)) (here : Point) (depth : ℕ) (ps qs : List (K × Slot K V)) → IsKept R us here depth ps → marks_of R us here.marks ps ≡ [] → filled qs ≡ filled ps → AreNamed R qs → IsKept R us here depth qs
+  IsKept-swept us here depth ps qs kept shut same named =
+      let nothing : us ≡ [] = kept.closed (sym kept.count ∙ ap length shut) in
+      record {
+        count = length-marks_of R us here.marks qs ps ∙ kept.count;
+        closed = kept.closed;
+        fits = record { len = kept.fits.len ∙ ap length (sym same); named = named };
+        below = subst (λ ws. FitBelow R ws qs) (sym nothing) tt;
+        placed = subst (λ ws. HavePlaces R ws qs) (sym nothing) tt;
+      }
+
+-- and no mark is open by them
+pub marks-swept : {K V : Type 0} (R : K → K → Ordering) (us : List (Undo K V)) (m : ℕ) (ps qs : List (K × Slot K V)) → marks_of R us m ps ≡ [] → marks_of R us m qs ≡ []
+marks-swept R us m ps qs shut = empty (marks_of R us m qs) (length-marks_of R us m qs ps ∙ ap length shut)

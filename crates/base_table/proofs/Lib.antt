@@ -1,9 +1,14 @@
 pub mod CallerLemmas
+pub mod ChangeLemmas
+pub mod EachLemmas
 pub mod EntryLemmas
 pub mod KeptLemmas
 pub mod MarkLemmas
+pub mod NotedLemmas
 pub mod PlaceLemmas
+pub mod PlacedLemmas
 pub mod RestoredLemmas
+pub mod StampLemmas
 pub mod TouchLemmas
 pub mod UndoLemmas
 pub mod WalkLemmas

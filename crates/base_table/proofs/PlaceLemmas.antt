@@ -1,5 +1,5 @@
 -- What is seen of places, as one of them changes.
-use Rattle.std.specs.Prelude.{◌≡◌, suc, ◌+◌, ◌≤◌, Bool, true, false, cond, List, [], ◌∷◌, ◌++◌, length, Option, Some, None, option_map, unwrap_or, Result, Ok, Err, IfOk, refl}
+use Rattle.std.specs.Prelude.{◌≡◌, suc, ◌+◌, ◌≤◌, Bool, true, false, cond, List, [], ◌∷◌, ◌++◌, length, Option, Some, None, is_some, option_map, unwrap_or, Result, Ok, Err, IfOk, refl}
 use Rattle.std.proofs.Common.{sym, ◌∙◌, ap, subst, arith}
 use Rattle.std.specs.declared.cmp.Ordering.{Ordering}
 use Rattle.std.specs.declared.cmp.Ordering.TheVariants.{Less, Equal, Greater}
@@ -13,7 +13,7 @@ use Rattle.std.specs.BTreeMap.{insert_entry, is_at}
 use Rattle.std.proofs.lemmas.Map.Keys.{sorted_head, sorted_tail}
 use Rattle.base_table.specs.declared.slot.Slot.{Slot}
 use Rattle.base_table.specs.declared.slot.Slot.TheVariants.{Empty, Filled, Renamed}
-use Rattle.base_table.specs.Places.{entry_of, filled, put_back_slot, slot_value, AreNamed, IsNamed}
+use Rattle.base_table.specs.Places.{changed, entry_of, filled, is_full, len_changed, name_in, pair_of, slot_at, AreNamed, IsNamed}
 use Rattle.base_table.specs.Tabled.{key_in, value_at}
 use Rattle.base_types.proofs.MapLemmas.{all-below, ascend-put, ascend-taken, equal}
 use Rattle.base_table.proofs.EntryLemmas.{alike_is_at, entry_below, entry-insert_other, entry-remove_entry, lookup_is, lookup_key_is, same_entries, sorted-cons, tied_entry}
@@ -36,12 +36,12 @@ module _ {K V : Type 0} where
   -- the key under which an entry at the key `k` is seen, where `place` is the key of its place
   abbrev pub name_under : K → K → Option (Slot K V) → K
   name_under k place None = place
-  name_under k place (Some Empty) = k
-  name_under k place (Some (Filled v)) = place
-  name_under k place (Some (Renamed n v)) = n.value
+  name_under k place (Some s) = name_in k place s
 
-  value_shown : (p : K × Slot K V) → option_map (λ e. e.1) (entry_of p.0 p.1) ≡ slot_value p.1
-  value_shown p = elim p.1 as (λ s. option_map (λ e. e.1) (entry_of p.0 s) ≡ slot_value s) [ Empty ↦ refl | Filled v ↦ refl | Renamed n v ↦ refl ]
+  -- what is listed of a key is told by the entry that stands there
+  pub pair_is : (key : K) (e : Option (K × V)) → pair_of key e ≡ (unwrap_or (option_map (λ x. x.0) e) key, option_map (λ x. x.1) e)
+  pair_is key None = refl
+  pair_is key (Some e) = refl
 
   -- taking an empty place out changes nothing that is seen
   pub filled-clear : (test : K → Bool) (ps : List (K × Slot K V)) → lookup test ps ≡ Some Empty → filled (remove_entry test ps) ≡ filled ps
@@ -70,6 +70,27 @@ module _ {K : Type 0} {R : K → K → Ordering} (o : IsTotalOrder R) where
 
   entry-insert_at : (q k : K) {X : Type 0} (v : X) (es : List (K × X)) → is_at (R q) k ≡ true → IsStrictlySortedBy R (keys_of es) → lookup_entry (is_at (R q)) (insert_entry R es k v) ≡ Some (key_in R es k, v)
   entry-insert_at q k v es at sorted = tied_entry o q k at (insert_entry R es k v) ∙ entry-insert_same k v es sorted
+
+  -- what is there is written to in place
+  pub set-insert : {X : Type 0} (k : K) (s t : X) (ps : List (K × X)) → IsStrictlySortedBy R (keys_of ps) → lookup (is_at (R k)) ps ≡ Some t → set_value (is_at (R k)) ps s ≡ insert_entry R ps k s
+  set-insert k s t [] sorted found = cc
+  set-insert k s t (p ∷ ps) sorted found =
+      elim (R k p.0) as (λ r. R k p.0 ≡ r → cond (is_eq r) (Some p.1) (lookup (is_at (R k)) ps) ≡ Some t → cond (is_eq r) ((p.0, s) ∷ ps) (p ∷ set_value (is_at (R k)) ps s) ≡ match_ordering r ((k, s) ∷ p ∷ ps) ((p.0, s) ∷ ps) (p ∷ insert_entry R ps k s)) [
+        | Less ↦ λ is found.
+            let none : lookup (is_at (R k)) ps ≡ None = lookup_is _ ps ∙ ap (option_map (λ x. x.1)) (entry_below o k k ps (tied k) (all-below R o k p.0 (keys_of ps) is (sorted_head R p.0 (keys_of ps) sorted))) in cc
+        | Equal ↦ λ is found. refl
+        | Greater ↦ λ is found. ap (λ l. p ∷ l) (set-insert k s t ps (sorted_tail R p.0 (keys_of ps) sorted) found)
+      ] refl found
+
+  -- a place is written to once more
+  pub set-inserted : {X : Type 0} (k : K) (s t : X) (ps : List (K × X)) → set_value (is_at (R k)) (insert_entry R ps k s) t ≡ insert_entry R ps k t
+  set-inserted k s t [] = ap (λ b. cond b ((k, t) ∷ []) ((k, s) ∷ [])) (tied k)
+  set-inserted k s t (p ∷ ps) =
+      elim (R k p.0) as (λ r. R k p.0 ≡ r → set_value (is_at (R k)) (match_ordering r ((k, s) ∷ p ∷ ps) ((p.0, s) ∷ ps) (p ∷ insert_entry R ps k s)) t ≡ match_ordering r ((k, t) ∷ p ∷ ps) ((p.0, t) ∷ ps) (p ∷ insert_entry R ps k t)) [
+        | Less ↦ λ is. ap (λ b. cond b ((k, t) ∷ p ∷ ps) ((k, s) ∷ set_value (is_at (R k)) (p ∷ ps) t)) (tied k)
+        | Equal ↦ λ is. ap (λ r. cond (is_eq r) ((p.0, t) ∷ ps) ((p.0, s) ∷ set_value (is_at (R k)) ps t)) is
+        | Greater ↦ λ is. ap (λ r. cond (is_eq r) ((p.0, t) ∷ insert_entry R ps k s) (p ∷ set_value (is_at (R k)) (insert_entry R ps k s) t)) is ∙ ap (λ l. p ∷ l) (set-inserted k s t ps)
+      ] refl
 
   -- how many entries there are once one is put
   pub length-insert_new : {X : Type 0} (k : K) (v : X) (es : List (K × X)) → lookup_entry (is_at (R k)) es ≡ None → length (insert_entry R es k v) ≡ length es + 1
@@ -109,14 +130,6 @@ module _ {K : Type 0} {R : K → K → Ordering} (o : IsTotalOrder R) where
           | false ↦ λ at. rest
         ] refl
 
-    pub value-filled : (q : K) (ps : List (K × Slot K V)) → IsStrictlySortedBy R (keys_of ps) → AreNamed R ps → (s : Slot K V) → lookup (is_at (R q)) ps ≡ Some s → value_at R (filled ps) q ≡ slot_value s
-    value-filled q ps sorted named s found =
-        lookup_is _ (filled ps) ∙ ap (option_map (λ e. e.1)) (entry-filled q ps sorted named) ∙ by (lookup_entry (is_at (R q)) ps) (sym (lookup_is _ ps) ∙ found)
-      where
-        by : (e : Option (K × Slot K V)) → option_map (λ e. e.1) e ≡ Some s → option_map (λ e. e.1) (shown e) ≡ slot_value s
-        by None is = cc
-        by (Some p) is = let same : p.1 ≡ s = cc in value_shown p ∙ ap slot_value same
-
     pub value-absent : (q : K) (ps : List (K × Slot K V)) → IsStrictlySortedBy R (keys_of ps) → AreNamed R ps → lookup (is_at (R q)) ps ≡ None → lookup_entry (is_at (R q)) (filled ps) ≡ None
     value-absent q ps sorted named absent =
         entry-filled q ps sorted named ∙ by (lookup_entry (is_at (R q)) ps) (sym (lookup_is _ ps) ∙ absent)
@@ -124,9 +137,6 @@ module _ {K : Type 0} {R : K → K → Ordering} (o : IsTotalOrder R) where
         by : (e : Option (K × Slot K V)) → option_map (λ e. e.1) e ≡ None → shown e ≡ None
         by None is = refl
         by (Some p) is = cc
-
-    pub value-missing : (q : K) (ps : List (K × Slot K V)) → IsStrictlySortedBy R (keys_of ps) → AreNamed R ps → lookup (is_at (R q)) ps ≡ None → value_at R (filled ps) q ≡ None
-    value-missing q ps sorted named absent = lookup_is _ (filled ps) ∙ ap (option_map (λ e. e.1)) (value-absent q ps sorted named absent)
 
     -- the key under which an entry at this key is seen, by what stands at its place
     pub name-filled : (k : K) (ps : List (K × Slot K V)) → IsStrictlySortedBy R (keys_of ps) → AreNamed R ps → key_in R (filled ps) k ≡ name_under k (key_in R ps k) (lookup (is_at (R k)) ps)
@@ -232,81 +242,27 @@ module _ {K : Type 0} {R : K → K → Ordering} (o : IsTotalOrder R) where
           new_named : AreNamed R (insert_entry R ps k Empty)
           new_named = AreNamed-insert ps k Empty tt named
 
-      -- what is seen once a place is taken out
-      pub filled-remove : filled (remove_entry (is_at (R k)) ps) ≡ remove_entry (is_at (R k)) (filled ps)
-      filled-remove =
-          same_entries o _ _ (sorted-filled (remove_entry (is_at (R k)) ps) new_sorted new_named) (ascend-taken R (is_at (R k)) (filled ps) in_order)
-          (λ q. entry-filled q (remove_entry (is_at (R k)) ps) new_sorted new_named
-          ∙ ap shown (entry-remove_entry o q k ps sorted)
-          ∙ elim (is_at (R q) k) as (λ b. shown (cond b None (lookup_entry (is_at (R q)) ps)) ≡ cond b None (lookup_entry (is_at (R q)) (filled ps))) [
-            | true ↦ refl
-            | false ↦ sym (entry-filled q ps sorted named)
-          ]
-          ∙ sym (entry-remove_entry o q k (filled ps) in_order))
+      -- what is seen once its key has a value, or none
+      pub filled-changed : (s : Slot K V) (value : Option V) → IsNamed R k s → entry_of (key_in R ps k) s ≡ option_map (λ v. (key_in R (filled ps) k, v)) value → filled (insert_entry R ps k s) ≡ changed R k value (filled ps)
+      filled-changed s (Some v) here shows = filled-insert s v here shows
+      filled-changed s None here shows = by s shows
         where
-          in_order : IsStrictlySortedBy R (keys_of (filled ps))
-          in_order = sorted-filled ps sorted named
+          by : (s : Slot K V) → entry_of (key_in R ps k) s ≡ None → filled (insert_entry R ps k s) ≡ remove_entry (is_at (R k)) (filled ps)
+          by Empty is = filled-empty
+          by (Filled v) is = cc
+          by (Renamed n v) is = cc
 
-          new_sorted : IsStrictlySortedBy R (keys_of (remove_entry (is_at (R k)) ps))
-          new_sorted = ascend-taken R (is_at (R k)) ps sorted
+      -- and whether it had one
+      pub full-value : is_full (slot_at R ps k) ≡ is_some (value_at R (filled ps) k)
+      full-value =
+          ap (λ l. is_full (unwrap_or l Empty)) (lookup_is (is_at (R k)) ps) ∙ by (lookup_entry (is_at (R k)) ps)
+          ∙ sym (ap is_some (lookup_is (is_at (R k)) (filled ps) ∙ ap (option_map (λ e. e.1)) (entry-filled k ps sorted named)))
+        where
+          by : (e : Option (K × Slot K V)) → is_full (unwrap_or (option_map (λ x. x.1) e) Empty) ≡ is_some (option_map (λ x. x.1) (shown e))
+          by None = refl
+          by (Some p) = elim p.1 as (λ s. is_full s ≡ is_some (option_map (λ x. x.1) (entry_of p.0 s))) [ Empty ↦ refl | Filled v ↦ refl | Renamed n v ↦ refl ]
 
-          new_named : AreNamed R (remove_entry (is_at (R k)) ps)
-          new_named = AreNamed-remove (is_at (R k)) ps named
-
-    -- a place that is there is written to in place
-    pub set-insert : (k : K) (s t : Slot K V) (ps : List (K × Slot K V)) → IsStrictlySortedBy R (keys_of ps) → lookup (is_at (R k)) ps ≡ Some t → set_value (is_at (R k)) ps s ≡ insert_entry R ps k s
-    set-insert k s t [] sorted found = cc
-    set-insert k s t (p ∷ ps) sorted found =
-        elim (R k p.0) as (λ r. R k p.0 ≡ r → cond (is_eq r) (Some p.1) (lookup (is_at (R k)) ps) ≡ Some t → cond (is_eq r) ((p.0, s) ∷ ps) (p ∷ set_value (is_at (R k)) ps s) ≡ match_ordering r ((k, s) ∷ p ∷ ps) ((p.0, s) ∷ ps) (p ∷ insert_entry R ps k s)) [
-          | Less ↦ λ is found.
-              let none : lookup (is_at (R k)) ps ≡ None = lookup_is _ ps ∙ ap (option_map (λ x. x.1)) (entry_below o k k ps (tied k) (all-below R o k p.0 (keys_of ps) is (sorted_head R p.0 (keys_of ps) sorted))) in cc
-          | Equal ↦ λ is found. refl
-          | Greater ↦ λ is found. ap (λ l. p ∷ l) (set-insert k s t ps (sorted_tail R p.0 (keys_of ps) sorted) found)
-        ] refl found
-
-    -- a change is undone by what stood there
-    pub put_back-insert : (k : K) (s : Slot K V) (ps : List (K × Slot K V)) → IsStrictlySortedBy R (keys_of ps) → put_back_slot R k (lookup (is_at (R k)) ps) (insert_entry R ps k s) ≡ ps
-    put_back-insert k s [] sorted = ap (λ b. cond b [] ((k, s) ∷ [])) (tied k)
-    put_back-insert k s (p ∷ ps) sorted =
-        elim (R k p.0) as (λ r. R k p.0 ≡ r → put_back_slot R k (cond (is_eq r) (Some p.1) (lookup (is_at (R k)) ps)) (match_ordering r ((k, s) ∷ p ∷ ps) ((p.0, s) ∷ ps) (p ∷ insert_entry R ps k s)) ≡ p ∷ ps) [
-          | Less ↦ λ is.
-              let none : lookup (is_at (R k)) ps ≡ None = lookup_is _ ps ∙ ap (option_map (λ x. x.1)) (entry_below o k k ps (tied k) (all-below R o k p.0 (keys_of ps) is (sorted_head R p.0 (keys_of ps) sorted))) in
-              ap (λ n. put_back_slot R k n ((k, s) ∷ p ∷ ps)) none ∙ ap (λ b. cond b (p ∷ ps) ((k, s) ∷ remove_entry (is_at (R k)) (p ∷ ps))) (tied k)
-          | Equal ↦ λ is. ap (λ r. cond (is_eq r) ((p.0, p.1) ∷ ps) ((p.0, s) ∷ set_value (is_at (R k)) ps p.1)) is
-          | Greater ↦ λ is. further (lookup (is_at (R k)) ps) is ∙ ap (λ l. p ∷ l) (put_back-insert k s ps (sorted_tail R p.0 (keys_of ps) sorted))
-        ] refl
-      where
-        further : (n : Option (Slot K V)) → R k p.0 ≡ Greater → put_back_slot R k n (p ∷ insert_entry R ps k s) ≡ p ∷ put_back_slot R k n (insert_entry R ps k s)
-        further None is = ap (λ r. cond (is_eq r) (insert_entry R ps k s) (p ∷ remove_entry (is_at (R k)) (insert_entry R ps k s))) is
-        further (Some t) is = ap (λ r. cond (is_eq r) ((p.0, t) ∷ insert_entry R ps k s) (p ∷ set_value (is_at (R k)) (insert_entry R ps k s) t)) is
-
--- what is seen once another value stands where one stood under the key of its place
-pub record Refilled {K V : Type 0} (R : K → K → Ordering) (k : K) (v : V) (ps qs : List (K × Slot K V)) : Type 0 where
-  pub entries : filled qs ≡ insert_entry R (filled ps) k v
-  pub count : length (filled qs) ≡ length (filled ps)
-  pub named : AreNamed R qs
-  pub undone : put_back_slot R k (lookup (is_at (R k)) ps) qs ≡ ps
-
-pub refilled : {K V : Type 0} {R : K → K → Ordering} (o : IsTotalOrder R) (k : K) (v b : V) (ps qs : List (K × Slot K V)) → IsStrictlySortedBy R (keys_of ps) → AreNamed R ps
-    → lookup (is_at (R k)) ps ≡ Some (Filled b) → qs ≡ set_value (is_at (R k)) ps (Filled v) → Refilled R k v ps qs
-refilled {K} {V} {R} o k v b ps qs sorted named found set =
-    let put : qs ≡ insert_entry R ps k (Filled v) = set ∙ set-insert o k (Filled v) (Filled b) ps sorted found in
-    let name = name-filled o k ps sorted named ∙ ap (name_under k (key_in R ps k)) found in
-    let entries : filled qs ≡ insert_entry R (filled ps) k v = ap filled put ∙ filled-insert o k ps sorted named (Filled v) v tt (λ i. Some (sym name i, v)) in
-    let there = entry-filled o k ps sorted named in
-    let entry = shown_at (lookup_entry (is_at (R k)) ps) (sym (lookup_is (is_at (R k)) ps) ∙ found) in
-    record {
-      entries = entries;
-      count = ap length entries ∙ length-insert_same o k v (filled ps) entry.0 (sorted-filled o ps sorted named) (there ∙ entry.1);
-      named = subst (AreNamed R) (sym put) (AreNamed-insert o ps k (Filled v) tt named);
-      undone = ap (put_back_slot R k (lookup (is_at (R k)) ps)) put ∙ put_back-insert o k (Filled v) ps sorted;
-    }
-  where
-    shown_at : (e : Option (K × Slot K V)) → option_map (λ p. p.1) e ≡ Some (Filled b) → (f : K × V) × (shown e ≡ Some f)
-    shown_at None is = cc
-    shown_at (Some p) is = let same : p.1 ≡ Filled b = cc in ((p.0, b), ap (entry_of p.0) same)
-
--- and once one is taken out
+-- how many entries there are once one is taken out
 pub length-remove : {K X : Type 0} (test : K → Bool) (es : List (K × X)) (f : K × X) → lookup_entry test es ≡ Some f → length (remove_entry test es) + 1 ≡ length es
 length-remove test [] f found = cc
 length-remove test (e ∷ es) f found = elim (test e.0) as (λ b. cond b (Some e) (lookup_entry test es) ≡ Some f → length (cond b es (e ∷ remove_entry test es)) + 1 ≡ length (e ∷ es)) [
@@ -362,3 +318,27 @@ pair_value f g (Some a) = refl
 pub if_ok : {A E : Type 0} (P Q : A → Type 0) → ((x : A) → P x → Q x) → (r : Result A E) → IfOk r P → IfOk r Q
 if_ok P Q f (Ok x) h = f x h
 if_ok P Q f (Err e) h = tt
+
+-- what stands there is inserted once more
+pub insert-same : {K X : Type 0} {R : K → K → Ordering} (o : IsTotalOrder R) (k : K) (x : X) (ps : List (K × X)) → IsStrictlySortedBy R (keys_of ps) → lookup (is_at (R k)) ps ≡ Some x → insert_entry R ps k x ≡ ps
+insert-same {R = R} o k x ps sorted found = sym (set-insert o k x x ps sorted found) ∙ set_value-same (is_at (R k)) ps x found
+
+-- how many entries there are once a key has a value, or none
+pub length-changed : {K V : Type 0} {R : K → K → Ordering} (o : IsTotalOrder R) (k : K) (value : Option V) (es : List (K × V)) → IsStrictlySortedBy R (keys_of es) → length (changed R k value es) ≡ len_changed (length es) (is_some (value_at R es k)) (is_some value)
+length-changed {K} {V} {R} o k value es sorted = by value (lookup_entry (is_at (R k)) es) refl ∙ ap (λ b. len_changed (length es) b (is_some value)) (sym (had (lookup_entry (is_at (R k)) es)) ∙ sym (ap is_some (lookup_is (is_at (R k)) es)))
+  where
+    had : (e : Option (K × V)) → is_some (option_map (λ x. x.1) e) ≡ is_some e
+    had None = refl
+    had (Some e) = refl
+
+    by : (value : Option V) (e : Option (K × V)) → lookup_entry (is_at (R k)) es ≡ e → length (changed R k value es) ≡ len_changed (length es) (is_some e) (is_some value)
+    by None None is = ap length (remove-absent (is_at (R k)) es is)
+    by None (Some f) is = let less = length-remove (is_at (R k)) es f is in omega arith
+    by (Some v) None is = length-insert_new o k v es is
+    by (Some v) (Some f) is = length-insert_same o k v es f sorted is
+
+-- a slot without a value is empty
+pub empty_slot : {K V : Type 0} (s : Slot K V) → is_full s ≡ false → s ≡ Empty
+empty_slot Empty is = refl
+empty_slot (Filled v) is = cc
+empty_slot (Renamed n v) is = cc

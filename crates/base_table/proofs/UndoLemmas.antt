@@ -1,11 +1,19 @@
 -- The entries at open marks, as changes are noted and undone.
-use Rattle.std.specs.Prelude.{◌≡◌, ℕ, zero, suc, ◌+◌, ◌-◌, ◌<◌, ◌≤◌, List, [], ◌∷◌, ◌++◌, length, take, drop, refl}
+use Rattle.std.specs.Prelude.{◌≡◌, Bool, true, false, cond, Some, None, is_some, option_map, ℕ, zero, suc, ◌+◌, ◌-◌, ◌<◌, ◌≤◌, List, [], ◌∷◌, ◌++◌, length, take, drop, refl}
 use Rattle.std.proofs.Common.{get_or, set, sym, ◌∙◌, ap, subst, append_assoc, add-one, arith}
 use Rattle.std.proofs.lemmas.List.{append-nil, drop-set, drop_more, length-append, take-append-drop, take-set}
 use Rattle.std.specs.declared.cmp.Ordering.{Ordering}
+use Rattle.std.specs.BTreeMap.{insert_entry, is_at}
+use Rattle.std.specs.Cmp.{IsTotalOrder, tied_itself}
+use Rattle.std.specs.Map.{lookup, set_value}
+use Rattle.std.specs.Ordering.{is_eq}
+use Rattle.base_types.proofs.MapLemmas.{at-put}
+use Rattle.base_table.specs.declared.slot.Place.{Place}
 use Rattle.base_table.specs.declared.slot.Slot.{Slot}
 use Rattle.base_table.specs.declared.undo.Undo.{Undo}
-use Rattle.base_table.specs.Places.{filled, marks_below, marks_of, put_back_slot, rewound, times, Fits, FitBelow}
+use Rattle.base_table.specs.Places.{filled, marks_below, marks_of, put_back_slot, rewound, slot_of, slots, stamp_of, stamps, times, Fits, FitBelow, HavePlaces}
+use Rattle.base_table.proofs.EachLemmas.{lookup-each, set-each}
+use Rattle.base_table.proofs.PlaceLemmas.{set_value-absent, set_value-same}
 
 pub length-times : {A : Type 0} (n : ℕ) (x : A) → length (times n x) ≡ n
 length-times zero x = refl
@@ -24,6 +32,28 @@ AreUnmarked (u ∷ us) = (u.point.marks ≡ 0) × AreUnmarked us
 -- within a list the default does not count
 pub get_or-within : {A : Type 0} (xs : List A) (i : ℕ) (d e : A) → i < length xs → get_or xs i d ≡ get_or xs i e
 get_or-within xs i d e within = let a = drop_more xs i d within in let b = drop_more xs i e within in let same : get_or xs i d ∷ drop (i + 1) xs ≡ get_or xs i e ∷ drop (i + 1) xs = sym a ∙ b in cc
+
+-- what stood at a place stands there again, and its stamp stays
+module _ {K V : Type 0} (test : K → Bool) (ps : List (K × Place K V)) (before : Slot K V) where
+  module _ (qs : List (K × Place K V)) (place : Place K V) (made : qs ≡ set_value test ps (record { slot = before; stamp = place.stamp })) where
+    pub slots-put_back : slots qs ≡ set_value test (slots ps) before
+    slots-put_back = ap slots made ∙ set-each slot_of test ps (record { slot = before; stamp = place.stamp })
+
+    pub stamps-put_back : lookup test ps ≡ Some place → stamps qs ≡ stamps ps
+    stamps-put_back found =
+        ap stamps made ∙ set-each stamp_of test ps (record { slot = before; stamp = place.stamp })
+        ∙ set_value-same test (stamps ps) place.stamp (lookup-each stamp_of test ps ∙ ap (option_map stamp_of) found)
+
+  pub slots-absent : lookup test ps ≡ None → slots ps ≡ set_value test (slots ps) before
+  slots-absent none = sym (set_value-absent test (slots ps) before (lookup-each slot_of test ps ∙ ap (option_map slot_of) none))
+
+-- what is there stays as it is written to
+there-set : {K X : Type 0} (look test : K → Bool) (ps : List (K × X)) (x : X) → is_some (lookup look ps) ≡ true → is_some (lookup look (set_value test ps x)) ≡ true
+there-set look test [] x h = h
+there-set look test (p ∷ ps) x h = elim (test p.0) as (λ c. is_some (lookup look (cond c ((p.0, x) ∷ ps) (p ∷ set_value test ps x))) ≡ true) [
+  | true ↦ elim (look p.0) as (λ b. is_some (cond b (Some p.1) (lookup look ps)) ≡ true → is_some (cond b (Some x) (lookup look ps)) ≡ true) [ true ↦ λ h. refl | false ↦ λ h. h ] h
+  | false ↦ elim (look p.0) as (λ b. is_some (cond b (Some p.1) (lookup look ps)) ≡ true → is_some (cond b (Some p.1) (lookup look (set_value test ps x))) ≡ true) [ true ↦ λ h. refl | false ↦ λ h. there-set look test ps x h ] h
+]
 
 module _ {K V : Type 0} (R : K → K → Ordering) where
   rewound-append : (us ws : List (Undo K V)) (ps : List (K × Slot K V)) → rewound R (us ++ ws) ps ≡ rewound R us (rewound R ws ps)
@@ -135,3 +165,35 @@ module _ {K V : Type 0} (R : K → K → Ordering) where
   -- without a mark none is told
   pub no_marks : (us : List (Undo K V)) (m : ℕ) (ps : List (K × Slot K V)) → m ≡ 0 → AreUnmarked us → marks_of R us m ps ≡ []
   no_marks us m ps none h = ap (λ n. marks_of R us n ps) none ∙ append-nil (marks_below R us ps) ∙ unmarked us ps h
+
+  -- that changes have their places stays as places are written to
+  pub HavePlaces-set : (us : List (Undo K V)) (test : K → Bool) (ps : List (K × Slot K V)) (s : Slot K V) → HavePlaces R us ps → HavePlaces R us (set_value test ps s)
+  HavePlaces-set [] test ps s h = tt
+  HavePlaces-set (u ∷ us) test ps s h = (there-set (is_at (R u.key)) test ps s h.0, HavePlaces-set us test ps s h.1)
+
+  there-put : (o : IsTotalOrder R) (q k : K) (ps : List (K × Slot K V)) (s : Slot K V) → is_some (lookup (is_at (R q)) ps) ≡ true → is_some (lookup (is_at (R q)) (insert_entry R ps k s)) ≡ true
+  there-put o q k ps s h = ap is_some (at-put R o ps k q s) ∙ elim (is_at (R q) k) as (λ b. is_some (cond b (Some s) (lookup (is_at (R q)) ps)) ≡ true) [ true ↦ refl | false ↦ h ]
+
+  pub HavePlaces-insert : (o : IsTotalOrder R) (us : List (Undo K V)) (k : K) (ps : List (K × Slot K V)) (s : Slot K V) → HavePlaces R us ps → HavePlaces R us (insert_entry R ps k s)
+  HavePlaces-insert o [] k ps s h = tt
+  HavePlaces-insert o (u ∷ us) k ps s h = (there-put o u.key k ps s h.0, HavePlaces-insert o us k ps s h.1)
+
+  -- a key has its place once something was put there
+  pub has_place : (o : IsTotalOrder R) (k : K) (ps : List (K × Slot K V)) (s : Slot K V) → is_some (lookup (is_at (R k)) (insert_entry R ps k s)) ≡ true
+  has_place o k ps s = ap is_some (at-put R o ps k k s) ∙ ap (λ r. is_some (cond (is_eq r) (Some s) (lookup (is_at (R k)) ps))) (tied_itself o k)
+
+  pub HavePlaces-push : (us : List (Undo K V)) (u : Undo K V) (ps : List (K × Slot K V)) → HavePlaces R us ps → is_some (lookup (is_at (R u.key)) ps) ≡ true → HavePlaces R (us ++ u ∷ []) ps
+  HavePlaces-push [] u ps h here = (here, tt)
+  HavePlaces-push (w ∷ us) u ps h here = (h.0, HavePlaces-push us u ps h.1 here)
+
+  pub HavePlaces-last : (us : List (Undo K V)) (u : Undo K V) (ps : List (K × Slot K V)) → HavePlaces R (us ++ u ∷ []) ps → HavePlaces R us ps
+  HavePlaces-last [] u ps h = tt
+  HavePlaces-last (w ∷ us) u ps h = (h.0, HavePlaces-last us u ps h.1)
+
+  HavePlaces-less : (us ws : List (Undo K V)) (u : Undo K V) (ps : List (K × Slot K V)) → HavePlaces R (us ++ u ∷ ws) ps → HavePlaces R (us ++ with_mark_less u ∷ ws) ps
+  HavePlaces-less [] ws u ps h = (h.0, h.1)
+  HavePlaces-less (w ∷ us) ws u ps h = (h.0, HavePlaces-less us ws u ps h.1)
+
+  pub HavePlaces-closed : (us : List (Undo K V)) (i : ℕ) (u : Undo K V) (ps : List (K × Slot K V)) → i < length us → get_or us i u ≡ u → HavePlaces R us ps → HavePlaces R (set us i (with_mark_less u)) ps
+  HavePlaces-closed us i u ps within is h =
+      subst (λ ws. HavePlaces R ws ps) (split-less us i u ps within is) (HavePlaces-less (take i us) (drop (i + 1) us) u ps (subst (λ ws. HavePlaces R ws ps) (sym (split us i u ps within is)) h))

@@ -1,16 +1,19 @@
-//! Entries in the order of their keys, with open marks to go back to.
+//! Entries in the order of their keys, with open marks to go back to and the list of what was touched.
 
-ghost use Rattle.std.specs.Prelude.{◌≡◌, ◌<◌, ◌++◌, List, ◌∷◌, [], true, length, option_map, IfOk, OnOk, OnErr, IsOk, if◌then◌else◌};
-ghost use Rattle.std.specs.BTreeMap.{insert_entry, is_at};
+ghost use Rattle.std.specs.Prelude.{◌≡◌, ◌<◌, ◌^◌, ◌++◌, List, ◌∷◌, [], true, length, option_map, vec_capacity, vec_len, OnOk, OnErr, IsOk, if◌then◌else◌};
+ghost use Rattle.std.specs.BTreeMap.{is_at};
+ghost use Rattle.std.specs.List.{IsDistinct};
 ghost use Rattle.std.specs.List.Sorted.{IsStrictlySortedBy};
-ghost use Rattle.std.specs.Map.{keys_of, lookup, lookup_key, remove_entry};
-ghost use Rattle.std.specs.Option.{option_copied};
+ghost use Rattle.std.specs.Map.{keys_of, lookup_key};
+ghost use Rattle.std.specs.Option.{option_copied, option_to_list};
+ghost use Rattle.std.specs.Ordering.{eq_by_cmp};
 ghost use Rattle.std.specs.Range.Bound.{bound_map};
-ghost use Rattle.base_table.specs.Places.{bound_above, entry_of, filled, put_back_slot, undo_of, AreNamed, IsNamed};
-ghost use Rattle.base_table.specs.Tabled.{entry_above, entry_from, key_in, value_at};
+ghost use Rattle.base_table.specs.Places.{bound_above, changed, len_changed};
+ghost use Rattle.base_table.specs.Tabled.{entry_above, entry_from, touched_with, value_at};
 
-use crate::slot::Slot;
-use crate::undo::{Point, Undo, clear, close, rewind, rewrite, set};
+use crate::change::{exchange, listed_at};
+use crate::slot::Place;
+use crate::undo::{Point, Undo, clear, close, rewind, sweep};
 use crate::walk::{find, first_from};
 use base_types::{Copied, TableFault};
 use std::alloc::Global;
@@ -18,13 +21,19 @@ use std::collections::BTreeMap;
 use std::marker::Model;
 use std::ops::Bound;
 
+/// The longest list of touched keys whose room is kept when the table settles: a block's is mostly shorter.
+const ROOM_KEPT: usize = 64;
+
 /// Entries in the order of their keys, with open marks. A mark keeps no copy: each later change notes what
-/// undoes it, and a key that is taken out keeps its place in the tree, empty, until no mark is open. So
-/// going back only writes to places or takes them out, which wants no memory.
+/// undoes it. A key that is touched has a place in the tree until the table is settled, empty where it has
+/// no value, and the place is stamped with where the key is listed. So the list is asked without a search,
+/// and going back only writes to places, which wants no memory.
 #[derive(Drop)]
 pub(crate) struct Places<K: Ord + Copied, V: Copied> {
     alloc: Global,
-    tree: BTreeMap<K, Slot<K, V>>,
+    tree: BTreeMap<K, Place<K, V>>,
+    /// The keys that were touched since the last settling, each with the value that it had then.
+    touched: Vec<(K, Option<V>)>,
     /// What undoes the changes since the earliest open mark, the latest change last.
     log: Vec<Undo<K, V>>,
     /// The point after the latest change.
@@ -34,26 +43,29 @@ pub(crate) struct Places<K: Ord + Copied, V: Copied> {
 }
 
 impl<K: Ord + Copied, V: Copied> Model for Places<K, V> {
-    ghost use Rattle.base_table.specs.Places.{filled, marks_of, IsKept, Marked};
+    ghost use Rattle.base_table.specs.Places.{filled, marks_of, slots, stamps, AreStamped, IsKept, Marked};
 
     ghost Value = { Marked K V };
 
     ghost view = { λ p. record {
-      entries = filled p.tree.entries;
-      marks = marks_of K.cmp p.log.items p.here.marks p.tree.entries;
+      entries = filled (slots p.tree.entries);
+      marks = marks_of K.cmp p.log.items p.here.marks (slots p.tree.entries);
+      touched = p.touched.items;
     } };
 
-    ghost invariant = { λ p. IsKept K.cmp p.log.items p.here p.depth p.tree.entries };
+    ghost invariant = { λ p. IsKept K.cmp p.log.items p.here p.depth (slots p.tree.entries)
+        × AreStamped K.cmp 0 p.touched.items (stamps p.tree.entries) };
 }
 
 impl<K: Ord + Copied, V: Copied> Places<K, V> {
-    /// No entries and no mark.
+    /// No entries, no mark, and nothing touched.
     pub(crate) fn new(alloc: Global) -> Places<K, V>
-        ensures { result ≡ record { entries = []; marks = [] } }
+        ensures { result ≡ record { entries = []; marks = []; touched = [] } }
     {
         Places {
             alloc,
             tree: BTreeMap::new(alloc),
+            touched: Vec::new(alloc),
             log: Vec::new(alloc),
             here: Point { marks: 0, len: 0 },
             depth: 0,
@@ -68,6 +80,26 @@ impl<K: Ord + Copied, V: Copied> Places<K, V> {
         // It tells that the keys ascend.
         let _ = self.tree.len();
         self.here.len
+    }
+
+    /// The touched list.
+    pub(crate) fn touched(&self) -> &[(K, Option<V>)]
+        ensures list { result.now ≡ self.now.touched }
+        ensures distinct { IsDistinct (eq_by_cmp K.cmp) (keys_of self.now.touched) }
+    {
+        // It tells that the keys ascend.
+        let _ = self.tree.len();
+        &self.touched
+    }
+
+    /// The value that the touched list tells of a key.
+    pub(crate) fn touched_value(&self, key: &K) -> Option<&Option<V>>
+        ensures { option_copied result ≡ value_at K.cmp self.now.touched key.now }
+    {
+        match self.tree.get(key) {
+            Some(place) => listed_at(&self.touched, place.stamp, key),
+            None => None,
+        }
     }
 
     /// The entry under a key.
@@ -96,78 +128,34 @@ impl<K: Ord + Copied, V: Copied> Places<K, V> {
         first_from(&self.tree, Bound::Included(from))
     }
 
-    /// Puts a value under a key. Where memory is wanting, nothing changes.
-    pub(crate) fn insert(&mut self, key: &K, value: V) -> Result<(), TableFault>
-        ensures ok { OnOk result (self.new
-            ≡ record self.old { entries = insert_entry K.cmp self.old.entries key.now value }) }
+    /// Lets a key have this value, or none, and touches it. Where memory is wanting, nothing changes.
+    pub(crate) fn change(&mut self, key: &K, value: Option<V>) -> Result<(), TableFault>
+        ensures ok { OnOk result (self.new ≡ record self.old {
+          entries = changed K.cmp key.now value self.old.entries;
+          touched = touched_with K.cmp self.old.touched self.old.entries key.now;
+        }) }
         ensures err { OnErr result (self.new ≡ self.old) }
     {
-        // It tells that the keys ascend.
+        // It tells that the keys ascend, and that one more can be counted.
         let _ = self.tree.len();
-        let left = rewrite(
-            &mut self.tree,
+        let has = value.is_some();
+        let noted = key.copied()?;
+        self.log.reserve(1)?;
+        self.touched.reserve(1)?;
+        let found = exchange(self.alloc, &mut self.tree, &self.touched, key, value)?;
+        let len = len_after(self.here.len, found.before.is_full(), has);
+        note(
             &mut self.log,
             self.depth > 0,
-            self.here,
-            key,
-            value,
-        )?;
-        match left {
-            None => {
-                self.here.marks = 0;
-                Ok(())
-            }
-            Some(value) => self.insert_elsewhere(key, value),
-        }
-    }
-
-    /// Puts a value under a key, whatever stands at the place of the key, if it has one. Where memory is
-    /// wanting, nothing changes.
-    fn insert_elsewhere(&mut self, key: &K, value: V) -> Result<(), TableFault>
-        ensures ok { OnOk result (self.new
-            ≡ record self.old { entries = insert_entry K.cmp self.old.entries key.now value }) }
-        ensures err { OnErr result (self.new ≡ self.old) }
-    {
-        // It tells that the keys ascend.
-        let _ = self.tree.len();
-        let len = len_with(&self.tree, key, self.here.len);
-        let slot = filling(self.alloc, &self.tree, key, value)?;
-        set(
-            &mut self.tree,
-            &mut self.log,
-            self.depth > 0,
-            self.here,
-            key,
-            slot,
-        )?;
+            Undo {
+                key: noted,
+                before: found.before,
+                point: self.here,
+            },
+        );
+        list(&mut self.touched, found.unlisted);
         self.here = Point { marks: 0, len };
         Ok(())
-    }
-
-    /// Takes a key out, and answers the value that it had, or None where it had none. Where memory is
-    /// wanting, nothing changes.
-    pub(crate) fn remove(&mut self, key: &K) -> Result<Option<V>, TableFault>
-        ensures value { IfOk result (λ value. value ≡ value_at K.cmp self.old.entries key.now) }
-        ensures ok { OnOk result (self.new
-            ≡ record self.old { entries = remove_entry (is_at (K.cmp key.now)) self.old.entries }) }
-        ensures err { OnErr result (self.new ≡ self.old) }
-    {
-        // It tells that the keys ascend.
-        let _ = self.tree.len();
-        match find(&self.tree, key) {
-            None => return Ok(None),
-            Some(_) => (),
-        }
-        let len = len_without(&self.tree, key, self.here.len);
-        let value = vacate(
-            &mut self.tree,
-            &mut self.log,
-            self.depth > 0,
-            self.here,
-            key,
-        )?;
-        self.here = Point { marks: 0, len };
-        Ok(value)
     }
 
     /// Opens a mark above those that are open. It takes no memory, and fails only where as many marks are open
@@ -189,12 +177,13 @@ impl<K: Ord + Copied, V: Copied> Places<K, V> {
     /// Goes back to the latest mark and closes it.
     pub(crate) fn back(&mut self)
         requires { 0 < length self.old.marks }
-        ensures { self.new.marks ++ self.new.entries ∷ [] ≡ self.old.marks }
+        ensures restored { self.new.marks ++ self.new.entries ∷ [] ≡ self.old.marks }
+        ensures touched { self.new.touched ≡ self.old.touched }
     {
         rewind(&mut self.tree, &mut self.log, &mut self.here);
         self.here.marks -= 1;
         self.depth -= 1;
-        clear(&mut self.tree, &mut self.log, self.depth, self.here.len);
+        clear(&mut self.log, self.depth);
     }
 
     /// Closes the latest mark.
@@ -202,10 +191,20 @@ impl<K: Ord + Copied, V: Copied> Places<K, V> {
         requires { 0 < length self.old.marks }
         ensures entries { self.new.entries ≡ self.old.entries }
         ensures closed { (last : List (K × V)) × (self.new.marks ++ last ∷ [] ≡ self.old.marks) }
+        ensures touched { self.new.touched ≡ self.old.touched }
     {
         close(&mut self.log, &mut self.here);
         self.depth -= 1;
-        clear(&mut self.tree, &mut self.log, self.depth, self.here.len);
+        clear(&mut self.log, self.depth);
+    }
+
+    /// Lists no key as touched any more, and takes the places out that are empty. It takes no memory.
+    pub(crate) fn settle(&mut self)
+        requires { self.old.marks ≡ [] }
+        ensures { self.new ≡ record self.old { touched = [] } }
+    {
+        sweep(&mut self.tree, &self.touched, self.here.len);
+        empty(self.alloc, &mut self.touched);
     }
 }
 
@@ -219,134 +218,46 @@ fn start_above<K>(after: Option<&K>) -> Bound<&K>
     }
 }
 
-/// How many entries are seen once a key has a value, where so many are seen now.
-fn len_with<K: Ord + Copied, V: Copied>(
-    tree: &BTreeMap<K, Slot<K, V>>,
-    key: &K,
-    len: usize,
-) -> usize
-    requires named { AreNamed K.cmp tree.now.entries }
-    requires len { len ≡ length (filled tree.now.entries) }
-    ensures { (value : V)
-        → result ≡ length (insert_entry K.cmp (filled tree.now.entries) key.now value) }
+/// How many entries are seen once a key that had a value, or none, has one, or none.
+fn len_after(len: usize, had: bool, has: bool) -> usize
+    requires some { had ≡ true → 0 < len }
+    requires few { len < 2 ^ 63 }
+    ensures { result ≡ len_changed len had has }
 {
-    // It tells that the keys ascend, and that one more can be counted.
-    let _ = tree.len();
-    match find(tree, key) {
-        Some(_) => len,
-        None => len + 1,
+    match (had, has) {
+        (false, true) => len + 1,
+        (true, false) => len - 1,
+        _ => len,
     }
 }
 
-/// How many entries are seen once a key is taken out, where so many are seen now.
-fn len_without<K: Ord + Copied, V: Copied>(
-    tree: &BTreeMap<K, Slot<K, V>>,
-    key: &K,
-    len: usize,
-) -> usize
-    requires named { AreNamed K.cmp tree.now.entries }
-    requires len { len ≡ length (filled tree.now.entries) }
-    ensures { result ≡ length (remove_entry (is_at (K.cmp key.now)) (filled tree.now.entries)) }
+/// Notes a change where a mark is open. There is room for it.
+fn note<K: Copied, V: Copied>(log: &mut Vec<Undo<K, V>>, marked: bool, undo: Undo<K, V>)
+    requires { vec_len log.old < vec_capacity log.old }
+    ensures { log.new.items ≡ (if marked then log.old.items ++ undo ∷ [] else log.old.items) }
 {
-    match find(tree, key) {
-        Some(_) => len - 1,
-        None => len,
+    if marked {
+        log.push_reserved(undo);
     }
 }
 
-/// What is to stand at the place of a key that has this value from now on: a place that shows an entry
-/// keeps its key.
-fn filling<K: Ord + Copied, V: Copied>(
-    alloc: Global,
-    tree: &BTreeMap<K, Slot<K, V>>,
-    key: &K,
-    value: V,
-) -> Result<Slot<K, V>, TableFault>
-    requires { AreNamed K.cmp tree.now.entries }
-    ensures named { IfOk result (λ slot. IsNamed K.cmp key.now slot) }
-    ensures shows { IfOk result (λ slot. entry_of (key_in K.cmp tree.now.entries key.now) slot
-        ≡ Some (key_in K.cmp (filled tree.now.entries) key.now, value)) }
+/// Lists a key that is yet to be listed. There is room for it.
+fn list<P: Drop>(touched: &mut Vec<P>, unlisted: Option<P>)
+    requires { vec_len touched.old < vec_capacity touched.old }
+    ensures { touched.new.items ≡ touched.old.items ++ option_to_list unlisted }
 {
-    // It tells that the keys ascend.
-    let _ = tree.len();
-    match tree.get(key) {
-        None => Ok(Slot::Filled(value)),
-        Some(Slot::Filled(_)) => Ok(Slot::Filled(value)),
-        Some(Slot::Renamed(name, _)) => renamed(alloc, name, value),
-        Some(Slot::Empty) => renamed(alloc, key, value),
+    if let Some(pair) = unlisted {
+        touched.push_reserved(pair);
     }
 }
 
-/// A value under a copy of this key.
-fn renamed<K: Ord + Copied, V: Copied>(
-    alloc: Global,
-    name: &K,
-    value: V,
-) -> Result<Slot<K, V>, TableFault>
-    ensures named { IfOk result
-        (λ slot. (key : K) → is_at (K.cmp key) name.now ≡ true → IsNamed K.cmp key slot) }
-    ensures shows { IfOk result (λ slot. (key : K) → entry_of key slot ≡ Some (name.now, value)) }
+/// Empties a list: a short one keeps its room, and a long one is let go of, so that no later one pays for it.
+fn empty<T: Drop>(alloc: Global, list: &mut Vec<T>)
+    ensures { list.new.items ≡ [] }
 {
-    let name = Box::new(alloc, name.copied()?)?;
-    Ok(Slot::Renamed(name, value))
-}
-
-/// Takes a key out, and answers its value. While a mark is open its place stays, and the change is noted.
-/// Where memory is wanting, nothing changes.
-fn vacate<K: Ord + Copied, V: Copied>(
-    tree: &mut BTreeMap<K, Slot<K, V>>,
-    log: &mut Vec<Undo<K, V>>,
-    marked: bool,
-    here: Point,
-    key: &K,
-) -> Result<Option<V>, TableFault>
-    requires { AreNamed K.cmp tree.old.entries }
-    ensures value { IfOk result
-        (λ value. value ≡ value_at K.cmp (filled tree.old.entries) key.now) }
-    ensures entries { OnOk result
-        (filled tree.new.entries ≡ remove_entry (is_at (K.cmp key.now)) (filled tree.old.entries)) }
-    ensures named { OnOk result (AreNamed K.cmp tree.new.entries) }
-    ensures undone { OnOk result (marked ≡ true → put_back_slot K.cmp key.now
-        (lookup (is_at (K.cmp key.now)) tree.old.entries) tree.new.entries ≡ tree.old.entries) }
-    ensures log { OnOk result (log.new.items ≡ (if marked then log.old.items
-        ++ undo_of K.cmp tree.old.entries here key.now ∷ [] else log.old.items)) }
-    ensures tree_err { OnErr result (tree.new.entries ≡ tree.old.entries) }
-    ensures log_err { OnErr result (log.new.items ≡ log.old.items) }
-{
-    // It tells that the keys ascend.
-    let _ = tree.len();
-    if !marked {
-        return Ok(take(tree, key));
-    }
-    let value = copied_at(tree, key)?;
-    set(tree, log, true, here, key, Slot::Empty)?;
-    Ok(value)
-}
-
-/// Takes the place of a key out, and answers its value.
-fn take<K: Ord + Copied, V: Copied>(tree: &mut BTreeMap<K, Slot<K, V>>, key: &K) -> Option<V>
-    requires { AreNamed K.cmp tree.old.entries }
-    ensures value { result ≡ value_at K.cmp (filled tree.old.entries) key.now }
-    ensures entries { tree.new.entries ≡ remove_entry (is_at (K.cmp key.now)) tree.old.entries }
-{
-    // It tells that the keys ascend.
-    let _ = tree.len();
-    match tree.remove(key) {
-        Some(slot) => slot.into_value(),
-        None => None,
-    }
-}
-
-/// A copy of the value under a key, or None where it has none.
-fn copied_at<K: Ord + Copied, V: Copied>(
-    tree: &BTreeMap<K, Slot<K, V>>,
-    key: &K,
-) -> Result<Option<V>, TableFault>
-    requires { AreNamed K.cmp tree.now.entries }
-    ensures { IfOk result (λ value. value ≡ value_at K.cmp (filled tree.now.entries) key.now) }
-{
-    match find(tree, key) {
-        Some((_, value)) => Ok(Some(value.copied()?)),
-        None => Ok(None),
+    if list.len() <= ROOM_KEPT {
+        list.clear();
+    } else {
+        *list = Vec::new(alloc);
     }
 }

@@ -1,12 +1,12 @@
 //! A place of a key.
 
 ghost use Rattle.std.specs.Prelude.{◌≡◌, option_map};
-ghost use Rattle.base_table.specs.Places.{entry_of, is_filled, slot_value};
+ghost use Rattle.base_table.specs.Places.{entry_of, is_full};
 
 /// What stands at the place of a key.
 #[derive(Drop)]
 pub(crate) enum Slot<K, V> {
-    /// Nothing: the key was taken out.
+    /// Nothing: the key was taken out, or has had no value since its place was made.
     Empty,
     /// A value.
     Filled(V),
@@ -28,23 +28,20 @@ impl<K, V> Slot<K, V> {
         }
     }
 
-    /// Whether a value stands here under the key of the place.
-    pub(crate) fn is_filled(&self) -> bool
-        ensures { result ≡ is_filled self.now }
+    /// Whether a value stands here.
+    pub(crate) fn is_full(&self) -> bool
+        ensures { result ≡ is_full self.now }
     {
-        matches!(self, Slot::Filled(_))
+        matches!(self, Slot::Filled(_) | Slot::Renamed(_, _))
     }
+}
 
-    /// The value that stands here.
-    pub(crate) fn into_value(self) -> Option<V>
-    where
-        K: Drop,
-        ensures { result ≡ slot_value self }
-    {
-        match self {
-            Slot::Empty => None,
-            Slot::Filled(value) => Some(value),
-            Slot::Renamed(_name, value) => Some(value),
-        }
-    }
+/// The place of a key.
+#[derive(Drop)]
+pub(crate) struct Place<K, V> {
+    /// What stands here.
+    pub(crate) slot: Slot<K, V>,
+    /// Where the key stands in the touched list, if it stands there: a stamp of an earlier list tells of
+    /// another key, or lies beyond the list.
+    pub(crate) stamp: usize,
 }

@@ -2,21 +2,17 @@
 
 ghost use Rattle.std.specs.Prelude.{◌≡◌, ◌+◌, ◌^◌, [], false, length, ◌<◌, IsOk, if◌then◌else◌, is_some, option_map, IfOk, OnOk, OnErr, IsErrOf, IsTrue, ◌↔◌};
 ghost use Rattle.std.specs.List.Sorted.{IsStrictlySortedBy};
-ghost use Rattle.std.specs.Map.{keys_of};
+ghost use Rattle.std.specs.BTreeMap.{insert_entry, is_at};
+ghost use Rattle.std.specs.Map.{keys_of, remove_entry};
 ghost use Rattle.std.specs.Option.{option_copied};
-ghost use Rattle.base_table.specs.Tabled.{empty_table, entry_above, entry_from, settled_now, spent_now, value_at, with_mark, with_value, without_key, IsForgotten, IsGoneBack, TellsSettled};
+ghost use Rattle.base_table.specs.Restored.{restored, KeepsSettled};
+ghost use Rattle.base_table.specs.Tabled.{empty_table, entry_above, entry_from, settled_now, spent_now, touched_with, value_at, with_mark, with_value, without_key, IsForgotten, IsGoneBack, TellsSettled};
 
-use crate::change::{take_out, write};
 use crate::places::Places;
 use base_types::{Copied, Steps, TableFault};
-use indexmap::IndexMap;
 use std::alloc::Global;
-use std::hash::Hash;
 use std::marker::Model;
 use std::sync::ledger::Ledger;
-
-/// The longest list of touched keys whose room is kept when the table settles: a block's is mostly shorter.
-const ROOM_KEPT: usize = 64;
 
 /// A map in the order of its keys that can be marked and gone back, and that lists what was touched since
 /// it was last settled. Contracts see it as a `Tabled`.
@@ -25,14 +21,12 @@ const ROOM_KEPT: usize = 64;
 /// latest open one is gone back to or forgotten first. A mark keeps no copy: while one is open, each change
 /// notes what undoes it.
 #[derive(Drop)]
-pub struct Table<K: Ord + Hash + Copied, V: Copied> {
-    alloc: Global,
+pub struct Table<K: Ord + Copied, V: Copied> {
     places: Places<K, V>,
-    touched: IndexMap<K, Option<V>>,
     spent: bool,
 }
 
-impl<K: Ord + Hash + Copied, V: Copied> Model for Table<K, V> {
+impl<K: Ord + Copied, V: Copied> Model for Table<K, V> {
     ghost use Rattle.base_table.specs.Restored.{restored, MarksRestore};
     ghost use Rattle.base_table.specs.Tabled.{Tabled};
 
@@ -41,24 +35,22 @@ impl<K: Ord + Hash + Copied, V: Copied> Model for Table<K, V> {
     ghost view = { λ t. record {
       entries = t.places.entries;
       marks = t.places.marks;
-      touched = t.touched.entries;
-      settled = restored K.cmp t.touched.entries t.places.entries;
+      touched = t.places.touched;
+      settled = restored K.cmp t.places.touched t.places.entries;
       spent = t.spent;
     } };
 
-    ghost invariant = { λ t. MarksRestore K.cmp t.touched.entries
-        (restored K.cmp t.touched.entries t.places.entries) t.places.marks };
+    ghost invariant = { λ t. MarksRestore K.cmp t.places.touched
+        (restored K.cmp t.places.touched t.places.entries) t.places.marks };
 }
 
-impl<K: Ord + Hash + Copied, V: Copied> Table<K, V> {
+impl<K: Ord + Copied, V: Copied> Table<K, V> {
     /// An empty table, which counts as settled. It takes no memory yet.
     pub fn new(alloc: Global) -> Table<K, V>
         ensures { result ≡ empty_table }
     {
         Table {
-            alloc,
             places: Places::new(alloc),
-            touched: IndexMap::new(alloc),
             spent: false,
         }
     }
@@ -113,7 +105,7 @@ impl<K: Ord + Hash + Copied, V: Copied> Table<K, V> {
         if self.spent {
             return Err(TableFault::Spent);
         }
-        match write(&mut self.touched, &mut self.places, key, value) {
+        match put_in(&mut self.places, key, value) {
             Ok(()) => Ok(()),
             Err(_) => {
                 self.spent = true;
@@ -142,7 +134,7 @@ impl<K: Ord + Hash + Copied, V: Copied> Table<K, V> {
         if self.spent {
             return Err(TableFault::Spent);
         }
-        match take_out(&mut self.touched, &mut self.places, key) {
+        match take_out(&mut self.places, key) {
             Ok(value) => Ok(value),
             Err(_) => {
                 self.spent = true;
@@ -215,14 +207,21 @@ impl<K: Ord + Hash + Copied, V: Copied> Table<K, V> {
 
     /// The keys put or removed since the table was last settled, in the order of their first touch, each
     /// with the value that it had then, or None where it had none.
-    pub fn touched(&self) -> &IndexMap<K, Option<V>>
-        ensures list { result.now.entries ≡ self.now.touched }
+    pub fn touched(&self) -> &[(K, Option<V>)]
+        ensures list { result.now ≡ self.now.touched }
         ensures settled { TellsSettled K.cmp self.now }
     {
         // They tell that the keys ascend, and that none is listed twice.
         let _ = self.places.len();
-        let _ = self.touched.len();
-        &self.touched
+        self.places.touched()
+    }
+
+    /// The value that a touched key had when the table was last settled, `Some(None)` where it had none. It
+    /// answers None for a key that is not touched. It counts no step.
+    pub fn touched_value(&self, key: &K) -> Option<&Option<V>>
+        ensures { option_copied result ≡ value_at K.cmp self.now.touched key.now }
+    {
+        self.places.touched_value(key)
     }
 
     /// Settles the table: no key counts as touched any more. It takes no memory.
@@ -230,12 +229,61 @@ impl<K: Ord + Hash + Copied, V: Copied> Table<K, V> {
         requires closed { self.old.marks ≡ [] }
         ensures { self.new ≡ settled_now self.old }
     {
-        // A short list keeps its room; a long one is let go of, so that no later settling pays for it.
-        if self.touched.len() <= ROOM_KEPT {
-            self.touched.clear();
-        } else {
-            self.touched = IndexMap::new(self.alloc);
-        }
+        self.places.settle();
+    }
+}
+
+/// Puts a value under a key, and touches the key. Where memory is wanting, nothing changes.
+fn put_in<K: Ord + Copied, V: Copied>(
+    places: &mut Places<K, V>,
+    key: &K,
+    value: V,
+) -> Result<(), TableFault>
+    ensures places { OnOk result (places.new ≡ record places.old {
+        entries = insert_entry K.cmp places.old.entries key.now value;
+        touched = touched_with K.cmp places.old.touched
+          (restored K.cmp places.old.touched places.old.entries) key.now;
+      }) }
+    ensures settled { OnOk result (KeepsSettled K.cmp places.old.touched places.old.entries
+        places.new.touched places.new.entries) }
+    ensures err { OnErr result (places.new ≡ places.old) }
+{
+    // It tells that the keys ascend.
+    let _ = places.len();
+    places.change(key, Some(value))?;
+    Ok(())
+}
+
+/// Takes a key out and touches it, and answers a copy of the value that it had. Where memory is wanting,
+/// nothing changes.
+fn take_out<K: Ord + Copied, V: Copied>(
+    places: &mut Places<K, V>,
+    key: &K,
+) -> Result<Option<V>, TableFault>
+    ensures value { IfOk result (λ value. value ≡ value_at K.cmp places.old.entries key.now) }
+    ensures places { OnOk result (places.new ≡ record places.old {
+        entries = remove_entry (is_at (K.cmp key.now)) places.old.entries;
+        touched = touched_with K.cmp places.old.touched
+          (restored K.cmp places.old.touched places.old.entries) key.now;
+      }) }
+    ensures settled { OnOk result (KeepsSettled K.cmp places.old.touched places.old.entries
+        places.new.touched places.new.entries) }
+    ensures err { OnErr result (places.new ≡ places.old) }
+{
+    // It tells that the keys ascend.
+    let _ = places.len();
+    let value = value_of(places.get(key))?;
+    places.change(key, None)?;
+    Ok(value)
+}
+
+/// A copy of the value of an entry, where there is one.
+fn value_of<K, V: Copied>(entry: Option<(&K, &V)>) -> Result<Option<V>, TableFault>
+    ensures { IfOk result (λ value. value ≡ option_map (λ entry. entry.1.now) entry.entry) }
+{
+    match entry {
+        Some((_, value)) => Ok(Some(value.copied()?)),
+        None => Ok(None),
     }
 }
 

@@ -1,16 +1,11 @@
 -- Two tables that are marked together, seen as one.
-use Rattle.std.proofs.Common.{◌≡◌, ◌∙◌, ℕ, ◌+◌, Bool, false, Bor, List, [], ◌∷◌, ◌++◌, length, Option, Some, None, refl, sym, ap, subst, arith}
-use Rattle.std.specs.Prelude.{unwrap_or, ◌==◌}
-use Rattle.std.specs.declared.cmp.Ordering.{Ordering}
-use Rattle.std.specs.declared.cmp.Ordering.TheVariants.{Less, Equal, Greater}
+use Rattle.std.proofs.Common.{◌≡◌, ◌∙◌, ℕ, ◌+◌, Bool, Bor, List, [], ◌∷◌, ◌++◌, length, Option, Some, None, sym, ap, subst}
+use Rattle.std.specs.Prelude.{unwrap_or}
 use Rattle.std.specs.BTreeMap.{insert_entry, is_at}
 use Rattle.std.specs.List.{AllByRecursion}
-use Rattle.std.specs.Map.{lookup}
 use Rattle.std.specs.Option.{option_copied}
-use Rattle.std.specs.Ordering.{nat_cmp, is_eq}
-use Rattle.std.proofs.lemmas.Bool.Decides.{nat_tests}
-use Rattle.std.proofs.lemmas.Cmp.{nat_cmp_total, tied_itself}
-use Rattle.std.proofs.lemmas.Map.Lookups.{exact_unsigned}
+use Rattle.std.specs.Ordering.{nat_cmp}
+use Rattle.std.proofs.lemmas.Cmp.{nat_cmp_total}
 use Rattle.base_types.specs.Orders.{addr_cmp}
 use Rattle.base_types.proofs.MapLemmas.{at-put}
 use Rattle.base_coins.specs.Coins.{Money, IsMoney}
@@ -33,37 +28,13 @@ pool-put es c = ap (λ r. unwrap_or r []) (at-put nat_cmp nat_cmp_total es 0 0 c
 pub pool-money : (es : PoolEntries) → ArePools es → IsMoney (pool_in es)
 pool-money es h = values-or IsMoney (is_at (nat_cmp 0)) es [] money-nil h
 
--- the key of the pool is told apart by `==`, in the words of the order
-same_test : (k : ℕ) → (0 == k) ≡ is_at (nat_cmp 0) k
-same_test k = by (nat_cmp 0 k) refl
-  where
-    no_less : Less ≡ Equal → ⊥
-    no_less h = cc
-
-    no_greater : Greater ≡ Equal → ⊥
-    no_greater h = cc
-
-    tied : 0 ≡ k → nat_cmp 0 k ≡ Equal
-    tied e = ap (nat_cmp 0) (sym e) ∙ tied_itself nat_cmp_total 0
-
-    apart : (0 ≡ k → ⊥) → (0 == k) ≡ false
-    apart h = grind (arith, nat_tests)
-
-    by : (r : Ordering) → nat_cmp 0 k ≡ r → (0 == k) ≡ is_eq r
-    by Equal e = let same : 0 ≡ k = exact_unsigned 0 k e in grind (arith, nat_tests)
-    by Less e = apart (λ h. no_less (sym e ∙ tied h))
-    by Greater e = apart (λ h. no_greater (sym e ∙ tied h))
-
-by_order : {X : Type 0} (es : List (ℕ × X)) → lookup (λ k. 0 == k) es ≡ lookup (is_at (nat_cmp 0)) es
-by_order es = λ i. lookup (λ k. same_test k i) es
-
 -- the pool at the last settling, by the list of touched keys
 module _ (t : Tabled ℕ Money) (tells : TellsSettled nat_cmp t) where
-  pub pool-listed : (v : Option Money) → lookup (λ k. 0 == k) t.touched ≡ Some v → unwrap_or v [] ≡ pool_in t.settled
-  pool-listed v e = ap (λ r. unwrap_or r []) (sym (tells.listed 0 v (sym (by_order t.touched) ∙ e)))
+  pub pool-listed : (v : Option Money) → table.value_at nat_cmp t.touched 0 ≡ Some v → unwrap_or v [] ≡ pool_in t.settled
+  pool-listed v e = ap (λ r. unwrap_or r []) (sym (tells.listed 0 v e))
 
-  pub pool-unlisted : lookup (λ k. 0 == k) t.touched ≡ None → pool_in t.entries ≡ pool_in t.settled
-  pool-unlisted e = ap (λ r. unwrap_or r []) (sym (tells.others 0 (sym (by_order t.touched) ∙ e)))
+  pub pool-unlisted : table.value_at nat_cmp t.touched 0 ≡ None → pool_in t.entries ≡ pool_in t.settled
+  pool-unlisted e = ap (λ r. unwrap_or r []) (sym (tells.others 0 e))
 
 -- the pool that is looked up, where there is none and where there is one
 pub pool-none : (es : PoolEntries) (r : Option (Bor Money)) → r ≡ None → option_copied r ≡ at nat_cmp es 0 → [] ≡ pool_in es

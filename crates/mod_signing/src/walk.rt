@@ -18,9 +18,8 @@ use crate::bits::{PLACES, agree, is_set, with_place};
 use crate::entry::Entry;
 use base_roles::{Item, Listed, RecordFault, SigningInfo};
 use base_table::{Table, TableFault};
-use base_types::{ConsAddr, Copied, Moment, Steps};
+use base_types::{ConsAddr, Moment, Steps};
 use std::alloc::Global;
-use std::hash::Hash;
 use std::sync::ledger::Ledger;
 
 /// Infos and places by consensus address.
@@ -72,7 +71,8 @@ pub(crate) fn changes_into<L: Ledger>(
 {
     entries.known();
     rows.known();
-    for (cons, was) in entries.touched().iter() {
+    let touched = entries.touched();
+    for (cons, was) in touched {
         let now = entries.get(cons, steps);
         if let Some(change) = change_of(alloc, rows, cons, was, now, steps)? {
             out.push(change)?;
@@ -209,20 +209,10 @@ fn settled_row(rows: &Rows, cons: &ConsAddr, number: u64, row: u128) -> u128
     ensures { result ≡ number_at row_cmp rows.now.settled (number, cons.now) }
 {
     rows.known();
-    match listed(rows, &(number, *cons)) {
+    match rows.touched_value(&(number, *cons)) {
         Some(was) => was.unwrap_or(0),
         None => row,
     }
-}
-
-/// What a table lists as touched of a key.
-fn listed<'a, K: Ord + Hash + Copied, V: Copied>(
-    table: &'a Table<K, V>,
-    key: &K,
-) -> Option<&'a Option<V>>
-    ensures { option_copied result ≡ value_at K.cmp table.now.touched key.now }
-{
-    table.touched().get(key)
 }
 
 /// So many of the first places of a ring.

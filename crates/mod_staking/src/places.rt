@@ -12,11 +12,10 @@ ghost use Rattle.mod_staking.specs.Places.{standing_cmp, power_place, bonded_pla
 use base_roles::Validator;
 use base_types::{Addr, BondStatus, Copied, Moment, TableFault};
 use std::cmp::Ordering;
-use std::hash::Hash;
 
 /// A place in the order of power. The one with more power comes first, of two with the same power that of
 /// the lower operator.
-#[derive(Clone, Copy, Debug, PartialEq, Eq, Hash)]
+#[derive(Clone, Copy, Debug, PartialEq, Eq)]
 pub(crate) struct Standing {
     pub power: u128,
     pub operator: Addr,
@@ -62,7 +61,7 @@ impl Copied for Standing {
 
 /// A list of validators: who is listed, and at which place.
 pub(crate) trait Listing {
-    type Place: Ord + Hash + Copied;
+    type Place: Ord + Copied;
 
     // the place of a validator, for so many tokens of one unit of power
     ghost place_of: { ℕ → Validator → Option Self.Place };

@@ -31,8 +31,42 @@ fn a_table_goes_back_and_lists_what_was_touched(rt: HostRuntime) {
     assert!(rt; table.len() == 1);
     let touched = table.touched();
     assert!(rt; touched.len() == 2);
-    assert!(rt; touched.get_index(0) == Some((&2, &None)));
-    assert!(rt; touched.get_index(1) == Some((&1, &Some(10))));
+    assert!(rt; touched.first() == Some(&(2, None)));
+    assert!(rt; touched.get(1) == Some(&(1, Some(10))));
+}
+
+#[test]
+fn a_table_tells_what_was_touched_by_key(rt: HostRuntime) {
+    let table = gone_back::<Brand>(&rt, Blank::new(1));
+    assert!(rt; table.touched_value(&1) == Some(&Some(10)));
+    assert!(rt; table.touched_value(&2) == Some(&None));
+    assert!(rt; table.touched_value(&3) == None);
+}
+
+/// Two keys that were touched in one order, were settled, and are touched in the other order.
+fn touched_again<L: Ledger>(rt: &(impl Abort + AllocGlobal), blank: Blank) -> Table<u64, u64>
+    requires name { blank.name ≡ L.name }
+    requires parts { blank.parts ≡ L.parts }
+    requires some { 0 < L.parts }
+{
+    let mut steps: Steps<L> = Steps::new(blank);
+    let mut table: Table<u64, u64> = Table::new(rt.alloc());
+    table.put(&1, 10, &mut steps).expect(rt, "memory");
+    table.put(&2, 20, &mut steps).expect(rt, "memory");
+    table.settle();
+    table.put(&2, 21, &mut steps).expect(rt, "memory");
+    table.put(&1, 11, &mut steps).expect(rt, "memory");
+    table.put(&2, 22, &mut steps).expect(rt, "memory");
+    table
+}
+
+#[test]
+fn a_settled_table_lists_anew(rt: HostRuntime) {
+    let table = touched_again::<Brand>(&rt, Blank::new(1));
+    let touched = table.touched();
+    assert!(rt; touched.len() == 2);
+    assert!(rt; touched.first() == Some(&(2, Some(20))));
+    assert!(rt; touched.get(1) == Some(&(1, Some(10))));
 }
 
 const KEYS: u64 = 10_000;

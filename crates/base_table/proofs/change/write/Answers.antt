@@ -1,10 +1,12 @@
-use Rattle.std.proofs.Common.{sym, ◌∙◌, ap}
-use Rattle.base_table.proofs.RestoredLemmas.{touched_with-restored, KeepsSettled-put}
+use Rattle.std.proofs.Common.{refl, ◌∙◌, ap}
+use Rattle.std.specs.BTreeMap.{insert_entry, is_at}
+use Rattle.std.specs.Map.{lookup}
+use Rattle.base_table.specs.Places.{slot_or}
 use Rattle.base_table.proofs.change.write.Goals as goal
 
-pub returns-in-Ok-clause-touched : goal.returns-in-Ok-clause-touched
-returns-in-Ok-clause-touched g c = c.in_ok-touch.ensures.ok ∙ sym (touched_with-restored g.met.K.Ord.total _ _ _ c.len.ensures.ordered)
-
-pub returns-in-Ok-clause-settled : goal.returns-in-Ok-clause-settled
-returns-in-Ok-clause-settled g c =
-    KeepsSettled-put g.met.K.Ord.total _ _ _ _ _ _ c.len.ensures.ordered c.in_ok-touch.ensures.ok (ap (λ p. p.entries) c.in-Ok.ensures.ok)
+pub returns-clause-ok : goal.returns-clause-ok
+returns-clause-ok g c = (
+  c.in_ok-was.ensures.entries ∙ ap (λ k. insert_entry g.K.Ord.cmp c.args.tree.now.entries k c.args.next.place) c.in_ok-name.ensures.same,
+  c.slot_in.ensures ∙ ap slot_or (c.in_ok-was.ensures.old ∙ ap (λ k. lookup (is_at (g.K.Ord.cmp k)) c.args.tree.now.entries) c.in_ok-name.ensures.same),
+  refl,
+)

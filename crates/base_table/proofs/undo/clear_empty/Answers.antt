@@ -1,12 +1,20 @@
-use Rattle.std.specs.Prelude.{Some}
+use Rattle.std.specs.Prelude.{Some, option_map}
+use Rattle.std.specs.BTreeMap.{is_at}
 use Rattle.std.proofs.Common.{sym, ◌∙◌, ap, subst}
-use Rattle.base_table.specs.Places.{filled, AreNamed}
-use Rattle.base_table.proofs.PlaceLemmas.{filled-clear, AreNamed-remove}
+use Rattle.base_table.specs.Places.{filled, slot_of, slots, AreNamed}
+use Rattle.base_table.proofs.EachLemmas.{lookup-each, remove-each}
+use Rattle.base_table.proofs.PlaceLemmas.{empty_slot, filled-clear, AreNamed-remove}
 use Rattle.base_table.proofs.undo.clear_empty.Goals as goal
 
-pub returns-in-Some-Empty-clause-entries : goal.returns-in-Some-Empty-clause-entries
-returns-in-Some-Empty-clause-entries g c =
-    ap filled c.remove.ensures.entries ∙ filled-clear _ c.args.tree.now.entries (sym c.in-Some-Empty.ensures.value ∙ ap Some c.in-Some-Empty.field-0-is)
+pub returns-clause-entries : goal.returns-clause-entries
+returns-clause-entries g c =
+    let ps = c.args.tree.now.entries in
+    let test = is_at (g.K.Ord.cmp c.args.key.now) in
+    ap (λ l. filled (slots l)) c.remove.ensures.entries ∙ ap filled (remove-each slot_of test ps)
+    ∙ filled-clear test (slots ps) (lookup-each slot_of test ps ∙ ap (option_map slot_of) (sym c.in-Some.ensures.value) ∙ ap Some (empty_slot c.in-Some.place.now.slot (sym c.is_full.ensures ∙ c.if-is_full.false)))
 
-pub returns-in-Some-Empty-clause-named : goal.returns-in-Some-Empty-clause-named
-returns-in-Some-Empty-clause-named g c = λ named. subst (AreNamed g.K.Ord.cmp) (sym c.remove.ensures.entries) (AreNamed-remove g.met.K.Ord.total _ c.args.tree.now.entries named)
+pub returns-clause-named : goal.returns-clause-named
+returns-clause-named g c = λ named.
+    let ps = c.args.tree.now.entries in
+    let test = is_at (g.K.Ord.cmp c.args.key.now) in
+    subst (AreNamed g.K.Ord.cmp) (sym (ap slots c.remove.ensures.entries ∙ remove-each slot_of test ps)) (AreNamed-remove g.met.K.Ord.total test (slots ps) named)

@@ -1,7 +1,7 @@
 use Rattle.std.specs.Prelude.{◌≡◌, ◌+◌, ◌-◌, ◌<◌, length, drop}
 use Rattle.std.proofs.Common.{sym, ◌∙◌, ap, subst, arith}
-use Rattle.base_table.specs.Places.{filled, marks_of, FitBelow}
-use Rattle.base_table.proofs.UndoLemmas.{get_or-within, marks_of-closed, marks_of-fewer, no_marks, AreUnmarked, FitBelow-closed}
+use Rattle.base_table.specs.Places.{filled, marks_of, FitBelow, HavePlaces}
+use Rattle.base_table.proofs.UndoLemmas.{get_or-within, marks_of-closed, marks_of-fewer, no_marks, AreUnmarked, FitBelow-closed, HavePlaces-closed}
 use Rattle.base_table.proofs.undo.close.Goals as goal
 
 pub returns-then-here-gt0-clause-closed : goal.returns-then-here-gt0-clause-closed
@@ -23,6 +23,12 @@ returns-then-index-gt0-clause-below g c = λ ps below.
     let within : c.loop-at.at - 1 < length c.loop-at.log.items = omega arith in
     FitBelow-closed g.K.Ord.cmp c.loop-at.log.items (c.loop-at.at - 1) c.index_mut.result.now ps within (sym c.index_mut.ensures.value)
     (subst (λ us. FitBelow g.K.Ord.cmp us ps) (sym c.loop-at.invariant.same) below)
+
+pub returns-then-index-gt0-clause-placed : goal.returns-then-index-gt0-clause-placed
+returns-then-index-gt0-clause-placed g c = λ ps placed.
+    let within : c.loop-at.at - 1 < length c.loop-at.log.items = omega arith in
+    HavePlaces-closed g.K.Ord.cmp c.loop-at.log.items (c.loop-at.at - 1) c.index_mut.result.now ps within (sym c.index_mut.ensures.value)
+    (subst (λ us. HavePlaces g.K.Ord.cmp us ps) (sym c.loop-at.invariant.same) placed)
 
 pub returns-clause-closed : goal.returns-clause-closed
 returns-clause-closed g c = λ ps some.

@@ -2,17 +2,17 @@ use Rattle.std.specs.Prelude.{option_map}
 use Rattle.std.specs.Map.{lookup, lookup_key}
 use Rattle.std.specs.BTreeMap.{is_at}
 use Rattle.std.proofs.Common.{sym, ◌∙◌, ap}
-use Rattle.base_table.specs.Places.{filled}
+use Rattle.base_table.specs.Places.{filled, slots}
 use Rattle.base_table.proofs.EntryLemmas.{lookup_is, lookup_key_is}
 use Rattle.base_table.proofs.PlaceLemmas.{pair_key, pair_value}
 use Rattle.base_table.proofs.places.Places.get.Goals as goal
 
 pub returns-clause-key : goal.returns-clause-key
 returns-clause-key g c =
-    pair_key (λ e. e.0.now) (λ e. e.1.now) c.find.result ∙ ap (option_map (λ e. e.0)) c.find.ensures ∙ sym (lookup_key_is (is_at (g.K.Ord.cmp c.args.key.now)) (filled c.self.inside.tree.entries))
+    pair_key (λ e. e.0.now) (λ e. e.1.now) c.find.result ∙ ap (option_map (λ e. e.0)) c.find.ensures ∙ sym (lookup_key_is (is_at (g.K.Ord.cmp c.args.key.now)) (filled (slots c.self.inside.tree.entries)))
     ∙ ap (λ m. lookup_key (is_at (g.K.Ord.cmp c.args.key.now)) m.entries) c.self.view_is
 
 pub returns-clause-value : goal.returns-clause-value
 returns-clause-value g c =
-    pair_value (λ e. e.0.now) (λ e. e.1.now) c.find.result ∙ ap (option_map (λ e. e.1)) c.find.ensures ∙ sym (lookup_is (is_at (g.K.Ord.cmp c.args.key.now)) (filled c.self.inside.tree.entries))
+    pair_value (λ e. e.0.now) (λ e. e.1.now) c.find.result ∙ ap (option_map (λ e. e.1)) c.find.ensures ∙ sym (lookup_is (is_at (g.K.Ord.cmp c.args.key.now)) (filled (slots c.self.inside.tree.entries)))
     ∙ ap (λ m. lookup (is_at (g.K.Ord.cmp c.args.key.now)) m.entries) c.self.view_is

@@ -5,5 +5,5 @@ use Rattle.base_table.proofs.table.Table.touched.Goals as goal
 pub returns-clause-settled : goal.returns-clause-settled
 returns-clause-settled g c =
     let is = sym c.self.view_is in
-    tells g.met.K.Ord.total g.K.PartialEq.eq g.met.K.Ord.matches_eq _ _ _ c.len.ensures.ordered c.len-2.ensures.unique
+    tells g.met.K.Ord.total _ _ _ c.len.ensures.ordered c.touched.ensures.distinct
     (ap (λ t. t.touched) is) (ap (λ t. t.entries) is) (ap (λ t. t.settled) is)
