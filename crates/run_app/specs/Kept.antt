@@ -31,8 +31,8 @@ pub record Keeping (b : Began) (chain : Option Chained) (told : Option (List Pai
   pub settled : LeavesRows leaves told
 
 -- A keeper after calls: it is honest only if it was, and its count of faults has not fallen.
-pub record IsLater (honest honest' : Type 0) (faults faults' : ℕ) : Type 0 where
-  pub honest : honest' → honest
+pub record IsLater (then_honest now_honest : Type 0) (faults faults' : ℕ) : Type 0 where
+  pub honest : now_honest → then_honest
   pub count : faults ≤ faults'
 
 -- these are the rows of what lines have led to, in the format that is written, of which each item
