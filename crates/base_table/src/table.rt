@@ -240,10 +240,10 @@ fn put_in<K: Ord + Copied, V: Copied>(
     value: V,
 ) -> Result<(), TableFault>
     ensures places { OnOk result (places.new ≡ record places.old {
-        entries = insert_entry K.cmp places.old.entries key.now value;
-        touched = touched_with K.cmp places.old.touched
+      entries = insert_entry K.cmp places.old.entries key.now value;
+      touched = touched_with K.cmp places.old.touched
           (restored K.cmp places.old.touched places.old.entries) key.now;
-      }) }
+    }) }
     ensures settled { OnOk result (KeepsSettled K.cmp places.old.touched places.old.entries
         places.new.touched places.new.entries) }
     ensures err { OnErr result (places.new ≡ places.old) }
@@ -262,10 +262,10 @@ fn take_out<K: Ord + Copied, V: Copied>(
 ) -> Result<Option<V>, TableFault>
     ensures value { IfOk result (λ value. value ≡ value_at K.cmp places.old.entries key.now) }
     ensures places { OnOk result (places.new ≡ record places.old {
-        entries = remove_entry (is_at (K.cmp key.now)) places.old.entries;
-        touched = touched_with K.cmp places.old.touched
+      entries = remove_entry (is_at (K.cmp key.now)) places.old.entries;
+      touched = touched_with K.cmp places.old.touched
           (restored K.cmp places.old.touched places.old.entries) key.now;
-      }) }
+    }) }
     ensures settled { OnOk result (KeepsSettled K.cmp places.old.touched places.old.entries
         places.new.touched places.new.entries) }
     ensures err { OnErr result (places.new ≡ places.old) }

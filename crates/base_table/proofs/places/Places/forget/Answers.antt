@@ -7,8 +7,7 @@ use Rattle.base_table.proofs.places.Places.forget.Goals as goal
 pub invariant_of-self : goal.invariant_of-self
 invariant_of-self g c =
     let ps = slots c.self.inside.tree.entries in
-    let closed = c.close.ensures.closed ps (subst (λ m. 0 < length m.marks) (sym c.self.view_is) c.requires) in
-    (
+    let closed = c.close.ensures.closed ps (subst (λ m. 0 < length m.marks) (sym c.self.view_is) c.requires) in (
       IsKept-closed c.close.new.log.items c.clear.new.log.items c.close.new.here.marks c.close.new.here.len (c.self.inside.depth - 1) ps
           (fewer _ _ _ c.self.inside.depth closed.1 c.self.invariant.0.count) (record { len = c.close.ensures.here ∙ c.self.invariant.0.fits.len; named = c.self.invariant.0.fits.named })
           (c.close.ensures.below ps c.self.invariant.0.below) (c.close.ensures.placed ps c.self.invariant.0.placed)
