@@ -2,8 +2,6 @@ pub mod AnswerLemmas
 pub mod CountLemmas
 pub mod DueLemmas
 pub mod MarkLemmas
-pub mod SideLemmas
-pub mod SourceLemmas
+pub mod QueueLemmas
 pub mod UndoneLemmas
 pub mod WalkedLemmas
-pub mod WayLemmas
