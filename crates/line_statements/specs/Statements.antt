@@ -73,12 +73,12 @@ text_of_statement f s = line_of (statement_data f s)
 
 -- whether the statement of the line of this number is right
 abbrev pub answer_data : ℕ → Bool → Data
-answer_data n yes = object_of (
+answer_data n right = object_of (
     (codes "kind", string (codes "checked"))
     ∷ (codes "line", count_data n)
-    ∷ (codes "yes", boolean yes)
+    ∷ (codes "yes", boolean right)
     ∷ [])
 
 -- what is written of that
 abbrev pub text_of_answer : ℕ → Bool → List ℕ
-text_of_answer n yes = line_of (answer_data n yes)
+text_of_answer n right = line_of (answer_data n right)
