@@ -1,17 +1,14 @@
 //! The line of a statement, and the line that answers whether one is right. The members of each stand in ascending order
 //! of their names.
-ghost use Rattle.std.specs.Prelude.{◌≡◌, ◌∷◌, ◌++◌, IfErr, OnOk};
-ghost use Rattle.json.specs.Token.{key};
-ghost use Rattle.serde_json.specs.Data.{string as string_data};
-ghost use Rattle.line_json.specs.Told.{data_tokens, told_data};
-ghost use Rattle.line_json.specs.Values.{count_data, dec_coins_data, operator_data, user_data};
+ghost use Rattle.std.specs.Prelude.{◌≡◌, ◌++◌, IfErr, OnOk};
+ghost use Rattle.json.specs.Tree.{members_tokens};
+ghost use Rattle.serde_json.specs.Written.{members_outline};
+ghost use Rattle.line_json.specs.Told.{data_tokens, listed};
 ghost use Rattle.line_statements.specs.Entries.{entries_data, entry_data};
-ghost use Rattle.line_statements.specs.Statements.{statement_data, text_of_answer, text_of_statement};
+ghost use Rattle.line_statements.specs.Statements.{member_tokens, statement_data, text_of_answer, text_of_statement};
 
 use base_bech32::Form;
-use base_coins::DecCoins;
 use base_messages::LineFault;
-use base_types::Addr;
 use json::Writer;
 use line_json::{Told, push_line, push_object, push_told};
 use mod_statement::{Entry, Statement};
@@ -78,95 +75,41 @@ fn push_entries(alloc: Global, writer: &mut Writer, entries: &[Entry]) -> Result
     Ok(())
 }
 
-/// A member of an object: its name, and what it tells.
-fn push_member(
+/// Members of an object, in the order in which they stand.
+fn push_members(
     alloc: Global,
     writer: &mut Writer,
-    name: &str,
-    told: &Told<'_>,
+    members: &[(&str, Told<'_>)],
 ) -> Result<(), LineFault>
-    ensures ok { OnOk result (writer.new.tokens
-        ≡ writer.old.tokens ++ key name.now ∷ data_tokens (told_data told.now)) }
+    ensures ok { OnOk result
+        (writer.new.tokens ≡ writer.old.tokens ++ member_tokens (listed members.now)) }
     ensures before { OnOk result (writer.new.before ≡ writer.old.before) }
     ensures fault { IfErr result (λ fault. fault ≡ LineFault.NoMemory) }
 {
-    writer.key(name)?;
-    push_told(alloc, writer, told)
-}
-
-/// A member that is the text of a user's address.
-fn push_user(
-    form: Form,
-    alloc: Global,
-    writer: &mut Writer,
-    name: &str,
-    user: &Addr,
-) -> Result<(), LineFault>
-    ensures ok { OnOk result (writer.new.tokens
-        ≡ writer.old.tokens ++ key name.now ∷ data_tokens (user_data form user.now)) }
-    ensures before { OnOk result (writer.new.before ≡ writer.old.before) }
-    ensures fault { IfErr result (λ fault. fault ≡ LineFault.NoMemory) }
-{
-    push_member(alloc, writer, name, &Told::User(form, user))
-}
-
-/// A member that is the text of an operator's address.
-fn push_operator(
-    form: Form,
-    alloc: Global,
-    writer: &mut Writer,
-    name: &str,
-    operator: &Addr,
-) -> Result<(), LineFault>
-    ensures ok { OnOk result (writer.new.tokens
-        ≡ writer.old.tokens ++ key name.now ∷ data_tokens (operator_data form operator.now)) }
-    ensures before { OnOk result (writer.new.before ≡ writer.old.before) }
-    ensures fault { IfErr result (λ fault. fault ≡ LineFault.NoMemory) }
-{
-    push_member(alloc, writer, name, &Told::Operator(form, operator))
-}
-
-/// A member that is a count.
-fn push_count(
-    writer: &mut Writer,
-    name: &str,
-    count: u64,
-) -> Result<(), LineFault>
-    ensures ok { OnOk result (writer.new.tokens
-        ≡ writer.old.tokens ++ key name.now ∷ data_tokens (count_data count)) }
-    ensures before { OnOk result (writer.new.before ≡ writer.old.before) }
-    ensures fault { IfErr result (λ fault. fault ≡ LineFault.NoMemory) }
-{
-    writer.key(name)?;
-    writer.u64(count)?;
+    for (name, told) in members {
+        writer.key(name)?;
+        push_told(alloc, writer, told)?;
+    }
     Ok(())
 }
 
-/// A member that is a word.
-fn push_word(writer: &mut Writer, name: &str, word: &str) -> Result<(), LineFault>
-    ensures ok { OnOk result (writer.new.tokens
-        ≡ writer.old.tokens ++ key name.now ∷ data_tokens (string_data word.now)) }
-    ensures before { OnOk result (writer.new.before ≡ writer.old.before) }
-    ensures fault { IfErr result (λ fault. fault ≡ LineFault.NoMemory) }
-{
-    writer.key(name)?;
-    writer.string(word)?;
-    Ok(())
-}
-
-/// A member that is decimal coins.
-fn push_coins(
+/// The last members of an object, and its end.
+fn push_rest(
     alloc: Global,
     writer: &mut Writer,
-    name: &str,
-    coins: &DecCoins,
+    members: &[(&str, Told<'_>)],
 ) -> Result<(), LineFault>
     ensures ok { OnOk result (writer.new.tokens
-        ≡ writer.old.tokens ++ key name.now ∷ data_tokens (dec_coins_data coins.now)) }
+        ≡ writer.old.tokens ++ members_tokens (members_outline (listed members.now))) }
     ensures before { OnOk result (writer.new.before ≡ writer.old.before) }
     ensures fault { IfErr result (λ fault. fault ≡ LineFault.NoMemory) }
 {
-    push_member(alloc, writer, name, &Told::DecCoins(coins))
+    for (name, told) in members {
+        writer.key(name)?;
+        push_told(alloc, writer, told)?;
+    }
+    writer.end_object()?;
+    Ok(())
 }
 
 /// A statement.
@@ -182,19 +125,22 @@ fn push_statement(
     ensures fault { IfErr result (λ fault. fault ≡ LineFault.NoMemory) }
 {
     writer.begin_object()?;
-    push_user(form, alloc, writer, "delegator", &statement.delegator)?;
+    let first = [("delegator", Told::User(form, &statement.delegator))];
+    push_members(alloc, writer, &first)?;
     writer.key("entries")?;
     push_entries(alloc, writer, statement.entries.as_slice())?;
-    push_count(writer, "height", statement.height)?;
-    push_coins(alloc, writer, "high", &statement.high)?;
-    push_word(writer, "kind", "statement")?;
-    push_coins(alloc, writer, "low", &statement.low)?;
-    push_coins(alloc, writer, "ratio", &statement.ratio)?;
-    push_count(writer, "removals", statement.removals)?;
-    push_coins(alloc, writer, "reward", &statement.reward)?;
-    push_coins(alloc, writer, "slack", &statement.slack)?;
-    push_operator(form, alloc, writer, "validator", &statement.operator)?;
-    writer.end_object()?;
+    let rest = [
+        ("height", Told::Count(statement.height)),
+        ("high", Told::DecCoins(&statement.high)),
+        ("kind", Told::Word("statement")),
+        ("low", Told::DecCoins(&statement.low)),
+        ("ratio", Told::DecCoins(&statement.ratio)),
+        ("removals", Told::Count(statement.removals)),
+        ("reward", Told::DecCoins(&statement.reward)),
+        ("slack", Told::DecCoins(&statement.slack)),
+        ("validator", Told::Operator(form, &statement.operator)),
+    ];
+    push_rest(alloc, writer, &rest)?;
     Ok(())
 }
 
