@@ -81,6 +81,42 @@ unanswered_unwritten form n line status h e =
 
 -- ---- lines one after another
 
+module _ (form : Form) where
+  -- the lines before one are answered, and that one is not
+  record Unanswered (status : Status) (lines : List (List ℕ)) (text : List ℕ) : Type 0 where
+    before : List (List ℕ)
+    line : List ℕ
+    after : List (List ℕ)
+    lines_are : lines ≡ before ++ line ∷ after
+    checked : AreChecked form 1 before text
+    stop : IsUnanswered form (1 + length before) line status
+
+  abbrev Halted : Status → List (List ℕ) → List ℕ → Type 0
+  Halted status lines text = Unanswered status lines text ⊎ (((status ≡ WriteFault) ⊎ (status ≡ NoMemory)) × CutsCheck form lines text)
+
+  -- so an input ends
+  unanswered_ends : (status : Status) (taken rest text : List ℕ) (lines : List (List ℕ)) → length taken ≤ most_bytes → AreEnded lines taken rest → Unanswered status lines text → ChecksSo form status taken rest text
+  unanswered_ends Done taken rest text lines short ended u = absurd u.stop
+  unanswered_ends Usage taken rest text lines short ended u = absurd u.stop
+  unanswered_ends (BadInput m f) taken rest text lines short ended u = (short, lines, ended, record { before = u.before; line = u.line; after = u.after; lines_are = u.lines_are; checked = u.checked; stop = u.stop })
+  unanswered_ends (Limit m Line) taken rest text lines short ended u = absurd u.stop
+  unanswered_ends (Limit m Input) taken rest text lines short ended u = absurd u.stop
+  unanswered_ends (Limit m (Ratio over)) taken rest text lines short ended u = absurd u.stop
+  unanswered_ends (Limit m (Bound over)) taken rest text lines short ended u = (short, lines, ended, record { before = u.before; line = u.line; after = u.after; lines_are = u.lines_are; checked = u.checked; stop = u.stop })
+  unanswered_ends ReadFault taken rest text lines short ended u = absurd u.stop
+  unanswered_ends WriteFault taken rest text lines short ended u = absurd u.stop
+  unanswered_ends KeepFault taken rest text lines short ended u = absurd u.stop
+  unanswered_ends NoMemory taken rest text lines short ended u = (short, lines, ended, inr (record { before = u.before; after = u.line ∷ u.after; lines_are = u.lines_are; checked = u.checked }))
+  unanswered_ends BadStore taken rest text lines short ended u = absurd u.stop
+  unanswered_ends (WrongStore is_empty) taken rest text lines short ended u = absurd u.stop
+  unanswered_ends NotFound taken rest text lines short ended u = absurd u.stop
+  unanswered_ends (NoPast base last) taken rest text lines short ended u = absurd u.stop
+
+  halted_ends : (status : Status) (taken rest text : List ℕ) (lines : List (List ℕ)) → length taken ≤ most_bytes → AreEnded lines taken rest → Halted status lines text → ChecksSo form status taken rest text
+  halted_ends status taken rest text lines short ended (inl u) = unanswered_ends status taken rest text lines short ended u
+  halted_ends status taken rest text lines short ended (inr (inl e, cuts)) = subst (λ (s : Status). ChecksSo form s taken rest text) (sym e) (short, inl (lines, ended, cuts))
+  halted_ends status taken rest text lines short ended (inr (inr e, cuts)) = subst (λ (s : Status). ChecksSo form s taken rest text) (sym e) (short, lines, ended, inl cuts)
+
 module _ {C : Type 0} (form : Form) where
   -- what a line that is answered leads to, of whatever answers it
   abbrev Takes : ℕ → List ℕ → C × Option (List ℕ) → C × Option (List ℕ) → Type 0
@@ -96,22 +132,10 @@ module _ {C : Type 0} (form : Form) where
       let rest = texts_written (n + 1) lines h.0 y h.2 in
       (first.0 ++ rest.0, (first.0, rest.0, first.1, refl, rest.1), λ old told. rest.2 (old ++ first.0) (first.2 old told) ∙ ap Some (append_assoc old first.0 rest.0))
 
-  -- the lines before one are answered, and that one is not
-  record Unanswered (status : Status) (lines : List (List ℕ)) (text : List ℕ) : Type 0 where
-    before : List (List ℕ)
-    line : List ℕ
-    after : List (List ℕ)
-    lines_are : lines ≡ before ++ line ∷ after
-    checked : AreChecked form 1 before text
-    stop : IsUnanswered form (1 + length before) line status
-
-  abbrev Halted : Status → List (List ℕ) → List ℕ → Type 0
-  Halted status lines text = Unanswered status lines text ⊎ (((status ≡ WriteFault) ⊎ (status ≡ NoMemory)) × CutsCheck form lines text)
-
-  halted : (status : Status) (lines : List (List ℕ)) (x y : C × Option (List ℕ)) → Halts Takes (Stops status) lines x y → (text : List ℕ) × Grows x.1 y.1 text × Halted status lines text
+  halted : (status : Status) (lines : List (List ℕ)) (x y : C × Option (List ℕ)) → Halts Takes (Stops status) lines x y → (text : List ℕ) × Grows x.1 y.1 text × Halted form status lines text
   halted status lines x y h = by (texts_written 1 h.before x h.middle h.leads) h.stop
     where
-      by : ((text : List ℕ) × AreChecked form 1 h.before text × Grows x.1 h.middle.1 text) → HaltsCheck form status (1 + length h.before) h.line h.middle.1 y.1 → (text : List ℕ) × Grows x.1 y.1 text × Halted status lines text
+      by : ((text : List ℕ) × AreChecked form 1 h.before text × Grows x.1 h.middle.1 text) → HaltsCheck form status (1 + length h.before) h.line h.middle.1 y.1 → (text : List ℕ) × Grows x.1 y.1 text × Halted form status lines text
       by front (inl u) = (
         front.0,
         λ old told. u.1 ∙ front.2 old told,
@@ -142,28 +166,6 @@ module _ {C : Type 0} (form : Form) where
 
   -- ---- an input
 
-  unanswered_ends : (status : Status) (taken rest text : List ℕ) (lines : List (List ℕ)) → length taken ≤ most_bytes → AreEnded lines taken rest → Unanswered status lines text → ChecksSo form status taken rest text
-  unanswered_ends Done taken rest text lines short ended u = absurd u.stop
-  unanswered_ends Usage taken rest text lines short ended u = absurd u.stop
-  unanswered_ends (BadInput m f) taken rest text lines short ended u = (short, lines, ended, record { before = u.before; line = u.line; after = u.after; lines_are = u.lines_are; checked = u.checked; stop = u.stop })
-  unanswered_ends (Limit m Line) taken rest text lines short ended u = absurd u.stop
-  unanswered_ends (Limit m Input) taken rest text lines short ended u = absurd u.stop
-  unanswered_ends (Limit m (Ratio over)) taken rest text lines short ended u = absurd u.stop
-  unanswered_ends (Limit m (Bound over)) taken rest text lines short ended u = (short, lines, ended, record { before = u.before; line = u.line; after = u.after; lines_are = u.lines_are; checked = u.checked; stop = u.stop })
-  unanswered_ends ReadFault taken rest text lines short ended u = absurd u.stop
-  unanswered_ends WriteFault taken rest text lines short ended u = absurd u.stop
-  unanswered_ends KeepFault taken rest text lines short ended u = absurd u.stop
-  unanswered_ends NoMemory taken rest text lines short ended u = (short, lines, ended, inr (record { before = u.before; after = u.line ∷ u.after; lines_are = u.lines_are; checked = u.checked }))
-  unanswered_ends BadStore taken rest text lines short ended u = absurd u.stop
-  unanswered_ends (WrongStore is_empty) taken rest text lines short ended u = absurd u.stop
-  unanswered_ends NotFound taken rest text lines short ended u = absurd u.stop
-  unanswered_ends (NoPast base last) taken rest text lines short ended u = absurd u.stop
-
-  halted_ends : (status : Status) (taken rest text : List ℕ) (lines : List (List ℕ)) → length taken ≤ most_bytes → AreEnded lines taken rest → Halted status lines text → ChecksSo form status taken rest text
-  halted_ends status taken rest text lines short ended (inl u) = unanswered_ends status taken rest text lines short ended u
-  halted_ends status taken rest text lines short ended (inr (inl e, cuts)) = subst (λ (s : Status). ChecksSo form s taken rest text) (sym e) (short, inl (lines, ended, cuts))
-  halted_ends status taken rest text lines short ended (inr (inr e, cuts)) = subst (λ (s : Status). ChecksSo form s taken rest text) (sym e) (short, lines, ended, inl cuts)
-
   -- a line that is too long stops the run
   long_stops : (n : ℕ) (taken more : List ℕ) (x y : C × Option (List ℕ)) (h : MeetsLong Takes n taken x y) (text : List ℕ) → AreChecked form 1 h.before text → StopsCheck form (Limit n Line) (lines_of (taken ++ more)) text
   long_stops n taken more x y h text checked =
@@ -180,7 +182,7 @@ module _ {C : Type 0} (form : Form) where
   untaken_ends : (status : Status) (taken rest : List ℕ) (x y : C × Option (List ℕ)) → IsUntaken Takes Stops status taken rest x y → (text : List ℕ) × Grows x.1 y.1 text × ChecksSo form status taken rest text
   untaken_ends status taken rest x y (inl h) =
       let t = halted status h.lines x y h.halts in
-      (t.0, t.1, halted_ends status taken rest t.0 h.lines h.short h.ended t.2)
+      (t.0, t.1, halted_ends form status taken rest t.0 h.lines h.short h.ended t.2)
   untaken_ends status taken rest x y (inr (inl h)) =
       let m = h.meets in
       let t = texts_written 1 m.before x y m.leads in
