@@ -94,7 +94,6 @@ module _ (form : Form) where
   abbrev Halted : Status → List (List ℕ) → List ℕ → Type 0
   Halted status lines text = Unanswered status lines text ⊎ (((status ≡ WriteFault) ⊎ (status ≡ NoMemory)) × CutsCheck form lines text)
 
-  -- so an input ends
   unanswered_ends : (status : Status) (taken rest text : List ℕ) (lines : List (List ℕ)) → length taken ≤ most_bytes → AreEnded lines taken rest → Unanswered status lines text → ChecksSo form status taken rest text
   unanswered_ends Done taken rest text lines short ended u = absurd u.stop
   unanswered_ends Usage taken rest text lines short ended u = absurd u.stop
