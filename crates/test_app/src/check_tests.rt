@@ -28,8 +28,9 @@ const RIGHT_AND_WRONG: &str =
 fn checked(rt: &(impl Abort + AllocGlobal), input: Vec<u8>) -> (Status, Vec<u8>) {
     let mut source = SureSource::new(input, 7);
     let mut sink = SureSink::new(rt.alloc());
+    let mut keeper = NoKeeper::new(rt.alloc());
     let words = words(rt, "check");
-    let status = run(rt.alloc(), &words, &mut source, &mut sink, &mut NoKeeper);
+    let status = run(rt.alloc(), &words, &mut source, &mut sink, &mut keeper);
     let written = Vec::from_slice(rt.alloc(), sink.bytes());
     (status, written.expect(rt, "memory"))
 }
