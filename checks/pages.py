@@ -102,10 +102,12 @@ def ends_by_pool(out, err):
 
 
 def spelled_rewards(out, err):
-    """What the same run tells of the delegator in the other form of addresses."""
-    told = pathlib.Path("cases/bech32/history.out").read_text().splitlines(True)
-    address = re.search(r"query rewards (\w+)", pathlib.Path("README.md").read_text())[1]
-    return bool(out) and out == "".join(line for line in told if f'"delegator":"{address}","kind":"pending"' in line)
+    """What a run that ends at that height, in the other form of addresses, tells of the delegator."""
+    front = pathlib.Path("cases/bech32/history.jsonl").read_text().splitlines(True)[:4]
+    told = subprocess.run([PROGRAM, "-", "bech32", "replay"], input="".join(front), capture_output=True, text=True).stdout
+    address = re.search(r"past 3 query rewards (\w+)", pathlib.Path("README.md").read_text())[1]
+    return bool(out) and out == "".join(line for line in told.splitlines(True)
+                                        if f'"delegator":"{address}","kind":"pending"' in line)
 
 
 REPLAYED = "head -n 4 examples/history.jsonl | ./stakeplay.sh chain.db replay > begun.out\n"
@@ -121,6 +123,8 @@ ROWS = [
     ("docs/OPERATING.md", "python3 -c", REPLAYED, {}, [writes("4\n")]),
     ("docs/OPERATING.md", "H=..", REPLAYED, {"H=..": "H=4", "all.jsonl": "examples/history.jsonl"},
      [writes(""), writes(REST)]),
+    ("docs/OPERATING.md", "./stakeplay.sh chain.db keep replay", "",
+     {"all.jsonl": "examples/history.jsonl", "1000": "3", "ADDRESS": USER}, [writes(WHOLE), says('"kind":"account"')]),
     ("docs/RECIPES.md", "head -n 4 run.jsonl", "cp examples/life.jsonl run.jsonl\n", {"OPERATOR": OPERATOR},
      [says("2024-01-01T00:00:15Z,3,unbonding,yes,1570000,")]),
     ("docs/RECIPES.md", "./stakeplay.sh chain.db resume", REPLAYED + "tail -n +5 examples/history.jsonl > day.jsonl\n",
@@ -142,6 +146,10 @@ ROWS = [
     ("--help", "./stakeplay.sh - replay", "", {}, [writes(WHOLE)]),
     ("--help", "tail", REPLAYED, {}, [writes(REST)]),
     ("--help", "./stakeplay.sh chain.db query supply", REPLAYED, {}, [says('"kind":"supply"}')]),
+    ("--help", "./stakeplay.sh chain.db keep replay", "", {}, [writes(WHOLE)]),
+    ("--help", "./stakeplay.sh chain.db past 3 query supply", REPLAYED.replace("replay", "keep replay"), {},
+     [says('"kind":"supply"}')]),
+    ("--help", "./stakeplay.sh - check", "", {}, [says('"kind":"checked"')]),
     ("--help", "./stakeplay.sh chain.db tally", f"{REPLAYED}echo '{BALLOTS}' > ballots.jsonl\n", {},
      [says('"kind":"tally"')]),
     ("--help", "./stakeplay.sh - gen", "", {}, [ends_by_pool]),

@@ -1,7 +1,11 @@
 #!/usr/bin/env python3
-"""first_format.py STORE COPY: copies a store, and writes the rows of the copy in the first format of rows, as programs left
-them that had no other. `crates/store_rows/README.md` says how the two formats differ. It wants a store of the second format,
-over which no run is going on."""
+"""Copies a store, and writes the rows of the copy in the first format of rows, as earlier programs left them.
+
+Who wants it: whoever has stores of an earlier program, and tries what becomes of one before it is brought to the second format.
+One command:  python3 first_format.py STORE COPY
+What comes out: nothing; COPY is a store in the first format, which `query` answers from and `resume` brings to the second.
+`crates/store_rows/README.md` says how the two formats differ. It wants a store of the second format, over which no run is
+going on."""
 import contextlib, os, shutil, sqlite3, sys
 
 HEAD, SIGNING = b"\x01", b"\x30"
