@@ -57,8 +57,14 @@ fn statements_are_answered_line_by_line(rt: HostRuntime) {
     let (status, written) = checked(&rt, text(&rt, &[]));
     assert_eq!(rt; status, Status::Done);
     assert!(rt; written.is_empty());
-    assert_eq!(rt; third(&rt, "{}"), Status::BadInput(3, InputFault::BadShape(120)));
-    assert_eq!(rt; third(&rt, NO_SPAN), Status::BadInput(3, InputFault::BadShape(130)));
+    assert_eq!(rt;
+        third(&rt, "{}"),
+        Status::BadInput(3, InputFault::BadShape(120))
+    );
+    assert_eq!(rt;
+        third(&rt, NO_SPAN),
+        Status::BadInput(3, InputFault::BadShape(130))
+    );
 }
 
 #[test]
