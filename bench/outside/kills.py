@@ -1,6 +1,6 @@
 #!/usr/bin/env python3
 """Kills a replay over a store by signal 9 at random moments, and shows that nothing is lost:
-bench/outside/kills.py [--kills 500] [--blocks 100] [--seed 7] [--only NUMBER]
+bench/outside/kills.py [--kills 500] [--blocks 100] [--seed 7] [--only NUMBER] [--keep]
 
 The input is `gen SEED BLOCKS`. A whole run tells the rows after each line: it is given a line once it has answered the
 one before, and in between the store is read. Each kill then has a store of its own, a moment drawn from the time that a
@@ -13,11 +13,14 @@ After each kill
   - `resume` with the lines behind that front (`replay` of all where there are no rows) prints the rest of the whole
     output, and leaves the rows of the whole run. One in three of these is killed too, and judged the same way.
 
+With `--keep` each of these commands is given the word `keep` before it, and the rows of the history are judged with the
+others.
+
 A run that ends before its moment counts as no kill. Kill NUMBER draws from `SEED NUMBER`, so `--only` draws the same
 moment again. Ends with 0 where all of this held at each kill, with 1 at the first where it did not; its files stay."""
 import argparse, collections, os, random, select, subprocess, sys, time
 
-from runs import PROGRAM, Whole, Wrong, carry_out, folder, generated, ran, rows_of, tell
+from runs import KEPT, PROGRAM, Whole, Wrong, carry_out, folder, generated, ran, rows_of, tell
 
 ALL = 1 << 62
 
@@ -51,7 +54,7 @@ class Kills:
         given = store.parent / "given"
         given.write_bytes(b"".join(self.whole.lines[first:]))
         with given.open("rb") as lines:
-            words = [PROGRAM, str(store), "resume" if first else "replay"]
+            words = [PROGRAM, str(store), *KEPT, "resume" if first else "replay"]
             process = subprocess.Popen(words, stdin=lines, stdout=-1, stderr=-1)
             printed = printed_until(process, moment, most)
         said = process.stderr.read()
@@ -91,7 +94,7 @@ def span_of(whole):
     """How long a whole replay over a store takes."""
     with folder() as room:
         begin = time.monotonic()
-        ran(room / "store", ["replay"], b"".join(whole.lines))
+        ran(room / "store", [*KEPT, "replay"], b"".join(whole.lines))
         return time.monotonic() - begin
 
 
@@ -99,7 +102,9 @@ def main():
     words = argparse.ArgumentParser()
     for name, number in (("kills", 500), ("blocks", 100), ("seed", 7), ("only", None)):
         words.add_argument(f"--{name}", type=int, default=number)
+    words.add_argument("--keep", action="store_true")
     given = words.parse_args()
+    KEPT.extend(["keep"] * given.keep)
     whole = Whole(generated(given.seed, given.blocks))
     span = sorted(span_of(whole) for _ in range(3))[1]
     print(f"seed {given.seed}, {given.blocks} blocks; a replay over a store takes {span:.3f} s", flush=True)

@@ -7,6 +7,8 @@ import contextlib, json, os, pathlib, select, shutil, sqlite3, subprocess, sys, 
 TOP = pathlib.Path(__file__).resolve().parents[2]
 PROGRAM = os.environ.get("STAKEPLAY", str(TOP / "crates/stakeplay/out/stakeplay"))
 HALF_MADE = 65536
+# the word before each command over a store, where what blocks replace is to be kept
+KEPT = []
 
 
 class Wrong(Exception):
@@ -76,7 +78,7 @@ def texts_of(output):
 
 def fed(store, lines, texts):
     """Gives a replay over a store each line once it has answered the one before, and gives out the rows in between."""
-    process = subprocess.Popen([PROGRAM, str(store), "replay"], stdin=-1, stdout=-1, stderr=-1, bufsize=0)
+    process = subprocess.Popen([PROGRAM, str(store), *KEPT, "replay"], stdin=-1, stdout=-1, stderr=-1, bufsize=0)
     rows = []
     for line, text in zip(lines, texts):
         process.stdin.write(line)
@@ -104,7 +106,7 @@ class Whole:
                 self.rows.append(rows)
                 files = [path.stat().st_size for path in room.iterdir()]
                 self.largest, self.all_files = max([self.largest, *files]), sum(files)
-            self.resumes = ran(room / "store", ["resume"])[0] != 1
+            self.resumes = ran(room / "store", [*KEPT, "resume"])[0] != 1
         self.place = {tuple(rows): place + 1 for place, rows in enumerate(self.rows)}
         ask(len(self.place) == len(self.lines), "two lines leave the same rows")
         if not self.resumes:
@@ -129,7 +131,7 @@ class Whole:
         if kept and not self.resumes:
             ask(ran(store, ["replay"], self.lines[0])[0] == 9, "a replay does not find the rows that are kept")
             return
-        status, printed, said = ran(store, ["resume" if kept else "replay"], b"".join(self.lines[kept:]))
+        status, printed, said = ran(store, [*KEPT, "resume" if kept else "replay"], b"".join(self.lines[kept:]))
         ask((status, said) == (0, ""), f"behind {kept} lines it ended with {status}, {said}")
         ask(printed == b"".join(self.texts[kept:]), f"behind {kept} lines it printed something else than the rest")
         ask(rows_of(store) == self.rows[-1], f"behind {kept} lines it left other rows than the whole run")
