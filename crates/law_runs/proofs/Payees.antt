@@ -353,9 +353,9 @@ module _ (some : List (List ℕ)) (few : length some ≤ 1_000_000) where
       }
 
       by : (o : Outcome) (facts : List Fact) (end : State) → EndsSo effect_of tx w o facts end → Contains facts f → IsToldByMessage tx w f
-      by Accepted facts end e h = behind e.0 e.1 (told_among tx.msgs e.0 end f (paid_turn T c tx w e.0 a h r e.1) e.2 (subst (λ fs. Contains fs f) e.3 h))
-      by FeeUnpaid facts end e h = absurd (All-contains IsNoPayment [] f (All-nil IsNoPayment) (subst (λ fs. Contains fs f) e.2 h))
-      by (Refused place why) facts end e h = absurd (no_fee e.0 e.1 (subst (λ fs. Contains fs f) e.4 h))
+      by Accepted facts end e found = behind e.0 e.1 (told_among tx.msgs e.0 end f (paid_turn T c tx w e.0 a h r e.1) e.2 (subst (λ fs. Contains fs f) e.3 found))
+      by FeeUnpaid facts end e found = absurd (All-contains IsNoPayment [] f (All-nil IsNoPayment) (subst (λ fs. Contains fs f) e.2 found))
+      by (Refused place why) facts end e found = absurd (no_fee e.0 e.1 (subst (λ fs. Contains fs f) e.4 found))
 
   txs_payees : (T : List ℕ → ℕ) (c : Ctx) (txs : List Tx) (w : State) → All TxHasCoins txs → WholeFits P T c w → AreReached w → InTurn TxPaysPayees txs w × InTurn TxTellsRewards txs w
   txs_payees T c [] w a h r = and_also tt tt

@@ -119,6 +119,6 @@ after-excess k r o delegator increment height value (hook.Over over) h is excess
 after-excess k r o delegator increment height value hook.NoMemory h is excess = gives-none (reward_after (start_of r delegator o) (periods_of r o) increment height value)
 
 -- what stands anyway stands where a limit was met
-pub on_limit : {A : Type 0} (fault : HookFault) (P : Type 0) → P → OnLimit {A = A} (Err fault) P
-on_limit (hook.Over over) P p = p
-on_limit hook.NoMemory P p = tt
+pub on_limit : (A : Type 0) (fault : HookFault) (P : Type 0) → P → OnLimit {A = A} (Err fault) P
+on_limit A (hook.Over over) P p = p
+on_limit A hook.NoMemory P p = tt

@@ -4,7 +4,7 @@ use Rattle.std.proofs.Common.{◌≡◌, ℕ, zero, suc, ◌^◌, ◌<◌, ◌==
 use Rattle.std.specs.Prelude.{if◌then◌else◌}
 use Rattle.std.proofs.lemmas.Bool.{and_parts}
 use Rattle.hex.specs.Hex.{IsBytes}
-use Rattle.serde_json.specs.Data.{Data, no_items, string}
+use Rattle.serde_json.specs.Data.{Data, string}
 use Rattle.serde_json.specs.Find.{get}
 use Rattle.base_types.specs.declared.account.Account.TheVariants as account
 use Rattle.base_types.specs.Accounts.{account_from}
@@ -28,8 +28,8 @@ use Rattle.line_json.specs.Coin.{coin_of, coins_at, money_of}
 use Rattle.line_json.specs.Members.{amount_of, number_in, spelled_by}
 use Rattle.line_json.specs.Messages.{begin_redelegate_of, delegate_of, kind_of, message_of, send_of, undelegate_of, withdraw_commission_of, withdraw_reward_of}
 use Rattle.line_json.specs.Nested.{list_at}
-use Rattle.line_json.specs.Values.{account_data, coins_data, cons_data, count_data, operator_data, user_data, whole_data}
-use Rattle.line_json.proofs.BackLemmas.{IsBack, amount_is_read, array_back, back_deeper, bytes_back, bytes_text_is_utf8, denom_is_read, element_back, list_read, member_read, no_element_back, no_more, object_back, one_more, operator_back, read_four, read_one, read_three, read_two, string_back, user_back}
+use Rattle.line_json.specs.Values.{account_data, coin_data, coins_data, cons_data, count_data, operator_data, user_data, whole_data}
+use Rattle.line_json.proofs.BackLemmas.{IsBack, amount_is_read, array_back, back_deeper, bytes_back, bytes_text_is_utf8, denom_is_read, elements_back, list_read, member_read, no_more, object_back, one_more, operator_back, read_four, read_one, read_three, read_two, string_back, user_back}
 use Rattle.line_json.proofs.TextLemmas.{denom_is_utf8}
 use Rattle.std.proofs.lemmas.Fmt.{IsAscii-decimal_wide}
 use Rattle.std.proofs.lemmas.Str.{IsUtf8-from_ascii}
@@ -106,7 +106,7 @@ abbrev pub alone : ℕ → Money
 alone n = (uatom, n) ∷ []
 
 pub coins_written : (n : ℕ) → n < 10 ^ 38 → IsBack 2 (coins_data (alone n))
-coins_written n h = array_back 1 _ (element_back 1 (one_coin (coin n)) no_items (coin_written n h) (no_element_back 1))
+coins_written n h = array_back 1 _ (elements_back 1 (coin_data whole_data) (alone n) (coin_written n h, tt))
 
 pub coins_read : (n number : ℕ) (name : List ℕ) (d : Data) → 0 < n → n < 10 ^ 38 → get name d ≡ Some (coins_data (alone n)) → coins_at number name d ≡ Ok (alone n)
 unfolding coins_at

@@ -1,4 +1,4 @@
-use Rattle.std.proofs.Common.{◌≡◌, ◌∷◌, [], ◌++◌, refl, sym, ap, subst, ◌∙◌, is_some}
+use Rattle.std.proofs.Common.{◌≡◌, ℕ, ◌∷◌, [], ◌++◌, refl, sym, ap, subst, ◌∙◌, is_some}
 use Rattle.base_roles.specs.declared.facts.Fact.TheVariants.{Period}
 use Rattle.mod_periods.specs.Kept.{current_of}
 use Rattle.mod_periods.specs.Stands.{KeepsRewards, IsKept}
@@ -19,7 +19,7 @@ returns-in-Err-clause-ended g c r h =
     c.in-Err.ensures.fault
 
 pub returns-in-Err-clause-limit : goal.returns-in-Err-clause-limit
-returns-in-Err-clause-limit c = on_limit c.in-Err.fault (c.args.self.now.kept ≡ c.args.self.now.kept) refl
+returns-in-Err-clause-limit g c = on_limit ℕ c.in-Err.fault (c.args.self.now.kept ≡ c.args.self.now.kept) refl
 
 pub returns-clause-ended : goal.returns-clause-ended
 returns-clause-ended g c r h =
