@@ -1,9 +1,10 @@
 -- Tables that are marked together.
-use Rattle.std.proofs.Common.{◌≡◌, ◌≢◌, ◌∙◌, ℕ, ◌+◌, ◌<◌, Bool, List, [], ◌∷◌, ◌++◌, length, sym, ap, subst}
+use Rattle.std.proofs.Common.{◌≡◌, ◌≢◌, ◌∙◌, ℕ, ◌+◌, ◌<◌, Bool, List, [], ◌∷◌, ◌++◌, length, refl, sym, ap, subst}
 use Rattle.std.specs.declared.cmp.Ordering.{Ordering}
 use Rattle.std.specs.BTreeMap.{is_at}
 use Rattle.std.specs.List.{AllByRecursion}
 use Rattle.std.proofs.lemmas.List.{length_push, same_from_push}
+use Rattle.std.proofs.lemmas.List.Elements.{All-from_recursion}
 use Rattle.std.proofs.lemmas.Map.Views.{All-keys-insert_entry, All-map-remove_entry}
 use Rattle.base_table.specs.Tabled.{Tabled, with_value, without_key}
 use Rattle.base_table.specs.Tabled as table
@@ -72,6 +73,15 @@ stays-back l l2 p =
 -- ---- the table of entries and both ways
 
 module _ {K E : Type 0} (cmp : K → K → Ordering) (fits : K → Type 0) (source : K → List ℕ) (made : E → Made) where
+  -- nothing stands yet
+  pub in_step-new : HaveSameMarks cmp fits source made table.empty_table table.empty_table table.empty_table
+  in_step-new = record {
+    queued = record { depth = refl; told = λ p key. refl; told_at_marks = tt };
+    sourced = record { depth = refl; told = λ p key. refl; told_at_marks = tt };
+    fit = All-from_recursion fits [] tt;
+    fit_at_marks = tt;
+  }
+
   module _ (l : Tabled K (List E)) (q : Tabled (ℕ × K) Bool) (w : Tabled (List ℕ × K) Bool) (h : HaveSameMarks cmp fits source made l q w) where
     pub in_step-marked : HaveSameMarks cmp fits source made (table.with_mark l) (table.with_mark q) (table.with_mark w)
     in_step-marked = record {
@@ -79,6 +89,14 @@ module _ {K E : Type 0} (cmp : K → K → Ordering) (fits : K → Type 0) (sour
       sourced = step-marked (AreSourced cmp source) l w h.sourced;
       fit = h.fit;
       fit_at_marks = all-push (AllKeys fits) l.marks l.entries h.fit_at_marks h.fit;
+    }
+
+    pub in_step-settled : HaveSameMarks cmp fits source made (table.settled_now l) (table.settled_now q) (table.settled_now w)
+    in_step-settled = record {
+      queued = record { depth = h.queued.depth; told = h.queued.told; told_at_marks = h.queued.told_at_marks };
+      sourced = record { depth = h.sourced.depth; told = h.sourced.told; told_at_marks = h.sourced.told_at_marks };
+      fit = h.fit;
+      fit_at_marks = h.fit_at_marks;
     }
 
     -- entries under one more key, or under one less
