@@ -21,6 +21,11 @@ STORE is a file that keeps the state, made where there is none, or - for none. C
   query account|validator|delegations|rewards|unbondings|redelegations|signing ADDRESS
                           answers from what STORE has
                             ./stakeplay.sh chain.db query supply
+  keep replay, keep resume
+                          the same, and what each block replaces is kept in STORE too
+                            ./stakeplay.sh chain.db keep replay < examples/history.jsonl
+  past HEIGHT query ...   answers from what STORE had after that height
+                            ./stakeplay.sh chain.db past 3 query supply
   tally                   reads ballots, a line each, and counts them by the stake of what STORE has
                             ./stakeplay.sh chain.db tally < ballots.jsonl
   check                   reads reward statements, a line each, and says of each whether it is right

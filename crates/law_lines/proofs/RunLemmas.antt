@@ -120,40 +120,43 @@ by_report who operator to reward coins height time b w begun begins turn first e
     by_block _ refl (λ t ts. refl) who operator to reward coins b w begun begins turn first ended e h k
 
 -- a fact among those of one height is of that height
-at_among : (h n : ℕ) (facts : List Fact) (f : Fact) → Contains (map (λ told. (n, told)) facts) (h, f) → (h ≡ n) × Contains facts f
-at_among h n facts f c =
+at_among : (h n : ℕ) (facts : List Fact) (x : Fact) → Contains {X = ℕ × Fact} (map (λ told. (n, told)) facts) (h, x) → (h ≡ n) × Contains facts x
+at_among h n facts x c =
     let P : ℕ × Fact → Type 0 = λ t. (t.0 ≡ n) × Contains facts t.1 in
-    All-contains P (map (λ told. (n, told)) facts) (h, f)
-    (All-map P (λ told. (n, told)) facts (All-weaker (Contains facts) (λ told. P (n, told)) (λ told there. (refl, there)) facts (All-contains_itself facts))) c
+    let all : List (ℕ × Fact) = map (λ told. (n, told)) facts in
+    All-contains P all (h, x) (All-map P (λ told. (n, told)) facts (All-weaker (Contains facts) (λ told. P (n, told)) (λ told there. (refl, there)) facts (All-contains_itself facts))) c
 
 module _ (height : ℕ) (who operator to : List ℕ) (reward coins : Money) where
   abbrev paid : Fact
   paid = fact.Paid who operator to reward coins
 
-  told_along : (blocks : List Block) (w : State) → RunPaysPayees blocks w → Contains (flat_map told_of (run_of blocks w).reports) (height, paid) → IsToldAlong height paid blocks w
-  told_along [] w q c = none_in (height, paid) [] refl c
+  abbrev line : ℕ × Fact
+  line = (height, paid)
+
+  told_along : (blocks : List Block) (w : State) → RunPaysPayees blocks w → Contains (flat_map told_of (run_of blocks w).reports) line → IsToldAlong height paid blocks w
+  told_along [] w q c = none_in line [] refl c
   told_along (b ∷ blocks) w q c = by (step b w) refl q c (λ u k d. told_along blocks u k d)
     where
-      here : (s : Step) → BlockPaysPayees b w s → Contains (told_of s.report) (height, paid) → (height ≡ b.height) × IsToldByBlock paid b w
+      here : (s : Step) → BlockPaysPayees b w s → Contains (told_of s.report) line → (height ≡ b.height) × IsToldByBlock paid b w
       here s k d =
           let m = at_among height s.report.height (facts_of s.report) paid d in (
             m.0 ∙ k.parts.0,
             by_report who operator to reward coins s.report.height s.report.time b w k.begun k.begins k.txs s.report.begun s.report.ended k.parts.1 k.first k.last s.report.txs k.parts.2 m.1,
           )
 
-      either : (s : Step) → BlockPaysPayees b w s → (Contains (flat_map told_of (run_of blocks s.state).reports) (height, paid) → IsToldAlong height paid blocks s.state)
-          → Contains (told_of s.report) (height, paid) ⊎ Contains (flat_map told_of (run_of blocks s.state).reports) (height, paid)
+      either : (s : Step) → BlockPaysPayees b w s → (Contains (flat_map told_of (run_of blocks s.state).reports) line → IsToldAlong height paid blocks s.state)
+          → Contains (told_of s.report) line ⊎ Contains (flat_map told_of (run_of blocks s.state).reports) line
           → ((height ≡ b.height) × IsToldByBlock paid b w) ⊎ IsToldAlong height paid blocks s.state
       either s k rest (inl d) = inl (here s k d)
       either s k rest (inr d) = inr (rest d)
 
       by : (r : Result Step BlockFault) → step b w ≡ r → IfOk r (λ s. BlockPaysPayees b w s × RunPaysPayees blocks s.state)
-          → Contains (flat_map told_of (going_on w r (λ u. run_of blocks u)).reports) (height, paid)
-          → ((u : State) → RunPaysPayees blocks u → Contains (flat_map told_of (run_of blocks u).reports) (height, paid) → IsToldAlong height paid blocks u)
+          → Contains (flat_map told_of (going_on w r (λ u. run_of blocks u)).reports) line
+          → ((u : State) → RunPaysPayees blocks u → Contains (flat_map told_of (run_of blocks u).reports) line → IsToldAlong height paid blocks u)
           → IsToldAlong height paid (b ∷ blocks) w
       by (Ok s) e k d rest =
-          (s, e, either s k.0 (λ x. rest s.state k.1 x) (Contains-append_cases (told_of s.report) (flat_map told_of (run_of blocks s.state).reports) (height, paid) d))
-      by (Err fault) e k d rest = absurd (none_in (height, paid) [] refl d)
+          (s, e, either s k.0 (λ x. rest s.state k.1 x) (Contains-append_cases (told_of s.report) (flat_map told_of (run_of blocks s.state).reports) line d))
+      by (Err fault) e k d rest = absurd (none_in line [] refl d)
 
 -- ---- the text of a replay
 
@@ -189,7 +192,7 @@ module _ (form : Form) (r : Replayed) (are : All IsReport (run_in r).reports) wh
     supplies = λ d. ap (λ l. supply_of (run_in r).state.view.bank d + burned_in d (facts_alone l)) of_blocks ∙ written_burns form r d are;
     payments = written_fairly;
     payees = λ height who operator to reward coins c.
-        told_along height who operator to reward coins r.blocks r.start.state (payees_are_of_the_moment r) (subst (λ l. Contains l (height, fact.Paid who operator to reward coins)) all_told c);
+        told_along height who operator to reward coins r.blocks r.start.state (payees_are_of_the_moment r) (subst (λ (l : List (ℕ × Fact)). Contains l (height, fact.Paid who operator to reward coins)) all_told c);
   }
 
 pub runs_written : RunsAreWritten

@@ -1,5 +1,5 @@
 -- The record of an ended period stands exactly while its validator does and something refers to it.
-use Rattle.std.proofs.Common.{◌≡◌, ◌∙◌, ℕ, zero, suc, ◌==◌, List, Option, Some, None, inl, inr, refl, sym, ap}
+use Rattle.std.proofs.Common.{◌≡◌, ◌∙◌, ℕ, ◌==◌, Bool, true, false, List, Option, Some, None, inl, inr, refl, sym, ap, eqb-true}
 use Rattle.std.specs.Prelude.{◌⊎◌, if◌then◌else◌, is_some}
 use Rattle.base_roles.specs.declared.entities.Historical.{Historical}
 use Rattle.base_roles.specs.declared.entities.StartingInfo.{StartingInfo}
@@ -19,8 +19,11 @@ use Rattle.law_records.proofs.RewardLists.{history_found}
 
 -- a record is due unless nothing is counted
 counted : (c : ℕ) (h : Historical) → (if c == 0 then None else Some h) ≡ None → c ≡ 0
-counted zero h e = refl
-counted (suc c) h e = absurd cc
+counted c h e = by (c == 0) refl e
+  where
+    by : (b : Bool) → (c == 0) ≡ b → (if b then None else Some h) ≡ None → c ≡ 0
+    by true same k = eqb-true c 0 same
+    by false same k = absurd cc
 
 uncounted : (c : ℕ) (h : Historical) → c ≡ 0 → (if c == 0 then None else Some h) ≡ None
 uncounted c h e = ap (λ (n : ℕ). if n == 0 then None else Some h) e

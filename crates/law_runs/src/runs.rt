@@ -113,7 +113,6 @@ pub fn runs_pay_fairly()
 {}
 
 /// A message that asks for a reward and changes nothing tells no payment of it.
-#[tactic(auto, using(crate::proofs::Payees::nothing_tells_no_reward))]
 pub fn nothing_tells_no_reward()
     ensures { NothingTellsNoReward }
 {}

@@ -1,6 +1,7 @@
 -- The statement that a line spells, the line of a statement, and the line that answers whether one is right.
-use Rattle.std.specs.Prelude.{ℕ, Bool, List, [], ◌∷◌, codes, Result, Ok}
-use Rattle.serde_json.specs.Data.{Data, boolean, string}
+use Rattle.std.specs.Prelude.{ℕ, Bool, List, [], ◌∷◌, ◌++◌, codes, Result, Ok}
+use Rattle.json.specs.Token.{Token, key}
+use Rattle.serde_json.specs.Data.{Data, Members, boolean, member, no_members, string}
 use Rattle.base_bech32.specs.declared.form.Form.{Form}
 use Rattle.base_coins.specs.Steps.{◌>>=◌}
 use Rattle.base_messages.specs.declared.faults.LineFault.{LineFault}
@@ -8,6 +9,7 @@ use Rattle.line_json.specs.Reading.{tree_of}
 use Rattle.line_json.specs.Members.{number_at, only_named, operator_at, user_at, word_at}
 use Rattle.line_json.specs.Coin.{dec_coins_at}
 use Rattle.line_json.specs.Line.{line_of, object_of}
+use Rattle.line_json.specs.Told.{data_tokens}
 use Rattle.line_json.specs.Values.{count_data, dec_coins_data, operator_data, user_data}
 use Rattle.mod_statement.specs.declared.statement.Statement.{Statement}
 use Rattle.line_statements.specs.Entries.{entries_at, entries_data}
@@ -50,6 +52,12 @@ statement_of f line = tree_of line >>= statement_of_tree f
 
 -- ---- what is written
 
+-- what a writer writes for members, without the end of their object
+abbrev pub member_tokens : Members → List Token
+member_tokens no_members = []
+member_tokens (member name d ms) = key name ∷ (data_tokens d ++ member_tokens ms)
+
+-- a statement, all of it
 abbrev pub statement_data : Form → Statement → Data
 statement_data f s = object_of (
     (codes "kind", string (codes "statement"))
@@ -73,12 +81,12 @@ text_of_statement f s = line_of (statement_data f s)
 
 -- whether the statement of the line of this number is right
 abbrev pub answer_data : ℕ → Bool → Data
-answer_data n yes = object_of (
+answer_data n right = object_of (
     (codes "kind", string (codes "checked"))
     ∷ (codes "line", count_data n)
-    ∷ (codes "yes", boolean yes)
+    ∷ (codes "yes", boolean right)
     ∷ [])
 
 -- what is written of that
 abbrev pub text_of_answer : ℕ → Bool → List ℕ
-text_of_answer n yes = line_of (answer_data n yes)
+text_of_answer n right = line_of (answer_data n right)

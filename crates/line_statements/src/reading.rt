@@ -12,21 +12,6 @@ use line_json::{
 use mod_statement::Statement;
 use std::alloc::Global;
 
-/// The names of the members of a statement.
-const NAMES: [&str; 11] = [
-    "kind",
-    "delegator",
-    "validator",
-    "height",
-    "reward",
-    "low",
-    "high",
-    "slack",
-    "removals",
-    "ratio",
-    "entries",
-];
-
 /// The statement of a tree.
 #[tactic(auto, unfolding(crate::specs::Statements::statement_of_tree))]
 fn statement_of_tree<N: Tree>(form: Form, alloc: Global, tree: &N) -> Result<Statement, LineFault>
@@ -43,7 +28,22 @@ fn statement_of_tree<N: Tree>(form: Form, alloc: Global, tree: &N) -> Result<Sta
     let removals = member_at(128, "removals", tree)?;
     let ratio = dec_coins_at(alloc, 129, "ratio", tree)?;
     let entries = entries_at(alloc, tree)?;
-    only_named(&NAMES, tree)?;
+    only_named(
+        &[
+            "kind",
+            "delegator",
+            "validator",
+            "height",
+            "reward",
+            "low",
+            "high",
+            "slack",
+            "removals",
+            "ratio",
+            "entries",
+        ],
+        tree,
+    )?;
     Ok(Statement {
         delegator,
         operator,

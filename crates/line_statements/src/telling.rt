@@ -1,10 +1,11 @@
 //! The line of a statement, and the line that answers whether one is right. The members of each stand in ascending order
 //! of their names.
-ghost use Rattle.std.specs.Prelude.{◌≡◌, ◌∷◌, ◌++◌, IfErr, OnOk};
-ghost use Rattle.json.specs.Token.{key};
-ghost use Rattle.line_json.specs.Told.{data_tokens, told_data};
+ghost use Rattle.std.specs.Prelude.{◌≡◌, ◌++◌, IfErr, OnOk};
+ghost use Rattle.json.specs.Tree.{members_tokens};
+ghost use Rattle.serde_json.specs.Written.{members_outline};
+ghost use Rattle.line_json.specs.Told.{data_tokens, listed};
 ghost use Rattle.line_statements.specs.Entries.{entries_data, entry_data};
-ghost use Rattle.line_statements.specs.Statements.{statement_data, text_of_answer, text_of_statement};
+ghost use Rattle.line_statements.specs.Statements.{member_tokens, statement_data, text_of_answer, text_of_statement};
 
 use base_bech32::Form;
 use base_messages::LineFault;
@@ -74,20 +75,41 @@ fn push_entries(alloc: Global, writer: &mut Writer, entries: &[Entry]) -> Result
     Ok(())
 }
 
-/// A member of an object: its name, and what it tells.
-fn push_member(
+/// Members of an object, in the order in which they stand.
+fn push_members(
     alloc: Global,
     writer: &mut Writer,
-    name: &str,
-    told: &Told<'_>,
+    members: &[(&str, Told<'_>)],
 ) -> Result<(), LineFault>
-    ensures ok { OnOk result (writer.new.tokens
-        ≡ writer.old.tokens ++ key name.now ∷ data_tokens (told_data told.now)) }
+    ensures ok { OnOk result
+        (writer.new.tokens ≡ writer.old.tokens ++ member_tokens (listed members.now)) }
     ensures before { OnOk result (writer.new.before ≡ writer.old.before) }
     ensures fault { IfErr result (λ fault. fault ≡ LineFault.NoMemory) }
 {
-    writer.key(name)?;
-    push_told(alloc, writer, told)
+    for (name, told) in members {
+        writer.key(name)?;
+        push_told(alloc, writer, told)?;
+    }
+    Ok(())
+}
+
+/// The last members of an object, and its end.
+fn push_rest(
+    alloc: Global,
+    writer: &mut Writer,
+    members: &[(&str, Told<'_>)],
+) -> Result<(), LineFault>
+    ensures ok { OnOk result (writer.new.tokens
+        ≡ writer.old.tokens ++ members_tokens (members_outline (listed members.now))) }
+    ensures before { OnOk result (writer.new.before ≡ writer.old.before) }
+    ensures fault { IfErr result (λ fault. fault ≡ LineFault.NoMemory) }
+{
+    for (name, told) in members {
+        writer.key(name)?;
+        push_told(alloc, writer, told)?;
+    }
+    writer.end_object()?;
+    Ok(())
 }
 
 /// A statement.
@@ -103,29 +125,22 @@ fn push_statement(
     ensures fault { IfErr result (λ fault. fault ≡ LineFault.NoMemory) }
 {
     writer.begin_object()?;
-    push_member(
-        alloc,
-        writer,
-        "delegator",
-        &Told::User(form, &statement.delegator),
-    )?;
+    let first = [("delegator", Told::User(form, &statement.delegator))];
+    push_members(alloc, writer, &first)?;
     writer.key("entries")?;
     push_entries(alloc, writer, statement.entries.as_slice())?;
-    push_member(alloc, writer, "height", &Told::Count(statement.height))?;
-    push_member(alloc, writer, "high", &Told::DecCoins(&statement.high))?;
-    push_member(alloc, writer, "kind", &Told::Word("statement"))?;
-    push_member(alloc, writer, "low", &Told::DecCoins(&statement.low))?;
-    push_member(alloc, writer, "ratio", &Told::DecCoins(&statement.ratio))?;
-    push_member(alloc, writer, "removals", &Told::Count(statement.removals))?;
-    push_member(alloc, writer, "reward", &Told::DecCoins(&statement.reward))?;
-    push_member(alloc, writer, "slack", &Told::DecCoins(&statement.slack))?;
-    push_member(
-        alloc,
-        writer,
-        "validator",
-        &Told::Operator(form, &statement.operator),
-    )?;
-    writer.end_object()?;
+    let rest = [
+        ("height", Told::Count(statement.height)),
+        ("high", Told::DecCoins(&statement.high)),
+        ("kind", Told::Word("statement")),
+        ("low", Told::DecCoins(&statement.low)),
+        ("ratio", Told::DecCoins(&statement.ratio)),
+        ("removals", Told::Count(statement.removals)),
+        ("reward", Told::DecCoins(&statement.reward)),
+        ("slack", Told::DecCoins(&statement.slack)),
+        ("validator", Told::Operator(form, &statement.operator)),
+    ];
+    push_rest(alloc, writer, &rest)?;
     Ok(())
 }
 

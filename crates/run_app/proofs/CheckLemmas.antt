@@ -1,5 +1,5 @@
 -- Statements of an input, line by line.
-use Rattle.std.proofs.Common.{◌≡◌, ◌∙◌, ◌⊎◌, inl, inr, ℕ, ◌+◌, ◌<◌, ◌≤◌, Bool, le-ltb, lt-ltb, List, [], ◌∷◌, ◌++◌, append-nil, append_assoc, length, length-append, Option, Some, Result, Ok, Err, refl, sym, ap, subst, arith, add-zero}
+use Rattle.std.proofs.Common.{◌≡◌, ◌∙◌, ◌⊎◌, inl, inr, ℕ, ◌+◌, ◌<◌, ◌≤◌, Bool, le-ltb, lt-ltb, List, [], ◌∷◌, ◌++◌, append-nil, append_assoc, length, length-append, Option, Some, None, Result, Ok, Err, refl, sym, ap, subst, arith, add-zero}
 use Rattle.base_bech32.specs.declared.form.Form.{Form}
 use Rattle.base_io.specs.Calls.{Stays}
 use Rattle.base_messages.specs.declared.faults.LineFault.{LineFault}
@@ -14,7 +14,7 @@ use Rattle.mod_statement.specs.Bounds.{bounds_of}
 use Rattle.run_app.specs.declared.status.Status.{Status}
 use Rattle.run_app.specs.declared.status.Status.TheVariants.{Done, Usage, BadInput, Limit, ReadFault, WriteFault, KeepFault, NoMemory, BadStore, WrongStore, NotFound, NoPast}
 use Rattle.run_app.specs.declared.status.LimitKind.TheVariants.{Line, Input, Ratio, Bound}
-use Rattle.run_app.specs.Checks.{AreChecked, CheckEnds, ChecksAll, ChecksCalmly, ChecksSo, CutsCheck, Due, HaltsCheck, IsChecked, IsUnanswered, StopsCheck, TakesCheck, WritesPart, due_at, due_of, not_bounded, with_bounds}
+use Rattle.run_app.specs.Checks.{AreChecked, CheckEnds, ChecksAll, ChecksCalmly, ChecksSo, CutsCheck, HaltsCheck, IsChecked, IsUnanswered, StopsCheck, TakesCheck, WritesPart, fault_at, fault_of, fault_of_bounds, not_bounded}
 use Rattle.run_app.specs.Ending.{status_of}
 use Rattle.run_app.specs.Lines.{whole_from, lines_of}
 use Rattle.run_app.specs.Machine.{longest, not_read}
@@ -27,35 +27,36 @@ use Rattle.run_app.proofs.StopLemmas.{ended_first}
 -- ---- one line
 
 -- the line is within its limit
-within : (form : Form) (n : ℕ) (line : List ℕ) → length line ≤ longest → due_at form n line ≡ due_of n (statement_of form line)
-unfolding due_at
+within : (form : Form) (n : ℕ) (line : List ℕ) → length line ≤ longest → fault_at form n line ≡ fault_of n (statement_of form line)
+unfolding fault_at
 within form n line short = rw (le-ltb longest (length line) short) refl
 
 -- the line is over it
-over : (form : Form) (n : ℕ) (line : List ℕ) → longest < length line → due_at form n line ≡ Err (Limit n Line)
-unfolding due_at
+over : (form : Form) (n : ℕ) (line : List ℕ) → longest < length line → fault_at form n line ≡ Some (Limit n Line)
+unfolding fault_at
 over form n line h = rw (lt-ltb longest (length line) h) refl
 
 -- the statement was read, and checked
-pub checked_so : (form : Form) (n : ℕ) (line before text : List ℕ) (s : Statement) (yes : Bool) → length line ≤ longest → statement_of form line ≡ Ok s → IsAnswer s yes → before ≡ [] → text ≡ before ++ text_of_answer n yes → IsChecked form n line text
-checked_so form n line before text s yes short read answer none is = record {
-  due = (s, answer.due);
-  yes = yes;
-  due_is = within form n line short ∙ ap (due_of n) read ∙ ap (with_bounds n s) answer.due_is;
-  yes_is = answer.yes_is;
-  text_is = is ∙ ap (λ (b : List ℕ). b ++ text_of_answer n yes) none;
+pub checked_so : (form : Form) (n : ℕ) (line before text : List ℕ) (s : Statement) (right : Bool) → length line ≤ longest → statement_of form line ≡ Ok s → IsAnswer s right → before ≡ [] → text ≡ before ++ text_of_answer n right → IsChecked form n line text
+checked_so form n line before text s right short read answer none is = record {
+  statement = s;
+  right = right;
+  short = short;
+  statement_is = read;
+  answer = answer;
+  text_is = is ∙ ap (λ (b : List ℕ). b ++ text_of_answer n right) none;
 }
 
 -- it was not read
 pub unread_so : (form : Form) (n : ℕ) (line : List ℕ) (fault : LineFault) → length line ≤ longest → Gives {X = Statement} {Y = Statement} (λ statement. statement) (Err fault) (statement_of form line) → IsUnanswered form n line (status_of (not_read n fault))
-unread_so form n line why.NotJson short read = within form n line short ∙ ap (due_of n) read
-unread_so form n line (why.BadShape member) short read = within form n line short ∙ ap (due_of n) read
+unread_so form n line why.NotJson short read = within form n line short ∙ ap (fault_of n) read
+unread_so form n line (why.BadShape member) short read = within form n line short ∙ ap (fault_of n) read
 unread_so form n line why.NoMemory short read = tt
 
 -- it has no bounds
 pub unbounded_so : (form : Form) (n : ℕ) (line : List ℕ) (s : Statement) (f : StatementFault) → length line ≤ longest → statement_of form line ≡ Ok s → IsFaultOf (bounds_of s.entries s.removals s.ratio) f → IsUnanswered form n line (not_bounded n f)
-unbounded_so form n line s (fault.Over over) short read h = within form n line short ∙ ap (due_of n) read ∙ ap (with_bounds n s) h
-unbounded_so form n line s fault.NoSpan short read h = within form n line short ∙ ap (due_of n) read ∙ ap (with_bounds n s) h
+unbounded_so form n line s (fault.Over over) short read h = within form n line short ∙ ap (fault_of n) read ∙ ap (fault_of_bounds n) h
+unbounded_so form n line s fault.NoSpan short read h = within form n line short ∙ ap (fault_of n) read ∙ ap (fault_of_bounds n) h
 unbounded_so form n line s fault.NoMemory short read h = tt
 
 pub unanswered_may : (form : Form) (n : ℕ) (line : List ℕ) (status : Status) → IsUnanswered form n line status → MayStop status
@@ -80,6 +81,41 @@ unanswered_unwritten form n line status h e =
 
 -- ---- lines one after another
 
+module _ (form : Form) where
+  -- the lines before one are answered, and that one is not
+  record Unanswered (status : Status) (lines : List (List ℕ)) (text : List ℕ) : Type 0 where
+    before : List (List ℕ)
+    line : List ℕ
+    after : List (List ℕ)
+    lines_are : lines ≡ before ++ line ∷ after
+    checked : AreChecked form 1 before text
+    stop : IsUnanswered form (1 + length before) line status
+
+  abbrev Halted : Status → List (List ℕ) → List ℕ → Type 0
+  Halted status lines text = Unanswered status lines text ⊎ (((status ≡ WriteFault) ⊎ (status ≡ NoMemory)) × CutsCheck form lines text)
+
+  unanswered_ends : (status : Status) (taken rest text : List ℕ) (lines : List (List ℕ)) → length taken ≤ most_bytes → AreEnded lines taken rest → Unanswered status lines text → ChecksSo form status taken rest text
+  unanswered_ends Done taken rest text lines short ended u = absurd u.stop
+  unanswered_ends Usage taken rest text lines short ended u = absurd u.stop
+  unanswered_ends (BadInput m f) taken rest text lines short ended u = (short, lines, ended, record { before = u.before; line = u.line; after = u.after; lines_are = u.lines_are; checked = u.checked; stop = u.stop })
+  unanswered_ends (Limit m Line) taken rest text lines short ended u = absurd u.stop
+  unanswered_ends (Limit m Input) taken rest text lines short ended u = absurd u.stop
+  unanswered_ends (Limit m (Ratio over)) taken rest text lines short ended u = absurd u.stop
+  unanswered_ends (Limit m (Bound over)) taken rest text lines short ended u = (short, lines, ended, record { before = u.before; line = u.line; after = u.after; lines_are = u.lines_are; checked = u.checked; stop = u.stop })
+  unanswered_ends ReadFault taken rest text lines short ended u = absurd u.stop
+  unanswered_ends WriteFault taken rest text lines short ended u = absurd u.stop
+  unanswered_ends KeepFault taken rest text lines short ended u = absurd u.stop
+  unanswered_ends NoMemory taken rest text lines short ended u = (short, lines, ended, inr (record { before = u.before; after = u.line ∷ u.after; lines_are = u.lines_are; checked = u.checked }))
+  unanswered_ends BadStore taken rest text lines short ended u = absurd u.stop
+  unanswered_ends (WrongStore is_empty) taken rest text lines short ended u = absurd u.stop
+  unanswered_ends NotFound taken rest text lines short ended u = absurd u.stop
+  unanswered_ends (NoPast base last) taken rest text lines short ended u = absurd u.stop
+
+  halted_ends : (status : Status) (taken rest text : List ℕ) (lines : List (List ℕ)) → length taken ≤ most_bytes → AreEnded lines taken rest → Halted status lines text → ChecksSo form status taken rest text
+  halted_ends status taken rest text lines short ended (inl u) = unanswered_ends status taken rest text lines short ended u
+  halted_ends status taken rest text lines short ended (inr (inl e, cuts)) = subst (λ (s : Status). ChecksSo form s taken rest text) (sym e) (short, inl (lines, ended, cuts))
+  halted_ends status taken rest text lines short ended (inr (inr e, cuts)) = subst (λ (s : Status). ChecksSo form s taken rest text) (sym e) (short, lines, ended, inl cuts)
+
 module _ {C : Type 0} (form : Form) where
   -- what a line that is answered leads to, of whatever answers it
   abbrev Takes : ℕ → List ℕ → C × Option (List ℕ) → C × Option (List ℕ) → Type 0
@@ -95,22 +131,10 @@ module _ {C : Type 0} (form : Form) where
       let rest = texts_written (n + 1) lines h.0 y h.2 in
       (first.0 ++ rest.0, (first.0, rest.0, first.1, refl, rest.1), λ old told. rest.2 (old ++ first.0) (first.2 old told) ∙ ap Some (append_assoc old first.0 rest.0))
 
-  -- the lines before one are answered, and that one is not
-  record Unanswered (status : Status) (lines : List (List ℕ)) (text : List ℕ) : Type 0 where
-    before : List (List ℕ)
-    line : List ℕ
-    after : List (List ℕ)
-    lines_are : lines ≡ before ++ line ∷ after
-    checked : AreChecked form 1 before text
-    stop : IsUnanswered form (1 + length before) line status
-
-  abbrev Halted : Status → List (List ℕ) → List ℕ → Type 0
-  Halted status lines text = Unanswered status lines text ⊎ (((status ≡ WriteFault) ⊎ (status ≡ NoMemory)) × CutsCheck form lines text)
-
-  halted : (status : Status) (lines : List (List ℕ)) (x y : C × Option (List ℕ)) → Halts Takes (Stops status) lines x y → (text : List ℕ) × Grows x.1 y.1 text × Halted status lines text
+  halted : (status : Status) (lines : List (List ℕ)) (x y : C × Option (List ℕ)) → Halts Takes (Stops status) lines x y → (text : List ℕ) × Grows x.1 y.1 text × Halted form status lines text
   halted status lines x y h = by (texts_written 1 h.before x h.middle h.leads) h.stop
     where
-      by : ((text : List ℕ) × AreChecked form 1 h.before text × Grows x.1 h.middle.1 text) → HaltsCheck form status (1 + length h.before) h.line h.middle.1 y.1 → (text : List ℕ) × Grows x.1 y.1 text × Halted status lines text
+      by : ((text : List ℕ) × AreChecked form 1 h.before text × Grows x.1 h.middle.1 text) → HaltsCheck form status (1 + length h.before) h.line h.middle.1 y.1 → (text : List ℕ) × Grows x.1 y.1 text × Halted form status lines text
       by front (inl u) = (
         front.0,
         λ old told. u.1 ∙ front.2 old told,
@@ -141,28 +165,6 @@ module _ {C : Type 0} (form : Form) where
 
   -- ---- an input
 
-  unanswered_ends : (status : Status) (taken rest text : List ℕ) (lines : List (List ℕ)) → length taken ≤ most_bytes → AreEnded lines taken rest → Unanswered status lines text → ChecksSo form status taken rest text
-  unanswered_ends Done taken rest text lines short ended u = absurd u.stop
-  unanswered_ends Usage taken rest text lines short ended u = absurd u.stop
-  unanswered_ends (BadInput m f) taken rest text lines short ended u = (short, lines, ended, record { before = u.before; line = u.line; after = u.after; lines_are = u.lines_are; checked = u.checked; stop = u.stop })
-  unanswered_ends (Limit m Line) taken rest text lines short ended u = absurd u.stop
-  unanswered_ends (Limit m Input) taken rest text lines short ended u = absurd u.stop
-  unanswered_ends (Limit m (Ratio over)) taken rest text lines short ended u = absurd u.stop
-  unanswered_ends (Limit m (Bound over)) taken rest text lines short ended u = (short, lines, ended, record { before = u.before; line = u.line; after = u.after; lines_are = u.lines_are; checked = u.checked; stop = u.stop })
-  unanswered_ends ReadFault taken rest text lines short ended u = absurd u.stop
-  unanswered_ends WriteFault taken rest text lines short ended u = absurd u.stop
-  unanswered_ends KeepFault taken rest text lines short ended u = absurd u.stop
-  unanswered_ends NoMemory taken rest text lines short ended u = (short, lines, ended, inr (record { before = u.before; after = u.line ∷ u.after; lines_are = u.lines_are; checked = u.checked }))
-  unanswered_ends BadStore taken rest text lines short ended u = absurd u.stop
-  unanswered_ends (WrongStore is_empty) taken rest text lines short ended u = absurd u.stop
-  unanswered_ends NotFound taken rest text lines short ended u = absurd u.stop
-  unanswered_ends (NoPast base last) taken rest text lines short ended u = absurd u.stop
-
-  halted_ends : (status : Status) (taken rest text : List ℕ) (lines : List (List ℕ)) → length taken ≤ most_bytes → AreEnded lines taken rest → Halted status lines text → ChecksSo form status taken rest text
-  halted_ends status taken rest text lines short ended (inl u) = unanswered_ends status taken rest text lines short ended u
-  halted_ends status taken rest text lines short ended (inr (inl e, cuts)) = subst (λ (s : Status). ChecksSo form s taken rest text) (sym e) (short, inl (lines, ended, cuts))
-  halted_ends status taken rest text lines short ended (inr (inr e, cuts)) = subst (λ (s : Status). ChecksSo form s taken rest text) (sym e) (short, lines, ended, inl cuts)
-
   -- a line that is too long stops the run
   long_stops : (n : ℕ) (taken more : List ℕ) (x y : C × Option (List ℕ)) (h : MeetsLong Takes n taken x y) (text : List ℕ) → AreChecked form 1 h.before text → StopsCheck form (Limit n Line) (lines_of (taken ++ more)) text
   long_stops n taken more x y h text checked =
@@ -173,13 +175,13 @@ module _ {C : Type 0} (form : Form) where
         after = l.1;
         lines_are = l.2;
         checked = checked;
-        stop = over form (1 + length h.before) l.0 l.3 ∙ ap (λ (m : ℕ). Err (Limit m Line)) (sym h.number_is);
+        stop = over form (1 + length h.before) l.0 l.3 ∙ ap (λ (m : ℕ). Some (Limit m Line)) (sym h.number_is);
       }
 
   untaken_ends : (status : Status) (taken rest : List ℕ) (x y : C × Option (List ℕ)) → IsUntaken Takes Stops status taken rest x y → (text : List ℕ) × Grows x.1 y.1 text × ChecksSo form status taken rest text
   untaken_ends status taken rest x y (inl h) =
       let t = halted status h.lines x y h.halts in
-      (t.0, t.1, halted_ends status taken rest t.0 h.lines h.short h.ended t.2)
+      (t.0, t.1, halted_ends form status taken rest t.0 h.lines h.short h.ended t.2)
   untaken_ends status taken rest x y (inr (inl h)) =
       let m = h.meets in
       let t = texts_written 1 m.before x y m.leads in
@@ -262,8 +264,12 @@ one_checked form n (b ∷ before) line after text h =
     let more : n + 1 + length before ≡ n + length (b ∷ before) = omega arith in
     (r.0, subst (λ (m : ℕ). IsChecked form m line r.0) more r.1)
 
-never_both : (r : Result Due Status) (due : Due) (status : Status) → r ≡ Ok due → r ≡ Err status → ⊥
-never_both r due status good bad = absurd cc
+-- a line that is answered has no fault
+faultless : (form : Form) (n : ℕ) (line text : List ℕ) → IsChecked form n line text → fault_at form n line ≡ None
+faultless form n line text c = within form n line c.short ∙ ap (fault_of n) c.statement_is ∙ ap (fault_of_bounds n) c.answer.due_is
+
+never_both : (r : Option Status) (status : Status) → r ≡ None → r ≡ Some status → ⊥
+never_both r status good bad = absurd cc
 
 module _ (form : Form) (input taken rest : List ℕ) (good_text : List ℕ) (good : AreChecked form 1 (lines_of input) good_text) (short : length input ≤ most_bytes) (is : input ≡ taken ++ rest) where
   -- no line of the input stops the run
@@ -272,7 +278,7 @@ module _ (form : Form) (input taken rest : List ℕ) (good_text : List ℕ) (goo
       let all : lines_of input ≡ stops.before ++ stops.line ∷ (stops.after ++ more) =
       ap lines_of is ∙ are ∙ ap (λ (ls : List (List ℕ)). ls ++ more) stops.lines_are ∙ append_assoc stops.before (stops.line ∷ stops.after) more in
       let one = one_checked form 1 stops.before stops.line (stops.after ++ more) good_text (subst (λ (ls : List (List ℕ)). AreChecked form 1 ls good_text) all good) in
-      never_both (due_at form (1 + length stops.before) stops.line) one.1.due status one.1.due_is stops.stop
+      never_both (fault_at form (1 + length stops.before) stops.line) status (faultless form (1 + length stops.before) stops.line one.0 one.1) stops.stop
 
   never_stopped : (status : Status) (text : List ℕ) (lines : List (List ℕ)) → AreEnded lines taken rest → StopsCheck form status lines text → ⊥
   never_stopped status text lines ended stops = let m = ended_first lines taken rest ended in never_stops status lines m.0 text m.1 stops

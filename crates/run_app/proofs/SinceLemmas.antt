@@ -9,7 +9,7 @@ use Rattle.store_history.proofs.KeepingLemmas.{makes_later, told_back}
 use Rattle.store_resuming.specs.Restored.{AreLoaded, AreStateRows, old_rows_of, rows_of}
 use Rattle.run_app.specs.declared.status.Status.{Status}
 use Rattle.run_app.specs.declared.status.Status.TheVariants.{Done, Usage, BadInput, Limit, ReadFault, WriteFault, KeepFault, NoMemory, BadStore, WrongStore, NotFound, NoPast}
-use Rattle.run_app.specs.declared.status.LimitKind.TheVariants.{Line, Input, Ratio}
+use Rattle.run_app.specs.declared.status.LimitKind.TheVariants.{Line, Input, Ratio, Bound}
 use Rattle.run_app.specs.declared.status.LineStop.{LineStop}
 use Rattle.run_app.specs.Histories.{IsCommitting}
 use Rattle.run_app.specs.Kept.{AreLeft, AreSome, BeganOnRows, IsUnbegun, LeftIn}
@@ -115,6 +115,7 @@ module _ (form : Form) (first : Standing) (L L' : Standing → Standing → Type
   ends taken rest (Limit n Line) text e = (e.0, λ more. named 1 first _ text _ (e.1 more))
   ends taken rest (Limit n Input) text e = passed n taken text e
   ends taken rest (Limit n (Ratio over)) text e = (e.0, e.1, e.2, named 1 first e.1 text _ e.3)
+  ends taken rest (Limit n (Bound over)) text e = absurd e
   ends taken rest ReadFault text e = (e.0, answered 1 first _ text e.1)
   ends taken rest WriteFault text e = (
     e.0,

@@ -1,15 +1,14 @@
 -- How a run ends that checks statements, of which each line of its input is one: of the command `check`.
-use Rattle.std.specs.Prelude.{◌≡◌, ℕ, ◌+◌, ◌≤◌, ◌<◌, ◌⊎◌, ◌↔◌, Bool, IsTrue, List, [], ◌∷◌, ◌++◌, length, nat_lt, if◌then◌else◌, Option, Some, Result, Ok, Err}
+use Rattle.std.specs.Prelude.{◌≡◌, ℕ, ◌+◌, ◌≤◌, ◌<◌, ◌⊎◌, Bool, List, [], ◌∷◌, ◌++◌, length, nat_lt, if◌then◌else◌, Option, Some, None, Result, Ok, Err}
 use Rattle.base_bech32.specs.declared.form.Form.{Form}
 use Rattle.base_io.specs.Calls.{AddsPart}
 use Rattle.base_io.specs.Outside.{IsPart}
 use Rattle.base_messages.specs.declared.faults.LineFault.{LineFault}
 use Rattle.line_statements.specs.Statements.{statement_of, text_of_answer}
-use Rattle.mod_statement.specs.declared.bounds.Bounds.{Bounds}
 use Rattle.mod_statement.specs.declared.fault.StatementFault.{StatementFault}
 use Rattle.mod_statement.specs.declared.fault.StatementFault.TheVariants as fault
 use Rattle.mod_statement.specs.declared.statement.Statement.{Statement}
-use Rattle.mod_statement.specs.Answers.{IsRight}
+use Rattle.mod_statement.specs.Answers.{IsAnswer}
 use Rattle.mod_statement.specs.Bounds.{bounds_of}
 use Rattle.run_app.specs.declared.status.InputFault.TheVariants.{BadShape}
 use Rattle.run_app.specs.declared.status.Status.{Status}
@@ -24,10 +23,6 @@ use Rattle.run_generated.specs.Writing.{Grows}
 
 -- ---- a line
 
--- a statement, with the bounds that are due to its entries
-abbrev pub Due : Type 0
-Due = Statement × Bounds
-
 -- Why the statement of the line of this number has no bounds: an operation of them is over, or its
 -- entries are no span.
 abbrev pub not_bounded : ℕ → StatementFault → Status
@@ -35,32 +30,35 @@ not_bounded n (fault.Over over) = Limit n (Bound over)
 not_bounded n fault.NoSpan = BadInput n (BadShape 130)
 not_bounded n fault.NoMemory = NoMemory
 
-abbrev pub with_bounds : ℕ → Statement → Result Bounds StatementFault → Result Due Status
-with_bounds n s (Ok due) = Ok (s, due)
-with_bounds n s (Err why) = Err (not_bounded n why)
+-- the fault of bounds that are wanting; none where they are there
+abbrev pub fault_of_bounds : {B : Type 0} → ℕ → Result B StatementFault → Option Status
+fault_of_bounds n (Ok due) = None
+fault_of_bounds n (Err why) = Some (not_bounded n why)
 
-abbrev pub due_of : ℕ → Result Statement LineFault → Result Due Status
-due_of n (Err why) = Err (status_of (not_read n why))
-due_of n (Ok s) = with_bounds n s (bounds_of s.entries s.removals s.ratio)
+abbrev pub fault_of : ℕ → Result Statement LineFault → Option Status
+fault_of n (Err why) = Some (status_of (not_read n why))
+fault_of n (Ok s) = fault_of_bounds n (bounds_of s.entries s.removals s.ratio)
 
--- the same of the line of this number: nothing is read from a line over its limit
-unfoldable pub due_at : Form → ℕ → List ℕ → Result Due Status
-due_at form n line =
-    if nat_lt longest (length line) then Err (Limit n Line) else due_of n (statement_of form line)
+-- Why the line of this number is not answered: it is over its limit, it is no statement, or its
+-- entries have no bounds. None where it is answered.
+unfoldable pub fault_at : Form → ℕ → List ℕ → Option Status
+fault_at form n line =
+    if nat_lt longest (length line) then Some (Limit n Line) else fault_of n (statement_of form line)
 
--- The line of this number is answered with this text: it is a statement, and the text tells whether
--- that is right.
+-- The line of this number is answered with this text: it is a statement within its limit, and the text
+-- tells whether that is right.
 pub record IsChecked (form : Form) (n : ℕ) (line text : List ℕ) : Type 0 where
-  pub due : Due
-  pub yes : Bool
-  pub due_is : due_at form n line ≡ Ok due
-  pub yes_is : IsTrue yes ↔ IsRight due.0 due.1
-  pub text_is : text ≡ text_of_answer n yes
+  pub statement : Statement
+  pub right : Bool
+  pub short : length line ≤ longest
+  pub statement_is : statement_of form line ≡ Ok statement
+  pub answer : IsAnswer statement right
+  pub text_is : text ≡ text_of_answer n right
 
 -- why a line within its limit is not answered; memory may always be wanting
 abbrev pub IsUnanswered : Form → ℕ → List ℕ → Status → Type 0
-IsUnanswered form n line (BadInput m why) = due_at form n line ≡ Err (BadInput m why)
-IsUnanswered form n line (Limit m (Bound over)) = due_at form n line ≡ Err (Limit m (Bound over))
+IsUnanswered form n line (BadInput m why) = fault_at form n line ≡ Some (BadInput m why)
+IsUnanswered form n line (Limit m (Bound over)) = fault_at form n line ≡ Some (Limit m (Bound over))
 IsUnanswered form n line NoMemory = Unit {0}
 IsUnanswered form n line _ = ⊥
 
@@ -95,7 +93,7 @@ pub record StopsCheck (form : Form) (status : Status) (lines : List (List ℕ)) 
   pub after : List (List ℕ)
   pub lines_are : lines ≡ before ++ line ∷ after
   pub checked : AreChecked form 1 before text
-  pub stop : due_at form (1 + length before) line ≡ Err status
+  pub stop : fault_at form (1 + length before) line ≡ Some status
 
 -- the lines before one are answered, and a part of that one's text was written behind theirs
 pub record CutsCheck (form : Form) (lines : List (List ℕ)) (text : List ℕ) : Type 0 where

@@ -56,11 +56,11 @@ fn answer_line(
         Ok(statement) => statement,
         Err(fault) => return Err(status_of(not_read(number, fault))),
     };
-    let yes = match check(alloc, &statement) {
-        Ok(yes) => yes,
+    let right = match check(alloc, &statement) {
+        Ok(right) => right,
         Err(fault) => return Err(not_bounded(number, fault)),
     };
-    match push_line_of_answer(alloc, &mut checker.text, number, yes) {
+    match push_line_of_answer(alloc, &mut checker.text, number, right) {
         Ok(()) => Ok(()),
         Err(_) => Err(Status::NoMemory),
     }

@@ -108,7 +108,7 @@ pub(crate) fn keep<S: Source, K: Sink, D: Keeper>(
 {
     match read_history(alloc, keeper) {
         Ok(history) => {
-            let (status, _) = carry_out_kept::<Brand, S, K, D>(
+            let (status, _kept) = carry_out_kept::<Brand, S, K, D>(
                 form, alloc, mode, source, sink, keeper, history,
             );
             status

@@ -28,8 +28,9 @@ const RIGHT_AND_WRONG: &str =
 fn checked(rt: &(impl Abort + AllocGlobal), input: Vec<u8>) -> (Status, Vec<u8>) {
     let mut source = SureSource::new(input, 7);
     let mut sink = SureSink::new(rt.alloc());
+    let mut keeper = NoKeeper::new(rt.alloc());
     let words = words(rt, "check");
-    let status = run(rt.alloc(), &words, &mut source, &mut sink, &mut NoKeeper);
+    let status = run(rt.alloc(), &words, &mut source, &mut sink, &mut keeper);
     let written = Vec::from_slice(rt.alloc(), sink.bytes());
     (status, written.expect(rt, "memory"))
 }
@@ -42,22 +43,28 @@ fn rewarded(rt: &(impl Abort + AllocGlobal), reward: &str) -> String {
     text
 }
 
+/// How a check of a statement that is right, one that is wrong, and this third line ends.
+fn third(rt: &(impl Abort + AllocGlobal), line: &str) -> Status {
+    let right = rewarded(rt, "666.666666666666000000");
+    let wrong = rewarded(rt, "667.000000000000000000");
+    let (status, written) = checked(rt, text(rt, &[right.as_str(), wrong.as_str(), line]));
+    assert!(rt; written.as_slice() == RIGHT_AND_WRONG.as_bytes());
+    status
+}
+
 #[test]
 fn statements_are_answered_line_by_line(rt: HostRuntime) {
-    let right = rewarded(&rt, "666.666666666666000000");
-    let wrong = rewarded(&rt, "667.000000000000000000");
     let (status, written) = checked(&rt, text(&rt, &[]));
     assert_eq!(rt; status, Status::Done);
     assert!(rt; written.is_empty());
-    for (third, end) in [
-        ("{}", Status::BadInput(3, InputFault::BadShape(120))),
-        (NO_SPAN, Status::BadInput(3, InputFault::BadShape(130))),
-    ] {
-        let input = text(&rt, &[right.as_str(), wrong.as_str(), third]);
-        let (status, written) = checked(&rt, input);
-        assert_eq!(rt; status, end);
-        assert!(rt; written.as_slice() == RIGHT_AND_WRONG.as_bytes());
-    }
+    assert_eq!(rt;
+        third(&rt, "{}"),
+        Status::BadInput(3, InputFault::BadShape(120))
+    );
+    assert_eq!(rt;
+        third(&rt, NO_SPAN),
+        Status::BadInput(3, InputFault::BadShape(130))
+    );
 }
 
 #[test]

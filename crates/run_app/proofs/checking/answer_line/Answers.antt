@@ -9,4 +9,4 @@ returns-in-Err-check-clause-stop c = rw c.not_bounded.ensures (unbounded_so c.ar
 
 pub returns-in-Ok-push_line_of_answer-clause-text : goal.returns-in-Ok-push_line_of_answer-clause-text
 returns-in-Ok-push_line_of_answer-clause-text c =
-    checked_so c.args.form _ _ _ _ c.in-Ok.statement c.in-Ok-check.yes c.requires.short c.in-Ok.ensures c.in-Ok-check.ensures.answer c.clear.ensures.items c.in-Ok-push_line_of_answer.ensures.text
+    checked_so c.args.form _ _ _ _ c.in-Ok.statement c.in-Ok-check.right c.requires.short c.in-Ok.ensures c.in-Ok-check.ensures.answer c.clear.ensures.items c.in-Ok-push_line_of_answer.ensures.text

@@ -22,6 +22,6 @@ pub returns-in-Ok-flush-clause-written : goal.returns-in-Ok-flush-clause-written
 returns-in-Ok-flush-clause-written g c = λ s stood.
     report_written c.args.form c.in-Some.chain s _ _ (subst (λ x. StandsAt x s) c.in-Some.is stood) c.in-Ok.ensures.text c.deref.ensures.value _ _ _ c.in-Ok-write_all.ensures.ok c.in-Ok-flush.ensures.same
 
-pub returns-in-Err-clause-stops : goal.returns-in-Err-clause-stops
-returns-in-Err-clause-stops g c = λ s stood.
+pub returns-clause-stops : goal.returns-clause-stops
+returns-clause-stops g c = λ s stood.
     report_unflushed c.args.form c.in-Some.chain s _ _ (subst (λ x. StandsAt x s) c.in-Some.is stood) c.in-Ok.ensures.text c.deref.ensures.value _ _ _ c.in-Ok-write_all.ensures.ok c.flush.ensures.same

@@ -1,4 +1,4 @@
-use Rattle.std.proofs.Common.{◌∙◌, inl, inr, refl}
+use Rattle.std.proofs.Common.{◌≡◌, ◌∙◌, inl, inr, refl, rules}
 use Rattle.store_history.proofs.KeepingLemmas.{become_before}
 use Rattle.run_app.proofs.ModeLemmas.{nothing_done, quiet_at, quiet_read, rows_left}
 use Rattle.run_app.proofs.OpenLemmas.{is_unopened, mode_unopened, never_bad_store, opened_cause, opened_quiet, unopened_busy, unopened_undone, unopened_unread, unopened_unwritten}
@@ -14,11 +14,12 @@ carry_out_kept-status-requires-clause-takes g c = λ changes distinct. c.read_hi
 pub returns-in-Ok-clause-ends : goal.returns-in-Ok-clause-ends
 returns-in-Ok-clause-ends g c =
     let e = c.read_history.ensures in
-    inl (record {
+    let back : c.keeper-1.given.0 ≡ c.carry_out_kept-status.result.1.now = search rules in
+    rw back (inl (record {
       ends = kept_before c.args.form c.args.mode c.requires.commits _ _ _ _ _ _ _ _ _ _ _ _ _ e.same c.in-Ok.ensures.told e.stop c.carry_out_kept-status.ensures.honest c.carry_out_kept-status.ensures.ends;
       became = become_before _ _ _ e.same c.carry_out_kept-status.ensures.became;
       history = c.carry_out_kept-status.ensures.history;
-    })
+    }))
 
 pub returns-in-Ok-clause-unkept : goal.returns-in-Ok-clause-unkept
 returns-in-Ok-clause-unkept g c = λ off.
@@ -56,3 +57,13 @@ returns-in-Err-clause-keep_cause g c = rw c.status_of_open.ensures (opened_cause
 
 pub returns-in-Err-clause-keep_quiet : goal.returns-in-Err-clause-keep_quiet
 returns-in-Err-clause-keep_quiet g c = rw c.status_of_open.ensures (opened_quiet c.in-Err.fault _ c.in-Err.ensures.quiet)
+
+pub returns-in-Ok-clause-keep_cause : goal.returns-in-Ok-clause-keep_cause
+returns-in-Ok-clause-keep_cause g c =
+    let back : c.keeper-1.given.0 ≡ c.carry_out_kept-status.result.1.now = search rules in
+    rw (back, ← c.in-Ok.ensures.quiet) c.carry_out_kept-status.ensures.keep_cause
+
+pub returns-in-Ok-clause-keep_quiet : goal.returns-in-Ok-clause-keep_quiet
+returns-in-Ok-clause-keep_quiet g c =
+    let back : c.keeper-1.given.0 ≡ c.carry_out_kept-status.result.1.now = search rules in
+    rw (back, ← c.in-Ok.ensures.quiet) c.carry_out_kept-status.ensures.keep_quiet

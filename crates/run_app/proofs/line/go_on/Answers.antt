@@ -17,7 +17,7 @@ commit_next-requires g c =
     let a = c.in_default.ensures.ok k.1 k.2.stands in
     let q = stands_some c.advance.new.chain a.0 a.2 in
     let settled = settled_for c.advance.new.chain c.args.chain.now k.1 c.in_default.ensures.settled k.2.same k.2.stands in
-    (k.1, q.0, settled, q.2, block_rises c.args.form c.args.number c.args.line.now k.1 settled.sound _ a.0 q.0 a.1 q.1, k.2.held)
+    record { holds = (k.1, q.0, settled, q.2, block_rises c.args.form c.args.number c.args.line.now k.1 settled.sound _ a.0 q.0 a.1 q.1, k.2.held) }
 
 pub returns-in-Ok-clause-ok : goal.returns-in-Ok-clause-ok
 returns-in-Ok-clause-ok g c = λ b p k.

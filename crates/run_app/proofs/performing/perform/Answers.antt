@@ -3,7 +3,7 @@ use Rattle.run_app.proofs.WayLemmas.{kept_commits, plain_few}
 use Rattle.run_app.proofs.performing.perform.Goals as goal
 
 pub carry_out-requires : goal.carry_out-requires
-carry_out-requires g c = plain_few c.args.command c.in-Plain.mode c.requires.few (sym c.way_of.ensures ∙ c.in-Plain.is)
+carry_out-requires g c = record { few = plain_few c.args.command c.in-Plain.mode c.requires.few (sym c.way_of.ensures ∙ c.in-Plain.is) }
 
 pub keep-requires-clause-commits : goal.keep-requires-clause-commits
 keep-requires-clause-commits g c = kept_commits c.args.command c.in-Kept.mode (sym c.way_of.ensures ∙ c.in-Kept.is)

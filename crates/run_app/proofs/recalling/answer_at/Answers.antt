@@ -34,25 +34,25 @@ returns-in-Ok-chain_of_rows-clause-answers g c =
     let chain = rw c.deref.ensures.value at c.in-Ok-chain_of_rows.ensures.chain in
     inl (asked_at c.args.form c.args.height c.args.what.now _ _ _ _ _ c.write_answer.result c.in-Ok.ensures chain c.write_answer.ensures.ends)
 
-pub returns-in-Err-chain_of_rows-clause-answers : goal.returns-in-Err-chain_of_rows-clause-answers
-returns-in-Err-chain_of_rows-clause-answers g c =
+pub returns-clause-answers : goal.returns-clause-answers
+returns-clause-answers g c =
     let none = rw c.deref.ensures.value at c.in-Err-chain_of_rows.ensures.fault in
     rw c.status_of_restore.ensures (inr (refused_chain c.args.height _ _ c.in-Err-chain_of_rows.fault c.in-Ok.ensures none, nothing _ _ refl))
 
-pub returns-in-Err-chain_of_rows-clause-busy : goal.returns-in-Err-chain_of_rows-clause-busy
-returns-in-Err-chain_of_rows-clause-busy g c = rw c.status_of_restore.ensures (unresumed_busy c.in-Err-chain_of_rows.fault)
+pub returns-clause-busy : goal.returns-clause-busy
+returns-clause-busy g c = rw c.status_of_restore.ensures (unresumed_busy c.in-Err-chain_of_rows.fault)
 
-pub returns-in-Err-chain_of_rows-clause-read : goal.returns-in-Err-chain_of_rows-clause-read
-returns-in-Err-chain_of_rows-clause-read g c = rw c.status_of_restore.ensures (unresumed_unread c.in-Err-chain_of_rows.fault)
+pub returns-clause-read : goal.returns-clause-read
+returns-clause-read g c = rw c.status_of_restore.ensures (unresumed_unread c.in-Err-chain_of_rows.fault)
 
-pub returns-in-Err-chain_of_rows-clause-keep : goal.returns-in-Err-chain_of_rows-clause-keep
-returns-in-Err-chain_of_rows-clause-keep g c = rw c.status_of_restore.ensures (chain_unkept _ c.in-Err-chain_of_rows.fault c.in-Err-chain_of_rows.ensures.fault)
+pub returns-clause-keep : goal.returns-clause-keep
+returns-clause-keep g c = rw c.status_of_restore.ensures (chain_unkept _ c.in-Err-chain_of_rows.fault c.in-Err-chain_of_rows.ensures.fault)
 
-pub returns-in-Err-chain_of_rows-clause-clean : goal.returns-in-Err-chain_of_rows-clause-clean
-returns-in-Err-chain_of_rows-clause-clean g c = rw c.status_of_restore.ensures (λ e. absurd (unresumed_undone c.in-Err-chain_of_rows.fault e))
+pub returns-clause-clean : goal.returns-clause-clean
+returns-clause-clean g c = rw c.status_of_restore.ensures (λ e. absurd (unresumed_undone c.in-Err-chain_of_rows.fault e))
 
-pub returns-in-Err-chain_of_rows-clause-write_cause : goal.returns-in-Err-chain_of_rows-clause-write_cause
-returns-in-Err-chain_of_rows-clause-write_cause g c = rw c.status_of_restore.ensures (λ e. absurd (unresumed_unwritten c.in-Err-chain_of_rows.fault e))
+pub returns-clause-write_cause : goal.returns-clause-write_cause
+returns-clause-write_cause g c = rw c.status_of_restore.ensures (λ e. absurd (unresumed_unwritten c.in-Err-chain_of_rows.fault e))
 
-pub returns-in-Err-chain_of_rows-clause-write_quiet : goal.returns-in-Err-chain_of_rows-clause-write_quiet
-returns-in-Err-chain_of_rows-clause-write_quiet g c = quiet_at _ _ refl
+pub returns-clause-write_quiet : goal.returns-clause-write_quiet
+returns-clause-write_quiet g c = quiet_at _ _ refl

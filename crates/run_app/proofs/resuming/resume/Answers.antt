@@ -1,4 +1,4 @@
-use Rattle.std.proofs.Common.{inl, inr, refl}
+use Rattle.std.proofs.Common.{inl, inr, refl, ap, Err}
 use Rattle.run_app.proofs.DriveLemmas.{begun_busy}
 use Rattle.run_app.proofs.PartLemmas.{rose_later}
 use Rattle.run_app.proofs.ModeLemmas.{nothing_done, quiet_at, quiet_read}
@@ -15,11 +15,11 @@ commit_migration-requires-clause-changing g c =
     let e = c.restore_with_changes.ensures in
     rw c.deref.ensures.value (each_changes c.args.form _ _ _ _ _ c.in-Ok.ensures.restored e.same)
 
-pub drive-requires-clause-kept : goal.drive-requires-clause-kept
-drive-requires-clause-kept g c =
+pub drive-requires : goal.drive-requires
+drive-requires g c =
     let e = c.restore_with_changes.ensures in
     let commits = rw c.deref.ensures.value at c.in-Ok-commit_migration.ensures.commits in
-    (_, _, resumed_first c.args.form _ _ _ _ _ c.in-Ok.ensures.restored e.same _ _ _ _ e.settled commits)
+    record { kept = (_, _, resumed_first c.args.form _ _ _ _ _ c.in-Ok.ensures.restored e.same _ _ _ _ e.settled commits) }
 
 pub returns-in-Ok-commit_migration-clause-ends : goal.returns-in-Ok-commit_migration-clause-ends
 returns-in-Ok-commit_migration-clause-ends g c =
@@ -89,4 +89,4 @@ pub returns-in-Ok-commit_migration-clause-keep_cause : goal.returns-in-Ok-commit
 returns-in-Ok-commit_migration-clause-keep_cause g c = λ e. rose_later _ _ _ c.restore_with_changes.ensures.later (rose_later _ _ _ c.commit_migration.ensures.later (c.drive.ensures.keep_cause e))
 
 pub returns-in-Err-Failed-clause-keep_cause : goal.returns-in-Err-Failed-clause-keep_cause
-returns-in-Err-Failed-clause-keep_cause g c = λ e. rose_later _ _ _ c.restore_with_changes.ensures.later (c.in-Err-Failed.ensures.cause refl)
+returns-in-Err-Failed-clause-keep_cause g c = λ e. rose_later _ _ _ c.restore_with_changes.ensures.later (c.in-Err-Failed.ensures.cause (ap Err c.in-Err-Failed.field-0-is))

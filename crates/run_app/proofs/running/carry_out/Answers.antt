@@ -33,7 +33,7 @@ pub returns-in-Query-clause-ends : goal.returns-in-Query-clause-ends
 returns-in-Query-clause-ends g c = rw c.in-Query.is (refl, c.answer.ensures.ends)
 
 pub returns-in-Query-clause-unkept : goal.returns-in-Query-clause-unkept
-returns-in-Query-clause-unkept g c = rw c.in-Query.is (λ off. let u = c.answer.ensures.unkept off in (u.0, refl, u.1))
+returns-in-Query-clause-unkept g c = rw c.in-Query.is (λ off. let u = c.answer.ensures.unkept off in (u.0, (refl, u.1)))
 
 pub returns-in-Gen-clause-unkept : goal.returns-in-Gen-clause-unkept
 returns-in-Gen-clause-unkept g c = rw c.in-Gen.is (λ off. tt)

@@ -5,10 +5,10 @@ use Rattle.run_app.proofs.KeepLemmas.{begins_on_none}
 use Rattle.run_app.proofs.ModeLemmas.{nothing_done, rows_left}
 use Rattle.run_app.proofs.running.replay.Goals as goal
 
-pub drive-requires-clause-kept : goal.drive-requires-clause-kept
-drive-requires-clause-kept g c =
+pub drive-requires : goal.drive-requires
+drive-requires g c =
     let e = c.has_rows.ensures in
-    (on_none _, None, begins_on_none _ _ _ _ (e.none (c.in-Ok-false.is ∙ ap Ok c.in-Ok-false.field-0-test)) e.same c.in-Ok-false.ensures.told e.settled)
+    record { kept = (on_none _, None, begins_on_none _ _ _ _ (e.none (c.in-Ok-false.is ∙ ap Ok c.in-Ok-false.field-0-test)) e.same c.in-Ok-false.ensures.told e.settled) }
 
 pub returns-in-Ok-false-clause-ends : goal.returns-in-Ok-false-clause-ends
 returns-in-Ok-false-clause-ends g c =

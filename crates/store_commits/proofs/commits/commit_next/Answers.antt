@@ -3,12 +3,12 @@ use Rattle.store_commits.proofs.Committing.{not_committed}
 use Rattle.store_commits.proofs.commits.commit_next.Goals as goal
 
 pub next_changes-requires : goal.next_changes-requires
-next_changes-requires g c = let h = c.requires.holds in (h.0, h.1, h.2, h.3, h.4)
+next_changes-requires g c = let h = c.requires.holds in record { risen = (h.0, h.1, h.2, h.3, h.4) }
 
 pub commit_made-requires : goal.commit_made-requires
 commit_made-requires g c =
     let h = c.requires.holds in
-    (items_of h.0, items_of h.1, rw c.deref.ensures.value (c.in-Ok.ensures.made h.0 h.1 h.2 h.3), h.5)
+    record { made = (items_of h.0, items_of h.1, rw c.deref.ensures.value (c.in-Ok.ensures.made h.0 h.1 h.2 h.3), h.5) }
 
 pub returns-in-Ok-commit_made-clause-commits : goal.returns-in-Ok-commit_made-clause-commits
 returns-in-Ok-commit_made-clause-commits g c = λ q stands.
