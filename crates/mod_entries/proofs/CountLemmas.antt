@@ -16,7 +16,6 @@ use Rattle.base_records.proofs.MemberLemmas.{Member}
 use Rattle.base_records.proofs.WalkLemmas.{left_of, walk-end, walk-more}
 use Rattle.rule_modules.specs.EntrySlashes.{Made, is_hit, part_of, counted, counted_of}
 use Rattle.mod_entries.specs.Slashed.{all_counted}
-use Rattle.mod_entries.specs.Walked.{keys_where}
 
 module _ {E : Type 0} (made : E → Made) (infraction factor now : ℕ) where
   pub counted-cons : (e : E) (es : List E)
@@ -77,7 +76,7 @@ pub one_step : (b : Bool) → cond b 1 0 ≤ 1
 one_step true = omega arith
 one_step false = omega arith
 
-filter_member : {A : Type 0} (p : A → Bool) (xs : List A) (x : A) → Member (filter p xs) x → Member xs x
+pub filter_member : {A : Type 0} (p : A → Bool) (xs : List A) (x : A) → Member (filter p xs) x → Member xs x
 filter_member p [] x m = absurd m
 filter_member p (y ∷ xs) x m = by (p y) (filter_member p xs x) m
   where
@@ -86,7 +85,24 @@ filter_member p (y ∷ xs) x m = by (p y) (filter_member p xs x) m
     by true more (inr n) = inr (more n)
     by false more n = inr (more n)
 
-of_member : {A : Type 0} (P : A → Type 0) (xs : List A) → AllByRecursion P xs → (x : A) → Member xs x → P x
+pub filter_passes : {A : Type 0} (p : A → Bool) (xs : List A) (x : A) → Member (filter p xs) x → p x ≡ true
+filter_passes p [] x m = absurd m
+filter_passes p (y ∷ xs) x m = by (p y) refl (filter_passes p xs x) m
+  where
+    by : (b : Bool) → p y ≡ b → (Member (filter p xs) x → p x ≡ true) → Member (cond b (y ∷ filter p xs) (filter p xs)) x → p x ≡ true
+    by true q more (inl e) = ap p (sym e) ∙ q
+    by true q more (inr n) = more n
+    by false q more n = more n
+
+pub all-passes : {A : Type 0} (p : A → Bool) (xs : List A) → AllByRecursion (λ x. p x ≡ true) (filter p xs)
+all-passes p [] = tt
+all-passes {A} p (x ∷ xs) = by (p x) refl (all-passes p xs)
+  where
+    by : (b : Bool) → p x ≡ b → AllByRecursion (λ (y : A). p y ≡ true) (filter p xs) → AllByRecursion (λ (y : A). p y ≡ true) (cond b (x ∷ filter p xs) (filter p xs))
+    by true q more = (q, more)
+    by false q more = more
+
+pub of_member : {A : Type 0} (P : A → Type 0) (xs : List A) → AllByRecursion P xs → (x : A) → Member xs x → P x
 of_member P [] h x m = absurd m
 of_member P (y ∷ xs) h x (inl e) = subst P e h.0
 of_member P (y ∷ xs) h x (inr m) = of_member P xs h.1 x m
@@ -99,6 +115,10 @@ module _ {K E : Type 0} (cmp : K → K → Ordering) (total : IsTotalOrder cmp) 
   left_member None e m = m
   left_member (Some k) e m = filter_member _ u e m
 
+  -- at the end all keys are told
+  pub keys-end : (ks all : List K) → entry_above cmp u after ≡ None → ks ++ keys_of (left_at after) ≡ all → ks ≡ all
+  keys-end ks all none told = sym (append-nil ks) ∙ ap (λ l. ks ++ keys_of l) (sym (walk-end cmp u after none)) ∙ told
+
   module _ (e : K × List E) (f : entry_above cmp u after ≡ Some e) where
     pub left_is : left_at after ≡ e ∷ left_at (Some e.0)
     left_is = walk-more cmp total u after e s f
@@ -106,31 +126,33 @@ module _ {K E : Type 0} (cmp : K → K → Ordering) (total : IsTotalOrder cmp) 
     pub where-shorter : length (left_at (Some e.0)) < length (left_at after)
     where-shorter = let n = ap length left_is in omega (arith, n)
 
-    pub where-next : (test : K → List E → Bool) (ks next : List K) → ks ++ keys_where test (left_at after) ≡ keys_where test u → next ≡ ks ++ cond (test e.0 e.1) (e.0 ∷ []) [] → next ++ keys_where test (left_at (Some e.0)) ≡ keys_where test u
-    where-next test ks next told n =
-        ap (λ l. l ++ keys_where test (left_at (Some e.0))) n ∙ append_assoc ks (cond (test e.0 e.1) (e.0 ∷ []) []) (keys_where test (left_at (Some e.0)))
-        ∙ ap (λ l. ks ++ l) (where_cons (test e.0 e.1)) ∙ ap (λ l. ks ++ keys_where test l) (sym left_is) ∙ told
-      where
-        rest : List (K × List E)
-        rest = filter (λ (x : K × List E). test x.0 x.1) (left_at (Some e.0))
-
-        where_cons : (b : Bool) → cond b (e.0 ∷ []) [] ++ keys_where test (left_at (Some e.0)) ≡ map (λ (x : K × List E). x.0) (cond b (e ∷ rest) rest)
-        where_cons true = refl
-        where_cons false = refl
+    -- its key is told next
+    pub keys-next : (ks next all : List K) → ks ++ keys_of (left_at after) ≡ all → next ≡ ks ++ e.0 ∷ [] → next ++ keys_of (left_at (Some e.0)) ≡ all
+    keys-next ks next all told n =
+        ap (λ l. l ++ keys_of (left_at (Some e.0))) n ∙ append_assoc ks (e.0 ∷ []) (keys_of (left_at (Some e.0)))
+        ∙ ap (λ l. ks ++ keys_of l) (sym left_is) ∙ told
 
     -- a step of the walk goes from what is left
     pub walk-cost : (steps next bound : ℕ) → next ≤ steps + 1 → steps + length (left_at after) ≤ bound → next + length (left_at (Some e.0)) ≤ bound
     walk-cost steps next bound one h = let n = ap length left_is in omega (arith, n, one, h)
 
-    pub count-next : (source : K → List ℕ) (made : E → Made) (operator : List ℕ) (infraction factor now sum next : ℕ)
-        → counted (sum + all_counted source made operator infraction factor now (left_at after)) ≡ counted (all_counted source made operator infraction factor now u)
-        → next ≡ counted (sum + cond (same_addr (source e.0) operator) (counted_of infraction factor now (map made e.1)) 0)
-        → counted (next + all_counted source made operator infraction factor now (left_at (Some e.0))) ≡ counted (all_counted source made operator infraction factor now u)
-    count-next source made operator infraction factor now sum next told n =
-        ap (λ x. counted (x + all_counted source made operator infraction factor now (left_at (Some e.0)))) n
-        ∙ counted-next sum (cond (same_addr (source e.0) operator) (counted_of infraction factor now (map made e.1)) 0) (all_counted source made operator infraction factor now (left_at (Some e.0)))
-        ∙ ap (λ x. counted (sum + x)) (sym (ap (all_counted source made operator infraction factor now) left_is ∙ all_counted-cons made infraction factor now source operator e (left_at (Some e.0)))) ∙ told
+    pub count-next : (source : K → List ℕ) (made : E → Made) (operator : List ℕ) (infraction factor now sum next all : ℕ) → same_addr (source e.0) operator ≡ true
+        → counted (sum + all_counted source made operator infraction factor now (left_at after)) ≡ all
+        → next ≡ counted (sum + counted_of infraction factor now (map made e.1))
+        → counted (next + all_counted source made operator infraction factor now (left_at (Some e.0))) ≡ all
+    count-next source made operator infraction factor now sum next all own told n =
+        let rest = all_counted source made operator infraction factor now (left_at (Some e.0)) in
+        ap (λ x. counted (x + rest)) n
+        ∙ counted-next sum (counted_of infraction factor now (map made e.1)) rest
+        ∙ ap (λ x. counted (sum + x))
+        (sym (ap (all_counted source made operator infraction factor now) left_is ∙ all_counted-cons made infraction factor now source operator e (left_at (Some e.0))
+        ∙ ap (λ b. cond b (counted_of infraction factor now (map made e.1)) 0 + rest) own))
+        ∙ told
+
+    -- it is one of the entries
+    pub next-member : Member u e
+    next-member = left_member after e (subst (λ l. Member l e) (sym left_is) (inl refl))
 
     -- what holds of all entries holds of that one
     pub all-left : (P : K × List E → Type 0) → All P u → P e
-    all-left P h = of_member P u (recursion_from_All P u h) e (left_member after e (subst (λ l. Member l e) (sym left_is) (inl refl)))
+    all-left P h = of_member P u (recursion_from_All P u h) e next-member

@@ -1,10 +1,10 @@
 -- The keys with a mature entry: from the queue, sorted, they are those of the lists.
-use Rattle.std.proofs.Common.{◌≡◌, ◌∙◌, ℕ, ◌+◌, ◌<◌, ◌≤◌, ◌++◌, get_or, length, length-append, append_assoc, append-nil, Bool, true, false, cond, List, [], ◌∷◌, Option, Some, None, refl, sym, ap, arith, inl, inr}
+use Rattle.std.proofs.Common.{◌≡◌, ◌∙◌, ℕ, ◌+◌, ◌<◌, ◌≤◌, ◌++◌, length, append_assoc, append-nil, Bool, true, false, cond, List, [], ◌∷◌, Option, Some, None, refl, sym, ap, arith, inl, inr}
 use Rattle.std.specs.Prelude.{◌||◌, nat_lt, nat_le, map, filter, unwrap_or}
 use Rattle.std.proofs.lemmas.Bool.Decides.{nat_tests}
 use Rattle.std.specs.declared.cmp.Ordering.{Ordering}
 use Rattle.std.specs.declared.cmp.Ordering.TheVariants.{Less, Equal, Greater}
-use Rattle.std.specs.Ordering.{is_eq, is_lt, nat_cmp, eq_by_cmp, ordering_then, ordering_reverse}
+use Rattle.std.specs.Ordering.{is_eq, nat_cmp, eq_by_cmp, ordering_then}
 use Rattle.std.specs.Cmp.{IsTotalOrder, nat_cmp_is, eq_by_cmp_equiv}
 use Rattle.std.specs.BTreeMap.{is_at}
 use Rattle.std.specs.List.{AllByRecursion, IsDistinct, list_any}
@@ -12,7 +12,7 @@ use Rattle.std.specs.List.Sorted.{IsStrictlySortedBy, IsSorted, IsPermutation}
 use Rattle.std.specs.Map.{keys_of, values_of}
 use Rattle.std.proofs.lemmas.List.Sorted.{IsPermutation-sym, Contains-permutation}
 use Rattle.std.proofs.lemmas.List.Sums.{sum_by-cons}
-use Rattle.std.proofs.lemmas.Map.Keys.{IsDistinct-from_sorted, IsDistinct-IsPermutation, apart_from_distinct, sorted_from_all_adjacent}
+use Rattle.std.proofs.lemmas.Map.Keys.{IsDistinct-from_sorted, IsDistinct-IsPermutation}
 use Rattle.std.proofs.lemmas.Map.Made.{length-le_from_is_member}
 use Rattle.std.proofs.lemmas.Map.Views.{Contains-from_lookup, lookup-from_Contains}
 use Rattle.base_types.specs.Orders.{moment_cmp}
@@ -25,9 +25,10 @@ use Rattle.base_table.specs.Tabled.{entry_above}
 use Rattle.rule_modules.specs.Amounts.{count_where}
 use Rattle.rule_modules.specs.EntrySlashes.{Made}
 use Rattle.mod_entries.specs.Lists.{list_at, is_mature, some_mature, IsExact}
-use Rattle.mod_entries.specs.Queue.{Completions, completion_cmp, sooner, earliest, earliest_from, standing, IsQueue, due_in}
+use Rattle.mod_entries.specs.Queue.{Completions, completion_cmp, sooner, earliest, earliest_from, IsQueue, due_in}
 use Rattle.mod_entries.specs.Walked.{keys_where, is_due, mature_entries}
-use Rattle.mod_entries.proofs.QueueLemmas.{completion_total}
+use Rattle.mod_entries.specs.Ways.{standing}
+use Rattle.mod_entries.proofs.WayLemmas.{completion_total}
 use Rattle.mod_entries.proofs.WalkedLemmas.{above-where}
 
 -- ---- the keys whose entries pass a test
@@ -42,7 +43,7 @@ module _ {K E : Type 0} (test : K → List E → Bool) where
       by true h = (above-where cmp test p.0 u s.0, h)
       by false h = h
 
-  where_has : (u : List (K × List E)) (k : K) → Member (keys_where test u) k → (es : List E) × (Member u (k, es) × (test k es ≡ true))
+  pub where_has : (u : List (K × List E)) (k : K) → Member (keys_where test u) k → (es : List E) × (Member u (k, es) × (test k es ≡ true))
   where_has [] k m = absurd m
   where_has (p ∷ u) k m = by (test p.0 p.1) refl (where_has u k) m
     where
@@ -51,7 +52,7 @@ module _ {K E : Type 0} (test : K → List E → Bool) where
       by true q more (inr n) = let r = more n in (r.0, (inr r.1.0, r.1.1))
       by false q more n = let r = more n in (r.0, (inr r.1.0, r.1.1))
 
-  has_where : (u : List (K × List E)) (k : K) (es : List E) → Member u (k, es) → test k es ≡ true → Member (keys_where test u) k
+  pub has_where : (u : List (K × List E)) (k : K) (es : List E) → Member u (k, es) → test k es ≡ true → Member (keys_where test u) k
   has_where [] k es m q = absurd m
   has_where (p ∷ u) k es m q = by (test p.0 p.1) refl (λ n. has_where u k es n q) m
     where
@@ -226,12 +227,12 @@ module _ {K E : Type 0} (cmp : K → K → Ordering) (total : IsTotalOrder cmp) 
       by (earliest made (list_at cmp u k)) refl
       (sym (h t k) ∙ lookup-from_Contains (eq_by_cmp_equiv (completion_total cmp total)) (t, k) b q (IsDistinct-from_sorted (completion_cmp cmp) (keys_of q) sq) (contained q ((t, k), b) m))
     where
-      by : (r : Option ℕ) → earliest made (list_at cmp u k) ≡ r → standing t r ≡ Some b → r ≡ Some t
+      by : (r : Option ℕ) → earliest made (list_at cmp u k) ≡ r → standing moment_cmp t r ≡ Some b → r ≡ Some t
       by None e g = absurd cc
       by (Some x) e g = stood_then t x b (is_at (moment_cmp t) x) refl g
 
   in_queue : (t : ℕ) (k : K) → earliest made (list_at cmp u k) ≡ Some t → Member q ((t, k), true)
-  in_queue t k e = member q ((t, k), true) (Contains-from_lookup (exact_completion cmp total exact) (t, k) true q (h t k ∙ ap (standing t) e ∙ ap (λ c. cond c (Some true) None) (at_itself t)))
+  in_queue t k e = member q ((t, k), true) (Contains-from_lookup (exact_completion cmp total exact) (t, k) true q (h t k ∙ ap (standing moment_cmp t) e ∙ ap (λ c. cond c (Some true) None) (at_itself t)))
 
   some_list : (k : K) (t : ℕ) → earliest made (list_at cmp u k) ≡ Some t → Member u (k, list_at cmp u k)
   some_list k t e = by (at cmp u k) refl e

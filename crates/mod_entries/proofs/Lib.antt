@@ -2,6 +2,8 @@ pub mod AnswerLemmas
 pub mod CountLemmas
 pub mod DueLemmas
 pub mod MarkLemmas
-pub mod QueueLemmas
+pub mod SideLemmas
+pub mod SourceLemmas
 pub mod UndoneLemmas
 pub mod WalkedLemmas
+pub mod WayLemmas

@@ -1,7 +1,11 @@
 pub mod Answers
 pub mod Exact
 pub mod Kept
+pub mod Least
 pub mod Lists
 pub mod Queue
 pub mod Slashed
+pub mod Sources
+pub mod Together
 pub mod Walked
+pub mod Ways

@@ -1,16 +1,15 @@
-//! Keys by what is told of their entries: those that have a mature entry, and those of an operator.
+//! The keys that have a mature entry, and what stays of their entries.
 
-ghost use Rattle.std.specs.Prelude.{◌≡◌, ◌+◌, ◌≤◌, ◌++◌, ◌∷◌, [], length, if◌then◌else◌, IfOk, OnOk};
+ghost use Rattle.std.specs.Prelude.{◌≡◌, ◌+◌, ◌≤◌, length, IfOk};
 ghost use Rattle.mod_entries.specs.Lists.{unmatured};
 ghost use Rattle.mod_entries.specs.Queue.{IsQueue, due_in};
-ghost use Rattle.mod_entries.specs.Slashed.{is_from};
 ghost use Rattle.mod_entries.specs.Walked.{keys_where, is_due};
 
 use crate::entry::{Entry, EntryKey};
-use crate::slashing::{is_mature, is_same};
+use crate::slashing::is_mature;
 use base_roles::Listed;
 use base_table::{Table, TableFault};
-use base_types::{Addr, Moment, Steps};
+use base_types::{Moment, Steps};
 use std::alloc::Global;
 use std::sync::ledger::Ledger;
 
@@ -57,38 +56,6 @@ fn queued<K: EntryKey, L: Ledger>(
         after = Some(*place);
     }
     Ok(keys)
-}
-
-/// The keys of entries from an operator, in their order.
-pub(crate) fn keys_from<K: EntryKey, E: Entry, L: Ledger>(
-    alloc: Global,
-    lists: &Table<K, Listed<E>>,
-    operator: &Addr,
-    steps: &mut Steps<L>,
-) -> Result<Vec<K>, TableFault>
-    ensures keys { IfOk result (λ keys.
-        keys.items ≡ keys_where (is_from K.source operator.now) lists.now.entries) }
-    ensures cost { steps.new ≤ steps.old + length lists.now.entries }
-{
-    lists.known();
-    let mut keys = Vec::new(alloc);
-    let mut after: Option<K> = None;
-    while let Some((key, _list)) = lists.next(after.as_ref(), steps) {
-        push_if(&mut keys, key, is_same(key.source(), operator))?;
-        after = Some(*key);
-    }
-    Ok(keys)
-}
-
-/// Appends a key, if so.
-fn push_if<K: EntryKey>(keys: &mut Vec<K>, key: &K, is_one: bool) -> Result<(), TableFault>
-    ensures { OnOk result
-        (keys.new.items ≡ keys.old.items ++ (if is_one then key.now ∷ [] else [])) }
-{
-    if is_one {
-        keys.push(*key)?;
-    }
-    Ok(())
 }
 
 /// The entries that are not mature.

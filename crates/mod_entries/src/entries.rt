@@ -8,13 +8,15 @@ ghost use Rattle.base_table.specs.Tabled.{entry_above, entry_from};
 ghost use Rattle.base_roles.specs.Entries.{at, with, without};
 ghost use Rattle.mod_entries.specs.Kept.{nothing_kept, holding, spent_now, with_mark, settled_now, IsGoneBack, IsForgotten};
 ghost use Rattle.mod_entries.specs.Lists.{list_at, with_list, unmatured, AllKeys};
-ghost use Rattle.mod_entries.specs.Walked.{keys_where, is_due};
 ghost use Rattle.mod_entries.specs.Slashed.{is_from};
+ghost use Rattle.mod_entries.specs.Sources.{from_operator};
+ghost use Rattle.mod_entries.specs.Walked.{keys_where, is_due};
 
-use crate::due::{due, keys_from, unmatured};
+use crate::changing::{put_both, take_both};
+use crate::due::{due, unmatured};
 use crate::entry::{Entry, EntryKey};
-use crate::queue::{put_both, take_both};
-use base_records::mark_both;
+use crate::sources::{keys_from, next_from};
+use crate::ways::Ways;
 use base_roles::Listed;
 use base_table::{Table, TableFault};
 use base_types::{Addr, Copied, Moment, Steps};
@@ -25,24 +27,26 @@ use std::sync::ledger::Ledger;
 /// Lists of entries by key, in tables. Contracts see them as they stand, at each open mark, and at the last
 /// settling, and whether memory was wanting in a change.
 ///
-/// A second table, the queue, has each key under the earliest completion of its entries, so what completes
-/// first is found without a walk. Once memory was wanting in a change, each later change answers an error.
+/// Two more tables, the ways, have each key under the earliest completion of its entries and under its
+/// source, so what completes first, and what is from an operator, is found without a walk over all keys.
+/// Once memory was wanting in a change, each later change answers an error.
 #[derive(Drop)]
 pub struct Entries<K: EntryKey, E: Entry> {
     lists: Table<K, Listed<E>>,
-    queue: Table<(Moment, K), bool>,
+    ways: Ways<K>,
     spent: bool,
 }
 
 impl<K: EntryKey, E: Entry> Model for Entries<K, E> {
     ghost use Rattle.mod_entries.specs.Kept.{Kept, kept};
-    ghost use Rattle.mod_entries.specs.Queue.{HaveSameMarks};
+    ghost use Rattle.mod_entries.specs.Together.{HaveSameMarks};
 
     ghost Value = { Kept K E };
 
     ghost view = { λ s. kept s.lists s.spent };
 
-    ghost invariant = { λ s. HaveSameMarks K.cmp K.fits E.made s.lists s.queue };
+    ghost invariant = { λ s. HaveSameMarks K.cmp K.fits K.source E.made
+        s.lists s.ways.queue s.ways.sources };
 }
 
 impl<K: EntryKey, E: Entry> Entries<K, E> {
@@ -52,7 +56,7 @@ impl<K: EntryKey, E: Entry> Entries<K, E> {
     {
         Entries {
             lists: Table::new(alloc),
-            queue: Table::new(alloc),
+            ways: Ways::new(alloc),
             spent: false,
         }
     }
@@ -100,7 +104,7 @@ impl<K: EntryKey, E: Entry> Entries<K, E> {
             return Err(TableFault::Spent);
         }
         key.known();
-        match put_both(&mut self.lists, &mut self.queue, key, list, steps) {
+        match put_both(&mut self.lists, &mut self.ways, key, list, steps) {
             Ok(()) => Ok(()),
             Err(fault) => {
                 self.spent = true;
@@ -142,12 +146,12 @@ impl<K: EntryKey, E: Entry> Entries<K, E> {
             (self.new ≡ holding (without K.cmp self.old.lists key.now) self.old) }
         ensures err { OnErr result (self.new ≡ spent_now self.old) }
         ensures spent { self.old.spent ≡ true → IsErr result }
-        ensures cost { steps.new ≤ steps.old + 3 }
+        ensures cost { steps.new ≤ steps.old + 4 }
     {
         if self.spent {
             return Err(TableFault::Spent);
         }
-        match take_both(&mut self.lists, &mut self.queue, key, steps) {
+        match take_both(&mut self.lists, &mut self.ways, key, steps) {
             Ok(()) => Ok(()),
             Err(fault) => {
                 self.spent = true;
@@ -232,7 +236,7 @@ impl<K: EntryKey, E: Entry> Entries<K, E> {
         ensures cost { steps.new ≤ steps.old
             + length (keys_where (is_due E.made now) self.now.lists) + 1 }
     {
-        due(alloc, &self.lists, &self.queue, now, steps)
+        due(alloc, &self.lists, &self.ways.queue, now, steps)
     }
 
     /// The entries of a key that are not mature, also none. The only error is `NoMemory`.
@@ -253,8 +257,8 @@ impl<K: EntryKey, E: Entry> Entries<K, E> {
         }
     }
 
-    /// The keys of entries from an operator, in their order. It takes a step for each key. The only error
-    /// is `NoMemory`.
+    /// The keys of entries from an operator, in their order. It takes a step for each of these, and one more.
+    /// The only error is `NoMemory`.
     pub fn keys_from<L: Ledger>(
         &self,
         alloc: Global,
@@ -263,9 +267,24 @@ impl<K: EntryKey, E: Entry> Entries<K, E> {
     ) -> Result<Vec<K>, TableFault>
         ensures keys { IfOk result (λ keys.
             keys.items ≡ keys_where (is_from K.source operator.now) self.now.lists) }
-        ensures cost { steps.new ≤ steps.old + length self.now.lists }
+        ensures cost { steps.new ≤ steps.old
+            + length (from_operator K.source operator.now self.now.lists) + 1 }
     {
-        keys_from(alloc, &self.lists, operator, steps)
+        keys_from(alloc, &self.lists, &self.ways.sources, operator, steps)
+    }
+
+    /// The least key of entries from an operator above `after`, or the least of all of them for None.
+    pub(crate) fn next_from<L: Ledger>(
+        &self,
+        operator: &Addr,
+        after: Option<&K>,
+        steps: &mut Steps<L>,
+    ) -> Option<&K>
+        ensures key { option_copied result ≡ option_map (λ entry. entry.0) (entry_above K.cmp
+            (from_operator K.source operator.now self.now.lists) (option_copied after.entry)) }
+        ensures cost { steps.new ≤ steps.old + 1 }
+    {
+        next_from(&self.lists, &self.ways.sources, operator, after, steps)
     }
 
     /// Opens a mark.
@@ -280,8 +299,14 @@ impl<K: EntryKey, E: Entry> Entries<K, E> {
         if self.spent {
             return Err(TableFault::Spent);
         }
-        mark_both(&mut self.lists, &mut self.queue)?;
-        Ok(())
+        self.lists.mark()?;
+        match self.ways.mark() {
+            Ok(()) => Ok(()),
+            Err(fault) => {
+                self.lists.back();
+                Err(fault)
+            }
+        }
     }
 
     /// Restores the entries of the latest mark and closes it. Takes no memory.
@@ -290,7 +315,7 @@ impl<K: EntryKey, E: Entry> Entries<K, E> {
         ensures { IsGoneBack self.old self.new }
     {
         self.lists.back();
-        self.queue.back();
+        self.ways.back();
     }
 
     /// Closes the latest mark, and changes nothing else. Takes no memory.
@@ -299,7 +324,7 @@ impl<K: EntryKey, E: Entry> Entries<K, E> {
         ensures { IsForgotten self.old self.new }
     {
         self.lists.forget();
-        self.queue.forget();
+        self.ways.forget();
     }
 
     /// From now on changes are told from here. No mark is open. Takes no memory.
@@ -308,6 +333,6 @@ impl<K: EntryKey, E: Entry> Entries<K, E> {
         ensures { self.new ≡ settled_now self.old }
     {
         self.lists.settle();
-        self.queue.settle();
+        self.ways.settle();
     }
 }

@@ -3,11 +3,12 @@
 ghost use Rattle.std.specs.Prelude.{◌≡◌, ℕ, List};
 ghost use Rattle.rule_modules.specs.EntrySlashes.{Made, unbonding_made, redelegation_made};
 ghost use Rattle.mod_entries.specs.Exact.{exact_pair, exact_triple};
+ghost use Rattle.mod_entries.specs.Least.{least_addr, least_pair, least_triple};
 ghost use Rattle.mod_entries.specs.Lists.{IsExact, IsAddr};
+ghost use Rattle.mod_entries.specs.Sources.{IsLeast};
 
 use base_roles::{RedelegationEntry, UnbondingEntry};
 use base_types::{Addr, Copied, Moment};
-use std::hash::Hash;
 
 /// An entry that was made at a height and completes at a moment.
 pub trait Entry: Copied + Copy {
@@ -28,7 +29,7 @@ pub trait Entry: Copied + Copy {
 }
 
 /// What entries are kept by.
-pub trait EntryKey: Ord + Hash + Copied + Copy {
+pub trait EntryKey: Ord + Copied + Copy {
     /// The operator that the entries are from.
     ghost source: { Self → List ℕ };
 
@@ -41,6 +42,14 @@ pub trait EntryKey: Ord + Hash + Copied + Copy {
     /// It tells that this key is what every key is. It does nothing.
     fn known(&self)
         ensures { fits self.now };
+
+    ghost least_key: { Self };
+
+    /// The key that no other comes before.
+    fn least() -> Self
+        ensures { result ≡ least_key };
+
+    ghost is_least: { IsLeast Self.cmp fits least_key };
 
     /// Keys that compare equal are one key.
     ghost exact: { IsExact Self.cmp };
@@ -93,6 +102,14 @@ impl EntryKey for (Addr, Addr) {
         let _operator = self.1.bytes();
     }
 
+    ghost least_key = { (least_addr, least_addr) };
+
+    fn least() -> (Addr, Addr) {
+        (least_addr(), least_addr())
+    }
+
+    ghost is_least = { least_pair };
+
     ghost exact = { exact_pair };
 }
 
@@ -112,5 +129,20 @@ impl EntryKey for (Addr, Addr, Addr) {
         let _target = self.2.bytes();
     }
 
+    ghost least_key = { (least_addr, least_addr, least_addr) };
+
+    fn least() -> (Addr, Addr, Addr) {
+        (least_addr(), least_addr(), least_addr())
+    }
+
+    ghost is_least = { least_triple };
+
     ghost exact = { exact_triple };
+}
+
+/// The address that no other comes before.
+pub fn least_addr() -> Addr
+    ensures { result ≡ least_addr }
+{
+    Addr::of([0; 20]).unwrap()
 }

@@ -1,10 +1,11 @@
 //! What a slash finds of entries.
 
-ghost use Rattle.std.specs.Prelude.{◌≡◌, ◌+◌, ◌^◌, ◌≤◌, length, map, All, if◌then◌else◌};
+ghost use Rattle.std.specs.Prelude.{◌≡◌, ◌+◌, ◌*◌, ◌^◌, ◌≤◌, length, map, All, if◌then◌else◌};
 ghost use Rattle.base_roles.specs.Orders.{same_addr};
 ghost use Rattle.rule_modules.specs.EntrySlashes.{is_hit, part_of, counted, counted_of};
-ghost use Rattle.mod_entries.specs.Lists.{is_mature, AreFew};
+ghost use Rattle.mod_entries.specs.Lists.{is_mature, list_at, AreFew};
 ghost use Rattle.mod_entries.specs.Slashed.{all_counted};
+ghost use Rattle.mod_entries.specs.Sources.{from_operator};
 
 use crate::entries::Entries;
 use crate::entry::{Entry, EntryKey};
@@ -71,28 +72,6 @@ pub fn counted_of<E: Entry>(entries: &[E], infraction: u64, factor: Dec, now: Mo
     sum
 }
 
-/// What a slash counts of entries where `is_one` says so, and else 0.
-fn counted_if<E: Entry>(
-    is_one: bool,
-    entries: &[E],
-    infraction: u64,
-    factor: Dec,
-    now: Moment,
-) -> u128
-    requires factor { factor ≤ 10 ^ 18 }
-    requires few { length entries.now ≤ 100 }
-    requires initials { All (λ e. (E.made e).initial ≤ 10 ^ 18) entries.now }
-    ensures value { result
-        ≡ (if is_one then counted_of infraction factor now (map E.made entries.now) else 0) }
-    ensures most { result ≤ 10 ^ 20 }
-{
-    if is_one {
-        counted_of(entries, infraction, factor, now)
-    } else {
-        0
-    }
-}
-
 /// So much, and 10^18 where it is more.
 fn counted(amount: u128) -> u128
     ensures value { result ≡ counted amount }
@@ -109,8 +88,8 @@ pub fn is_same(a: &Addr, b: &Addr) -> bool
 }
 
 impl<K: EntryKey, E: Entry> Entries<K, E> {
-    /// What a slash counts of all entries from an operator, and 10^18 where that is more. It takes a step for
-    /// each key.
+    /// What a slash counts of all entries from an operator, and 10^18 where that is more. It takes two steps
+    /// for each key of these, and one more.
     pub fn counted<L: Ledger>(
         &self,
         operator: &Addr,
@@ -124,18 +103,40 @@ impl<K: EntryKey, E: Entry> Entries<K, E> {
         ensures value { result ≡ counted (all_counted K.source E.made
             operator.now infraction factor now self.now.lists) }
         ensures most { result ≤ 10 ^ 18 }
-        ensures cost { steps.new ≤ steps.old + length self.now.lists }
+        ensures cost { steps.new ≤ steps.old
+            + 2 * length (from_operator K.source operator.now self.now.lists) + 1 }
     {
         self.known();
         let mut sum: u128 = 0;
         let mut after: Option<K> = None;
-        while let Some((key, list)) = self.next(after.as_ref(), steps) {
-            let is_one = is_same(key.source(), operator);
-            let part = counted_if(is_one, list.as_slice(), infraction, factor, now);
+        while let Some(key) = self.next_from(operator, after.as_ref(), steps) {
+            let part = self.counted_at(key, infraction, factor, now, steps);
             let next = counted(sum + part);
             sum = next;
             after = Some(*key);
         }
         sum
+    }
+
+    /// What a slash counts of the entries of a key.
+    fn counted_at<L: Ledger>(
+        &self,
+        key: &K,
+        infraction: u64,
+        factor: Dec,
+        now: Moment,
+        steps: &mut Steps<L>,
+    ) -> u128
+        requires factor { factor ≤ 10 ^ 18 }
+        requires entries { AreFew K.cmp E.made self.now.lists }
+        ensures value { result ≡ counted_of infraction factor now
+            (map E.made (list_at K.cmp self.now.lists key.now)) }
+        ensures most { result ≤ 10 ^ 20 }
+        ensures cost { steps.new ≡ steps.old + 1 }
+    {
+        match self.at(key, steps) {
+            Some(list) => counted_of(list.as_slice(), infraction, factor, now),
+            None => 0,
+        }
     }
 }

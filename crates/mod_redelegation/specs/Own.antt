@@ -1,5 +1,5 @@
 -- The entries of one delegator, which stand side by side.
-use Rattle.std.specs.Prelude.{ℕ, Bool, true, if◌then◌else◌, List, [], ◌∷◌, filter, Option, Some, None}
+use Rattle.std.specs.Prelude.{ℕ, Bool, true, if◌then◌else◌, List, filter, Option, Some, None}
 use Rattle.base_roles.specs.declared.entities.RedelegationEntry.{RedelegationEntry}
 use Rattle.base_roles.specs.Orders.{same_addr}
 use Rattle.rule_modules.specs.Redelegations.{RedelegationLists}
@@ -8,10 +8,6 @@ use Rattle.mod_entries.specs.Lists.{IsAddr}
 -- the parts of a key are addresses
 abbrev pub are_addrs : List ℕ × List ℕ × List ℕ → Type 0
 are_addrs key = IsAddr key.0 × IsAddr key.1 × IsAddr key.2
-
--- the address that no other comes before
-abbrev pub least_addr : List ℕ
-least_addr = 0 ∷ 0 ∷ 0 ∷ 0 ∷ 0 ∷ 0 ∷ 0 ∷ 0 ∷ 0 ∷ 0 ∷ 0 ∷ 0 ∷ 0 ∷ 0 ∷ 0 ∷ 0 ∷ 0 ∷ 0 ∷ 0 ∷ 0 ∷ []
 
 -- the entries of a delegator
 abbrev pub own_entries : List ℕ → RedelegationLists → RedelegationLists

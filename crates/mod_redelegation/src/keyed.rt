@@ -11,12 +11,12 @@ ghost use Rattle.base_roles.specs.Orders.{triple_cmp};
 ghost use Rattle.rule_modules.specs.EntrySlashes.{redelegation_made};
 ghost use Rattle.mod_entries.specs.Kept.{holding, spent_now};
 ghost use Rattle.mod_entries.specs.Lists.{list_at, with_list, unmatured, AllKeys};
-ghost use Rattle.mod_redelegation.specs.Own.{are_addrs, own_entries, is_own_or_none, own_entry, least_addr};
+ghost use Rattle.mod_redelegation.specs.Own.{are_addrs, own_entries, is_own_or_none, own_entry};
 
 use base_roles::{Listed, RedelegationEntry};
 use base_table::TableFault;
 use base_types::{Addr, Moment, Steps};
-use mod_entries::{Entries, is_same};
+use mod_entries::{Entries, is_same, least_addr};
 use std::alloc::Global;
 use std::sync::ledger::Ledger;
 
@@ -108,13 +108,6 @@ fn own<'a>(
         return None;
     }
     Some((key, list))
-}
-
-/// The address that no other comes before.
-fn least_addr() -> Addr
-    ensures { result ≡ least_addr }
-{
-    Addr::of([0; 20]).unwrap()
 }
 
 /// Puts entries under a key, also none.

@@ -1,12 +1,19 @@
 use Rattle.std.proofs.Common.{◌≢◌, [], sym, subst}
-use Rattle.mod_entries.proofs.MarkLemmas.{in_step-back, some_at}
+use Rattle.mod_entries.proofs.MarkLemmas.{in_step-back, some_at, some_queued, some_sourced}
 use Rattle.mod_entries.proofs.entries.Entries.back.Goals as goal
 
 pub back-requires : goal.back-requires
-back-requires g c = record { some = (some_at g.K.Ord.cmp g.K.EntryKey.fits g.E.Entry.made c.self.inside.lists c.self.inside.queue c.self.invariant (subst (λ b. b.marks ≢ []) (sym c.self.view_is) c.requires)).0 }
+back-requires g c = record { some = some_at g.K.Ord.cmp g.K.EntryKey.fits g.K.EntryKey.source g.E.Entry.made c.self.inside.lists c.self.inside.ways.queue c.self.inside.ways.sources c.self.invariant (subst (λ b. b.marks ≢ []) (sym c.self.view_is) c.requires) }
 
 pub back-requires-2 : goal.back-requires-2
-back-requires-2 g c = record { some = (some_at g.K.Ord.cmp g.K.EntryKey.fits g.E.Entry.made c.self.inside.lists c.self.inside.queue c.self.invariant (subst (λ b. b.marks ≢ []) (sym c.self.view_is) c.requires)).1 }
+back-requires-2 g c =
+    let some = subst (λ b. b.marks ≢ []) (sym c.self.view_is) c.requires in
+    record {
+      queue = some_queued g.K.Ord.cmp g.K.EntryKey.fits g.K.EntryKey.source g.E.Entry.made c.self.inside.lists c.self.inside.ways.queue c.self.inside.ways.sources c.self.invariant some;
+      sources = some_sourced g.K.Ord.cmp g.K.EntryKey.fits g.K.EntryKey.source g.E.Entry.made c.self.inside.lists c.self.inside.ways.queue c.self.inside.ways.sources c.self.invariant some;
+    }
 
 pub invariant_of-self : goal.invariant_of-self
-invariant_of-self g c = in_step-back g.K.Ord.cmp g.K.EntryKey.fits g.E.Entry.made c.self.inside.lists c.self.inside.queue c.self.invariant c.back.new.self c.back-2.new.self c.back.ensures c.back-2.ensures
+invariant_of-self g c =
+    in_step-back g.K.Ord.cmp g.K.EntryKey.fits g.K.EntryKey.source g.E.Entry.made c.self.inside.lists c.self.inside.ways.queue c.self.inside.ways.sources c.self.invariant c.back.new.self c.back-2.new.self.queue c.back-2.new.self.sources
+    c.back.ensures c.back-2.ensures.queue c.back-2.ensures.sources

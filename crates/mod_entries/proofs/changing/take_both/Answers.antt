@@ -1,0 +1,40 @@
+use Rattle.std.proofs.Common.{◌≡◌, ◌∙◌, Some, None, ap, sym, subst}
+use Rattle.std.specs.Prelude.{if◌then◌else◌}
+use Rattle.base_types.specs.Orders.{addr_cmp, moment_cmp}
+use Rattle.base_types.proofs.MapLemmas.{at-taken}
+use Rattle.base_roles.specs.Entries.{without}
+use Rattle.mod_entries.specs.Lists.{list_at}
+use Rattle.mod_entries.specs.Queue.{earliest, IsQueue}
+use Rattle.mod_entries.specs.Sources.{AreSourced}
+use Rattle.mod_entries.specs.Ways.{unqueued}
+use Rattle.mod_entries.proofs.WayLemmas.{queue-changed, sources-taken}
+use Rattle.mod_entries.proofs.changing.take_both.Goals as goal
+
+pub returns-in-Ok-clause-queue : goal.returns-in-Ok-clause-queue
+returns-in-Ok-clause-queue g c =
+    let cmp = g.K.Ord.cmp in
+    let made = g.E.Entry.made in
+    let key = c.args.key.now in
+    let u = c.args.lists.now.entries in
+    let queue : c.forget.new.self.queue.entries ≡ unqueued moment_cmp cmp key (earliest made (list_at cmp u key)) c.args.ways.now.queue.entries
+    = ap (λ t. t.entries) c.forget.ensures.queue.rest ∙ c.in-Ok.ensures.queue
+    ∙ (λ i. unqueued moment_cmp cmp key (c.stood_at-stood.ensures.first i) (ap (λ t. t.entries) c.in_ok-mark.ensures.queue i)) in
+    let lists : c.take_all.new.lists.entries ≡ without cmp u key = ap (λ t. t.entries) c.in-Ok.ensures.lists in
+    subst (λ es. IsQueue cmp made es c.forget.new.self.queue.entries) (sym lists)
+    (subst (IsQueue cmp made (without cmp u key)) (sym queue)
+    (queue-changed cmp g.met.K.Ord.total g.met.K.EntryKey.exact u (without cmp u key) key made None c.args.ways.now.queue.entries c.requires.queue c.known-2.ensures.queue
+    (λ k. at-taken cmp g.met.K.Ord.total u key k c.known.ensures.ordered)))
+
+pub returns-in-Ok-clause-sources : goal.returns-in-Ok-clause-sources
+returns-in-Ok-clause-sources g c =
+    let cmp = g.K.Ord.cmp in
+    let source = g.K.EntryKey.source in
+    let key = c.args.key.now in
+    let u = c.args.lists.now.entries in
+    let sources = ap (λ t. t.entries) c.forget.ensures.sources.rest ∙ c.in-Ok.ensures.sources
+    ∙ (λ i. if c.stood_at-stood.result.0 then unqueued addr_cmp cmp key (Some (source key)) (ap (λ t. t.entries) c.in_ok-mark.ensures.sources i) else ap (λ t. t.entries) c.in_ok-mark.ensures.sources i) in
+    let lists : c.take_all.new.lists.entries ≡ without cmp u key = ap (λ t. t.entries) c.in-Ok.ensures.lists in
+    subst (λ es. AreSourced cmp source es c.forget.new.self.sources.entries) (sym lists)
+    (subst (AreSourced cmp source (without cmp u key)) (sym sources)
+    (sources-taken cmp g.met.K.Ord.total g.met.K.EntryKey.exact u (without cmp u key) key source c.args.ways.now.sources.entries c.requires.sources c.known-2.ensures.sources
+    c.stood_at-stood.result.0 c.stood_at-stood.ensures.stood (λ k. at-taken cmp g.met.K.Ord.total u key k c.known.ensures.ordered)))
