@@ -1,5 +1,6 @@
 pub mod Answers
 pub mod Entries
+pub mod Extra
 pub mod Flow
 pub mod Ground
 pub mod Holdings
