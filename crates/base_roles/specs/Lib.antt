@@ -8,6 +8,7 @@ pub mod Hooks
 pub mod Items
 pub mod Laws
 pub mod Lent
+pub mod Listeners
 pub mod Log
 pub mod NoHooks
 pub mod Orders
