@@ -35,17 +35,17 @@ carried_ok g (Ok a) = Ok (g a)
 carried_ok g (Err e) = Err e
 
 -- a step whose own answer is carried, and then another
-then_carried : {A B C D E : Type 0} (g : A → B) (h : C → D) (r : Result A E) (q : Result B E) (next : A → Result C E) (on : B → Result D E) → q ≡ carried_ok g r → ((a : A) → on (g a) ≡ carried_ok h (next a))
+pub then_carried : {A B C D E : Type 0} (g : A → B) (h : C → D) (r : Result A E) (q : Result B E) (next : A → Result C E) (on : B → Result D E) → q ≡ carried_ok g r → ((a : A) → on (g a) ≡ carried_ok h (next a))
     → (q >>= on) ≡ carried_ok h (r >>= next)
 then_carried g h (Ok a) q next on e n = ap (λ x. x >>= on) e ∙ n a
 then_carried g h (Err d) q next on e n = ap (λ x. x >>= on) e
 
 -- a step that is the same, and then another
-same_then : {X C D E : Type 0} (h : C → D) (r : Result X E) (next : X → Result C E) (on : X → Result D E) → ((x : X) → on x ≡ carried_ok h (next x)) → (r >>= on) ≡ carried_ok h (r >>= next)
+pub same_then : {X C D E : Type 0} (h : C → D) (r : Result X E) (next : X → Result C E) (on : X → Result D E) → ((x : X) → on x ≡ carried_ok h (next x)) → (r >>= on) ≡ carried_ok h (r >>= next)
 same_then h (Ok x) next on n = n x
 same_then h (Err d) next on n = refl
 
-same_next : {X C D E : Type 0} (h : C → D) (r : Result X E) (next : Result C E) (on : Result D E) → on ≡ carried_ok h next → (r >> on) ≡ carried_ok h (r >> next)
+pub same_next : {X C D E : Type 0} (h : C → D) (r : Result X E) (next : Result C E) (on : Result D E) → on ≡ carried_ok h next → (r >> on) ≡ carried_ok h (r >> next)
 same_next h (Ok x) next on n = n
 same_next h (Err d) next on n = refl
 
@@ -71,15 +71,15 @@ module _ {H G : Type 0} (f : H → G) (k : Log) where
   told_carried (gives h v l) = gives (f h) v l
   told_carried (exceeds over) = exceeds over
 
-  if_carried : (b : Bool) (x y : World Staked H) → (if b then carried x else carried y) ≡ carried (if b then x else y)
+  pub if_carried : (b : Bool) (x y : World Staked H) → (if b then carried x else carried y) ≡ carried (if b then x else y)
   if_carried true x y = refl
   if_carried false x y = refl
 
-  logged_carried : (operator : List ℕ) (e : LogEntry) (w : World Staked H) → logged operator e (carried w) ≡ carried (logged operator e w)
+  pub logged_carried : (operator : List ℕ) (e : LogEntry) (w : World Staked H) → logged operator e (carried w) ≡ carried (logged operator e w)
   logged_carried operator e w = λ i. record { mine = w.mine; hooks = f w.hooks; view = w.view; log = append_assoc k w.log ((operator, e) ∷ []) i }
 
   module _ (told : H → Hook → View → Told H) (tells : G → Hook → View → Told G) (same : (h : H) (hook : Hook) (v : View) → tells (f h) hook v ≡ told_carried (told h hook v)) where
-    call_carried : (hook : Hook) (w : World Staked H) → call tells hook (carried w) ≡ carried_ok carried (call told hook w)
+    pub call_carried : (hook : Hook) (w : World Staked H) → call tells hook (carried w) ≡ carried_ok carried (call told hook w)
     call_carried hook w = ap (λ t. hooked t (carried w)) (same w.hooks hook w.view) ∙ by (told w.hooks hook w.view)
       where
         by : (t : Told H) → hooked (told_carried t) (carried w) ≡ carried_ok carried (hooked t w)
@@ -203,7 +203,7 @@ module _ {H G : Type 0} (f : H → G) (k : Log) where
 
     -- ---- the bonded set
 
-    each_carried : {A E : Type 0} (step : A → World Staked H → Result (World Staked H) E) (on : A → World Staked G → Result (World Staked G) E) → ((x : A) (w : World Staked H) → on x (carried w) ≡ carried_ok carried (step x w))
+    pub each_carried : {A E : Type 0} (step : A → World Staked H → Result (World Staked H) E) (on : A → World Staked G → Result (World Staked G) E) → ((x : A) (w : World Staked H) → on x (carried w) ≡ carried_ok carried (step x w))
         → (xs : List A) (w : World Staked H) → each on xs (carried w) ≡ carried_ok carried (each step xs w)
     each_carried step on h [] w = refl
     each_carried step on h (x ∷ xs) w = then_carried carried carried (step x w) (on x (carried w)) _ _ (h x w) (λ t. each_carried step on h xs t)

@@ -1,27 +1,11 @@
 -- Places of marks among the notes: they rise, and what stood at each of them stays while notes are put behind.
 use Rattle.std.proofs.Common.{◌≡◌, ◌∙◌, ℕ, ◌≤◌, Bool, true, false, List, [], ◌∷◌, ◌++◌, length, map, take, refl, ap, arith}
 use Rattle.std.specs.Prelude.{◌&&◌, nat_le}
+use Rattle.std.proofs.lemmas.Bool.Decides.{nat_tests}
 use Rattle.mod_recorder.specs.declared.note.Note.{Note}
 use Rattle.mod_recorder.specs.declared.recorder.Place.{Place}
 use Rattle.mod_recorder.specs.Notes.{Noted}
 use Rattle.mod_recorder.specs.Recorded.{are_rising, noted_at}
-
--- ---- lists that are taken from
-
-pub take_all : {A : Type 0} (xs : List A) → take (length xs) xs ≡ xs
-take_all [] = refl
-take_all (x ∷ xs) = ap (λ l. x ∷ l) (take_all xs)
-
-pub take_grown : {A : Type 0} (n : ℕ) (xs ys : List A) → n ≤ length xs → take n (xs ++ ys) ≡ take n xs
-take_grown 0 xs ys e = refl
-take_grown (suc n) [] ys e = absurd (omega (arith, e))
-take_grown (suc n) (x ∷ xs) ys e = ap (λ l. x ∷ l) (take_grown n xs ys (omega (arith, e)))
-
-pub take_taken : {A : Type 0} (n m : ℕ) (xs : List A) → n ≤ m → take n (take m xs) ≡ take n xs
-take_taken 0 m xs e = refl
-take_taken (suc n) 0 xs e = absurd (omega (arith, e))
-take_taken (suc n) (suc m) [] e = refl
-take_taken (suc n) (suc m) (x ∷ xs) e = ap (λ l. x ∷ l) (take_taken n m xs (omega (arith, e)))
 
 -- ---- places that rise
 
@@ -34,10 +18,10 @@ and_so true b e f = f
 and_so false b e f = absurd cc
 
 within : (a b : ℕ) → nat_le a b ≡ true → a ≤ b
-within a b e = omega (arith, e)
+within a b e = grind (arith, nat_tests)
 
 is_within : (a b : ℕ) → a ≤ b → nat_le a b ≡ true
-is_within a b e = grind (arith, e)
+is_within a b e = grind (arith, nat_tests)
 
 low_high : (low : ℕ) (ps : List Place) (high : ℕ) → are_rising low ps high ≡ true → low ≤ high
 low_high low [] high e = within low high e
@@ -84,8 +68,3 @@ at_places xs ys low (p ∷ ps) high e same =
 -- the first of them, and the one before all
 pub at_first : (xs ys : List Note) (first : Place) (ps : List Place) (high : ℕ) → are_rising first.notes ps high ≡ true → ((n : ℕ) → n ≤ high → take n ys ≡ take n xs) → noted_at ys first ≡ noted_at xs first
 at_first xs ys first ps high e same = at_place xs ys first high (low_high first.notes ps high e) same
-
--- places one after another
-pub at_both : (xs : List Note) (ps qs : List Place) → map (noted_at xs) (ps ++ qs) ≡ map (noted_at xs) ps ++ map (noted_at xs) qs
-at_both xs [] qs = refl
-at_both xs (p ∷ ps) qs = ap (λ l. noted_at xs p ∷ l) (at_both xs ps qs)

@@ -1,5 +1,6 @@
 -- What a recorder heard: its notes, and how many facts the parts of the present block told before this one.
-use Rattle.std.specs.Prelude.{ℕ, ◌+◌, ◌-◌, ◌*◌, ◌/◌, ◌^◌, min, List, [], ◌∷◌, ◌++◌, length, Option, Some, None}
+use Rattle.std.specs.Prelude.{ℕ, ◌+◌, ◌-◌, ◌*◌, ◌^◌, min, List, [], ◌∷◌, ◌++◌, length, Option, Some, None}
+use Rattle.base_decimals.specs.Rounding.{cut}
 use Rattle.base_roles.specs.declared.entities.Validator.{Validator}
 use Rattle.base_roles.specs.World.{View, Hook, created, removed, bonded, starting, modifying, modified, slashing}
 use Rattle.mod_statement.specs.declared.entry.Entry.TheVariants.{Started, Slashed, Touched}
@@ -15,7 +16,7 @@ nothing_noted = record { notes = []; before = 0 }
 
 -- what a slash of this fraction burns of so many tokens, cut to whole ones
 abbrev pub burned_of : ℕ → ℕ → ℕ
-burned_of fraction tokens = (fraction * tokens) / 10 ^ 18
+burned_of fraction tokens = cut (fraction * tokens) (10 ^ 18)
 
 -- so many facts and so many more, counted up to 2^64 - 1
 abbrev pub counted : ℕ → ℕ → ℕ

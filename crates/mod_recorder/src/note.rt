@@ -1,6 +1,6 @@
 //! What a recorder notes of one call.
 
-ghost use Rattle.std.specs.Prelude.{◌≡◌, ◌*◌, ◌/◌, ◌^◌, ◌≤◌};
+ghost use Rattle.std.specs.Prelude.{◌≡◌, ◌^◌, ◌≤◌};
 ghost use Rattle.mod_recorder.specs.Notes.{burned_of};
 
 use base_decimals::Dec;
