@@ -68,9 +68,8 @@ module _ {P : Type 0} where
   abbrev pub with_window : Window → World Stakes (Shared × P) → Hearing P
   with_window i w = record { mine = w.mine; hooks = (w.hooks, i); view = w.view; log = w.log }
 
--- The listener hears calls of hooks by the first function, that a part of a block has ended and told so many facts by the
--- second, and that a block has ended by the third.
-module _ {P : Type 0} (hears : P → Hook → View → P) (parted : P → ℕ → P) (ended : P → P) where
+-- what a listener has heard after one more call of a hook over a ground
+module _ {P : Type 0} (hears : P → Hook → View → P) where
   -- distribution's hooks, and the listener behind them
   abbrev pub shared_told : Shared × P → Hook → View → Told (Shared × P)
   shared_told s hook v = and_then (distribution_told s.0 hook v) (λ d w log. gives (d, hears s.1 hook w) w log)
@@ -147,19 +146,7 @@ module _ {P : Type 0} (hears : P → Hook → View → P) (parted : P → ℕ �
   paid_heard msgs w (Ok paid) = stands_heard paid (messages_heard msgs paid)
   paid_heard msgs w (Err why) = w
 
-  -- a part of a block has ended, whose facts these are
-  abbrev pub part_heard : Hearing P → Hearing P
-  part_heard w = hearing (parted (heard_in w) (length w.view.facts)) (without_facts (unheard w))
-
-  -- a transaction, from a state without facts
-  abbrev pub tx_heard : Tx → Hearing P → Hearing P
-  tx_heard tx w = part_heard (paid_heard tx.msgs w (silently (fee_paid tx.payer tx.fee) w))
-
-  abbrev pub txs_heard : List Tx → Hearing P → Hearing P
-  txs_heard [] w = w
-  txs_heard (tx ∷ txs) w = txs_heard txs (tx_heard tx w)
-
-  -- ---- blocks
+  -- ---- the beginning and the end of a block
 
   abbrev pub vote_heard : Vote → Hearing P → Result (Hearing P) Over
   vote_heard t w = do
@@ -197,13 +184,6 @@ module _ {P : Type 0} (hears : P → Hook → View → P) (parted : P → ℕ �
     w3 ← silently unbondings_step w2
     silently redelegations_step w3
 
-  -- A block: its beginning, its transactions and its end, each a part of it.
-  abbrev pub block_heard : Block → Hearing P → Result (Hearing P) Over
-  block_heard b w = do
-    begun ← beginning_heard b.votes b.evidence (hearing (heard_in w) (without_facts (next_block b.height b.time (unheard w))))
-    last ← ending_heard (txs_heard b.txs (part_heard begun))
-    Ok (hearing (ended (heard_in last)) (without_facts (unheard last)))
-
   -- ---- a genesis
 
   -- Validators, then delegations, then the bonded set, from what was heard before.
@@ -214,3 +194,26 @@ module _ {P : Type 0} (hears : P → Hook → View → P) (parted : P → ℕ �
     w2 ← stopping Overflow (set_updated overheard_told w1)
     let done = with_staked w.mine w2
     Ok (hearing (heard_in done) (without_facts (unheard done)))
+
+  -- ---- blocks
+
+  -- what it has heard after a part of a block that told so many facts, and after a block
+  module _ (parted : P → ℕ → P) (ended : P → P) where
+    -- a part of a block has ended, whose facts these are
+    abbrev pub part_heard : Hearing P → Hearing P
+    part_heard w = hearing (parted (heard_in w) (length w.view.facts)) (without_facts (unheard w))
+
+    -- a transaction, from a state without facts
+    abbrev pub tx_heard : Tx → Hearing P → Hearing P
+    tx_heard tx w = part_heard (paid_heard tx.msgs w (silently (fee_paid tx.payer tx.fee) w))
+
+    abbrev pub txs_heard : List Tx → Hearing P → Hearing P
+    txs_heard [] w = w
+    txs_heard (tx ∷ txs) w = txs_heard txs (tx_heard tx w)
+
+    -- A block: its beginning, its transactions and its end, each a part of it.
+    abbrev pub block_heard : Block → Hearing P → Result (Hearing P) Over
+    block_heard b w = do
+      begun ← beginning_heard b.votes b.evidence (hearing (heard_in w) (without_facts (next_block b.height b.time (unheard w))))
+      last ← ending_heard (txs_heard b.txs (part_heard begun))
+      Ok (hearing (ended (heard_in last)) (without_facts (unheard last)))
