@@ -4,6 +4,7 @@ use Rattle.base_roles.specs.World.{View}
 use Rattle.rule_machine.specs.Machine.{step}
 use Rattle.chain_modules.specs.declared.modules.Modules.{Modules}
 use Rattle.chain_modules.specs.Kept.{KeptState, kept_of, kept_over, parts_of}
+use Rattle.chain_modules.proofs.MarkLemmas.{one_more_some}
 use Rattle.chain_blocks.specs.Answers.{AnswersStep, Applies, parts_stepped}
 use Rattle.chain_blocks.proofs.ApplyLemmas.{back_kept, back_marks, begins, begun_kept, rest_closed, rest_same, settled_behind, still_open}
 use Rattle.chain_blocks.proofs.BlockLemmas.{applies_parts, faults, has_begun, opened, record_stops, same_fault}
@@ -48,7 +49,10 @@ forget-requires g c =
     let b = c.args.block.now in
     let begun : Modules g.row.E.Denot = record { ground = record { bank = marked.ground.bank; ctx = record { height = b.height; time = b.time; params = old.ground.ctx.params }; facts = marked.ground.facts }; stakes = marked.stakes; hooks = marked.hooks } in
     let applied : Modules g.row.E.Denot = c.apply_parts.new.modules in
-    record { «open» = still_open old begun applied applied c.requires.rest c.in_default.ensures.opened c.apply_parts.ensures.behind }
+    record {
+      «open» = still_open old begun applied applied c.requires.rest c.in_default.ensures.opened c.apply_parts.ensures.behind;
+      listener = one_more_some _ _ _ (c.apply_parts.ensures.listener ∙ c.in_default.ensures.listener_opened);
+    }
 
 pub back-requires : goal.back-requires
 back-requires g c =
@@ -57,7 +61,10 @@ back-requires g c =
     let b = c.args.block.now in
     let begun : Modules g.row.E.Denot = record { ground = record { bank = marked.ground.bank; ctx = record { height = b.height; time = b.time; params = old.ground.ctx.params }; facts = marked.ground.facts }; stakes = marked.stakes; hooks = marked.hooks } in
     let applied : Modules g.row.E.Denot = c.apply_parts.new.modules in
-    record { «open» = still_open old begun applied applied c.requires.rest c.in_default.ensures.opened c.apply_parts.ensures.behind }
+    record {
+      «open» = still_open old begun applied applied c.requires.rest c.in_default.ensures.opened c.apply_parts.ensures.behind;
+      listener = one_more_some _ _ _ (c.apply_parts.ensures.listener ∙ c.in_default.ensures.listener_opened);
+    }
 
 pub returns-in-Ok-clause-applies : goal.returns-in-Ok-clause-applies
 returns-in-Ok-clause-applies g c = λ p s.
