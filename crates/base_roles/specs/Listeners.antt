@@ -1,5 +1,5 @@
 -- Listeners that hold what they heard, as a plain value: they are lawful, and listen.
-use Rattle.std.specs.Prelude.{◌≡◌, true, false, Bool, List, [], refl, None}
+use Rattle.std.specs.Prelude.{◌≡◌, true, false, List, [], refl, None}
 use Rattle.std.proofs.Common.{subst, sym, ap, rules}
 use Rattle.base_roles.specs.Extra.{Listens}
 use Rattle.base_roles.specs.Ground.{IsInOrder}
@@ -46,8 +46,8 @@ module _ {P : Type 0} (hears : P → Hook → View → P) where
   heard_then p p2 v v2 log e = cc
 
   -- the laws of one whose records are what it heard, and which has no items
-  pub listener_listens : {S : Type 0} (heard : S → P) (marks : S → List P) → Listens (λ s p. heard s ≡ p) (listener_tells hears) marks heard marks (λ _. []) (λ _. false) heard hears
-  listener_listens heard marks = record {
+  pub listener_listens : {S : Type 0} {heard : S → P} {marks : S → List P} → Listens (λ s p. heard s ≡ p) (listener_tells hears) marks heard marks (λ _. []) (λ _. false) heard hears
+  listener_listens {heard = heard} = record {
     quiet = λ h. refl;
     logs_nothing = λ h h2 hook v v2 log e. sym (ap log_of e);
     some = λ s. (heard s, refl);

@@ -204,5 +204,5 @@ impl Extra for NoHooks {
 
     fn after_block(&mut self) {}
 
-    ghost listens = { nothing_listens (λ s. s.open) };
+    ghost listens = { nothing_listens };
 }

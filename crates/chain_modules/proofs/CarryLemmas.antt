@@ -45,7 +45,7 @@ pub same_then : {X C D E : Type 0} (h : C → D) (r : Result X E) (next : X → 
 same_then h (Ok x) next on n = n x
 same_then h (Err d) next on n = refl
 
-pub same_next : {X C D E : Type 0} (h : C → D) (r : Result X E) (next : Result C E) (on : Result D E) → on ≡ carried_ok h next → (r >> on) ≡ carried_ok h (r >> next)
+same_next : {X C D E : Type 0} (h : C → D) (r : Result X E) (next : Result C E) (on : Result D E) → on ≡ carried_ok h next → (r >> on) ≡ carried_ok h (r >> next)
 same_next h (Ok x) next on n = n
 same_next h (Err d) next on n = refl
 
@@ -71,7 +71,7 @@ module _ {H G : Type 0} (f : H → G) (k : Log) where
   told_carried (gives h v l) = gives (f h) v l
   told_carried (exceeds over) = exceeds over
 
-  pub if_carried : (b : Bool) (x y : World Staked H) → (if b then carried x else carried y) ≡ carried (if b then x else y)
+  if_carried : (b : Bool) (x y : World Staked H) → (if b then carried x else carried y) ≡ carried (if b then x else y)
   if_carried true x y = refl
   if_carried false x y = refl
 
@@ -203,7 +203,7 @@ module _ {H G : Type 0} (f : H → G) (k : Log) where
 
     -- ---- the bonded set
 
-    pub each_carried : {A E : Type 0} (step : A → World Staked H → Result (World Staked H) E) (on : A → World Staked G → Result (World Staked G) E) → ((x : A) (w : World Staked H) → on x (carried w) ≡ carried_ok carried (step x w))
+    each_carried : {A E : Type 0} (step : A → World Staked H → Result (World Staked H) E) (on : A → World Staked G → Result (World Staked G) E) → ((x : A) (w : World Staked H) → on x (carried w) ≡ carried_ok carried (step x w))
         → (xs : List A) (w : World Staked H) → each on xs (carried w) ≡ carried_ok carried (each step xs w)
     each_carried step on h [] w = refl
     each_carried step on h (x ∷ xs) w = then_carried carried carried (step x w) (on x (carried w)) _ _ (h x w) (λ t. each_carried step on h xs t)

@@ -16,6 +16,7 @@ use Rattle.base_roles.specs.declared.refusal.Refusal.{Refusal}
 use Rattle.base_roles.specs.Flow.{◌>>=◌, ◌>>◌, each, stopping}
 use Rattle.base_roles.specs.Log.{Log}
 use Rattle.base_roles.specs.Pair.{and_then, given_with}
+use Rattle.base_roles.specs.Staked.{delegation, validator_at}
 use Rattle.base_roles.specs.World.{View, Hook, Told, gives, exceeds, World}
 use Rattle.rule_modules.specs.BondedSet.{set_updated, validators_matured}
 use Rattle.rule_modules.specs.Chain.{Hooks, State, allocation_step, begin_block, chain_told, end_block, evidence_step, maturing_step, redelegations_step, set_step, staked_in, unbondings_step, vote_step}
@@ -30,7 +31,7 @@ use Rattle.rule_modules.specs.Unbondings.{cancelled, undelegated}
 use Rattle.rule_modules.specs.Validators.{created}
 use Rattle.rule_modules.specs.Window.{Window, voted, window_told}
 use Rattle.rule_machine.specs.GenesisState.{without_facts}
-use Rattle.rule_machine.specs.Listening.{Hearing, Overheard, beginning_heard, beside_window, block_heard, cancellation_heard, creation_heard, delegation_heard, effect_heard, ending_heard, evidence_heard, heard_in, hearing, maturing_heard, messages_heard, overheard_told, paid_heard, part_heard, redelegation_heard, reward_heard, set_heard, shared_told, silently, stands_heard, tx_heard, txs_heard, undelegation_heard, unheard, vote_heard}
+use Rattle.rule_machine.specs.Listening.{Hearing, Overheard, beginning_heard, beside_window, block_heard, cancellation_heard, creation_heard, delegation_heard, effect_heard, ending_heard, evidence_heard, heard_in, hearing, maturing_heard, messages_heard, overheard_told, paid_heard, part_heard, redelegation_heard, restart_heard, reward_heard, set_heard, shared_told, silently, stands_heard, tx_heard, txs_heard, undelegation_heard, unheard, vote_heard}
 use Rattle.rule_machine.specs.Machine.{Step, TxSteps, block_checked, step, tx_applied, txs_applied}
 use Rattle.rule_machine.specs.Messages.{effect_of}
 use Rattle.chain_modules.specs.Erasing.{IsUnheard}
@@ -86,7 +87,8 @@ module _ {P : Type 0} (hears : P → Hook → View → P) where
   reward_unheard : (who operator : List ℕ) (w : Hearing P) → withdraw_reward who operator (unheard w) ≡ carried_ok unheard (reward_heard hears who operator w)
   reward_unheard who operator w = by (withdraw_reward who operator (unheard w))
     where
-      by : (r : Result State Refusal) → r ≡ carried_ok unheard (r >>= λ u. Ok (hearing _ u))
+      by : (r : Result State Refusal)
+          → r ≡ carried_ok unheard (r >>= λ u. Ok (hearing (restart_heard hears (validator_at w.mine.staked operator) (delegation w.mine.staked who operator) who u.view (heard_in w)) u))
       by (Ok u) = refl
       by (Err why) = refl
 

@@ -1,5 +1,5 @@
 -- That a listener changes nothing: without what it heard, each step with it is the machine's.
-use Rattle.std.specs.Prelude.{◌≡◌, ℕ, Result, Ok, Err, ⊤}
+use Rattle.std.specs.Prelude.{◌≡◌, ℕ, Result, Ok, Err}
 use Rattle.base_decimals.specs.declared.over.Over.{Over}
 use Rattle.base_messages.specs.declared.block.Block.{Block}
 use Rattle.base_messages.specs.declared.faults.BlockFault.{BlockFault}

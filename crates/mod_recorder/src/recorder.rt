@@ -212,8 +212,6 @@ impl StakingHooks for Recorder {
 }
 
 impl Extra for Recorder {
-    ghost use Rattle.mod_recorder.specs.Recorded.{Recorded};
-
     ghost Heard = { Noted };
 
     ghost heard = { λ r. r.noted };
@@ -232,5 +230,5 @@ impl Extra for Recorder {
         self.before = 0;
     }
 
-    ghost listens = { listener_listens heard (λ (r : Recorded). r.noted) (λ (r : Recorded). r.marks) };
+    ghost listens = { listener_listens heard };
 }
