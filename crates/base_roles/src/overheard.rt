@@ -1,7 +1,5 @@
 //! Hooks to which a listener listens.
 
-ghost use Rattle.base_roles.specs.Hooks.{Tells};
-
 use crate::bank::{Bank, Ground};
 use crate::entities::Validator;
 use crate::extra::Extra;

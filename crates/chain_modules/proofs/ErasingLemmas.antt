@@ -1,5 +1,5 @@
 -- Without what a listener heard, each rule over hooks to which it listens is the rule over the hooks alone.
-use Rattle.std.proofs.Common.{◌≡◌, ◌∙◌, ℕ, ◌+◌, List, [], ◌∷◌, ◌++◌, map, Result, Ok, Err, refl, sym, ap, subst}
+use Rattle.std.proofs.Common.{◌≡◌, ◌∙◌, ℕ, ◌+◌, List, [], ◌∷◌, map, Result, Ok, Err, refl, sym, ap, subst}
 use Rattle.std.specs.Prelude.{⊤}
 use Rattle.base_coins.specs.declared.coin.Coin.{Coin}
 use Rattle.base_decimals.specs.declared.over.Over.{Over}
@@ -17,7 +17,7 @@ use Rattle.base_roles.specs.Flow.{◌>>=◌, ◌>>◌, each, stopping}
 use Rattle.base_roles.specs.Log.{Log}
 use Rattle.base_roles.specs.Pair.{and_then, given_with}
 use Rattle.base_roles.specs.Staked.{delegation, validator_at}
-use Rattle.base_roles.specs.World.{View, Hook, Told, gives, exceeds, World}
+use Rattle.base_roles.specs.World.{View, Hook, Told, gives, exceeds}
 use Rattle.rule_modules.specs.BondedSet.{set_updated, validators_matured}
 use Rattle.rule_modules.specs.Chain.{Hooks, State, allocation_step, begin_block, chain_told, end_block, evidence_step, maturing_step, redelegations_step, set_step, staked_in, unbondings_step, vote_step}
 use Rattle.rule_modules.specs.Delegating.{delegated_by}

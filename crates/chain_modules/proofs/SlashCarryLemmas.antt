@@ -8,7 +8,6 @@ use Rattle.base_roles.specs.declared.facts.Fact.TheVariants as fact
 use Rattle.base_roles.specs.declared.messages.Evidence.{Evidence}
 use Rattle.base_roles.specs.declared.messages.Vote.{Vote}
 use Rattle.base_roles.specs.declared.params.Ctx.{Ctx}
-use Rattle.base_roles.specs.Flow.{◌>>=◌}
 use Rattle.base_roles.specs.Log.{Log}
 use Rattle.base_roles.specs.Log as log
 use Rattle.base_roles.specs.Orders.{same_addr}

@@ -1,7 +1,6 @@
 -- What a recorder heard: its notes, and how many facts the parts of the present block told before this one.
 use Rattle.std.specs.Prelude.{ℕ, ◌+◌, ◌-◌, ◌*◌, ◌^◌, min, List, [], ◌∷◌, ◌++◌, length, Option, Some, None}
 use Rattle.base_decimals.specs.Rounding.{cut}
-use Rattle.base_roles.specs.declared.entities.Validator.{Validator}
 use Rattle.base_roles.specs.World.{View, Hook, created, removed, bonded, starting, modifying, modified, slashing}
 use Rattle.mod_statement.specs.declared.entry.Entry.TheVariants.{Started, Slashed, Touched}
 use Rattle.mod_recorder.specs.declared.note.Note.{Note}

@@ -1,6 +1,6 @@
 //! The recorder, as a listener to staking.
 
-ghost use Rattle.std.specs.Prelude.{◌≡◌, ℕ, ◌<◌, length, slice_get, OnOk, OnErr, None, Some};
+ghost use Rattle.std.specs.Prelude.{◌≡◌, List, length, slice_get, OnOk, OnErr, Some};
 ghost use Rattle.std.specs.Option.{option_copied};
 ghost use Rattle.base_roles.specs.Listeners.{listener_tells, listener_lawful, listener_listens};
 ghost use Rattle.mod_recorder.specs.Notes.{Noted, heard, parted, ended, noted, counted};

@@ -10,7 +10,7 @@ use Rattle.base_roles.specs.declared.refusal.Refusal.{Refusal}
 use Rattle.base_roles.specs.declared.refusal.Refusal.TheVariants.{Overflow}
 use Rattle.base_roles.specs.Flow.{◌>>=◌, each, stopping}
 use Rattle.base_roles.specs.Pair.{and_then, given_with}
-use Rattle.base_roles.specs.Staked.{Staked, delegation, validator_at}
+use Rattle.base_roles.specs.Staked.{delegation, validator_at}
 use Rattle.base_roles.specs.World.{View, Hook, modified, Told, gives, World}
 use Rattle.base_coins.specs.declared.coin.Coin.{Coin}
 use Rattle.base_messages.specs.declared.block.Block.{Block}
