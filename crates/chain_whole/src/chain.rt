@@ -76,7 +76,7 @@ fn ctx_of<E: Extra>(modules: &Modules<E>) -> Ctx
     modules.ground.ctx
 }
 
-impl Chain {
+impl Chain<NoHooks> {
     /// The chain that a genesis starts, which is settled, and the facts of its start.
     ///
     /// The errors are `BadGenesis`, exactly where a condition keeps the genesis from starting a chain, with
