@@ -6,7 +6,7 @@ use Rattle.base_roles.specs.Ground.{IsInOrder}
 use Rattle.base_roles.specs.Hooks.{Tells, Lawful}
 use Rattle.base_roles.specs.Log.{Log}
 use Rattle.base_roles.specs.NoHooks.{Keeps-given, log_of}
-use Rattle.base_roles.specs.World.{View, Hook, gives}
+use Rattle.base_roles.specs.World.{View, Hook, bonded, removed, gives}
 
 -- what a listener tells that hears this
 abbrev pub listener_tells : {P : Type 0} → (P → Hook → View → P) → Tells P
@@ -35,8 +35,8 @@ module _ {P : Type 0} (hears : P → Hook → View → P) where
     quiet_height = λ p q. refl;
     quiet_sure = λ p q. refl;
     quiet_steps = λ p q. refl;
-    sure_bonded = λ p x v l q r. (_, (v, ([], refl)));
-    sure_removed = λ p x v l q r. (_, (v, ([], refl)));
+    sure_bonded = λ p x v l q r. (hears p (bonded x) v, (v, ([], refl)));
+    sure_removed = λ p x v l q r. (hears p (removed x) v, (v, ([], refl)));
     quiet_stays = λ p p2 h v v2 log e. refl;
     sure_stays = λ p p2 h v v2 log e. refl;
     steps_stay = λ p p2 h v v2 log e. refl;

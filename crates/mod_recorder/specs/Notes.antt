@@ -19,7 +19,7 @@ burned_of fraction tokens = cut (fraction * tokens) (10 ^ 18)
 
 -- so many facts and so many more, counted up to 2^64 - 1
 abbrev pub counted : ℕ → ℕ → ℕ
-counted before facts = min (2 ^ 64 - 1) (before + facts)
+counted before facts = min (before + facts) (2 ^ 64 - 1)
 
 -- What is noted of a call, behind so many facts of its block: that the validator was created; that a delegation's
 -- shares are about to change; that a delegation's rewards begin, with its shares and the tokens and shares of the
