@@ -47,7 +47,7 @@ nothing_lawful = record {
 }
 
 -- what is logged of what is given
-pub log_of : {S : Type 0} → Told S → Log
+abbrev pub log_of : {S : Type 0} → Told S → Log
 log_of (gives s v log) = log
 log_of (exceeds over) = []
 
