@@ -60,7 +60,7 @@ def wanted() -> list[tuple[str, str, list[int | str]]]:
         ("docs/OPERATING.md", r"\| 1 \|.*tried: (\d+) rows of words", [sum(rows(it, "1 ") for it in ("words", "questions"))]),
         ("docs/OPERATING.md", r"\| 2 \|.*tried: (\d+) cases", [ends().count("2")]),
         ("docs/OPERATING.md", r"\| 8 \|.*tried: (\d+) changed stores", [unsound + no_items]),
-        ("docs/OPERATING.md", r"(\d+) rows changed by one unit.*?and (\d+) that are no rows", [unsound, no_items]),
+        ("docs/OPERATING.md", r"(\d+) rows changed by one unit.*? (\d+) that are no rows", [unsound, no_items]),
         ("docs/OPERATING.md", r"\| 10 \|.*tried: (\d+) questions", [rows("questions", "10 ")]),
     ]
     for line in text("CONTRIBUTING.md").splitlines():

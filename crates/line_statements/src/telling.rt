@@ -103,7 +103,12 @@ fn push_statement(
     ensures fault { IfErr result (λ fault. fault ≡ LineFault.NoMemory) }
 {
     writer.begin_object()?;
-    push_member(alloc, writer, "delegator", &Told::User(form, &statement.delegator))?;
+    push_member(
+        alloc,
+        writer,
+        "delegator",
+        &Told::User(form, &statement.delegator),
+    )?;
     writer.key("entries")?;
     push_entries(alloc, writer, statement.entries.as_slice())?;
     push_member(alloc, writer, "height", &Told::Count(statement.height))?;
@@ -114,7 +119,12 @@ fn push_statement(
     push_member(alloc, writer, "removals", &Told::Count(statement.removals))?;
     push_member(alloc, writer, "reward", &Told::DecCoins(&statement.reward))?;
     push_member(alloc, writer, "slack", &Told::DecCoins(&statement.slack))?;
-    push_member(alloc, writer, "validator", &Told::Operator(form, &statement.operator))?;
+    push_member(
+        alloc,
+        writer,
+        "validator",
+        &Told::Operator(form, &statement.operator),
+    )?;
     writer.end_object()?;
     Ok(())
 }

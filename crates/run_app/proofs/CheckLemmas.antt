@@ -121,19 +121,22 @@ module _ {C : Type 0} (form : Form) where
           let added = part.2 in (
             front.0 ++ added.0,
             λ old told. added.2 (old ++ front.0) (front.2 old told) ∙ ap Some (append_assoc old front.0 added.0),
-            inr (w.0, record {
-              before = h.before;
-              line = h.line;
-              after = h.after;
-              lines_are = h.lines_are;
-              done = front.0;
-              answer = part.0;
-              front = added.0;
-              checked = front.1;
-              one = part.1;
-              part = added.1;
-              text_is = refl;
-            }),
+            inr (
+              w.0,
+              record {
+                before = h.before;
+                line = h.line;
+                after = h.after;
+                lines_are = h.lines_are;
+                done = front.0;
+                answer = part.0;
+                front = added.0;
+                checked = front.1;
+                one = part.1;
+                part = added.1;
+                text_is = refl;
+              },
+            ),
           )
 
   -- ---- an input

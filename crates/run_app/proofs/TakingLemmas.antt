@@ -219,12 +219,15 @@ module _ {X : Type 0} (takes : ℕ → List ℕ → X → X → Type 0) (stops :
   extend_stops x t n line y bytes behind stop.Write h none long = absurd long
   extend_stops x t n line y bytes behind stop.Keep h none long = absurd long
   extend_stops x t n line y bytes behind stop.NoMemory h none long =
-      inr (inr (refl, record {
-        before = whole_from [] t;
-        after = whole_from (rest_from [] t) (bytes ++ behind);
-        lines_are = whole-append t [] (bytes ++ behind);
-        leads = h.leads;
-      }))
+      inr (inr (
+        refl,
+        record {
+          before = whole_from [] t;
+          after = whole_from (rest_from [] t) (bytes ++ behind);
+          lines_are = whole-append t [] (bytes ++ behind);
+          leads = h.leads;
+        },
+      ))
 
   pub piece_stops : (x : X) (t piece rest : List ℕ) (i n : ℕ) (line : List ℕ) (y z : X) (status : Status) → (f : IsFedTo takes x t piece rest n line y) → drop i rest ≡ 10 ∷ drop (i + 1) rest
       → StopsSo takes stops status ((t ++ f.done) ++ (take i rest ++ 10 ∷ [])) x z → StopsSo takes stops status (t ++ piece) x z

@@ -1,5 +1,5 @@
 -- How runs end in each way in which words ask for a command.
-use Rattle.std.proofs.Common.{◌≡◌, ◌⊎◌, inl, inr, true≢false, ℕ, Bool, true, false, List, Option, Some, None, IfSome, refl, sym, subst}
+use Rattle.std.proofs.Common.{◌≡◌, ◌⊎◌, inl, inr, true≢false, ℕ, Bool, true, false, List, [], Option, Some, None, IfSome, refl, sym, subst}
 use Rattle.std.specs.Prelude.{IsSome}
 use Rattle.base_bech32.specs.declared.form.Form.{Form}
 use Rattle.base_io.specs.Outside.{Rose}

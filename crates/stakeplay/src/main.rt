@@ -179,7 +179,9 @@ fn main(rt: HostRuntime) -> ExitCode {
         ),
         Status::Limit(_, LimitKind::Line) => eprintln!(rt; "stakeplay: line {line}: limit line"),
         Status::Limit(_, LimitKind::Input) => eprintln!(rt; "stakeplay: line {line}: limit input"),
-        Status::Limit(_, LimitKind::Bound(_)) => eprintln!(rt; "stakeplay: line {line}: limit bound"),
+        Status::Limit(_, LimitKind::Bound(_)) => eprintln!(rt;
+            "stakeplay: line {line}: limit bound"
+        ),
         Status::Limit(_, LimitKind::Ratio(_)) => eprintln!(rt;
             "stakeplay: line {line}: limit ratio"
         ),
