@@ -1,8 +1,7 @@
 -- What a recorder has after a note, a mark, going back and closing a mark, of its list of notes and the places of its marks.
-use Rattle.std.proofs.Common.{◌≡◌, ◌∙◌, ℕ, ◌+◌, ◌≤◌, true, List, [], ◌∷◌, ◌++◌, length, map, take, refl, sym, ap, subst, arith}
-use Rattle.std.specs.Prelude.{nat_le}
+use Rattle.std.proofs.Common.{◌≡◌, ◌∙◌, ℕ, ◌≤◌, true, List, [], ◌∷◌, ◌++◌, length, map, take, Option, Some, None, append-nil, sym, ap, subst, arith}
 use Rattle.std.proofs.lemmas.Grind.{common_steps}
-use Rattle.std.proofs.lemmas.Bool.Decides.{nat_tests}
+use Rattle.std.specs.Option.{option_to_list}
 use Rattle.mod_recorder.specs.declared.note.Note.{Note}
 use Rattle.mod_recorder.specs.declared.recorder.Place.{Place}
 use Rattle.mod_recorder.specs.Notes.{Noted}
@@ -17,28 +16,17 @@ same_front n xs ys e = grind (arith, common_steps, e)
 same_cut : {A : Type 0} (n m : ℕ) (xs : List A) → n ≤ m → take n (take m xs) ≡ take n xs
 same_cut n m xs e = grind (arith, common_steps, e)
 
-whole : {A : Type 0} (xs : List A) → take (length xs) xs ≡ xs
-whole xs = grind (arith, common_steps)
-
 cut_length : {A : Type 0} (n : ℕ) (xs : List A) → n ≤ length xs → length (take n xs) ≡ n
 cut_length n xs e = grind (arith, common_steps, e)
 
 one_longer : {A : Type 0} (xs : List A) (x : A) → length xs ≤ length (xs ++ x ∷ [])
 one_longer xs x = grind (arith, common_steps)
 
-itself : (n : ℕ) → nat_le n n ≡ true
-itself n = grind (arith, nat_tests)
-
 at_all : (f : Place → Noted) (ps qs : List Place) → map f (ps ++ qs) ≡ map f ps ++ map f qs
 at_all f ps qs = grind (arith, common_steps)
 
 no_less : (n : ℕ) → n ≤ n
 no_less n = omega arith
-
--- a list with nothing told of its elements is empty
-pub none_told : (f : Place → Noted) (ps : List Place) → map f ps ≡ [] → ps ≡ []
-none_told f [] e = refl
-none_told f (p ∷ ps) e = absurd cc
 
 module _ (notes : List Note) (before : ℕ) (marks : List Place) (settled : Place) (up : are_rising settled.notes marks (length notes) ≡ true) where
   -- ---- one more note
@@ -61,14 +49,8 @@ module _ (notes : List Note) (before : ℕ) (marks : List Place) (settled : Plac
   abbrev pub here : Place
   here = record { notes = length notes; before = before }
 
-  what_stands : noted_at notes here ≡ record { notes = notes; before = before }
-  what_stands = λ i. record { notes = whole notes i; before = before }
-
   pub marked_up : are_rising settled.notes (marks ++ here ∷ []) (length notes) ≡ true
   marked_up = joined settled.notes marks here (length notes) up (no_less (length notes))
-
-  pub marked_marks : map (noted_at notes) (marks ++ here ∷ []) ≡ map (noted_at notes) marks ++ record { notes = notes; before = before } ∷ []
-  marked_marks = at_all (noted_at notes) marks (here ∷ []) ∙ ap (λ x. map (noted_at notes) marks ++ x ∷ []) what_stands
 
   -- ---- the latest mark is closed
 
@@ -79,11 +61,8 @@ module _ (notes : List Note) (before : ℕ) (marks : List Place) (settled : Plac
     all_marks : map (noted_at notes) marks ≡ map (noted_at notes) ms ++ noted_at notes p ∷ []
     all_marks = ap (map (noted_at notes)) last ∙ at_all (noted_at notes) ms (p ∷ [])
 
-    pub forget_up : are_rising settled.notes ms (length notes) ≡ true
+    forget_up : are_rising settled.notes ms (length notes) ≡ true
     forget_up = raised settled.notes ms p.notes (length notes) rising.0 rising.1
-
-    pub forget_marks : map (noted_at notes) ms ++ noted_at notes p ∷ [] ≡ map (noted_at notes) marks
-    forget_marks = sym all_marks
 
     same_below : (k : ℕ) → k ≤ p.notes → take k (take p.notes notes) ≡ take k notes
     same_below k e = same_cut k p.notes notes e
@@ -97,10 +76,7 @@ module _ (notes : List Note) (before : ℕ) (marks : List Place) (settled : Plac
     pub back_settled : noted_at (take p.notes notes) settled ≡ noted_at notes settled
     back_settled = at_first notes (take p.notes notes) settled ms p.notes rising.0 same_below
 
-  -- ---- no mark is open
-
-  pub settled_up : are_rising (length notes) [] (length notes) ≡ true
-  settled_up = itself (length notes)
-
-  pub settled_here : noted_at notes here ≡ record { notes = notes; before = before }
-  settled_here = what_stands
+  -- it is closed, if one is open
+  pub closed_up : (ms : List Place) (o : Option Place) → marks ≡ ms ++ option_to_list o → are_rising settled.notes ms (length notes) ≡ true
+  closed_up ms (Some p) e = forget_up ms p e
+  closed_up ms None e = subst (λ l. are_rising settled.notes l (length notes) ≡ true) (e ∙ append-nil ms) up
