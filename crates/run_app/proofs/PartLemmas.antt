@@ -315,5 +315,10 @@ cause_of_report (Err ends.Flush) P of h k = k refl
 cause_of_report (Err ends.NoMemory) P of h k = tt
 
 -- a count that stood still before rose all in all
+-- a count that has not fallen, and then rose, rose
+pub rose_later : (a b c : ℕ) → a ≤ b → Rose b c → Rose a c
+rose_later a b c le (inl lt) = inl (omega (arith, le, lt))
+rose_later a b c le (inr full) = inr full
+
 pub rose_since : (a b c : ℕ) → b ≡ a → Rose b c → Rose a c
 rose_since a b c still rose = subst (λ (n : ℕ). Rose n c) still rose

@@ -1,5 +1,6 @@
 use Rattle.std.proofs.Common.{inl, inr, refl}
 use Rattle.run_app.proofs.DriveLemmas.{begun_busy}
+use Rattle.run_app.proofs.PartLemmas.{rose_later}
 use Rattle.run_app.proofs.ModeLemmas.{nothing_done, quiet_at, quiet_read}
 use Rattle.run_app.proofs.ResumeLemmas.{all_taken, each_changes, leads_first, never_none, no_rows_found, not_brought, not_resumed, resumed_first, unresumed_busy, unresumed_cause, unresumed_quiet, unresumed_undone, unresumed_unread, unresumed_unwritten, went_on}
 use Rattle.run_app.proofs.resuming.resume.Goals as goal
@@ -33,8 +34,8 @@ returns-in-Err-Failed-clause-ends g c =
     let none = rw c.deref.ensures.value at c.in-Err-Failed.ensures.none in
     not_brought c.args.form _ _ _ _ _ c.in-Ok.ensures.restored e.same _ _ _ _ _ _ _ _ _ (inl refl) (never_none _ _ none) (commits _ (leads_first c.args.form _ _ _ _ _ c.in-Ok.ensures.restored e.same)) e.stop
 
-pub returns-in-Err-NoMemory-clause-ends : goal.returns-in-Err-NoMemory-clause-ends
-returns-in-Err-NoMemory-clause-ends g c =
+pub returns-clause-ends : goal.returns-clause-ends
+returns-clause-ends g c =
     let e = c.restore_with_changes.ensures in
     let commits = rw c.deref.ensures.value at c.in-Err-NoMemory.ensures.commits in
     let none = rw c.deref.ensures.value at c.in-Err-NoMemory.ensures.none in
@@ -75,11 +76,17 @@ returns-in-Ok-commit_migration-clause-unkept g c = λ off. absurd (c.in-Ok.ensur
 pub returns-in-Err-Failed-clause-unkept : goal.returns-in-Err-Failed-clause-unkept
 returns-in-Err-Failed-clause-unkept g c = λ off. absurd (c.in-Ok.ensures.unkept off)
 
-pub returns-in-Err-NoMemory-clause-unkept : goal.returns-in-Err-NoMemory-clause-unkept
-returns-in-Err-NoMemory-clause-unkept g c = λ off. absurd (c.in-Ok.ensures.unkept off)
+pub returns-clause-unkept : goal.returns-clause-unkept
+returns-clause-unkept g c = λ off. absurd (c.in-Ok.ensures.unkept off)
 
 pub returns-in-Err-clause-unkept : goal.returns-in-Err-clause-unkept
 returns-in-Err-clause-unkept g c = rw c.status_of_restore.ensures (λ off. (no_rows_found c.in-Err.fault (c.in-Err.ensures.unkept off), nothing_done _ _))
 
 pub returns-in-Ok-commit_migration-clause-busy : goal.returns-in-Ok-commit_migration-clause-busy
 returns-in-Ok-commit_migration-clause-busy g c = begun_busy c.drive.result c.drive.ensures.begun
+
+pub returns-in-Ok-commit_migration-clause-keep_cause : goal.returns-in-Ok-commit_migration-clause-keep_cause
+returns-in-Ok-commit_migration-clause-keep_cause g c = λ e. rose_later _ _ _ c.restore_with_changes.ensures.later (rose_later _ _ _ c.commit_migration.ensures.later (c.drive.ensures.keep_cause e))
+
+pub returns-in-Err-Failed-clause-keep_cause : goal.returns-in-Err-Failed-clause-keep_cause
+returns-in-Err-Failed-clause-keep_cause g c = λ e. rose_later _ _ _ c.restore_with_changes.ensures.later (c.in-Err-Failed.ensures.cause refl)
