@@ -1,5 +1,6 @@
-use Rattle.std.proofs.Common.{Ok, sym, subst, arith}
-use Rattle.std.proofs.lemmas.Grind.{common_steps}
+use Rattle.std.proofs.Common.{◌∙◌, Ok, sym, ap, subst}
+use Rattle.std.proofs.lemmas.Result.{err_from_is_err_and}
+use Rattle.base_roles.specs.Stops.{stop_of_hook}
 use Rattle.rule_modules.specs.Effects.{withdraw_reward}
 use Rattle.chain_modules.specs.Kept.{kept_of}
 use Rattle.chain_modules.proofs.MarkLemmas.{then_on}
@@ -38,7 +39,9 @@ hear_start-requires-clause-tokens g c =
 pub returns-in_err-hear_start-clause-ends : goal.returns-in_err-hear_start-clause-ends
 returns-in_err-hear_start-clause-ends g c = λ p s.
     let m = c.args.m.now in
-    wants_behind (withdraw_reward m.delegator m.validator p) (kept_of c.renew.new.modules) (kept_of c.hear_start.new.modules) _ (grind (arith, common_steps)) (c.in_ok-renew.ensures.ends p s)
+    let r = c.from_residual-in_err-hear_start in
+    let e = err_from_is_err_and r.result r.ensures.1 in
+    rw e.1 (wants_behind (withdraw_reward m.delegator m.validator p) (kept_of c.renew.new.modules) (kept_of c.hear_start.new.modules) e.0 (e.2 ∙ ap stop_of_hook c.in_err-hear_start.ensures.fault) (c.in_ok-renew.ensures.ends p s))
 
 pub returns-in_err-hear_start-clause-go_on : goal.returns-in_err-hear_start-clause-go_on
 returns-in_err-hear_start-clause-go_on g c = then_on c.args.modules.now c.renew.new.modules c.hear_start.new.modules c.renew.ensures.go_on c.hear_start.ensures.go_on
