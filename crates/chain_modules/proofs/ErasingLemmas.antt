@@ -144,12 +144,12 @@ module _ {P : Type 0} (hears : P → Hook → View → P) where
 
   messages_unheard : (place : ℕ) (ms : List Msg) (w : Hearing P) → AreUnheard (effects_of place (map effect_of ms) (unheard w)) (messages_heard hears ms w)
   messages_unheard place [] w = refl
-  messages_unheard place (m ∷ ms) w = by (effect_of m (unheard w)) (effect_heard hears m w) (effect_unheard m w)
+  messages_unheard place (m ∷ ms) w = by (effect_of m (unheard w)) (effect_heard hears m w) (effect_unheard m w) (λ u. messages_unheard (place + 1) ms u)
     where
-      by : (r : Result State Refusal) (q : Result (Hearing P) Refusal) → r ≡ carried_ok unheard q
+      by : (r : Result State Refusal) (q : Result (Hearing P) Refusal) → r ≡ carried_ok unheard q → ((u : Hearing P) → AreUnheard (effects_of (place + 1) (map effect_of ms) (unheard u)) (messages_heard hears ms u))
           → AreUnheard (stopping (λ why. (place, why)) r >>= λ u. effects_of (place + 1) (map effect_of ms) u) (q >>= λ u. messages_heard hears ms u)
-      by r (Ok u) e = subst (λ x. AreUnheard (stopping (λ why. (place, why)) x >>= λ y. effects_of (place + 1) (map effect_of ms) y) (messages_heard hears ms u)) (sym e) (messages_unheard (place + 1) ms u)
-      by r (Err why) e = subst (λ x. AreUnheard (stopping (λ why. (place, why)) x >>= λ y. effects_of (place + 1) (map effect_of ms) y) (Err why)) (sym e) tt
+      by r (Ok u) e rest = subst (λ x. AreUnheard (stopping (λ why. (place, why)) x >>= λ y. effects_of (place + 1) (map effect_of ms) y) (messages_heard hears ms u)) (sym e) (rest u)
+      by r (Err why) e rest = subst (λ x. AreUnheard (stopping (λ why. (place, why)) x >>= λ y. effects_of (place + 1) (map effect_of ms) y) (Err why)) (sym e) tt
 
   stands_unheard : (paid : Hearing P) (r : Result State (ℕ × Refusal)) (q : Result (Hearing P) Refusal) → AreUnheard r q → (stands_or_fee (unheard paid) r).1 ≡ unheard (stands_heard hears paid q)
   stands_unheard paid (Ok u) (Ok w) e = e
@@ -198,7 +198,7 @@ module _ {P : Type 0} (hears : P → Hook → View → P) where
   ending_unheard w =
       then_carried unheard unheard (set_heard hears w) (set_step (unheard w)) _ _ (set_unheard w) (λ w1.
       then_carried unheard unheard (maturing_heard hears w1) (maturing_step (unheard w1)) _ _ (maturing_unheard w1) (λ w2.
-      then_carried unheard unheard (silently unbondings_step w2) (unbondings_step (unheard w2)) _ _ (silent_unheard unbondings_step w2) (λ w3. silent_unheard redelegations_step w3)))
+      then_carried (unheard {P = P}) (unheard {P = P}) (silently unbondings_step w2) (unbondings_step (unheard w2)) (silently redelegations_step) redelegations_step (silent_unheard unbondings_step w2) (λ w3. silent_unheard redelegations_step w3)))
 
   -- ---- blocks
 
