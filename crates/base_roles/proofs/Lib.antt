@@ -4,6 +4,7 @@ pub mod EntryLemmas
 pub mod FallLemmas
 pub mod HoldingLemmas
 pub mod HookLemmas
+pub mod ListenLemmas
 pub mod MomentLemmas
 pub mod RangeLemmas
 pub mod StakeLemmas

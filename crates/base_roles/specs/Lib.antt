@@ -1,5 +1,6 @@
 pub mod Answers
 pub mod Entries
+pub mod Extra
 pub mod Flow
 pub mod Ground
 pub mod Holdings
@@ -7,6 +8,7 @@ pub mod Hooks
 pub mod Items
 pub mod Laws
 pub mod Lent
+pub mod Listeners
 pub mod Log
 pub mod NoHooks
 pub mod Orders

@@ -1,10 +1,11 @@
--- Hooks that do nothing are lawful.
-use Rattle.std.specs.Prelude.{◌≡◌, [], refl, None, true}
-use Rattle.std.proofs.Common.{subst, rules}
+-- Hooks that do nothing are lawful, and listen.
+use Rattle.std.specs.Prelude.{◌≡◌, ℕ, [], refl, None, true, false, replicate}
+use Rattle.std.proofs.Common.{subst, sym, ap, rules}
+use Rattle.base_roles.specs.Extra.{Listens}
 use Rattle.base_roles.specs.Ground.{IsInOrder}
 use Rattle.base_roles.specs.Hooks.{Tells, Keeps, Lawful}
 use Rattle.base_roles.specs.Log.{Log}
-use Rattle.base_roles.specs.World.{View, gives}
+use Rattle.base_roles.specs.World.{View, Told, gives, exceeds}
 
 pub Keeps-same : {N : Type 0} (v : View) → Keeps N v v
 Keeps-same v = record { ctx = refl; supplies = refl; bonded = λ d. refl; not_bonded = λ d. refl; fee_collector = λ d. refl; distribution = λ n d. refl; facts = ([], search rules) }
@@ -43,4 +44,25 @@ nothing_lawful = record {
   quiet_stays = λ s s2 h v v2 log e. refl;
   sure_stays = λ s s2 h v v2 log e. refl;
   steps_stay = λ s s2 h v v2 log e. refl;
+}
+
+-- what is logged of what is given
+abbrev pub log_of : {S : Type 0} → Told S → Log
+log_of (gives s v log) = log
+log_of (exceeds over) = []
+
+-- the laws of a listener that hears nothing, and keeps the number of its open marks alone
+pub nothing_listens : {S : Type 0} {open_of : S → ℕ} → Listens {S = S} {H = Unit {0}} {M = ℕ} {K = Unit {0}} {P = Unit {0}} (λ _ _. Unit {0}) nothing_told open_of (λ _. tt) (λ s. replicate (open_of s) tt)
+    (λ _. []) (λ _. false) (λ _. tt) (λ _ _ _. tt)
+nothing_listens = record {
+  quiet = λ h. refl;
+  logs_nothing = λ h h2 hook v v2 log e. sym (ap log_of e);
+  some = λ s. (tt, tt);
+  read = λ h. tt;
+  is_read = λ s h k. refl;
+  adds = λ h h2 hook v v2 log e. refl;
+  same_marks = λ a b e. ap (λ n. replicate n tt) e;
+  restores = λ a b e. refl;
+  no_items = λ k. refl;
+  no_kinds = λ i. refl;
 }

@@ -44,7 +44,7 @@ Keeps-then u v w n p q = record {
   facts = (p.facts.0 ++ q.facts.0, grind (arith, common_steps, p.facts.1, q.facts.1));
 }
 
-HoldsOwed-none : (o : Option (List ℕ → ℕ)) (v : View) → o ≡ None → HoldsOwed o v
+pub HoldsOwed-none : (o : Option (List ℕ → ℕ)) (v : View) → o ≡ None → HoldsOwed o v
 HoldsOwed-none None v e = tt
 HoldsOwed-none (Some f) v e = cc
 

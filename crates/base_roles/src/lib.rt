@@ -9,6 +9,7 @@
 pub mod bank;
 pub mod delegation;
 pub mod entities;
+pub mod extra;
 pub mod facts;
 pub mod faults;
 pub mod hooks;
@@ -17,6 +18,7 @@ pub mod laws;
 pub mod lists;
 pub mod messages;
 pub mod no_hooks;
+pub mod overheard;
 pub mod pair;
 pub mod params;
 pub mod records;
@@ -31,6 +33,7 @@ pub use entities::{
     Commission, Historical, Purse, RedelegationEntry, SigningInfo, SlashEvent, StartingInfo,
     UnbondingEntry, Validator,
 };
+pub use extra::Extra;
 pub use facts::{Fact, Facts};
 pub use faults::{BankFault, HookFault, MessageFault, RecordFault};
 pub use hooks::StakingHooks;
@@ -38,6 +41,7 @@ pub use items::Item;
 pub use lists::Listed;
 pub use messages::{CreateValidator, EditValidator, Evidence, Vote};
 pub use no_hooks::NoHooks;
+pub use overheard::Overheard;
 pub use pair::HookPair;
 pub use params::{Ctx, Params};
 pub use records::Records;

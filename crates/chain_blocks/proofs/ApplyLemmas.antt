@@ -23,29 +23,34 @@ use Rattle.chain_blocks.proofs.BlockLemmas.{opened as opened_for}
 
 -- ---- facts that are taken
 
--- the modules are the same, but that no fact is left
-pub record IsTaken (old new : Modules) : Type 0 where
+-- the modules are the same, but that no fact is left; a listener hears how many there were
+pub record IsTaken {E : Type 0} (old new : Modules E) : Type 0 where
   pub none : new.ground.facts ≡ []
   pub bank : new.ground.bank ≡ old.ground.bank
   pub ctx : new.ground.ctx ≡ old.ground.ctx
   pub stakes : new.stakes ≡ old.stakes
-  pub hooks : new.hooks ≡ old.hooks
+  pub shared : new.hooks.first.hooks ≡ old.hooks.first.hooks
+  pub signings : new.hooks.second ≡ old.hooks.second
 
-pub taken_kept : (old new : Modules) → IsTaken old new → kept_of new ≡ without_told (kept_of old)
+pub taken_kept : {E : Type 0} (old new : Modules E) → IsTaken old new → kept_of new ≡ without_told (kept_of old)
 taken_kept old new t = λ i. record {
   stakes = record { staked = (t.stakes i).staking.staked; unbondings = (t.stakes i).unbondings.lists; redelegations = (t.stakes i).redelegations.lists };
-  shared = (t.hooks i).first.kept;
-  signings = (t.hooks i).second.kept;
+  shared = (t.shared i).kept;
+  signings = (t.signings i).kept;
   view = record { bank = (t.bank i).holdings; ctx = t.ctx i; facts = t.none i };
 }
 
-pub taken_behind : (old new : Modules) → IsTaken old new → behind_of new ≡ behind_of old
-taken_behind old new t = λ i. behind_of (record { ground = record { bank = t.bank i; ctx = old.ground.ctx; facts = old.ground.facts }; stakes = t.stakes i; hooks = t.hooks i })
+pub taken_behind : {E : Type 0} (old new : Modules E) → IsTaken old new → behind_of new ≡ behind_of old
+taken_behind old new t = λ i. behind_of (record {
+  ground = record { bank = t.bank i; ctx = old.ground.ctx; facts = old.ground.facts };
+  stakes = t.stakes i;
+  hooks = record { first = record { hooks = t.shared i; listener = old.hooks.first.listener }; second = t.signings i };
+})
 
-pub taken_stands : (old new : Modules) (p : State) → IsTaken old new → StandsWhole (kept_of old) p → StandsWhole (kept_of new) (without_facts p)
+pub taken_stands : {E : Type 0} (old new : Modules E) (p : State) → IsTaken old new → StandsWhole (kept_of old) p → StandsWhole (kept_of new) (without_facts p)
 taken_stands old new p t s = whole_same (without_told (kept_of old)) (kept_of new) (without_facts p) (taken_kept old new t) (whole_cleared (kept_of old) p s)
 
-pub taken_steady : (old new : Modules) → IsTaken old new → AreSteady old → AreSteady new
+pub taken_steady : {E : Type 0} (old new : Modules E) → IsTaken old new → AreSteady old → AreSteady new
 taken_steady old new t s = record {
   power = ap (λ c. c.staking.power_reduction) t.stakes ∙ s.power ∙ ap (λ (c : Ctx). c.params.power_reduction) (sym t.ctx);
   state = without_facts s.state;
@@ -53,7 +58,7 @@ taken_steady old new t s = record {
 }
 
 -- what was told is what the state has
-pub taken_told : (old : Modules) (p : State) (told : List Fact) → told ≡ old.ground.facts → StandsWhole (kept_of old) p → told ≡ p.view.facts
+pub taken_told : {E : Type 0} (old : Modules E) (p : State) (told : List Fact) → told ≡ old.ground.facts → StandsWhole (kept_of old) p → told ≡ p.view.facts
 taken_told old p told e s = e ∙ sym (ap (λ (v : View). v.facts) s.keeps.view)
 
 -- ---- transactions that begin without facts
@@ -67,7 +72,7 @@ same_stands b w k s = subst (λ (p : State). StandsWhole k p) (sym (ap (λ (x : 
 -- ---- the parts of a block, one after another
 
 -- From modules that begin a block: after its beginning, once its facts are taken, after its transactions.
-module _ (b : Block) (first begun told applied : Modules) (begins : (p : State) → HasBegun b (kept_of first) p → Leads StandsWhole (begin_block b.votes b.evidence p) (kept_of begun) (Ok tt)) (taken : IsTaken begun told)
+module _ {E : Type 0} (b : Block) (first begun told applied : Modules E) (begins : (p : State) → HasBegun b (kept_of first) p → Leads StandsWhole (begin_block b.votes b.evidence p) (kept_of begun) (Ok tt)) (taken : IsTaken begun told)
     (applies : (p : State) → StandsWhole (kept_of told) p → StandsWhole (kept_of applied) (without_facts (txs_applied b.txs p).state)) where
   begun_by : (p : State) → HasBegun b (kept_of first) p → (due : State) × (begin_block b.votes b.evidence p ≡ Ok due) × StandsWhole (kept_of begun) due
   begun_by p h = part_done (begin_block b.votes b.evidence p) (kept_of begun) StandsWhole (begins p h)
@@ -79,14 +84,14 @@ module _ (b : Block) (first begun told applied : Modules) (begins : (p : State) 
   applied_stands p h = same_stands b (begun_by p h).0 (kept_of applied) (applies (without_facts (begun_by p h).0) (told_stands p h))
 
   -- the end stopped
-  pub end_stopped : (ended : Modules) (k : KeptState) (fault : HookFault) → ((q : State) → StandsWhole (kept_of applied) q → Leads StandsWhole (end_block q) (kept_of ended) (Err fault))
+  pub end_stopped : (ended : Modules E) (k : KeptState) (fault : HookFault) → ((q : State) → StandsWhole (kept_of applied) q → Leads StandsWhole (end_block q) (kept_of ended) (Err fault))
       → (p : State) → HasBegun b (kept_of first) p → AnswersStep (parts_stepped b p) k (Err (fault_of_hook fault))
   end_stopped ended k fault ends p h =
       let d = begun_by p h in
       end_stops b p d.0 d.1 (kept_of ended) k StandsWhole fault (ends (without_facts (txs_applied b.txs d.0).state) (applied_stands p h))
 
   -- all parts are through
-  pub parts_done : (ended last : Modules) → ((q : State) → StandsWhole (kept_of applied) q → Leads StandsWhole (end_block q) (kept_of ended) (Ok tt)) → IsTaken ended last → (begins_with ends_with : List Fact) (reports : List TxReport)
+  pub parts_done : (ended last : Modules E) → ((q : State) → StandsWhole (kept_of applied) q → Leads StandsWhole (end_block q) (kept_of ended) (Ok tt)) → IsTaken ended last → (begins_with ends_with : List Fact) (reports : List TxReport)
       → begins_with ≡ begun.ground.facts → ((q : State) → StandsWhole (kept_of told) q → reports ≡ (txs_applied b.txs q).reports) → ends_with ≡ ended.ground.facts
       → (p : State) → HasBegun b (kept_of first) p → AnswersStep (parts_stepped b p) (kept_of last) (Ok (record { height = b.height; time = b.time; begun = begins_with; txs = reports; ended = ends_with }))
   parts_done ended last ends out begins_with ends_with reports e f g p h =
@@ -98,7 +103,7 @@ module _ (b : Block) (first begun told applied : Modules) (begins : (p : State) 
 -- ---- marks
 
 -- what stands behind the records has what was settled
-pub settled_behind : (old new : Modules) → behind_of new ≡ behind_of old → settled_of new ≡ settled_of old
+pub settled_behind : {E : Type 0} (old new : Modules E) → behind_of new ≡ behind_of old → settled_of new ≡ settled_of old
 settled_behind old new e = λ i. record {
   bank = (e i).bank.settled;
   stakes = record { staked = (e i).staking.settled; unbondings = (e i).unbondings.settled; redelegations = (e i).redelegations.settled };
@@ -109,7 +114,7 @@ settled_behind old new e = λ i. record {
 -- ---- a block
 
 -- at the height and time of a block, behind a mark
-pub begun_kept : (b : Block) (old marked : Modules) → AreAtRest old → kept_of marked ≡ kept_of old
+pub begun_kept : {E : Type 0} (b : Block) (old marked : Modules E) → AreAtRest old → kept_of marked ≡ kept_of old
     → kept_over (parts_of marked) (record { height = b.height; time = b.time; params = old.ground.ctx.params }) marked.ground.facts ≡ kept_begun b (kept_of old)
 begun_kept b old marked rest same = λ i. record {
   stakes = (same i).stakes;
@@ -119,7 +124,7 @@ begun_kept b old marked rest same = λ i. record {
 }
 
 -- modules at rest that were marked, at the block's height and time, may begin it
-module _ (b : Block) (old begun : Modules) (rest : AreAtRest old) (same : kept_of begun ≡ kept_begun b (kept_of old)) where
+module _ {E : Type 0} (b : Block) (old begun : Modules E) (rest : AreAtRest old) (same : kept_of begun ≡ kept_begun b (kept_of old)) where
   pub begins : block_checked b rest.state ≡ Ok tt → b.height < 2 ^ 63 → begun.stakes.staking.power_reduction ≡ old.stakes.staking.power_reduction → MayBegin b begun
   begins checked few power = record {
     power = power ∙ rest.power ∙ sym (ap (λ (k : KeptState). k.view.ctx.params.power_reduction) same);
@@ -128,7 +133,7 @@ module _ (b : Block) (old begun : Modules) (rest : AreAtRest old) (same : kept_o
   }
 
 -- what keeps the same, at rest
-pub rest_same : (old new : Modules) → AreAtRest old → kept_of new ≡ kept_of old → marks_of new ≡ marks_of old → new.stakes.staking.power_reduction ≡ old.stakes.staking.power_reduction → AreAtRest new
+pub rest_same : {E : Type 0} (old new : Modules E) → AreAtRest old → kept_of new ≡ kept_of old → marks_of new ≡ marks_of old → new.stakes.staking.power_reduction ≡ old.stakes.staking.power_reduction → AreAtRest new
 rest_same old new r same marks power = record {
   power = power ∙ r.power ∙ sym (ap (λ (k : KeptState). k.view.ctx.params.power_reduction) same);
   state = r.state;
@@ -138,7 +143,7 @@ rest_same old new r same marks power = record {
 }
 
 -- modules that ended a block, at rest once its mark is closed
-module _ (old marked applied new : Modules) (rest : AreAtRest old) (opens : marks_of marked ≡ opened old) (on : behind_of applied ≡ behind_of marked) where
+module _ {E : Type 0} (old marked applied new : Modules E) (rest : AreAtRest old) (opens : marks_of marked ≡ opened old) (on : behind_of applied ≡ behind_of marked) where
   pub still_open : AreOpen (marks_of applied)
   still_open = open_again old (marks_of applied) (marks_behind marked applied on ∙ opens)
 

@@ -16,12 +16,12 @@ use Rattle.chain_blocks.proofs.LeadLemmas.{stop_leads, then_leads, weaker_leads}
 use Rattle.chain_blocks.proofs.OpenLemmas.{begun_stands, brings, casts, opens}
 
 -- evidence that a block may bring may still be brought behind its votes
-pub brought_on : (b : Block) (old new : Modules) → MayBegin b old → GoOn old new → All (MayBeBrought new.ground.ctx) b.evidence
+pub brought_on : {E : Type 0} (b : Block) (old new : Modules E) → MayBegin b old → GoOn old new → All (MayBeBrought new.ground.ctx) b.evidence
 brought_on b old new may on =
     subst (λ (c : Ctx). All (MayBeBrought c) b.evidence) (ap (λ (v : View). v.ctx) may.begun.keeps.view ∙ sym on.ctx) (brings b (kept_of old) may.state may.begun)
 
 -- fees may be allocated among its votes
-pub may_allocate : (b : Block) (m : Modules) → MayBegin b m → MayAllocate b.votes m
+pub may_allocate : {E : Type 0} (b : Block) (m : Modules E) → MayBegin b m → MayAllocate b.votes m
 may_allocate b m s = record { power = s.power; state = s.state; begun = opens b (kept_of m) s.state s.begun; cast = casts b (kept_of m) s.state s.begun }
 
 module _ (b : Block) (k0 k1 : KeptState) where

@@ -59,7 +59,7 @@ module _ (f : State → Result State Over) where
       by (Err over) (Err fault) n h = h
 
   -- after a step the modules are steady again
-  pub steady_on : (old new : Modules) (answer : Result ⊤ HookFault) → AreSteady old → GoOn old new → ((p : State) → StandsWhole (kept_of old) p → Leads StandsWhole (f p) (kept_of new) answer) → OnOk answer (AreSteady new)
+  pub steady_on : {E : Type 0} (old new : Modules E) (answer : Result ⊤ HookFault) → AreSteady old → GoOn old new → ((p : State) → StandsWhole (kept_of old) p → Leads StandsWhole (f p) (kept_of new) answer) → OnOk answer (AreSteady new)
   steady_on old new (Ok a) s on ends = let d = led (f s.state) (ends s.state s.stands) in record {
     power = ap (λ b. b.staking.power_reduction) on.behind ∙ s.power ∙ ap (λ (c : Ctx). c.params.power_reduction) (sym on.ctx);
     state = d.0;
@@ -109,7 +109,7 @@ redelegations_next p s whole =
 
 -- ---- calls of staking, over the modules' hooks
 
-module _ (old new : Modules) (p : State) (k : Keeps (kept_of old) p) (ctx : new.ground.ctx ≡ old.ground.ctx)
+module _ {E : Type 0} (old new : Modules E) (p : State) (k : Keeps (kept_of old) p) (ctx : new.ground.ctx ≡ old.ground.ctx)
     (unbondings : new.stakes.unbondings.lists ≡ old.stakes.unbondings.lists) (redelegations : new.stakes.redelegations.lists ≡ old.stakes.redelegations.lists) where
   starts_here : over old.stakes.staking.staked (held_as old.ground.ctx.params.signed_blocks_window p.hooks) (ground_of old) ≡ carried (held_as old.ground.ctx.params.signed_blocks_window) [] (unlogged p)
   starts_here = λ i. record {
@@ -173,7 +173,7 @@ module _ (old new : Modules) (p : State) (k : Keeps (kept_of old) p) (ctx : new.
 
 -- ---- entries that are mature
 
-module _ (old new : Modules) (p : State) (k : Keeps (kept_of old) p) (ctx : new.ground.ctx ≡ old.ground.ctx) (shared : new.hooks.first.kept ≡ old.hooks.first.kept)
+module _ {E : Type 0} (old new : Modules E) (p : State) (k : Keeps (kept_of old) p) (ctx : new.ground.ctx ≡ old.ground.ctx) (shared : new.hooks.first.hooks.kept ≡ old.hooks.first.hooks.kept)
     (signings : new.hooks.second.kept ≡ old.hooks.second.kept) (staked : new.stakes.staking.staked ≡ old.stakes.staking.staked) where
   same_signings : KeepsSignings new.ground.ctx.params.signed_blocks_window new.hooks.second.kept (window_in p)
   same_signings =

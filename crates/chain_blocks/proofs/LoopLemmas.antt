@@ -23,18 +23,18 @@ use Rattle.chain_blocks.proofs.LeadLemmas.{stop_leads}
 -- ---- one step
 
 -- what goes on has the power reduction of the parameters still
-pub still_set : (old new : Modules) → GoOn old new → AreSet old → AreSet new
+pub still_set : {E : Type 0} (old new : Modules E) → GoOn old new → AreSet old → AreSet new
 still_set old new on power = ap (λ b. b.staking.power_reduction) on.behind ∙ power ∙ ap (λ (c : Ctx). c.params.power_reduction) (sym on.ctx)
 
 -- after a step that was carried out these votes may be counted
-pub may_vote : (votes : List Vote) (old new : Modules) (r : Result State Over) (answer : Result ⊤ HookFault) → GoOn old new → AreSet old → Leads (AreBegun votes) r (kept_of new) answer → OnOk answer (MayVote votes new)
+pub may_vote : {E : Type 0} (votes : List Vote) (old new : Modules E) (r : Result State Over) (answer : Result ⊤ HookFault) → GoOn old new → AreSet old → Leads (AreBegun votes) r (kept_of new) answer → OnOk answer (MayVote votes new)
 may_vote votes old new (Ok due) (Ok a) on power h = record { power = still_set old new on power; state = due; begun = h }
 may_vote votes old new (Ok due) (Err fault) on power h = tt
 may_vote votes old new (Err over) (Ok a) on power h = absurd h
 may_vote votes old new (Err over) (Err fault) on power h = tt
 
 -- after a beginning that was carried out the modules are steady
-pub steady_begun : (b : Block) (old new : Modules) (answer : Result ⊤ HookFault) → MayBegin b old → GoOn old new
+pub steady_begun : {E : Type 0} (b : Block) (old new : Modules E) (answer : Result ⊤ HookFault) → MayBegin b old → GoOn old new
     → ((p : State) → HasBegun b (kept_of old) p → Leads StandsWhole (begin_block b.votes b.evidence p) (kept_of new) answer) → OnOk answer (AreSteady new)
 steady_begun b old new (Ok a) may on leads =
     let d = part_done (begin_block b.votes b.evidence may.state) (kept_of new) StandsWhole (leads may.state may.begun) in
@@ -45,14 +45,14 @@ steady_begun b old new (Err fault) may on leads = tt
 
 -- A step for each item: from each state for which modules stood before the first, the steps that are left lead to what all of them do.
 module _ {A : Type 0} (f : A → State → Result State Over) (stands : List A → KeptState → State → Type 0) where
-  pub record EachSoFar (items : List A) (place : ℕ) (old new : Modules) : Type 0 where
+  pub record EachSoFar {E : Type 0} (items : List A) (place : ℕ) (old new : Modules E) : Type 0 where
     pub go_on : GoOn old new
     pub rest : (p : State) → stands items (kept_of old) p → (q : State) × stands (drop place items) (kept_of new) q × (each f (drop place items) q ≡ each f items p)
 
-  pub none_yet : (items : List A) (m : Modules) → EachSoFar items 0 m m
+  pub none_yet : {E : Type 0} (items : List A) (m : Modules E) → EachSoFar items 0 m m
   none_yet items m = record { go_on = stay_on m; rest = λ p s. (p, s, refl) }
 
-  module _ (items : List A) (place : ℕ) (x : A) (old new last : Modules) (lt : place < length items) (is : x ≡ get_or items place x) (so : EachSoFar items place old new) (on : GoOn new last) where
+  module _ {E : Type 0} (items : List A) (place : ℕ) (x : A) (old new last : Modules E) (lt : place < length items) (is : x ≡ get_or items place x) (so : EachSoFar items place old new) (on : GoOn new last) where
     abbrev others : List A
     others = drop (place + 1) items
 
@@ -81,7 +81,7 @@ module _ {A : Type 0} (f : A → State → Result State Over) (stands : List A �
         (stop_leads (stands (x ∷ others)) (stands others) ends (f x) (λ t. each f others t) (kept_of new) (kept_of last) (kept_of last) why leads r.0 (here r.0 r.1))
 
   -- all steps were carried out
-  pub all_done : (items : List A) (place : ℕ) (old new : Modules) → drop place items ≡ [] → EachSoFar items place old new → (p : State) → stands items (kept_of old) p → Leads (stands []) (each f items p) (kept_of new) (Ok tt)
+  pub all_done : {E : Type 0} (items : List A) (place : ℕ) (old new : Modules E) → drop place items ≡ [] → EachSoFar items place old new → (p : State) → stands items (kept_of old) p → Leads (stands []) (each f items p) (kept_of new) (Ok tt)
   all_done items place old new end so p s =
       let r = so.rest p s in
       subst (λ z. Leads (stands []) z (kept_of new) (Ok tt)) (ap (λ (l : List A). each f l r.0) (sym end) ∙ r.2)
@@ -90,26 +90,26 @@ module _ {A : Type 0} (f : A → State → Result State Over) (stands : List A �
 -- ---- votes
 
 -- The votes before this place were counted, and those that are left may be.
-pub record VotesCounted (votes : List Vote) (place : ℕ) (old new : Modules) : Type 0 where
+pub record VotesCounted {E : Type 0} (votes : List Vote) (place : ℕ) (old new : Modules E) : Type 0 where
   pub may : MayVote (drop place votes) new
   pub so : EachSoFar vote_step AreBegun votes place old new
 
-pub no_votes_counted : (votes : List Vote) (m : Modules) → MayVote votes m → VotesCounted votes 0 m m
+pub no_votes_counted : {E : Type 0} (votes : List Vote) (m : Modules E) → MayVote votes m → VotesCounted votes 0 m m
 no_votes_counted votes m may = record { may = may; so = none_yet vote_step AreBegun votes m }
 
-module _ (votes : List Vote) (place : ℕ) (t : Vote) (old new : Modules) (lt : place < length votes) (is : t ≡ get_or votes place t) (h : VotesCounted votes place old new) where
+module _ {E : Type 0} (votes : List Vote) (place : ℕ) (t : Vote) (old new : Modules E) (lt : place < length votes) (is : t ≡ get_or votes place t) (h : VotesCounted votes place old new) where
   -- this vote may be counted, and then the others
   pub vote_due : MayVote (t ∷ drop (place + 1) votes) new
   vote_due = subst (λ l. MayVote l new) (next votes place t lt is) h.may
 
-  pub vote_counted : (last : Modules) → GoOn new last → ((q : State) → AreBegun (t ∷ drop (place + 1) votes) (kept_of new) q → Leads (AreBegun (drop (place + 1) votes)) (vote_step t q) (kept_of last) (Ok tt))
+  pub vote_counted : (last : Modules E) → GoOn new last → ((q : State) → AreBegun (t ∷ drop (place + 1) votes) (kept_of new) q → Leads (AreBegun (drop (place + 1) votes)) (vote_step t q) (kept_of last) (Ok tt))
       → VotesCounted votes (place + 1) old last
   vote_counted last on leads = record {
     may = may_vote (drop (place + 1) votes) new last (vote_step t vote_due.state) (Ok tt) on vote_due.power (leads vote_due.state vote_due.begun);
     so = one_more vote_step AreBegun votes place t old new last lt is h.so on leads;
   }
 
-pub all_votes_counted : (votes : List Vote) (place : ℕ) (old new : Modules) → drop place votes ≡ [] → VotesCounted votes place old new → MayVote [] new
+pub all_votes_counted : {E : Type 0} (votes : List Vote) (place : ℕ) (old new : Modules E) → drop place votes ≡ [] → VotesCounted votes place old new → MayVote [] new
 all_votes_counted votes place old new end h = subst (λ l. MayVote l new) end h.may
 
 -- ---- evidence
@@ -119,14 +119,14 @@ abbrev pub AreThrough : List Evidence → KeptState → State → Type 0
 AreThrough evidence = AreBegun []
 
 -- The evidence before this place was handled, and that which is left may be.
-pub record EvidenceHandled (evidence : List Evidence) (place : ℕ) (old new : Modules) : Type 0 where
+pub record EvidenceHandled {E : Type 0} (evidence : List Evidence) (place : ℕ) (old new : Modules E) : Type 0 where
   pub may : MayAccuse (drop place evidence) new
   pub so : EachSoFar evidence_step AreThrough evidence place old new
 
-pub no_evidence_handled : (evidence : List Evidence) (m : Modules) → MayAccuse evidence m → EvidenceHandled evidence 0 m m
+pub no_evidence_handled : {E : Type 0} (evidence : List Evidence) (m : Modules E) → MayAccuse evidence m → EvidenceHandled evidence 0 m m
 no_evidence_handled evidence m may = record { may = may; so = none_yet evidence_step AreThrough evidence m }
 
-module _ (evidence : List Evidence) (place : ℕ) (e : Evidence) (old new : Modules) (lt : place < length evidence) (is : e ≡ get_or evidence place e) (h : EvidenceHandled evidence place old new) where
+module _ {E : Type 0} (evidence : List Evidence) (place : ℕ) (e : Evidence) (old new : Modules E) (lt : place < length evidence) (is : e ≡ get_or evidence place e) (h : EvidenceHandled evidence place old new) where
   -- this evidence may be handled, and then the rest
   pub evidence_due : MayAccuse (e ∷ drop (place + 1) evidence) new
   evidence_due = subst (λ l. MayAccuse l new) (next evidence place e lt is) h.may
@@ -134,7 +134,7 @@ module _ (evidence : List Evidence) (place : ℕ) (e : Evidence) (old new : Modu
   pub brought_here : MayBeBrought new.ground.ctx e
   brought_here = All-head (MayBeBrought new.ground.ctx) e (drop (place + 1) evidence) evidence_due.brought
 
-  pub evidence_handled : (last : Modules) → GoOn new last → ((q : State) → AreBegun [] (kept_of new) q → Leads (AreBegun []) (evidence_step e q) (kept_of last) (Ok tt)) → EvidenceHandled evidence (place + 1) old last
+  pub evidence_handled : (last : Modules E) → GoOn new last → ((q : State) → AreBegun [] (kept_of new) q → Leads (AreBegun []) (evidence_step e q) (kept_of last) (Ok tt)) → EvidenceHandled evidence (place + 1) old last
   evidence_handled last on leads = record {
     may = record {
       behind = may_vote [] new last (evidence_step e evidence_due.behind.state) (Ok tt) on evidence_due.behind.power (leads evidence_due.behind.state evidence_due.behind.begun);

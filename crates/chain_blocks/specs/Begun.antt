@@ -58,25 +58,25 @@ pub record MayBeBrought (c : Ctx) (e : Evidence) : Type 0 where
 -- ---- what modules stand for
 
 -- the modules may begin this block
-pub record MayBegin (b : Block) (m : Modules) : Type 0 where
+pub record MayBegin {E : Type 0} (b : Block) (m : Modules E) : Type 0 where
   pub power : AreSet m
   pub state : State
   pub begun : HasBegun b (kept_of m) state
 
 -- fees may be allocated among these votes
-pub record MayAllocate (ts : List Vote) (m : Modules) : Type 0 where
+pub record MayAllocate {E : Type 0} (ts : List Vote) (m : Modules E) : Type 0 where
   pub power : AreSet m
   pub state : State
   pub begun : AreBegun ts (kept_of m) state
   pub cast : AreCast ts state
 
 -- these votes may be counted
-pub record MayVote (votes : List Vote) (m : Modules) : Type 0 where
+pub record MayVote {E : Type 0} (votes : List Vote) (m : Modules E) : Type 0 where
   pub power : AreSet m
   pub state : State
   pub begun : AreBegun votes (kept_of m) state
 
 -- this evidence may be handled, behind all votes
-pub record MayAccuse (evidence : List Evidence) (m : Modules) : Type 0 where
+pub record MayAccuse {E : Type 0} (evidence : List Evidence) (m : Modules E) : Type 0 where
   pub behind : MayVote [] m
   pub brought : All (MayBeBrought m.ground.ctx) evidence

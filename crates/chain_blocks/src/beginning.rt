@@ -1,15 +1,15 @@
 //! The beginning of a block: the fees are allocated, then the votes count, then the evidence is handled.
 
-ghost use Rattle.std.specs.Prelude.{[], OnOk};
+ghost use Rattle.std.specs.Prelude.{◌≡◌, [], OnOk};
 ghost use Rattle.base_roles.specs.Flow.{each};
 ghost use Rattle.rule_modules.specs.Chain.{State, allocation_step, vote_step, evidence_step, begin_block};
-ghost use Rattle.chain_modules.specs.Kept.{StandsWhole, kept_of, AreSteady};
+ghost use Rattle.chain_modules.specs.Kept.{StandsWhole, kept_of, AreSteady, listener_of};
 ghost use Rattle.chain_modules.specs.Marks.{GoOn};
 ghost use Rattle.chain_blocks.specs.Answers.{Leads};
 ghost use Rattle.chain_blocks.specs.Begun.{AreBegun, HasBegun, MayBegin, MayAllocate, MayVote, MayAccuse};
 
 use base_messages::Block;
-use base_roles::{Evidence, HookFault, Vote};
+use base_roles::{Evidence, Extra, HookFault, Vote};
 use base_types::Steps;
 use chain_modules::Modules;
 use mod_evidence::equivocation;
@@ -20,9 +20,9 @@ use std::sync::ledger::Ledger;
 ///
 /// `Over` comes exactly where a result of the allocation, of a vote or of evidence would be 10^38 units or
 /// more, or a period that one of them ends is 10^18. After an error some of it may stand.
-pub(crate) fn begin<L: Ledger>(
+pub(crate) fn begin<E: Extra, L: Ledger>(
     alloc: Global,
-    modules: &mut Modules,
+    modules: &mut Modules<E>,
     block: &Block,
     steps: &mut Steps<L>,
 ) -> Result<(), HookFault>
@@ -34,6 +34,8 @@ pub(crate) fn begin<L: Ledger>(
 
     // Whatever the answer.
     ensures go_on { GoOn modules.old modules.new }
+    ensures listener { E.Records.marks (listener_of modules.new)
+        ≡ E.Records.marks (listener_of modules.old) }
 {
     let votes = block.votes.as_slice();
     allocate(alloc, modules, votes, steps)?;
@@ -42,9 +44,9 @@ pub(crate) fn begin<L: Ledger>(
 }
 
 /// Allocates the fees of the last block among votes (`x/distribution`: `BeginBlocker`).
-fn allocate<L: Ledger>(
+fn allocate<E: Extra, L: Ledger>(
     alloc: Global,
-    modules: &mut Modules,
+    modules: &mut Modules<E>,
     votes: &[Vote],
     steps: &mut Steps<L>,
 ) -> Result<(), HookFault>
@@ -55,17 +57,20 @@ fn allocate<L: Ledger>(
 
     // Whatever the answer.
     ensures go_on { GoOn modules.old modules.new }
+    ensures listener { E.Records.marks (listener_of modules.new)
+        ≡ E.Records.marks (listener_of modules.old) }
 {
     modules
         .hooks
         .first
+        .hooks
         .begin_block(alloc, &mut modules.ground, &modules.stakes, votes, steps)
 }
 
 /// Counts votes, one after the other, and punishes downtime (`x/slashing`: `BeginBlocker`).
-fn count_votes<L: Ledger>(
+fn count_votes<E: Extra, L: Ledger>(
     alloc: Global,
-    modules: &mut Modules,
+    modules: &mut Modules<E>,
     votes: &[Vote],
     steps: &mut Steps<L>,
 ) -> Result<(), HookFault>
@@ -76,6 +81,8 @@ fn count_votes<L: Ledger>(
 
     // Whatever the answer.
     ensures go_on { GoOn modules.old modules.new }
+    ensures listener { E.Records.marks (listener_of modules.new)
+        ≡ E.Records.marks (listener_of modules.old) }
 {
     for vote in votes {
         modules.hooks.second.vote(
@@ -91,9 +98,9 @@ fn count_votes<L: Ledger>(
 }
 
 /// Handles evidence, one piece after the other (`x/evidence`: `BeginBlocker`).
-fn handle_evidence<L: Ledger>(
+fn handle_evidence<E: Extra, L: Ledger>(
     alloc: Global,
-    modules: &mut Modules,
+    modules: &mut Modules<E>,
     evidence: &[Evidence],
     steps: &mut Steps<L>,
 ) -> Result<(), HookFault>
@@ -104,6 +111,8 @@ fn handle_evidence<L: Ledger>(
 
     // Whatever the answer.
     ensures go_on { GoOn modules.old modules.new }
+    ensures listener { E.Records.marks (listener_of modules.new)
+        ≡ E.Records.marks (listener_of modules.old) }
 {
     for e in evidence {
         equivocation(

@@ -2,7 +2,7 @@
 
 ghost use Rattle.std.specs.Prelude.{◌≡◌, ◌<◌, ◌^◌, [], OnOk, OnErr};
 ghost use Rattle.rule_modules.specs.Chain.{State};
-ghost use Rattle.chain_modules.specs.Kept.{StandsFor, kept_of, AreSteady};
+ghost use Rattle.chain_modules.specs.Kept.{StandsFor, kept_of, AreSteady, listener_of};
 ghost use Rattle.chain_modules.specs.Marks.{settled_of, behind_of, AreAtRest};
 ghost use Rattle.chain_blocks.specs.Answers.{Applies, AnswersStep, parts_stepped};
 ghost use Rattle.chain_blocks.specs.Begun.{HasBegun, MayBegin};
@@ -12,7 +12,7 @@ use crate::checking::check_block;
 use crate::ending::end;
 use crate::fault::{fault_of_hook, fault_of_record};
 use base_messages::{Block, BlockFault, BlockReport};
-use base_roles::{Ctx, Facts, Listed};
+use base_roles::{Ctx, Extra, Facts, Listed};
 use base_types::Steps;
 use chain_modules::Modules;
 use chain_transactions::apply_transactions;
@@ -28,9 +28,9 @@ use std::sync::ledger::{Blank, Ledger};
 /// the operands, where a result of its beginning would be 10^38 units or more, or a period that it ends is 10^18; and
 /// `NoMemory`. The modules then keep what they kept, under no mark; where memory was wanting, some of them may be
 /// spent.
-pub fn apply<L: Ledger>(
+pub fn apply<E: Extra, L: Ledger>(
     alloc: Global,
-    modules: &mut Modules,
+    modules: &mut Modules<E>,
     block: &Block,
     blank: Blank,
 ) -> Result<BlockReport, BlockFault>
@@ -74,9 +74,9 @@ pub fn apply<L: Ledger>(
 
 /// The beginning, the transactions and the end of a block that may follow, at its own height and time. After an
 /// error some of it may stand.
-fn apply_parts<L: Ledger>(
+fn apply_parts<E: Extra, L: Ledger>(
     alloc: Global,
-    modules: &mut Modules,
+    modules: &mut Modules<E>,
     block: &Block,
     steps: &mut Steps<L>,
 ) -> Result<BlockReport, BlockFault>
@@ -89,6 +89,8 @@ fn apply_parts<L: Ledger>(
 
     // Whatever the answer.
     ensures behind { behind_of modules.new ≡ behind_of modules.old }
+    ensures listener { E.Records.marks (listener_of modules.new)
+        ≡ E.Records.marks (listener_of modules.old) }
 {
     if let Err(fault) = begin(alloc, modules, block, steps) {
         return Err(fault_of_hook(fault));
@@ -101,7 +103,7 @@ fn apply_parts<L: Ledger>(
     if let Err(fault) = end(alloc, modules, steps) {
         return Err(fault_of_hook(fault));
     }
-    let ended = told(alloc, modules);
+    let ended = told_last(alloc, modules);
     Ok(BlockReport {
         height: block.height,
         time: block.time,
@@ -111,14 +113,36 @@ fn apply_parts<L: Ledger>(
     })
 }
 
-/// Takes the facts that were told.
-fn told(alloc: Global, modules: &mut Modules) -> Facts
+/// Takes the facts that a part told, and tells the listener how many they are.
+fn told<E: Extra>(alloc: Global, modules: &mut Modules<E>) -> Facts
     ensures facts { result ≡ modules.old.ground.facts }
     ensures none { modules.new.ground.facts ≡ [] }
     ensures bank { modules.new.ground.bank ≡ modules.old.ground.bank }
     ensures ctx { modules.new.ground.ctx ≡ modules.old.ground.ctx }
     ensures stakes { modules.new.stakes ≡ modules.old.stakes }
-    ensures hooks { modules.new.hooks ≡ modules.old.hooks }
+    ensures shared { modules.new.hooks.first.hooks ≡ modules.old.hooks.first.hooks }
+    ensures signings { modules.new.hooks.second ≡ modules.old.hooks.second }
+    ensures listener { E.Records.marks (listener_of modules.new)
+        ≡ E.Records.marks (listener_of modules.old) }
 {
-    mem::replace(&mut modules.ground.facts, Facts::new(alloc))
+    let facts = mem::replace(&mut modules.ground.facts, Facts::new(alloc));
+    modules.hooks.first.listener.after_part(facts.len());
+    facts
+}
+
+/// Takes the facts that the last part told, and tells the listener that the block has ended.
+fn told_last<E: Extra>(alloc: Global, modules: &mut Modules<E>) -> Facts
+    ensures facts { result ≡ modules.old.ground.facts }
+    ensures none { modules.new.ground.facts ≡ [] }
+    ensures bank { modules.new.ground.bank ≡ modules.old.ground.bank }
+    ensures ctx { modules.new.ground.ctx ≡ modules.old.ground.ctx }
+    ensures stakes { modules.new.stakes ≡ modules.old.stakes }
+    ensures shared { modules.new.hooks.first.hooks ≡ modules.old.hooks.first.hooks }
+    ensures signings { modules.new.hooks.second ≡ modules.old.hooks.second }
+    ensures listener { E.Records.marks (listener_of modules.new)
+        ≡ E.Records.marks (listener_of modules.old) }
+{
+    let facts = mem::replace(&mut modules.ground.facts, Facts::new(alloc));
+    modules.hooks.first.listener.after_block();
+    facts
 }

@@ -10,7 +10,7 @@ ghost use Rattle.chain_blocks.specs.Answers.{FaultsAs};
 
 use base_lists::add_key;
 use base_messages::{Block, BlockFault};
-use base_roles::{Ctx, Evidence, ValidatorView, Vote};
+use base_roles::{Ctx, Evidence, Extra, ValidatorView, Vote};
 use base_types::{Moment, Steps};
 use chain_modules::{Modules, Stakes};
 use std::alloc::Global;
@@ -26,9 +26,9 @@ const MOST_TOKENS: u128 = 1_000_000_000_000_000_000;
 /// Finds the first reason why a block may not follow, against what stands before it: its height or time; the first
 /// vote that names no validator, or names one again, or with which the powers stand for more than 10^18 tokens;
 /// the first evidence of height 0, of this block's height or a later one, of a later time or of such a power.
-pub(crate) fn check_block<L: Ledger>(
+pub(crate) fn check_block<E: Extra, L: Ledger>(
     alloc: Global,
-    modules: &Modules,
+    modules: &Modules<E>,
     block: &Block,
     steps: &mut Steps<L>,
 ) -> Result<(), BlockFault>

@@ -1,12 +1,12 @@
 //! The end of a block: the bonded set, then validators, unbondings and redelegations that are mature.
 
-ghost use Rattle.std.specs.Prelude.{OnOk};
+ghost use Rattle.std.specs.Prelude.{◌≡◌, OnOk};
 ghost use Rattle.rule_modules.specs.Chain.{State, set_step, maturing_step, unbondings_step, redelegations_step, end_block};
-ghost use Rattle.chain_modules.specs.Kept.{Keeps, StandsWhole, kept_of, AreSteady, IsStakeScene};
+ghost use Rattle.chain_modules.specs.Kept.{Keeps, StandsWhole, kept_of, AreSteady, IsStakeScene, listener_of};
 ghost use Rattle.chain_modules.specs.Marks.{GoOn};
 ghost use Rattle.chain_blocks.specs.Answers.{Leads};
 
-use base_roles::HookFault;
+use base_roles::{Extra, HookFault};
 use base_types::Steps;
 use chain_modules::Modules;
 use mod_bonded_set::{mature_validators, update};
@@ -14,9 +14,9 @@ use std::alloc::Global;
 use std::sync::ledger::Ledger;
 
 /// Ends a block (`x/staking`: `BlockValidatorUpdates`). After an error some of it may stand.
-pub(crate) fn end<L: Ledger>(
+pub(crate) fn end<E: Extra, L: Ledger>(
     alloc: Global,
-    modules: &mut Modules,
+    modules: &mut Modules<E>,
     steps: &mut Steps<L>,
 ) -> Result<(), HookFault>
     requires steady { AreSteady modules.old }
@@ -26,6 +26,8 @@ pub(crate) fn end<L: Ledger>(
 
     // Whatever the answer.
     ensures go_on { GoOn modules.old modules.new }
+    ensures listener { E.Records.marks (listener_of modules.new)
+        ≡ E.Records.marks (listener_of modules.old) }
 {
     make_set(alloc, modules, steps)?;
     mature(alloc, modules, steps)?;
@@ -37,9 +39,9 @@ pub(crate) fn end<L: Ledger>(
 ///
 /// # Errors
 /// `Over` with the operands, exactly where a hook exceeds, and `NoMemory`. Some of it may stand then.
-pub fn update_set<L: Ledger>(
+pub fn update_set<E: Extra, L: Ledger>(
     alloc: Global,
-    modules: &mut Modules,
+    modules: &mut Modules<E>,
     steps: &mut Steps<L>,
 ) -> Result<(), HookFault>
     requires scene { IsStakeScene modules.old }
@@ -48,6 +50,8 @@ pub fn update_set<L: Ledger>(
 
     // Whatever the answer.
     ensures go_on { GoOn modules.old modules.new }
+    ensures listener { E.Records.marks (listener_of modules.new)
+        ≡ E.Records.marks (listener_of modules.old) }
 {
     update(
         alloc,
@@ -59,9 +63,9 @@ pub fn update_set<L: Ledger>(
 }
 
 /// Makes the bonded set anew (`ApplyAndReturnValidatorSetUpdates`).
-fn make_set<L: Ledger>(
+fn make_set<E: Extra, L: Ledger>(
     alloc: Global,
-    modules: &mut Modules,
+    modules: &mut Modules<E>,
     steps: &mut Steps<L>,
 ) -> Result<(), HookFault>
     requires steady { AreSteady modules.old }
@@ -71,14 +75,16 @@ fn make_set<L: Ledger>(
 
     // Whatever the answer.
     ensures go_on { GoOn modules.old modules.new }
+    ensures listener { E.Records.marks (listener_of modules.new)
+        ≡ E.Records.marks (listener_of modules.old) }
 {
     update_set(alloc, modules, steps)
 }
 
 /// Validators whose unbonding is mature become unbonded (`UnbondAllMatureValidators`).
-fn mature<L: Ledger>(
+fn mature<E: Extra, L: Ledger>(
     alloc: Global,
-    modules: &mut Modules,
+    modules: &mut Modules<E>,
     steps: &mut Steps<L>,
 ) -> Result<(), HookFault>
     requires steady { AreSteady modules.old }
@@ -88,6 +94,8 @@ fn mature<L: Ledger>(
 
     // Whatever the answer.
     ensures go_on { GoOn modules.old modules.new }
+    ensures listener { E.Records.marks (listener_of modules.new)
+        ≡ E.Records.marks (listener_of modules.old) }
 {
     mature_validators(
         alloc,
@@ -99,9 +107,9 @@ fn mature<L: Ledger>(
 }
 
 /// Unbondings that are mature are paid (`CompleteUnbonding`).
-fn pay_unbondings<L: Ledger>(
+fn pay_unbondings<E: Extra, L: Ledger>(
     alloc: Global,
-    modules: &mut Modules,
+    modules: &mut Modules<E>,
     steps: &mut Steps<L>,
 ) -> Result<(), HookFault>
     requires steady { AreSteady modules.old }
@@ -111,6 +119,8 @@ fn pay_unbondings<L: Ledger>(
 
     // Whatever the answer.
     ensures go_on { GoOn modules.old modules.new }
+    ensures listener { E.Records.marks (listener_of modules.new)
+        ≡ E.Records.marks (listener_of modules.old) }
 {
     modules
         .stakes
@@ -119,9 +129,9 @@ fn pay_unbondings<L: Ledger>(
 }
 
 /// Redelegations that are mature go (`CompleteRedelegation`).
-fn end_redelegations<L: Ledger>(
+fn end_redelegations<E: Extra, L: Ledger>(
     alloc: Global,
-    modules: &mut Modules,
+    modules: &mut Modules<E>,
     steps: &mut Steps<L>,
 ) -> Result<(), HookFault>
     requires steady { AreSteady modules.old }
@@ -131,6 +141,8 @@ fn end_redelegations<L: Ledger>(
 
     // Whatever the answer.
     ensures go_on { GoOn modules.old modules.new }
+    ensures listener { E.Records.marks (listener_of modules.new)
+        ≡ E.Records.marks (listener_of modules.old) }
 {
     let now = modules.ground.ctx.time;
     modules.stakes.redelegations.complete(alloc, now, steps)

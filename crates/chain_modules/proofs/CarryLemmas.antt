@@ -35,13 +35,13 @@ carried_ok g (Ok a) = Ok (g a)
 carried_ok g (Err e) = Err e
 
 -- a step whose own answer is carried, and then another
-then_carried : {A B C D E : Type 0} (g : A → B) (h : C → D) (r : Result A E) (q : Result B E) (next : A → Result C E) (on : B → Result D E) → q ≡ carried_ok g r → ((a : A) → on (g a) ≡ carried_ok h (next a))
+pub then_carried : {A B C D E : Type 0} (g : A → B) (h : C → D) (r : Result A E) (q : Result B E) (next : A → Result C E) (on : B → Result D E) → q ≡ carried_ok g r → ((a : A) → on (g a) ≡ carried_ok h (next a))
     → (q >>= on) ≡ carried_ok h (r >>= next)
 then_carried g h (Ok a) q next on e n = ap (λ x. x >>= on) e ∙ n a
 then_carried g h (Err d) q next on e n = ap (λ x. x >>= on) e
 
 -- a step that is the same, and then another
-same_then : {X C D E : Type 0} (h : C → D) (r : Result X E) (next : X → Result C E) (on : X → Result D E) → ((x : X) → on x ≡ carried_ok h (next x)) → (r >>= on) ≡ carried_ok h (r >>= next)
+pub same_then : {X C D E : Type 0} (h : C → D) (r : Result X E) (next : X → Result C E) (on : X → Result D E) → ((x : X) → on x ≡ carried_ok h (next x)) → (r >>= on) ≡ carried_ok h (r >>= next)
 same_then h (Ok x) next on n = n x
 same_then h (Err d) next on n = refl
 
@@ -75,11 +75,11 @@ module _ {H G : Type 0} (f : H → G) (k : Log) where
   if_carried true x y = refl
   if_carried false x y = refl
 
-  logged_carried : (operator : List ℕ) (e : LogEntry) (w : World Staked H) → logged operator e (carried w) ≡ carried (logged operator e w)
+  pub logged_carried : (operator : List ℕ) (e : LogEntry) (w : World Staked H) → logged operator e (carried w) ≡ carried (logged operator e w)
   logged_carried operator e w = λ i. record { mine = w.mine; hooks = f w.hooks; view = w.view; log = append_assoc k w.log ((operator, e) ∷ []) i }
 
   module _ (told : H → Hook → View → Told H) (tells : G → Hook → View → Told G) (same : (h : H) (hook : Hook) (v : View) → tells (f h) hook v ≡ told_carried (told h hook v)) where
-    call_carried : (hook : Hook) (w : World Staked H) → call tells hook (carried w) ≡ carried_ok carried (call told hook w)
+    pub call_carried : (hook : Hook) (w : World Staked H) → call tells hook (carried w) ≡ carried_ok carried (call told hook w)
     call_carried hook w = ap (λ t. hooked t (carried w)) (same w.hooks hook w.view) ∙ by (told w.hooks hook w.view)
       where
         by : (t : Told H) → hooked (told_carried t) (carried w) ≡ carried_ok carried (hooked t w)

@@ -125,7 +125,7 @@ core_sound p s = record { staked = stakes_sound p s; of_unbondings = (p.view.ctx
 
 -- ---- modules that represent it
 
-module _ (m : Modules) (p : State) (k : Keeps (kept_of m) p) (s : IsSound p) where
+module _ {E : Type 0} (m : Modules E) (p : State) (k : Keeps (kept_of m) p) (s : IsSound p) where
   -- the same of the ground and of staking's records as they are kept
   over_kept : (P : View → Staked → Type 0) → P p.view p.mine.staked → P (ground_of m) m.stakes.staking.staked
   over_kept P h = subst (λ (c : Staked). P (ground_of m) c) (ap (λ c. c.staked) k.stakes) (subst (λ (v : View). P v p.mine.staked) k.view h)
@@ -141,7 +141,7 @@ module _ (m : Modules) (p : State) (k : Keeps (kept_of m) p) (s : IsSound p) whe
   )
 
   -- and of distribution alone, for votes and evidence
-  pub stand_shared : Stands (KeepsShared m.hooks.first.kept) distribution_tells (ground_of m) (lists_of m.stakes.staking.staked)
+  pub stand_shared : Stands (KeepsShared m.hooks.first.hooks.kept) distribution_tells (ground_of m) (lists_of m.stakes.staking.staked)
   stand_shared = (p.hooks.0, (k.shared, over_kept (λ v c. Stand distribution_tells p.hooks.0 v (lists_of c)) (distribution_stands p s)))
 
   pub hooked_kept : IsHooked hooks_tell (hooks_hold m.hooks) (ground_of m) m.stakes.staking.staked

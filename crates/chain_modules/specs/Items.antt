@@ -59,10 +59,10 @@ settled_stake_items s = items_of_stakes (stakes_settled s)
 abbrev pub items_of_hooks : KeptShared × Kept → List Item
 items_of_hooks h = window.items_of h.1 ++ distr.items_of h.0
 
-abbrev pub hook_items : HooksSeen → List Item
+abbrev pub hook_items : {E : Type 0} → HooksSeen E → List Item
 hook_items h = items_of_hooks (hooks_kept h)
 
-abbrev pub settled_hook_items : HooksSeen → List Item
+abbrev pub settled_hook_items : {E : Type 0} → HooksSeen E → List Item
 settled_hook_items h = items_of_hooks (hooks_settled h)
 
 -- the items of what is kept, in the order of the machine's

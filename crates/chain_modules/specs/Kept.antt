@@ -4,6 +4,7 @@ use Rattle.base_roles.specs.declared.bank.Ground.{Ground}
 use Rattle.base_roles.specs.declared.entities.RedelegationEntry.{RedelegationEntry}
 use Rattle.base_roles.specs.declared.entities.UnbondingEntry.{UnbondingEntry}
 use Rattle.base_roles.specs.declared.facts.Fact.{Fact}
+use Rattle.base_roles.specs.declared.overheard.Overheard as listening
 use Rattle.base_roles.specs.declared.pair.HookPair as pair
 use Rattle.base_roles.specs.declared.params.Ctx.{Ctx}
 use Rattle.base_roles.specs.Ground.{seen}
@@ -33,9 +34,9 @@ use Rattle.chain_modules.specs.declared.modules.Modules.{Modules}
 abbrev pub StakesSeen : Type 0
 StakesSeen = staking.Core (entries.Kept (List ℕ × List ℕ) UnbondingEntry) (entries.Kept (List ℕ × List ℕ × List ℕ) RedelegationEntry)
 
--- what the hooks are seen as: distribution, and the signing records
-abbrev pub HooksSeen : Type 0
-HooksSeen = pair.HookPair Distributed Windowed
+-- what the hooks are seen as: distribution, to which a listener listens, and the signing records
+abbrev pub HooksSeen : Type 0 → Type 0
+HooksSeen E = pair.HookPair (listening.Overheard Distributed E) Windowed
 
 -- What each module keeps, without its marks, and apart from where calls happen and what was told.
 pub record Parts : Type 0 where
@@ -64,19 +65,23 @@ kept_over parts ctx facts = record {
 abbrev pub stakes_kept : StakesSeen → Stakes
 stakes_kept s = record { staked = s.staking.staked; unbondings = s.unbondings.lists; redelegations = s.redelegations.lists }
 
-abbrev pub parts_of : Modules → Parts
+abbrev pub parts_of : {E : Type 0} → Modules E → Parts
 parts_of m = record {
   bank = m.ground.bank.holdings;
   stakes = stakes_kept m.stakes;
-  shared = m.hooks.first.kept;
+  shared = m.hooks.first.hooks.kept;
   signings = m.hooks.second.kept;
 }
 
-abbrev pub kept_of : Modules → KeptState
+abbrev pub kept_of : {E : Type 0} → Modules E → KeptState
 kept_of m = kept_over (parts_of m) m.ground.ctx m.ground.facts
 
+-- who listens to them
+abbrev pub listener_of : {E : Type 0} → Modules E → E
+listener_of m = m.hooks.first.listener
+
 -- the ground that modules stand on
-abbrev pub ground_of : Modules → View
+abbrev pub ground_of : {E : Type 0} → Modules E → View
 ground_of m = seen (λ (b : Booked). b.holdings) m.ground
 
 -- ---- the states for which it stands
@@ -104,34 +109,34 @@ pub record StandsWhole (k : KeptState) (p : State) : Type 0 where
 -- ---- the modules
 
 -- Staking has the power reduction of the parameters.
-abbrev pub AreSet : Modules → Type 0
+abbrev pub AreSet : {E : Type 0} → Modules E → Type 0
 AreSet m = m.stakes.staking.power_reduction ≡ m.ground.ctx.params.power_reduction
 
 -- What holds of modules between two steps of a block that are carried out whole or not at all: they stand whole for some state of the
 -- machine.
-pub record AreSteady (m : Modules) : Type 0 where
+pub record AreSteady {E : Type 0} (m : Modules E) : Type 0 where
   pub power : AreSet m
   pub state : State
   pub stands : StandsWhole (kept_of m) state
 
 -- what the hooks hold, and what they tell: distribution, then the signing records on what that leaves
-abbrev pub hooks_hold : HooksSeen → Shared × Signings → Type 0
-hooks_hold h held = KeepsShared h.first.kept held.0 × HoldsSignings h.second.kept held.1
+abbrev pub hooks_hold : {E : Type 0} → HooksSeen E → Shared × Signings → Type 0
+hooks_hold h held = KeepsShared h.first.hooks.kept held.0 × HoldsSignings h.second.kept held.1
 
 abbrev pub hooks_tell : Tells (Shared × Signings)
 hooks_tell = pair_tells distribution_tells signings_told
 
 -- The scene of staking's calls: its records are sound, hooks stand for them, the two staking accounts hold at least what is owed to
 -- validators, and staking has the power reduction of the parameters.
-pub record IsStakeScene (m : Modules) : Type 0 where
+pub record IsStakeScene {E : Type 0} (m : Modules E) : Type 0 where
   pub power : AreSet m
   pub scene : IsScene hooks_tell (hooks_hold m.hooks) (ground_of m) m.stakes.staking.staked
 
 -- Modules over a ground of which none but the bank has records.
-pub record IsNewOver (g : Ground Booked) (m : Modules) : Type 0 where
+pub record IsNewOver {E : Type 0} (g : Ground Booked) (m : Modules E) : Type 0 where
   pub ground : m.ground ≡ g
   pub staking : m.stakes.staking ≡ new_register g.ctx.params.power_reduction
   pub unbondings : m.stakes.unbondings ≡ entries.nothing_kept
   pub redelegations : m.stakes.redelegations ≡ entries.nothing_kept
-  pub shared : m.hooks.first ≡ new_distributed
+  pub shared : m.hooks.first.hooks ≡ new_distributed
   pub signings : m.hooks.second ≡ new_window

@@ -1,3 +1,4 @@
+pub mod Erasing
 pub mod Items
 pub mod Kept
 pub mod Marks

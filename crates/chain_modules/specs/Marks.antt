@@ -41,10 +41,10 @@ pub record Marks : Type 0 where
 abbrev pub stakes_marks : StakesSeen → StakeMarks
 stakes_marks s = record { staked = s.staking.marks; unbondings = s.unbondings.marks; redelegations = s.redelegations.marks }
 
-abbrev pub hooks_marks : HooksSeen → HookMarks
-hooks_marks h = record { shared = h.first.marks; signings = h.second.marks }
+abbrev pub hooks_marks : {E : Type 0} → HooksSeen E → HookMarks
+hooks_marks h = record { shared = h.first.hooks.marks; signings = h.second.marks }
 
-abbrev pub marks_of : Modules → Marks
+abbrev pub marks_of : {E : Type 0} → Modules E → Marks
 marks_of m = record { bank = m.ground.bank.marks; stakes = stakes_marks m.stakes; hooks = hooks_marks m.hooks }
 
 -- the marks with one more, of what stands now
@@ -55,10 +55,10 @@ stakes_opened s = record {
   redelegations = s.redelegations.marks ++ s.redelegations.lists ∷ [];
 }
 
-abbrev pub hooks_opened : HooksSeen → HookMarks
-hooks_opened h = record { shared = h.first.marks ++ h.first.kept ∷ []; signings = h.second.marks ++ h.second.kept ∷ [] }
+abbrev pub hooks_opened : {E : Type 0} → HooksSeen E → HookMarks
+hooks_opened h = record { shared = h.first.hooks.marks ++ h.first.hooks.kept ∷ []; signings = h.second.marks ++ h.second.kept ∷ [] }
 
-abbrev pub opened : Modules → Marks
+abbrev pub opened : {E : Type 0} → Modules E → Marks
 opened m = record { bank = m.ground.bank.marks ++ m.ground.bank.holdings ∷ []; stakes = stakes_opened m.stakes; hooks = hooks_opened m.hooks }
 
 -- no mark is open
@@ -93,25 +93,25 @@ pub record AreClosed (old new : Marks) : Type 0 where
 
 -- ---- what was settled
 
-abbrev pub hooks_kept : HooksSeen → KeptShared × window.Kept
-hooks_kept h = (h.first.kept, h.second.kept)
+abbrev pub hooks_kept : {E : Type 0} → HooksSeen E → KeptShared × window.Kept
+hooks_kept h = (h.first.hooks.kept, h.second.kept)
 
 abbrev pub stakes_settled : StakesSeen → Stakes
 stakes_settled s = record { staked = s.staking.settled; unbondings = s.unbondings.settled; redelegations = s.redelegations.settled }
 
-abbrev pub hooks_settled : HooksSeen → KeptShared × window.Kept
-hooks_settled h = (h.first.settled, h.second.settled)
+abbrev pub hooks_settled : {E : Type 0} → HooksSeen E → KeptShared × window.Kept
+hooks_settled h = (h.first.hooks.settled, h.second.settled)
 
-abbrev pub settled_of : Modules → Parts
+abbrev pub settled_of : {E : Type 0} → Modules E → Parts
 settled_of m = record {
   bank = m.ground.bank.settled;
   stakes = stakes_settled m.stakes;
-  shared = m.hooks.first.settled;
+  shared = m.hooks.first.hooks.settled;
   signings = m.hooks.second.settled;
 }
 
 -- what was settled over a context
-abbrev pub settled_over : Ctx → Modules → KeptState
+abbrev pub settled_over : {E : Type 0} → Ctx → Modules E → KeptState
 settled_over ctx m = kept_over (settled_of m) ctx []
 
 -- ---- what a call leaves whatever it answers
@@ -125,13 +125,13 @@ pub record Behind : Type 0 where
   pub shared : distr.Behind
   pub signings : window.Behind
 
-abbrev pub behind_of : Modules → Behind
+abbrev pub behind_of : {E : Type 0} → Modules E → Behind
 behind_of m = record {
   bank = bank.behind m.ground.bank;
   staking = book.behind m.stakes.staking;
   unbondings = entries.behind m.stakes.unbondings;
   redelegations = entries.behind m.stakes.redelegations;
-  shared = distr.behind m.hooks.first;
+  shared = distr.behind m.hooks.first.hooks;
   signings = window.behind m.hooks.second;
 }
 
@@ -141,13 +141,13 @@ Follow old new = (more : List Fact) × (new ≡ old ++ more)
 
 -- What a step leaves of the modules whatever it answers, so that what it changed can be taken back: what stands behind the
 -- records, the context, and the facts that were told before.
-pub record GoOn (old new : Modules) : Type 0 where
+pub record GoOn {E : Type 0} (old new : Modules E) : Type 0 where
   pub behind : behind_of new ≡ behind_of old
   pub ctx : new.ground.ctx ≡ old.ground.ctx
   pub facts : Follow old.ground.facts new.ground.facts
 
 -- The same of messages, of which one may replace the parameters: the moment stays, and what never changes of the parameters.
-pub record MessagesGoOn (old new : Modules) : Type 0 where
+pub record MessagesGoOn {E : Type 0} (old new : Modules E) : Type 0 where
   pub behind : behind_of new ≡ behind_of old
   pub moment : SameMoment old.ground.ctx new.ground.ctx
   pub facts : Follow old.ground.facts new.ground.facts
@@ -155,7 +155,7 @@ pub record MessagesGoOn (old new : Modules) : Type 0 where
 -- ---- between two blocks
 
 -- Modules between two blocks: they stand for some state of the machine, no mark is open, and no fact is left.
-pub record AreAtRest (m : Modules) : Type 0 where
+pub record AreAtRest {E : Type 0} (m : Modules E) : Type 0 where
   pub power : AreSet m
   pub state : State
   pub stands : StandsFor (kept_of m) state

@@ -2,7 +2,7 @@
 //! does it in a function of its own.
 
 use crate::modules::{Hooks, Modules, Stakes};
-use base_roles::{Ground, HookPair};
+use base_roles::{Ground, HookPair, Overheard};
 use mod_bank::BankBalances;
 use mod_distribution::Distr;
 use mod_redelegation::Redelegations;
@@ -12,7 +12,7 @@ use mod_staking::Staking;
 use mod_unbonding::Unbondings;
 
 /// Lets go of all modules: a function that owns them does it here, and proves nothing of what they hold.
-pub fn let_go(modules: Modules) {
+pub fn let_go<E: Drop>(modules: Modules<E>) {
     let Modules {
         ground,
         stakes,
@@ -44,13 +44,17 @@ fn let_go_of_unbondings(_unbondings: Unbondings) {}
 
 fn let_go_of_redelegations(_redelegations: Redelegations) {}
 
-/// Lets go of distribution and of the signing records.
-fn let_go_of_hooks(hooks: Hooks) {
+/// Lets go of distribution, of the listener and of the signing records.
+fn let_go_of_hooks<E: Drop>(hooks: Hooks<E>) {
     let HookPair { first, second } = hooks;
-    let_go_of_distribution(first);
+    let Overheard { hooks, listener } = first;
+    let_go_of_distribution(hooks);
+    let_go_of_listener(listener);
     let_go_of_signings(second);
 }
 
 fn let_go_of_distribution(_distribution: Distr) {}
+
+fn let_go_of_listener<E: Drop>(_listener: E) {}
 
 fn let_go_of_signings(_signings: Window) {}

@@ -5,6 +5,7 @@
 #![tactic(auto)]
 
 mod context;
+pub mod laws;
 mod letting_go;
 mod listing;
 mod marks;

@@ -10,17 +10,17 @@ ghost use Rattle.chain_modules.specs.Items.{items_of, stake_items, settled_stake
 
 use crate::context::{ctx_changes_into, ctx_into};
 use crate::modules::{Hooks, Modules, Stakes};
-use base_roles::{Ctx, Item, RecordFault, Records};
+use base_roles::{Ctx, Extra, Item, RecordFault, Records};
 use base_types::Steps;
 use std::sync::ledger::Ledger;
 
-impl Modules {
+impl<E: Extra> Modules<E> {
     /// It tells that the keys of what distribution keeps ascend, and does nothing. Its rewards stand for plain ones by
     /// what is found under each key, so their order is no part of that.
     pub fn ordered(&self)
-        ensures { AreInOrder self.now.hooks.first.kept }
+        ensures { AreInOrder self.now.hooks.first.hooks.kept }
     {
-        self.hooks.first.ordered();
+        self.hooks.first.hooks.ordered();
     }
 
     /// Appends the items of all modules, those of the context first. After `NoMemory` some of them may stand
@@ -93,8 +93,8 @@ fn stake_changes_into<L: Ledger>(
 }
 
 /// Appends the items of the signing records, and then of distribution.
-fn hooks_into<L: Ledger>(
-    hooks: &Hooks,
+fn hooks_into<E: Extra, L: Ledger>(
+    hooks: &Hooks<E>,
     out: &mut Vec<Item>,
     steps: &mut Steps<L>,
 ) -> Result<(), RecordFault>
@@ -102,12 +102,12 @@ fn hooks_into<L: Ledger>(
     ensures err { (some : List Item) × (out.new.items ≡ out.old.items ++ some) }
 {
     hooks.second.items_into(out, steps)?;
-    hooks.first.items_into(out, steps)
+    hooks.first.hooks.items_into(out, steps)
 }
 
 /// Appends their changes.
-fn hook_changes_into<L: Ledger>(
-    hooks: &Hooks,
+fn hook_changes_into<E: Extra, L: Ledger>(
+    hooks: &Hooks<E>,
     out: &mut Vec<(Item, bool)>,
     steps: &mut Steps<L>,
 ) -> Result<(), RecordFault>
@@ -117,5 +117,5 @@ fn hook_changes_into<L: Ledger>(
     ensures err { (some : List (Item × Bool)) × (out.new.items ≡ out.old.items ++ some) }
 {
     hooks.second.changes_into(out, steps)?;
-    hooks.first.changes_into(out, steps)
+    hooks.first.hooks.changes_into(out, steps)
 }

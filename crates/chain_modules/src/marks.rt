@@ -1,16 +1,18 @@
 //! Marks of all modules: they are opened, gone back to and closed together.
 
-ghost use Rattle.std.specs.Prelude.{◌≡◌, ◌≢◌, [], OnOk, OnErr};
-ghost use Rattle.chain_modules.specs.Kept.{kept_of, parts_of, stakes_kept};
+ghost use Rattle.std.specs.Prelude.{◌≡◌, ◌≢◌, ◌++◌, ◌∷◌, [], OnOk, OnErr};
+ghost use Rattle.mod_distribution.specs.Kept.{KeptShared};
+ghost use Rattle.chain_modules.specs.Kept.{kept_of, parts_of, stakes_kept, listener_of};
 ghost use Rattle.chain_modules.specs.Marks.{marks_of, opened, settled_of, AreOpen, AreClosed, AreStakesClosed, no_marks, stakes_marks, stakes_opened, stakes_settled, hooks_kept, hooks_marks, hooks_opened, hooks_settled};
 
 use crate::modules::{Hooks, Modules, Stakes};
-use base_roles::{RecordFault, Records};
+use base_roles::{Extra, Overheard, RecordFault, Records};
 use base_types::Steps;
+use mod_distribution::Distr;
 use std::alloc::Global;
 use std::sync::ledger::Ledger;
 
-impl Modules {
+impl<E: Extra> Modules<E> {
     /// Opens a mark of all modules, or of none. The only error is `NoMemory`.
     pub fn mark<L: Ledger>(
         &mut self,
@@ -23,6 +25,11 @@ impl Modules {
         ensures settled { settled_of self.new ≡ settled_of self.old }
         ensures power { self.new.stakes.staking.power_reduction
             ≡ self.old.stakes.staking.power_reduction }
+        ensures listener_opened { OnOk result (E.Records.marks (listener_of self.new)
+            ≡ E.Records.marks (listener_of self.old) ++ E.kept (listener_of self.old) ∷ []) }
+        ensures listener_err { OnErr result
+            (E.Records.marks (listener_of self.new) ≡ E.Records.marks (listener_of self.old)) }
+        ensures listener_same { E.kept (listener_of self.new) ≡ E.kept (listener_of self.old) }
     {
         self.ground.bank.mark(alloc, steps)?;
         match mark_beside(alloc, &mut self.stakes, &mut self.hooks, steps) {
@@ -37,39 +44,49 @@ impl Modules {
     /// Restores what stood at the latest mark, and closes it. The context and the facts stay. Takes no memory.
     pub fn back<L: Ledger>(&mut self, steps: &mut Steps<L>)
         requires open { AreOpen (marks_of self.old) }
+        requires listener { E.Records.marks (listener_of self.old) ≢ [] }
         ensures back { opened self.new ≡ marks_of self.old }
         ensures settled { settled_of self.new ≡ settled_of self.old }
         ensures ctx { self.new.ground.ctx ≡ self.old.ground.ctx }
         ensures facts { self.new.ground.facts ≡ self.old.ground.facts }
         ensures power { self.new.stakes.staking.power_reduction
             ≡ self.old.stakes.staking.power_reduction }
+        ensures listener { E.Records.marks (listener_of self.new)
+            ++ E.kept (listener_of self.new) ∷ [] ≡ E.Records.marks (listener_of self.old) }
     {
         self.ground.bank.back(steps);
         self.stakes.staking.back(steps);
         self.stakes.unbondings.back(steps);
         self.stakes.redelegations.back(steps);
-        self.hooks.first.back(steps);
+        self.hooks.first.hooks.back(steps);
+        self.hooks.first.listener.back(steps);
         self.hooks.second.back(steps);
     }
 
     /// Closes the latest mark, and changes nothing else. Takes no memory.
     pub fn forget<L: Ledger>(&mut self, steps: &mut Steps<L>)
         requires open { AreOpen (marks_of self.old) }
+        requires listener { E.Records.marks (listener_of self.old) ≢ [] }
         ensures closed { AreClosed (marks_of self.old) (marks_of self.new) }
         ensures same { kept_of self.new ≡ kept_of self.old }
         ensures settled { settled_of self.new ≡ settled_of self.old }
         ensures power { self.new.stakes.staking.power_reduction
             ≡ self.old.stakes.staking.power_reduction }
+        ensures listener { (last : E.Kept) × (E.Records.marks (listener_of self.new) ++ last ∷ []
+            ≡ E.Records.marks (listener_of self.old)) }
+        ensures listener_same { E.kept (listener_of self.new) ≡ E.kept (listener_of self.old) }
     {
         self.ground.bank.forget(steps);
         self.stakes.staking.forget(steps);
         self.stakes.unbondings.forget(steps);
         self.stakes.redelegations.forget(steps);
-        self.hooks.first.forget(steps);
+        self.hooks.first.hooks.forget(steps);
+        self.hooks.first.listener.forget(steps);
         self.hooks.second.forget(steps);
     }
 
-    /// From now on changes are told from here. No mark is open. Takes no memory.
+    /// From now on changes are told from here. No mark is open. Of a listener nothing is settled: it has no items,
+    /// so none of them change. Takes no memory.
     pub fn settle<L: Ledger>(&mut self, steps: &mut Steps<L>)
         requires unmarked { marks_of self.old ≡ no_marks }
         ensures settled { settled_of self.new ≡ parts_of self.old }
@@ -82,16 +99,16 @@ impl Modules {
         self.stakes.staking.settle(steps);
         self.stakes.unbondings.settle(steps);
         self.stakes.redelegations.settle(steps);
-        self.hooks.first.settle(steps);
+        self.hooks.first.hooks.settle(steps);
         self.hooks.second.settle(steps);
     }
 }
 
 /// Opens a mark of what stands beside the bank, or of none of it.
-fn mark_beside<L: Ledger>(
+fn mark_beside<E: Extra, L: Ledger>(
     alloc: Global,
     stakes: &mut Stakes,
-    hooks: &mut Hooks,
+    hooks: &mut Hooks<E>,
     steps: &mut Steps<L>,
 ) -> Result<(), RecordFault>
     ensures stakes_opened { OnOk result (stakes_marks stakes.new ≡ stakes_opened stakes.old) }
@@ -103,6 +120,11 @@ fn mark_beside<L: Ledger>(
     ensures stakes_settled { stakes_settled stakes.new ≡ stakes_settled stakes.old }
     ensures hooks_settled { hooks_settled hooks.new ≡ hooks_settled hooks.old }
     ensures power { stakes.new.staking.power_reduction ≡ stakes.old.staking.power_reduction }
+    ensures listener_opened { OnOk result (E.Records.marks hooks.new.first.listener
+        ≡ E.Records.marks hooks.old.first.listener ++ E.kept hooks.old.first.listener ∷ []) }
+    ensures listener_err { OnErr result
+        (E.Records.marks hooks.new.first.listener ≡ E.Records.marks hooks.old.first.listener) }
+    ensures listener_same { E.kept hooks.new.first.listener ≡ E.kept hooks.old.first.listener }
 {
     mark_stakes(alloc, stakes, steps)?;
     match mark_hooks(alloc, hooks, steps) {
@@ -176,23 +198,71 @@ fn forget_stakes<L: Ledger>(stakes: &mut Stakes, steps: &mut Steps<L>)
     stakes.redelegations.forget(steps);
 }
 
-/// Opens a mark of distribution and of the signing records, or of none.
-fn mark_hooks<L: Ledger>(
+/// Opens a mark of distribution, of the listener and of the signing records, or of none.
+fn mark_hooks<E: Extra, L: Ledger>(
     alloc: Global,
-    hooks: &mut Hooks,
+    hooks: &mut Hooks<E>,
     steps: &mut Steps<L>,
 ) -> Result<(), RecordFault>
     ensures opened { OnOk result (hooks_marks hooks.new ≡ hooks_opened hooks.old) }
     ensures err { OnErr result (hooks_marks hooks.new ≡ hooks_marks hooks.old) }
     ensures same { hooks_kept hooks.new ≡ hooks_kept hooks.old }
     ensures settled { hooks_settled hooks.new ≡ hooks_settled hooks.old }
+    ensures listener_opened { OnOk result (E.Records.marks hooks.new.first.listener
+        ≡ E.Records.marks hooks.old.first.listener ++ E.kept hooks.old.first.listener ∷ []) }
+    ensures listener_err { OnErr result
+        (E.Records.marks hooks.new.first.listener ≡ E.Records.marks hooks.old.first.listener) }
+    ensures listener_same { E.kept hooks.new.first.listener ≡ E.kept hooks.old.first.listener }
 {
-    hooks.first.mark(alloc, steps)?;
+    mark_overheard(alloc, &mut hooks.first, steps)?;
     match hooks.second.mark(alloc, steps) {
         Ok(()) => Ok(()),
         Err(fault) => {
-            hooks.first.forget(steps);
+            forget_overheard(&mut hooks.first, steps);
             Err(fault)
         }
     }
+}
+
+/// Opens a mark of distribution and of the listener, or of neither.
+fn mark_overheard<E: Extra, L: Ledger>(
+    alloc: Global,
+    heard: &mut Overheard<Distr, E>,
+    steps: &mut Steps<L>,
+) -> Result<(), RecordFault>
+    ensures opened { OnOk result
+        (heard.new.hooks.marks ≡ heard.old.hooks.marks ++ heard.old.hooks.kept ∷ []) }
+    ensures err { OnErr result (heard.new.hooks.marks ≡ heard.old.hooks.marks) }
+    ensures same { heard.new.hooks.kept ≡ heard.old.hooks.kept }
+    ensures settled { heard.new.hooks.settled ≡ heard.old.hooks.settled }
+    ensures listener_opened { OnOk result (E.Records.marks heard.new.listener
+        ≡ E.Records.marks heard.old.listener ++ E.kept heard.old.listener ∷ []) }
+    ensures listener_err { OnErr result
+        (E.Records.marks heard.new.listener ≡ E.Records.marks heard.old.listener) }
+    ensures listener_same { E.kept heard.new.listener ≡ E.kept heard.old.listener }
+{
+    heard.hooks.mark(alloc, steps)?;
+    match heard.listener.mark(alloc, steps) {
+        Ok(()) => Ok(()),
+        Err(fault) => {
+            heard.hooks.forget(steps);
+            Err(fault)
+        }
+    }
+}
+
+/// Closes the latest mark of distribution and of the listener.
+fn forget_overheard<E: Extra, L: Ledger>(heard: &mut Overheard<Distr, E>, steps: &mut Steps<L>)
+    requires hooks { heard.old.hooks.marks ≢ [] }
+    requires listener { E.Records.marks heard.old.listener ≢ [] }
+    ensures hooks { (last : KeptShared) × (heard.new.hooks.marks ++ last ∷ []
+        ≡ heard.old.hooks.marks) }
+    ensures same { heard.new.hooks.kept ≡ heard.old.hooks.kept }
+    ensures settled { heard.new.hooks.settled ≡ heard.old.hooks.settled }
+    ensures listener { (last : E.Kept) × (E.Records.marks heard.new.listener ++ last ∷ []
+        ≡ E.Records.marks heard.old.listener) }
+    ensures listener_same { E.kept heard.new.listener ≡ E.kept heard.old.listener }
+{
+    heard.hooks.forget(steps);
+    heard.listener.forget(steps);
 }

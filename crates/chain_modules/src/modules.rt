@@ -3,7 +3,7 @@
 ghost use Rattle.std.specs.Prelude.{◌≤◌, ◌^◌};
 ghost use Rattle.chain_modules.specs.Kept.{IsNewOver};
 
-use base_roles::{Ground, HookPair};
+use base_roles::{Extra, Ground, HookPair, NoHooks, Overheard};
 use mod_bank::BankBalances;
 use mod_distribution::Distr;
 use mod_redelegation::Redelegations;
@@ -16,21 +16,21 @@ use std::alloc::Global;
 /// What staking keeps: validators and delegations, unbonding entries, and redelegation entries.
 pub type Stakes = Core<Unbondings, Redelegations>;
 
-/// What listens to staking: distribution, and then the signing records.
-pub type Hooks = HookPair<Distr, Window>;
+/// What hears of staking: distribution, behind it a listener, and then the signing records.
+pub type Hooks<E = NoHooks> = HookPair<Overheard<Distr, E>, Window>;
 
-/// The bank within its ground, what staking keeps, and what listens to it. What is done to them is told as
+/// The bank within its ground, what staking keeps, and what hears of it. What is done to them is told as
 /// facts of the ground.
 #[derive(Drop)]
-pub struct Modules {
+pub struct Modules<E = NoHooks> {
     pub ground: Ground<BankBalances>,
     pub stakes: Stakes,
-    pub hooks: Hooks,
+    pub hooks: Hooks<E>,
 }
 
-impl Modules {
-    /// The modules over a ground of which none but the bank has records yet. Takes no memory.
-    pub fn over(alloc: Global, ground: Ground<BankBalances>) -> Modules
+impl<E: Extra> Modules<E> {
+    /// The modules over a ground of which none but the bank has records yet, with a listener. Takes no memory.
+    pub fn over(alloc: Global, ground: Ground<BankBalances>, listener: E) -> Modules<E>
         requires some { 1 ≤ ground.ctx.params.power_reduction }
         requires most { ground.ctx.params.power_reduction ≤ 10 ^ 18 }
         ensures { IsNewOver ground result }
@@ -41,7 +41,10 @@ impl Modules {
             redelegations: Redelegations::new(alloc),
         };
         let hooks = HookPair {
-            first: Distr::new(alloc),
+            first: Overheard {
+                hooks: Distr::new(alloc),
+                listener,
+            },
             second: Window::new(alloc),
         };
         Modules {

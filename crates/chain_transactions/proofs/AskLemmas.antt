@@ -1,5 +1,5 @@
 -- A reward that is asked for: the hook before shares change may be called.
-use Rattle.std.proofs.Common.{◌≡◌, ◌∙◌, ℕ, List, Option, Some, None, Result, Ok, ap}
+use Rattle.std.proofs.Common.{◌≡◌, ◌∙◌, ℕ, ◌^◌, ◌<◌, ◌≤◌, List, Option, Some, None, Result, Ok, ap}
 use Rattle.std.specs.Prelude.{is_some}
 use Rattle.base_roles.specs.declared.entities.Validator.{Validator}
 use Rattle.base_roles.specs.declared.refusal.Refusal.{Refusal}
@@ -35,8 +35,8 @@ asked_is who operator s x e = let both = by (validator_at s operator) (delegatio
     by (Some a) None q = absurd cc
     by None b q = absurd cc
 
-pub may_ask : (m : Modules) (p : State) → Keeps (kept_of m) p → IsSound p → (who operator : List ℕ) (x : Validator × ℕ) → delegation_asked who operator m.stakes.staking.staked ≡ Ok x
-    → MayCall (KeepsShared m.hooks.first.kept) distribution_tells (modifying x.0 who x.1) (ground_of m)
+pub may_ask : {E : Type 0} (m : Modules E) (p : State) → Keeps (kept_of m) p → IsSound p → (who operator : List ℕ) (x : Validator × ℕ) → delegation_asked who operator m.stakes.staking.staked ≡ Ok x
+    → MayCall (KeepsShared m.hooks.first.hooks.kept) distribution_tells (modifying x.0 who x.1) (ground_of m)
 may_ask m p k s who operator x e =
     let staked = m.stakes.staking.staked in
     let asked = asked_is who operator staked x e in
@@ -61,3 +61,21 @@ may_ask m p k s who operator x e =
         ),
       ),
     )
+
+-- shares that a listener may hear of
+pub record AreFitting (x : Validator × ℕ) : Type 0 where
+  pub some : 0 < x.1
+  pub most : x.1 ≤ x.0.shares
+  pub tokens : x.0.tokens ≤ 10 ^ 18
+
+pub asked_fits : {E : Type 0} (m : Modules E) (p : State) → Keeps (kept_of m) p → IsSound p → (who operator : List ℕ) (x : Validator × ℕ) → delegation_asked who operator m.stakes.staking.staked ≡ Ok x → AreFitting x
+asked_fits m p k s who operator x e =
+    let staked = m.stakes.staking.staked in
+    let asked = asked_is who operator staked x e in
+    let sound = (hooked_kept m p k s).sound in
+    let points = to_points sound.0 staked sound.1 in
+    record {
+      some = shares_some sound.0 staked who operator x.1 sound.1 asked.held;
+      most = shares_within sound.0 staked who operator x.0 x.1 sound.1 asked.found asked.held;
+      tokens = (points.validators operator x.0 asked.found).tokens;
+    }

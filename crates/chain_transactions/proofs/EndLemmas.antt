@@ -73,7 +73,7 @@ message_ends m k k2 p answer coins s h = by (effect_of m p) answer h (sound_next
     by (Err why) (Err fault) h n = h
 
 -- after a message that was carried out the modules are steady again
-pub steady_after : (f : Effect) (old new : Modules) (answer : Result ⊤ MessageFault) → AreSteady old → GoOn old new → ((p : State) → StandsWhole (kept_of old) p → MessageEnds (f p) (kept_of new) answer)
+pub steady_after : {E : Type 0} (f : Effect) (old new : Modules E) (answer : Result ⊤ MessageFault) → AreSteady old → GoOn old new → ((p : State) → StandsWhole (kept_of old) p → MessageEnds (f p) (kept_of new) answer)
     → OnOk answer (AreSteady new)
 steady_after f old new (Ok a) s on ends =
     let d = done (f s.state) (kept_of new) (ends s.state s.stands) in
@@ -92,12 +92,12 @@ dropped (Ok a) = Ok tt
 dropped (Err fault) = Err fault
 
 -- what a call leaves of validators and delegations, of hooks and of the ground
-pub record Left (new : Modules) (due : World Staked Hooks) : Type 0 where
+pub record Left {E : Type 0} (new : Modules E) (due : World Staked Hooks) : Type 0 where
   pub staked : new.stakes.staking.staked ≡ due.mine
   pub hooks : hooks_hold new.hooks (held_as new.ground.ctx.params.signed_blocks_window due.hooks)
   pub ground : ground_of new ≡ due.view
 
-module _ (old new : Modules) (p : State) (k : Keeps (kept_of old) p) (ctx : new.ground.ctx ≡ old.ground.ctx) where
+module _ {E : Type 0} (old new : Modules E) (p : State) (k : Keeps (kept_of old) p) (ctx : new.ground.ctx ≡ old.ground.ctx) where
   -- the world that the modules' calls start from is the state's, without its log
   starts_here : over old.stakes.staking.staked (held_as old.ground.ctx.params.signed_blocks_window p.hooks) (ground_of old) ≡ carried (held_as old.ground.ctx.params.signed_blocks_window) [] (unlogged p)
   starts_here = λ i. record {
@@ -214,7 +214,7 @@ drops_nothing : (answer : Result ⊤ MessageFault) → dropped answer ≡ answer
 drops_nothing (Ok a) = refl
 drops_nothing (Err fault) = refl
 
-module _ (old new : Modules) (p : State) (s : StandsWhole (kept_of old) p) (ctx : new.ground.ctx ≡ old.ground.ctx) where
+module _ {E : Type 0} (old new : Modules E) (p : State) (s : StandsWhole (kept_of old) p) (ctx : new.ground.ctx ≡ old.ground.ctx) where
   -- where the call had an answer, it is dropped
   undropped : (m : Msg) → MessageHasCoins m → (answer : Result ⊤ MessageFault) → AsRuled (effect_of m p) (dropped answer) (λ due a. Keeps (kept_of new) due) StopsForMemory RefusesAs → MessageEnds (effect_of m p) (kept_of new) answer
   undropped m coins answer h =

@@ -38,7 +38,7 @@ fee_stands payer fee p k k2 money s d =
     (d.0, d.1, record { keeps = d.2; sound = n.sound; whole = n.whole })
 
 -- modules that stand for another state go on steady
-pub steady_then : (old new : Modules) → AreSteady old → GoOn old new → (due : State) → StandsWhole (kept_of new) due → AreSteady new
+pub steady_then : {E : Type 0} (old new : Modules E) → AreSteady old → GoOn old new → (due : State) → StandsWhole (kept_of new) due → AreSteady new
 steady_then old new s on due stands = record {
   power = ap (λ b. b.staking.power_reduction) on.behind ∙ s.power ∙ ap (λ (c : Ctx). c.params.power_reduction) (sym on.ctx);
   state = due;
@@ -46,5 +46,5 @@ steady_then old new s on due stands = record {
 }
 
 -- the same behind a fee that was paid
-pub fee_steady : (payer : List ℕ) (fee : Money) (old new : Modules) → AreSteady old → GoOn old new → ((p : State) → StandsWhole (kept_of old) p → (due : State) × (fee_paid payer fee p ≡ Ok due) × StandsWhole (kept_of new) due) → AreSteady new
+pub fee_steady : {E : Type 0} (payer : List ℕ) (fee : Money) (old new : Modules E) → AreSteady old → GoOn old new → ((p : State) → StandsWhole (kept_of old) p → (due : State) × (fee_paid payer fee p ≡ Ok due) × StandsWhole (kept_of new) due) → AreSteady new
 fee_steady payer fee old new s on paid = let d = paid s.state s.stands in steady_then old new s on d.0 d.2

@@ -1,6 +1,6 @@
 -- What each module's call leaves behind its records, so that what it changed can be taken back.
 use Rattle.std.proofs.Common.{◌≡◌, ◌∙◌, ℕ, List, [], ◌∷◌, Result, Ok, Err, refl, sym, ap}
-use Rattle.std.specs.Prelude.{⊤}
+use Rattle.std.specs.Prelude.{⊤, OnOk, IfErr}
 use Rattle.base_types.specs.declared.account.Account.{Account}
 use Rattle.base_types.specs.declared.account.Account.TheVariants as account
 use Rattle.base_coins.specs.Coins.{Money}
@@ -8,11 +8,14 @@ use Rattle.base_roles.specs.declared.facts.Fact.{Fact}
 use Rattle.base_roles.specs.declared.facts.Fact.TheVariants as fact
 use Rattle.base_roles.specs.declared.faults.BankFault.{BankFault}
 use Rattle.base_roles.specs.declared.faults.BankFault.TheVariants as fault
+use Rattle.base_roles.specs.declared.faults.HookFault.{HookFault}
+use Rattle.base_roles.specs.declared.faults.HookFault.TheVariants as hook
 use Rattle.base_roles.specs.declared.faults.MessageFault.{MessageFault}
 use Rattle.base_roles.specs.declared.faults.MessageFault.TheVariants as stop
-use Rattle.base_roles.specs.Answers.{Sends}
+use Rattle.base_roles.specs.Answers.{Answers, Sends}
 use Rattle.base_roles.specs.Ground.{CanBeUndone}
 use Rattle.base_roles.specs.Holdings.{Holdings, transfer_told}
+use Rattle.base_roles.specs.World.{View, gives}
 use Rattle.mod_bank.specs.Booked as bank
 use Rattle.mod_bank.specs.Booked.{Booked}
 use Rattle.mod_bank.specs.Sending.{Transfers}
@@ -24,15 +27,25 @@ use Rattle.mod_distribution.specs.Kept as distr
 use Rattle.mod_distribution.specs.Kept.{SharedGoesOn}
 use Rattle.mod_signing.specs.Kept as window
 use Rattle.chain_modules.specs.declared.modules.Modules.{Modules}
-use Rattle.chain_modules.specs.Kept.{HooksSeen}
+use Rattle.chain_modules.specs.Kept.{HooksSeen, ground_of, kept_of}
 use Rattle.chain_modules.specs.Marks.{Follow, GoOn}
 use Rattle.chain_transactions.proofs.MessageLemmas.{append_nil}
 
 -- what stands behind the hooks
-abbrev pub hooks_behind : HooksSeen → distr.Behind × window.Behind
-hooks_behind h = (distr.behind h.first, window.behind h.second)
+abbrev pub hooks_behind : {E : Type 0} → HooksSeen E → distr.Behind × window.Behind
+hooks_behind h = (distr.behind h.first.hooks, window.behind h.second)
 
-pub all_on : (old new : Modules) → CanBeUndone bank.behind old.ground new.ground → book.behind new.stakes.staking ≡ book.behind old.stakes.staking
+-- the same with the marks of a listener, of which it is told what they are
+abbrev pub hook_marks : {E M : Type 0} → (E → M) → HooksSeen E → (distr.Behind × M) × window.Behind
+hook_marks marks h = ((distr.behind h.first.hooks, marks h.first.listener), window.behind h.second)
+
+pub unheard : {E M : Type 0} (marks : E → M) (old new : HooksSeen E) → hook_marks marks new ≡ hook_marks marks old → hooks_behind new ≡ hooks_behind old
+unheard marks old new e = λ i. ((e i).0.0, (e i).1)
+
+pub listener_behind : {E M : Type 0} (marks : E → M) (old new : HooksSeen E) → hook_marks marks new ≡ hook_marks marks old → marks new.first.listener ≡ marks old.first.listener
+listener_behind marks old new e = λ i. (e i).0.1
+
+pub all_on : {E : Type 0} (old new : Modules E) → CanBeUndone bank.behind old.ground new.ground → book.behind new.stakes.staking ≡ book.behind old.stakes.staking
     → entries.behind new.stakes.unbondings ≡ entries.behind old.stakes.unbondings → entries.behind new.stakes.redelegations ≡ entries.behind old.stakes.redelegations
     → hooks_behind new.hooks ≡ hooks_behind old.hooks → GoOn old new
 all_on old new ground staking unbondings redelegations hooks = record {
@@ -49,39 +62,58 @@ all_on old new ground staking unbondings redelegations hooks = record {
 }
 
 -- a call of staking
-pub hooked_on : {A E : Type 0} (most_steps : Booked → ℕ) (old new : Modules) (answer : Result A E) → GoesOn bank.behind most_steps hooks_behind old.ground new.ground old.hooks new.hooks old.stakes.staking new.stakes.staking answer
+pub hooked_on : {A F E M : Type 0} (marks : E → M) (most_steps : Booked → ℕ) (old new : Modules E) (answer : Result A F) → GoesOn bank.behind most_steps (hook_marks marks) old.ground new.ground old.hooks new.hooks old.stakes.staking new.stakes.staking answer
     → new.stakes.unbondings ≡ old.stakes.unbondings → new.stakes.redelegations ≡ old.stakes.redelegations → GoOn old new
-hooked_on most_steps old new answer g u r = all_on old new g.undone g.register.behind (ap entries.behind u) (ap entries.behind r) g.hook_marks
+hooked_on marks most_steps old new answer g u r = all_on old new g.undone g.register.behind (ap entries.behind u) (ap entries.behind r) (unheard marks old.hooks new.hooks g.hook_marks)
 
 -- one that changes unbondings too
-pub unbonding_on : {A E : Type 0} (most_steps : Booked → ℕ) (old new : Modules) (answer : Result A E) → GoesOn bank.behind most_steps hooks_behind old.ground new.ground old.hooks new.hooks old.stakes.staking new.stakes.staking answer
+pub unbonding_on : {A F E M : Type 0} (marks : E → M) (most_steps : Booked → ℕ) (old new : Modules E) (answer : Result A F) → GoesOn bank.behind most_steps (hook_marks marks) old.ground new.ground old.hooks new.hooks old.stakes.staking new.stakes.staking answer
     → EntriesGoOn old.stakes.unbondings new.stakes.unbondings answer → new.stakes.redelegations ≡ old.stakes.redelegations → GoOn old new
-unbonding_on most_steps old new answer g u r = all_on old new g.undone g.register.behind u.behind (ap entries.behind r) g.hook_marks
+unbonding_on marks most_steps old new answer g u r = all_on old new g.undone g.register.behind u.behind (ap entries.behind r) (unheard marks old.hooks new.hooks g.hook_marks)
 
 -- one that changes redelegations too
-pub redelegating_on : {A E : Type 0} (most_steps : Booked → ℕ) (old new : Modules) (answer : Result A E) → GoesOn bank.behind most_steps hooks_behind old.ground new.ground old.hooks new.hooks old.stakes.staking new.stakes.staking answer
+pub redelegating_on : {A F E M : Type 0} (marks : E → M) (most_steps : Booked → ℕ) (old new : Modules E) (answer : Result A F) → GoesOn bank.behind most_steps (hook_marks marks) old.ground new.ground old.hooks new.hooks old.stakes.staking new.stakes.staking answer
     → new.stakes.unbondings ≡ old.stakes.unbondings → EntriesGoOn old.stakes.redelegations new.stakes.redelegations answer → GoOn old new
-redelegating_on most_steps old new answer g u r = all_on old new g.undone g.register.behind (ap entries.behind u) r.behind g.hook_marks
+redelegating_on marks most_steps old new answer g u r = all_on old new g.undone g.register.behind (ap entries.behind u) r.behind (unheard marks old.hooks new.hooks g.hook_marks)
 
 -- one that changes validators and the ground alone
-pub register_on : {A E : Type 0} (old new : Modules) (answer : Result A E) → CanBeUndone bank.behind old.ground new.ground → RegisterGoesOn old.stakes.staking new.stakes.staking answer
+pub register_on : {A F E : Type 0} (old new : Modules E) (answer : Result A F) → CanBeUndone bank.behind old.ground new.ground → RegisterGoesOn old.stakes.staking new.stakes.staking answer
     → new.stakes.unbondings ≡ old.stakes.unbondings → new.stakes.redelegations ≡ old.stakes.redelegations → new.hooks ≡ old.hooks → GoOn old new
 register_on old new answer g s u r h = all_on old new g s.behind (ap entries.behind u) (ap entries.behind r) (ap hooks_behind h)
 
 -- one of distribution
-pub shared_on : {A E : Type 0} (old new : Modules) (answer : Result A E) → CanBeUndone bank.behind old.ground new.ground → SharedGoesOn old.hooks.first new.hooks.first answer
+pub shared_on : {A F E : Type 0} (old new : Modules E) (answer : Result A F) → CanBeUndone bank.behind old.ground new.ground → SharedGoesOn old.hooks.first.hooks new.hooks.first.hooks answer
     → new.stakes ≡ old.stakes → new.hooks.second ≡ old.hooks.second → GoOn old new
 shared_on old new answer g d s w =
     all_on old new g (ap (λ c. book.behind c.staking) s) (ap (λ c. entries.behind c.unbondings) s) (ap (λ c. entries.behind c.redelegations) s)
     (λ i. (d.behind i, window.behind (w i)))
 
 -- the ground stays
-pub ground_stays : (old new : Modules) → new.ground ≡ old.ground → CanBeUndone bank.behind old.ground new.ground
+pub ground_stays : {E : Type 0} (old new : Modules E) → new.ground ≡ old.ground → CanBeUndone bank.behind old.ground new.ground
 ground_stays old new e = record {
   marks = ap (λ g. bank.behind g.bank) e;
   ctx = ap (λ g. g.ctx) e;
   facts = ([], ap (λ g. g.facts) e ∙ sym (append_nil old.ground.facts));
 }
+
+-- ---- what a listener hears
+
+-- where only the listener heard something, the modules keep the same
+pub heard_kept : {E : Type 0} (old new : Modules E) → new.stakes ≡ old.stakes → new.hooks.first.hooks ≡ old.hooks.first.hooks → new.hooks.second ≡ old.hooks.second → (answer : Result ⊤ HookFault)
+    → Answers {H = ⊤} (gives tt (ground_of old) []) (λ _. ⊤) (ground_of new) answer → OnOk answer (kept_of new ≡ kept_of old)
+heard_kept old new stakes shared signings (Ok a) h = λ i. record {
+  stakes = record { staked = (stakes i).staking.staked; unbondings = (stakes i).unbondings.lists; redelegations = (stakes i).redelegations.lists };
+  shared = (shared i).kept;
+  signings = (signings i).kept;
+  view = h.1 i;
+}
+heard_kept old new stakes shared signings (Err fault) h = tt
+
+-- and it has no error but want of memory
+pub heard_wants : (w u : View) (answer : Result ⊤ HookFault) → Answers {H = ⊤} (gives tt w []) (λ _. ⊤) u answer → IfErr answer (λ fault. fault ≡ hook.NoMemory)
+heard_wants w u (Ok a) h = tt
+heard_wants w u (Err (hook.Over over)) h = absurd h
+heard_wants w u (Err hook.NoMemory) h = refl
 
 -- ---- coins that move
 

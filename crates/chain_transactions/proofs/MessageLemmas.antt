@@ -1,7 +1,9 @@
 -- Messages that were carried out so far.
 use Rattle.std.proofs.Common.{◌≡◌, ◌∙◌, ℕ, ◌+◌, ◌≤◌, ◌<◌, List, [], ◌∷◌, drop, length, get_or, map, add-one, drop-cons, ◌++◌, Option, Some, None, Result, Ok, Err, refl, sym, ap, subst, arith}
+use Rattle.base_roles.specs.declared.faults.MessageFault.{MessageFault}
 use Rattle.base_roles.specs.declared.faults.MessageFault.TheVariants as stop
 use Rattle.base_roles.specs.declared.refusal.Refusal.{Refusal}
+use Rattle.base_roles.specs.Answers.{StopsForMemory}
 use Rattle.base_roles.specs.Flow.{◌>>=◌, stopping}
 use Rattle.rule_modules.specs.Chain.{State}
 use Rattle.base_messages.specs.declared.message.Msg.{Msg}
@@ -46,19 +48,24 @@ pub refused : (r : Result State Refusal) (k : KeptState) (why : Refusal) → Mes
 refused (Ok due) k why e = absurd e
 refused (Err due) k why e = ap (λ x. Err x) (sym e)
 
+-- one that was carried out, behind which memory was wanting
+pub wants_behind : (r : Result State Refusal) (k k2 : KeptState) (fault : MessageFault) → fault ≡ stop.NoMemory → MessageEnds r k (Ok tt) → MessageEnds r k2 (Err fault)
+wants_behind (Ok due) k k2 fault is e = subst StopsForMemory (sym is) tt
+wants_behind (Err why) k k2 fault is e = absurd e
+
 -- The messages before this place were carried out, none of them refused: from each state that stood first, they lead to one
 -- that stands now.
-pub record SoFar (messages : List Msg) (place : ℕ) (old new : Modules) : Type 0 where
+pub record SoFar {E : Type 0} (messages : List Msg) (place : ℕ) (old new : Modules E) : Type 0 where
   pub steady : AreSteady new
   pub go_on : MessagesGoOn old new
   pub rest : (p : State) → StandsWhole (kept_of old) p
       → (q : State) × StandsWhole (kept_of new) q × (effects_of place (map effect_of (drop place messages)) q ≡ effects_of 0 (map effect_of messages) p)
 
 -- before the first of them
-pub none_yet : (messages : List Msg) (m : Modules) → AreSteady m → SoFar messages 0 m m
+pub none_yet : {E : Type 0} (messages : List Msg) (m : Modules E) → AreSteady m → SoFar messages 0 m m
 none_yet messages m s = record { steady = s; go_on = at_moment m m (stay_on m); rest = λ p k. (p, k, refl) }
 
-module _ (messages : List Msg) (place : ℕ) (message : Msg) (old new : Modules) (lt : place < length messages) (is : message ≡ get_or messages place message) (so : SoFar messages place old new) where
+module _ {E : Type 0} (messages : List Msg) (place : ℕ) (message : Msg) (old new : Modules E) (lt : place < length messages) (is : message ≡ get_or messages place message) (so : SoFar messages place old new) where
   -- what the messages from here on come to, by what this one comes to
   here : (p : State) (k : StandsWhole (kept_of old) p) (r : Result State Refusal) → effect_of message (so.rest p k).0 ≡ r
       → (stopping (λ why. (place, why)) r >>= λ u. effects_of (place + 1) (map effect_of (drop (place + 1) messages)) u) ≡ effects_of 0 (map effect_of messages) p
@@ -67,7 +74,7 @@ module _ (messages : List Msg) (place : ℕ) (message : Msg) (old new : Modules)
       ∙ sym (ap (λ (l : List Msg). effects_of place (map effect_of l) (so.rest p k).0) (next messages place message lt is))
       ∙ (so.rest p k).2
 
-  pub one_more : (last : Modules) → ((p : State) → StandsWhole (kept_of new) p → MessageEnds (effect_of message p) (kept_of last) (Ok tt))
+  pub one_more : (last : Modules E) → ((p : State) → StandsWhole (kept_of new) p → MessageEnds (effect_of message p) (kept_of last) (Ok tt))
       → AreSteady last → MessagesGoOn new last → SoFar messages (place + 1) old last
   one_more last ends s g = record {
     steady = s;
@@ -78,14 +85,14 @@ module _ (messages : List Msg) (place : ℕ) (message : Msg) (old new : Modules)
         (d.0, d.2, here p k (Ok d.0) d.1);
   }
 
-  pub one_refused : (last : Modules) (why : Refusal) → ((p : State) → StandsWhole (kept_of new) p → MessageEnds (effect_of message p) (kept_of last) (Err (stop.Refused why)))
+  pub one_refused : (last : Modules E) (why : Refusal) → ((p : State) → StandsWhole (kept_of new) p → MessageEnds (effect_of message p) (kept_of last) (Err (stop.Refused why)))
       → (p : State) → StandsWhole (kept_of old) p → MessagesEnd (effects_of 0 (map effect_of messages) p) (Some (place, why)) (kept_of last)
   one_refused last why ends p k =
       let q = so.rest p k in
       subst (λ r. MessagesEnd r (Some (place, why)) (kept_of last)) (here p k (Err why) (refused (effect_of message q.0) (kept_of last) why (ends q.0 q.1))) refl
 
 -- none was refused
-pub all_done : (messages : List Msg) (place : ℕ) (old new : Modules) → drop place messages ≡ [] → SoFar messages place old new
+pub all_done : {E : Type 0} (messages : List Msg) (place : ℕ) (old new : Modules E) → drop place messages ≡ [] → SoFar messages place old new
     → (p : State) → StandsWhole (kept_of old) p → MessagesEnd (effects_of 0 (map effect_of messages) p) None (kept_of new)
 all_done messages place old new e so p k =
     let q = so.rest p k in

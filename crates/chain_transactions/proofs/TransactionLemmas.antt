@@ -71,7 +71,7 @@ cut_back old new f = ap (take (length old)) f.1 ∙ take_front old f.0
 
 -- where a message was refused, modules that are gone back keep what they kept before it, with the context and the facts that were
 -- told before
-pub undone : (old marked applied back : Modules) (told : ℕ) (facts : List Fact) → kept_of marked ≡ kept_of old → marks_of marked ≡ opened old → MessagesGoOn marked applied → opened back ≡ marks_of applied
+pub undone : {E : Type 0} (old marked applied back : Modules E) (told : ℕ) (facts : List Fact) → kept_of marked ≡ kept_of old → marks_of marked ≡ opened old → MessagesGoOn marked applied → opened back ≡ marks_of applied
     → back.ground.facts ≡ applied.ground.facts → told ≡ length old.ground.facts → facts ≡ take told back.ground.facts
     → kept_over (parts_of back) old.ground.ctx facts ≡ kept_of old
 undone old marked applied back told facts same opens on closes f t cut =
@@ -97,7 +97,7 @@ starts_cleared (tx ∷ txs) w = refl
 
 -- The transactions before this place were applied, with these reports: from each state that stood first, they lead to one
 -- that stands now.
-pub record AppliedSoFar (txs : List Tx) (place : ℕ) (old new : Modules) (reports : List TxReport) : Type 0 where
+pub record AppliedSoFar {E : Type 0} (txs : List Tx) (place : ℕ) (old new : Modules E) (reports : List TxReport) : Type 0 where
   pub steady : AreSteady new
   pub none : new.ground.facts ≡ []
   pub moment : SameMoment old.ground.ctx new.ground.ctx
@@ -105,7 +105,7 @@ pub record AppliedSoFar (txs : List Tx) (place : ℕ) (old new : Modules) (repor
   pub rest : (p : State) → StandsWhole (kept_of old) p
       → (q : State) × StandsWhole (kept_of new) q × (before reports (cleared (txs_applied (drop place txs) q)) ≡ cleared (txs_applied txs p))
 
-pub applied_next : (txs : List Tx) (place : ℕ) (tx : Tx) (old new last : Modules) (reports reports2 : List TxReport) (report : TxReport) → place < length txs → tx ≡ get_or txs place tx
+pub applied_next : {E : Type 0} (txs : List Tx) (place : ℕ) (tx : Tx) (old new last : Modules E) (reports reports2 : List TxReport) (report : TxReport) → place < length txs → tx ≡ get_or txs place tx
     → AppliedSoFar txs place old new reports → ((q : State) → StandsWhole (kept_of new) q → report ≡ (tx_applied tx q).report)
     → ((q : State) → StandsWhole (kept_of new) q → StandsWhole (kept_of last) (without_facts (tx_applied tx q).state))
     → reports2 ≡ reports ++ report ∷ [] → AreSteady last → last.ground.facts ≡ [] → SameMoment new.ground.ctx last.ground.ctx → behind_of last ≡ behind_of new
@@ -133,7 +133,7 @@ applied_next txs place tx old new last reports reports2 report lt is so told lef
 }
 
 -- all transactions were applied
-module _ (txs : List Tx) (place : ℕ) (old new : Modules) (reports : List TxReport) (end : drop place txs ≡ []) (so : AppliedSoFar txs place old new reports) where
+module _ {E : Type 0} (txs : List Tx) (place : ℕ) (old new : Modules E) (reports : List TxReport) (end : drop place txs ≡ []) (so : AppliedSoFar txs place old new reports) where
   all_told : (p : State) (stood : StandsWhole (kept_of old) p) → record { reports = reports ++ []; state = without_facts (so.rest p stood).0 } ≡ cleared (txs_applied txs p)
   all_told p stood = sym (ap (λ (l : List Tx). before reports (cleared (txs_applied l (so.rest p stood).0))) end) ∙ (so.rest p stood).2
 

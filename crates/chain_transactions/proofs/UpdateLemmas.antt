@@ -31,16 +31,16 @@ use Rattle.chain_transactions.proofs.GoLemmas.{all_on, ground_stays}
 use Rattle.chain_transactions.proofs.MessageLemmas.{done}
 
 -- modules with other parameters, the signing records in their window, and the fact
-pub record IsUpdated (authority : List ℕ) (p : Params) (old new : Modules) : Type 0 where
+pub record IsUpdated {E : Type 0} (authority : List ℕ) (p : Params) (old new : Modules E) : Type 0 where
   pub bank : new.ground.bank.holdings ≡ old.ground.bank.holdings
   pub ctx : new.ground.ctx ≡ record old.ground.ctx { params = p }
   pub facts : new.ground.facts ≡ old.ground.facts ++ fact.ParamsChanged authority ∷ []
   pub stakes : stakes_kept new.stakes ≡ stakes_kept old.stakes
-  pub shared : new.hooks.first.kept ≡ old.hooks.first.kept
+  pub shared : new.hooks.first.hooks.kept ≡ old.hooks.first.hooks.kept
   pub signings : (i : Window) → KeepsSignings old.ground.ctx.params.signed_blocks_window old.hooks.second.kept i
       → KeepsSignings p.signed_blocks_window new.hooks.second.kept (window_resized old.ground.ctx.params.signed_blocks_window p.signed_blocks_window i)
 
-module _ (authority : List ℕ) (p : Params) (old new : Modules) (u : IsUpdated authority p old new) where
+module _ {E : Type 0} (authority : List ℕ) (p : Params) (old new : Modules E) (u : IsUpdated authority p old new) where
   updated_keeps : (w : State) → Keeps (kept_of old) w → Keeps (kept_of new) (with_updated authority p w)
   updated_keeps w k = record {
     stakes = k.stakes ∙ sym u.stakes;
@@ -78,18 +78,18 @@ module _ (authority : List ℕ) (p : Params) (old new : Modules) (u : IsUpdated 
       }
 
 -- the window is at least one block
-pub window_some : (m : Modules) → AreSteady m → 1 ≤ m.ground.ctx.params.signed_blocks_window
+pub window_some : {E : Type 0} (m : Modules E) → AreSteady m → 1 ≤ m.ground.ctx.params.signed_blocks_window
 window_some m s = (ground_kept m s.state s.stands.keeps s.stands.sound).params.signed_blocks_window
 
 -- ---- where it is not carried out
 
 -- only signing records changed
-pub window_on : (old new : Modules) → new.ground ≡ old.ground → new.stakes ≡ old.stakes → new.hooks.first ≡ old.hooks.first → window.behind new.hooks.second ≡ window.behind old.hooks.second → MessagesGoOn old new
+pub window_on : {E : Type 0} (old new : Modules E) → new.ground ≡ old.ground → new.stakes ≡ old.stakes → new.hooks.first ≡ old.hooks.first → window.behind new.hooks.second ≡ window.behind old.hooks.second → MessagesGoOn old new
 window_on old new ground stakes shared signings =
     at_moment old new (all_on old new (ground_stays old new ground) (ap (λ s. book.behind s.staking) stakes) (ap (λ s. entries.behind s.unbondings) stakes) (ap (λ s. entries.behind s.redelegations) stakes)
-    (λ i. (distr.behind (shared i), signings i)))
+    (λ i. (distr.behind (shared i).hooks, signings i)))
 
-module _ (authority : List ℕ) (p : Params) (old : Modules) (k2 : KeptState) where
+module _ {E : Type 0} (authority : List ℕ) (p : Params) (old : Modules E) (k2 : KeptState) where
   pub update_stops : (why : Refusal) → may_update authority old.ground.ctx.params p ≡ Err why → (w : State) → StandsWhole (kept_of old) w → MessageEnds (update_params authority p w) k2 (Err (stop.Refused why))
   update_stops why e w s =
       let here : may_update authority w.view.ctx.params p ≡ Err why = ap (λ (v : View). may_update authority v.ctx.params p) s.keeps.view ∙ e in

@@ -1,9 +1,9 @@
 //! The messages, each by its kind.
 
-ghost use Rattle.std.specs.Prelude.{OnOk};
+ghost use Rattle.std.specs.Prelude.{◌≡◌, OnOk};
 ghost use Rattle.rule_modules.specs.Chain.{State};
 ghost use Rattle.rule_machine.specs.Messages.{effect_of};
-ghost use Rattle.chain_modules.specs.Kept.{StandsWhole, kept_of, AreSteady};
+ghost use Rattle.chain_modules.specs.Kept.{StandsWhole, kept_of, AreSteady, listener_of};
 ghost use Rattle.chain_modules.specs.Marks.{MessagesGoOn};
 ghost use Rattle.chain_transactions.specs.Answers.{MessageEnds};
 
@@ -16,7 +16,7 @@ use crate::staking::{create_validator, delegate, edit_validator, unjail};
 use crate::unbonding::{begin_redelegate, cancel_unbonding, undelegate};
 use crate::updating::update_params;
 use base_messages::Msg;
-use base_roles::MessageFault;
+use base_roles::{Extra, MessageFault};
 use base_types::Steps;
 use chain_modules::Modules;
 use std::alloc::Global;
@@ -25,9 +25,9 @@ use std::sync::ledger::Ledger;
 /// Carries out a message, or answers why it is refused (`MsgServiceRouter.Handler`). After a refusal some of it
 /// may stand.
 #[tactic(auto, using(chain_modules::proofs::MarkLemmas::at_moment))]
-pub fn apply_message<L: Ledger>(
+pub fn apply_message<E: Extra, L: Ledger>(
     alloc: Global,
-    modules: &mut Modules,
+    modules: &mut Modules<E>,
     message: &Msg,
     steps: &mut Steps<L>,
 ) -> Result<(), MessageFault>
@@ -38,6 +38,8 @@ pub fn apply_message<L: Ledger>(
 
     // Whatever the answer.
     ensures go_on { MessagesGoOn modules.old modules.new }
+    ensures listener { E.Records.marks (listener_of modules.new)
+        ≡ E.Records.marks (listener_of modules.old) }
 {
     match message {
         Msg::Send(m) => send(alloc, modules, m, steps),

@@ -1,23 +1,23 @@
 //! Messages about validators, and delegating.
 
-ghost use Rattle.std.specs.Prelude.{OnOk};
+ghost use Rattle.std.specs.Prelude.{◌≡◌, OnOk};
 ghost use Rattle.rule_modules.specs.Chain.{State};
 ghost use Rattle.rule_modules.specs.Effects.{create_validator, edit_validator, delegate, unjail};
-ghost use Rattle.chain_modules.specs.Kept.{StandsWhole, kept_of, AreSteady};
+ghost use Rattle.chain_modules.specs.Kept.{StandsWhole, kept_of, AreSteady, listener_of};
 ghost use Rattle.chain_modules.specs.Marks.{GoOn};
 ghost use Rattle.chain_transactions.specs.Answers.{MessageEnds};
 
 use base_messages::{Delegate, Unjail};
-use base_roles::{CreateValidator, EditValidator, MessageFault};
+use base_roles::{CreateValidator, EditValidator, Extra, MessageFault};
 use base_types::Steps;
 use chain_modules::Modules;
 use std::alloc::Global;
 use std::sync::ledger::Ledger;
 
 /// A validator is created (`x/staking`: `msgServer.CreateValidator`).
-pub(crate) fn create_validator<L: Ledger>(
+pub(crate) fn create_validator<E: Extra, L: Ledger>(
     alloc: Global,
-    modules: &mut Modules,
+    modules: &mut Modules<E>,
     m: &CreateValidator,
     steps: &mut Steps<L>,
 ) -> Result<(), MessageFault>
@@ -28,6 +28,8 @@ pub(crate) fn create_validator<L: Ledger>(
 
     // Whatever the answer.
     ensures go_on { GoOn modules.old modules.new }
+    ensures listener { E.Records.marks (listener_of modules.new)
+        ≡ E.Records.marks (listener_of modules.old) }
 {
     modules
         .stakes
@@ -36,8 +38,8 @@ pub(crate) fn create_validator<L: Ledger>(
 }
 
 /// A validator's rate or least self-delegation changes (`x/staking`: `msgServer.EditValidator`).
-pub(crate) fn edit_validator<L: Ledger>(
-    modules: &mut Modules,
+pub(crate) fn edit_validator<E: Extra, L: Ledger>(
+    modules: &mut Modules<E>,
     m: &EditValidator,
     steps: &mut Steps<L>,
 ) -> Result<(), MessageFault>
@@ -48,6 +50,8 @@ pub(crate) fn edit_validator<L: Ledger>(
 
     // Whatever the answer.
     ensures go_on { GoOn modules.old modules.new }
+    ensures listener { E.Records.marks (listener_of modules.new)
+        ≡ E.Records.marks (listener_of modules.old) }
 {
     modules
         .stakes
@@ -56,9 +60,9 @@ pub(crate) fn edit_validator<L: Ledger>(
 }
 
 /// A coin is delegated from the delegator's wallet (`x/staking`: `msgServer.Delegate`).
-pub(crate) fn delegate<L: Ledger>(
+pub(crate) fn delegate<E: Extra, L: Ledger>(
     alloc: Global,
-    modules: &mut Modules,
+    modules: &mut Modules<E>,
     m: &Delegate,
     steps: &mut Steps<L>,
 ) -> Result<(), MessageFault>
@@ -70,6 +74,8 @@ pub(crate) fn delegate<L: Ledger>(
 
     // Whatever the answer.
     ensures go_on { GoOn modules.old modules.new }
+    ensures listener { E.Records.marks (listener_of modules.new)
+        ≡ E.Records.marks (listener_of modules.old) }
 {
     let answer = modules.stakes.staking.delegate_coin(
         alloc,
@@ -87,8 +93,8 @@ pub(crate) fn delegate<L: Ledger>(
 }
 
 /// A validator leaves jail (`x/slashing`: `msgServer.Unjail`).
-pub(crate) fn unjail<L: Ledger>(
-    modules: &mut Modules,
+pub(crate) fn unjail<E: Extra, L: Ledger>(
+    modules: &mut Modules<E>,
     m: &Unjail,
     steps: &mut Steps<L>,
 ) -> Result<(), MessageFault>
@@ -99,6 +105,8 @@ pub(crate) fn unjail<L: Ledger>(
 
     // Whatever the answer.
     ensures go_on { GoOn modules.old modules.new }
+    ensures listener { E.Records.marks (listener_of modules.new)
+        ≡ E.Records.marks (listener_of modules.old) }
 {
     modules.hooks.second.unjail(
         &mut modules.ground,

@@ -8,13 +8,13 @@ ghost use Rattle.rule_machine.specs.Machine.{tx_applied, txs_applied};
 ghost use Rattle.rule_machine.specs.Messages.{effect_of};
 ghost use Rattle.rule_modules.specs.Chain.{State};
 ghost use Rattle.rule_modules.specs.Effects.{fee_paid, effects_of, stands_or_fee, transaction_applied};
-ghost use Rattle.chain_modules.specs.Kept.{StandsWhole, kept_of, AreSteady};
+ghost use Rattle.chain_modules.specs.Kept.{StandsWhole, kept_of, AreSteady, listener_of};
 ghost use Rattle.chain_modules.specs.Marks.{behind_of, GoOn, MessagesGoOn};
 ghost use Rattle.chain_transactions.specs.Answers.{MessagesEnd, EndsAs};
 
 use crate::message::apply_message;
 use base_messages::{Msg, Outcome, Tx, TxReport};
-use base_roles::{Bank, BankFault, Facts, MessageFault, RecordFault, Refusal};
+use base_roles::{Bank, BankFault, Extra, Facts, MessageFault, RecordFault, Refusal};
 use base_types::{Account, Module, Steps};
 use chain_modules::Modules;
 use std::alloc::Global;
@@ -23,9 +23,9 @@ use std::sync::ledger::Ledger;
 
 /// Pays the fee of a transaction to the fee collector (`x/auth/ante`: `DeductFeeDecorator`); false where the
 /// payer is short, and then nothing changes.
-fn pay_fee<L: Ledger>(
+fn pay_fee<E: Extra, L: Ledger>(
     alloc: Global,
-    modules: &mut Modules,
+    modules: &mut Modules<E>,
     tx: &Tx,
     steps: &mut Steps<L>,
 ) -> Result<bool, RecordFault>
@@ -43,6 +43,8 @@ fn pay_fee<L: Ledger>(
 
     // Whatever the answer.
     ensures go_on { GoOn modules.old modules.new }
+    ensures listener { E.Records.marks (listener_of modules.new)
+        ≡ E.Records.marks (listener_of modules.old) }
 {
     // It tells that the fee is a list of coins.
     let _ = tx.fee.len();
@@ -62,9 +64,9 @@ fn pay_fee<L: Ledger>(
 
 /// Carries out messages one after the other, up to the first that is refused, of which it answers the place and
 /// the reason.
-fn apply_messages<L: Ledger>(
+fn apply_messages<E: Extra, L: Ledger>(
     alloc: Global,
-    modules: &mut Modules,
+    modules: &mut Modules<E>,
     messages: &[Msg],
     steps: &mut Steps<L>,
 ) -> Result<Option<(usize, Refusal)>, RecordFault>
@@ -76,6 +78,8 @@ fn apply_messages<L: Ledger>(
 
     // Whatever the answer.
     ensures go_on { MessagesGoOn modules.old modules.new }
+    ensures listener { E.Records.marks (listener_of modules.new)
+        ≡ E.Records.marks (listener_of modules.old) }
 {
     for (place, message) in messages.iter().enumerate() {
         match apply_message(alloc, modules, message, steps) {
@@ -89,9 +93,9 @@ fn apply_messages<L: Ledger>(
 
 /// Carries out all messages or, where one is refused, none; then parameters that were replaced are put back too.
 /// After an error some of it may stand.
-fn all_or_none<L: Ledger>(
+fn all_or_none<E: Extra, L: Ledger>(
     alloc: Global,
-    modules: &mut Modules,
+    modules: &mut Modules<E>,
     messages: &[Msg],
     steps: &mut Steps<L>,
 ) -> Result<Outcome, RecordFault>
@@ -105,6 +109,8 @@ fn all_or_none<L: Ledger>(
 
     // Whatever the answer.
     ensures behind { behind_of modules.new ≡ behind_of modules.old }
+    ensures listener { E.Records.marks (listener_of modules.new)
+        ≡ E.Records.marks (listener_of modules.old) }
 {
     let told = modules.ground.facts.len();
     let ctx = modules.ground.ctx;
@@ -128,9 +134,9 @@ fn all_or_none<L: Ledger>(
 }
 
 /// Pays the fee, then carries out the messages. After an error some of it may stand.
-fn pay_and_apply<L: Ledger>(
+fn pay_and_apply<E: Extra, L: Ledger>(
     alloc: Global,
-    modules: &mut Modules,
+    modules: &mut Modules<E>,
     tx: &Tx,
     steps: &mut Steps<L>,
 ) -> Result<Outcome, RecordFault>
@@ -145,6 +151,8 @@ fn pay_and_apply<L: Ledger>(
 
     // Whatever the answer.
     ensures behind { behind_of modules.new ≡ behind_of modules.old }
+    ensures listener { E.Records.marks (listener_of modules.new)
+        ≡ E.Records.marks (listener_of modules.old) }
 {
     if pay_fee(alloc, modules, tx, steps)? {
         all_or_none(alloc, modules, tx.msgs.as_slice(), steps)
@@ -153,10 +161,10 @@ fn pay_and_apply<L: Ledger>(
     }
 }
 
-/// Applies a transaction, and takes its facts. After an error some of it may stand.
-fn apply_transaction<L: Ledger>(
+/// Applies a transaction, takes its facts, and tells the listener how many they are. After an error some of it may stand.
+fn apply_transaction<E: Extra, L: Ledger>(
     alloc: Global,
-    modules: &mut Modules,
+    modules: &mut Modules<E>,
     tx: &Tx,
     steps: &mut Steps<L>,
 ) -> Result<TxReport, RecordFault>
@@ -174,17 +182,20 @@ fn apply_transaction<L: Ledger>(
 
     // Whatever the answer.
     ensures behind { behind_of modules.new ≡ behind_of modules.old }
+    ensures listener { E.Records.marks (listener_of modules.new)
+        ≡ E.Records.marks (listener_of modules.old) }
 {
     let outcome = pay_and_apply(alloc, modules, tx, steps)?;
     let facts = mem::replace(&mut modules.ground.facts, Facts::new(alloc));
+    modules.hooks.first.listener.after_part(facts.len());
     Ok(TxReport { facts, outcome })
 }
 
 /// Applies the transactions of a block, one after the other (`DeliverTx`), over modules that have told nothing yet. The
 /// only error is `NoMemory`; some may have been applied then.
-pub fn apply_transactions<L: Ledger>(
+pub fn apply_transactions<E: Extra, L: Ledger>(
     alloc: Global,
-    modules: &mut Modules,
+    modules: &mut Modules<E>,
     txs: &[Tx],
     steps: &mut Steps<L>,
 ) -> Result<Vec<TxReport>, RecordFault>
@@ -201,6 +212,8 @@ pub fn apply_transactions<L: Ledger>(
 
     // Whatever the answer.
     ensures behind { behind_of modules.new ≡ behind_of modules.old }
+    ensures listener { E.Records.marks (listener_of modules.new)
+        ≡ E.Records.marks (listener_of modules.old) }
 {
     let mut reports = Vec::new(alloc);
     for tx in txs {

@@ -1,23 +1,23 @@
 //! Messages that make entries, and one that takes from them.
 
-ghost use Rattle.std.specs.Prelude.{OnOk};
+ghost use Rattle.std.specs.Prelude.{◌≡◌, OnOk};
 ghost use Rattle.rule_modules.specs.Chain.{State};
 ghost use Rattle.rule_modules.specs.Effects.{undelegate, begin_redelegate, cancel_unbonding};
-ghost use Rattle.chain_modules.specs.Kept.{StandsWhole, kept_of, AreSteady};
+ghost use Rattle.chain_modules.specs.Kept.{StandsWhole, kept_of, AreSteady, listener_of};
 ghost use Rattle.chain_modules.specs.Marks.{GoOn};
 ghost use Rattle.chain_transactions.specs.Answers.{MessageEnds};
 
 use base_messages::{BeginRedelegate, CancelUnbonding, Undelegate};
-use base_roles::MessageFault;
+use base_roles::{Extra, MessageFault};
 use base_types::Steps;
 use chain_modules::Modules;
 use std::alloc::Global;
 use std::sync::ledger::Ledger;
 
 /// A coin is taken out of a delegation (`x/staking`: `msgServer.Undelegate`).
-pub(crate) fn undelegate<L: Ledger>(
+pub(crate) fn undelegate<E: Extra, L: Ledger>(
     alloc: Global,
-    modules: &mut Modules,
+    modules: &mut Modules<E>,
     m: &Undelegate,
     steps: &mut Steps<L>,
 ) -> Result<(), MessageFault>
@@ -29,6 +29,8 @@ pub(crate) fn undelegate<L: Ledger>(
 
     // Whatever the answer.
     ensures go_on { GoOn modules.old modules.new }
+    ensures listener { E.Records.marks (listener_of modules.new)
+        ≡ E.Records.marks (listener_of modules.old) }
 {
     let answer = modules.stakes.unbondings.undelegate(
         alloc,
@@ -47,9 +49,9 @@ pub(crate) fn undelegate<L: Ledger>(
 }
 
 /// A coin of a delegation moves to another validator (`x/staking`: `msgServer.BeginRedelegate`).
-pub(crate) fn begin_redelegate<L: Ledger>(
+pub(crate) fn begin_redelegate<E: Extra, L: Ledger>(
     alloc: Global,
-    modules: &mut Modules,
+    modules: &mut Modules<E>,
     m: &BeginRedelegate,
     steps: &mut Steps<L>,
 ) -> Result<(), MessageFault>
@@ -61,6 +63,8 @@ pub(crate) fn begin_redelegate<L: Ledger>(
 
     // Whatever the answer.
     ensures go_on { GoOn modules.old modules.new }
+    ensures listener { E.Records.marks (listener_of modules.new)
+        ≡ E.Records.marks (listener_of modules.old) }
 {
     modules.stakes.redelegations.begin(
         alloc,
@@ -76,9 +80,9 @@ pub(crate) fn begin_redelegate<L: Ledger>(
 }
 
 /// A coin that is being undelegated is delegated again (`x/staking`: `msgServer.CancelUnbondingDelegation`).
-pub(crate) fn cancel_unbonding<L: Ledger>(
+pub(crate) fn cancel_unbonding<E: Extra, L: Ledger>(
     alloc: Global,
-    modules: &mut Modules,
+    modules: &mut Modules<E>,
     m: &CancelUnbonding,
     steps: &mut Steps<L>,
 ) -> Result<(), MessageFault>
@@ -90,6 +94,8 @@ pub(crate) fn cancel_unbonding<L: Ledger>(
 
     // Whatever the answer.
     ensures go_on { GoOn modules.old modules.new }
+    ensures listener { E.Records.marks (listener_of modules.new)
+        ≡ E.Records.marks (listener_of modules.old) }
 {
     modules.stakes.unbondings.cancel(
         alloc,

@@ -5,12 +5,12 @@ ghost use Rattle.std.specs.BTreeMap.{is_at};
 ghost use Rattle.base_types.specs.Orders.{denom_cmp};
 ghost use Rattle.rule_modules.specs.Chain.{State};
 ghost use Rattle.rule_modules.specs.Parameters.{fixed_changed, may_update, update_params};
-ghost use Rattle.chain_modules.specs.Kept.{StandsWhole, kept_of, AreSteady};
+ghost use Rattle.chain_modules.specs.Kept.{StandsWhole, kept_of, AreSteady, listener_of};
 ghost use Rattle.chain_modules.specs.Marks.{MessagesGoOn};
 ghost use Rattle.chain_transactions.specs.Answers.{MessageEnds};
 
 use base_messages::UpdateParams;
-use base_roles::{Fact, MessageFault, Params, Refusal};
+use base_roles::{Extra, Fact, MessageFault, Params, Refusal};
 use base_types::{Addr, Denom, Steps};
 use chain_modules::Modules;
 use mod_entries::is_same;
@@ -24,8 +24,8 @@ use std::sync::ledger::Ledger;
 /// It is refused as `NotAuthority` where the sender is not the present authority, else as `ParamRange` with the
 /// first parameter that is out of its range, else as `ParamFixed` with the first that never changes and would: the
 /// bond denomination, or the power reduction.
-pub(crate) fn update_params<L: Ledger>(
-    modules: &mut Modules,
+pub(crate) fn update_params<E: Extra, L: Ledger>(
+    modules: &mut Modules<E>,
     m: &UpdateParams,
     steps: &mut Steps<L>,
 ) -> Result<(), MessageFault>
@@ -36,6 +36,8 @@ pub(crate) fn update_params<L: Ledger>(
 
     // Whatever the answer.
     ensures go_on { MessagesGoOn modules.old modules.new }
+    ensures listener { E.Records.marks (listener_of modules.new)
+        ≡ E.Records.marks (listener_of modules.old) }
 {
     may_update(&m.authority, &modules.ground.ctx.params, &m.params)?;
     modules

@@ -43,7 +43,7 @@ the_validator None h = absurd cc
 
 -- ---- one validator
 
-module _ (old new : Modules) (p : State) (k : Keeps (kept_of old) p) (ctx : new.ground.ctx ≡ old.ground.ctx) (u : new.stakes.unbondings.lists ≡ old.stakes.unbondings.lists) (r : new.stakes.redelegations.lists ≡ old.stakes.redelegations.lists) where
+module _ {E : Type 0} (old new : Modules E) (p : State) (k : Keeps (kept_of old) p) (ctx : new.ground.ctx ≡ old.ground.ctx) (u : new.stakes.unbondings.lists ≡ old.stakes.unbondings.lists) (r : new.stakes.redelegations.lists ≡ old.stakes.redelegations.lists) where
   stored_leads : (x : Validator) (answer : Result ⊤ HookFault)
       → Leaves (stored hooks_tell.told x (over old.stakes.staking.staked (held_as old.ground.ctx.params.signed_blocks_window p.hooks) (ground_of old))) new.stakes.staking.staked (hooks_hold new.hooks) (ground_of new) answer
       → Leads Keeps (stored chain_told x (staked_in p) >>= λ s. Ok (with_staked p.mine s)) (kept_of new) answer
@@ -121,51 +121,51 @@ module _ (old new : Modules) (p : State) (k : Keeps (kept_of old) p) (ctx : new.
 -- ---- all of them so far
 
 -- the validators before this place have entered
-pub record EnteredSoFar (g : Genesis) (place : ℕ) (old new : Modules) : Type 0 where
+pub record EnteredSoFar {E : Type 0} (g : Genesis) (place : ℕ) (old new : Modules E) : Type 0 where
   pub entering : AreEntering g (drop place g.validators) new
   pub go_on : GoOn old new
 
-pub none_entered : (g : Genesis) (m : Modules) → start_condition g ≡ None → IsEmpty g m → EnteredSoFar g 0 m m
+pub none_entered : {E : Type 0} (g : Genesis) (m : Modules E) → start_condition g ≡ None → IsEmpty g m → EnteredSoFar g 0 m m
 none_entered g m e h = record { entering = first_entering g m e h; go_on = stay_on m }
 
-module _ (g : Genesis) (place : ℕ) (v : GenesisValidator) (old new : Modules) (lt : place < length g.validators) (is : v ≡ get_or g.validators place v) (so : EnteredSoFar g place old new) where
+module _ {E : Type 0} (g : Genesis) (place : ℕ) (v : GenesisValidator) (old new : Modules E) (lt : place < length g.validators) (is : v ≡ get_or g.validators place v) (so : EnteredSoFar g place old new) where
   entering_here : AreEntering g (v ∷ drop (place + 1) g.validators) new
   entering_here = subst (λ l. AreEntering g l new) (next g.validators place v lt is) so.entering
 
   pub may_enter : IsNextValidator v new
   may_enter = next_enters g v (drop (place + 1) g.validators) new entering_here
 
-  pub one_entered : (last : Modules) → IsStakeScene last → ((p : State) → Keeps (kept_of new) p → IsAdded p.mine (validator_added chain_told v (staked_in p)) (kept_of last)) → GoOn new last → EnteredSoFar g (place + 1) old last
+  pub one_entered : (last : Modules E) → IsStakeScene last → ((p : State) → Keeps (kept_of new) p → IsAdded p.mine (validator_added chain_told v (staked_in p)) (kept_of last)) → GoOn new last → EnteredSoFar g (place + 1) old last
   one_entered last scene added on = record {
     entering = then_entering g v (drop (place + 1) g.validators) new last entering_here scene added;
     go_on = then_on old new last so.go_on on;
   }
 
-pub have_entered : (g : Genesis) (place : ℕ) (old new : Modules) → start_condition g ≡ None → drop place g.validators ≡ [] → EnteredSoFar g place old new → AreAdding g g.delegations (delegations_left g.delegations) new
+pub have_entered : {E : Type 0} (g : Genesis) (place : ℕ) (old new : Modules E) → start_condition g ≡ None → drop place g.validators ≡ [] → EnteredSoFar g place old new → AreAdding g g.delegations (delegations_left g.delegations) new
 have_entered g place old new e end so = all_entered g new e (subst (λ l. AreEntering g l new) end so.entering)
 
 -- the delegations before this place were added
-pub record AddedSoFar (g : Genesis) (place : ℕ) (old new : Modules) : Type 0 where
+pub record AddedSoFar {E : Type 0} (g : Genesis) (place : ℕ) (old new : Modules E) : Type 0 where
   pub adding : AreAdding g (drop place g.delegations) (delegations_left (drop place g.delegations)) new
   pub go_on : GoOn old new
 
-pub none_added : (g : Genesis) (m : Modules) → AreAdding g g.delegations (delegations_left g.delegations) m → AddedSoFar g 0 m m
+pub none_added : {E : Type 0} (g : Genesis) (m : Modules E) → AreAdding g g.delegations (delegations_left g.delegations) m → AddedSoFar g 0 m m
 none_added g m h = record { adding = h; go_on = stay_on m }
 
-module _ (g : Genesis) (good : IsGoodGenesis g) (place : ℕ) (d : GenesisDelegation) (old new : Modules) (lt : place < length g.delegations) (is : d ≡ get_or g.delegations place d) (so : AddedSoFar g place old new) where
+module _ {E : Type 0} (g : Genesis) (good : IsGoodGenesis g) (place : ℕ) (d : GenesisDelegation) (old new : Modules E) (lt : place < length g.delegations) (is : d ≡ get_or g.delegations place d) (so : AddedSoFar g place old new) where
   adding_here : AreAdding g (d ∷ drop (place + 1) g.delegations) (delegations_left (d ∷ drop (place + 1) g.delegations)) new
   adding_here = subst (λ l. AreAdding g l (delegations_left l) new) (next g.delegations place d lt is) so.adding
 
   pub may_join : IsNextDelegation d new
   may_join = next_joins g d (drop (place + 1) g.delegations) new good adding_here
 
-  pub one_joined : (last : Modules) → IsStakeScene last → ((p : State) → Keeps (kept_of new) p → IsAdded p.mine (delegation_added chain_told d (staked_in p)) (kept_of last)) → GoOn new last → AddedSoFar g (place + 1) old last
+  pub one_joined : (last : Modules E) → IsStakeScene last → ((p : State) → Keeps (kept_of new) p → IsAdded p.mine (delegation_added chain_told d (staked_in p)) (kept_of last)) → GoOn new last → AddedSoFar g (place + 1) old last
   one_joined last scene added on = record {
     adding = then_adding g d (drop (place + 1) g.delegations) new last adding_here scene added;
     go_on = then_on old new last so.go_on on;
   }
 
-pub have_joined : (g : Genesis) (place : ℕ) (old new : Modules) → drop place g.delegations ≡ [] → AddedSoFar g place old new → AreAdding g [] set_left new
+pub have_joined : {E : Type 0} (g : Genesis) (place : ℕ) (old new : Modules E) → drop place g.delegations ≡ [] → AddedSoFar g place old new → AreAdding g [] set_left new
 have_joined g place old new end so =
     let last : AreAdding g [] (delegations_left []) new = subst (λ l. AreAdding g l (delegations_left l) new) end so.adding in
     record { scene = last.scene; world = last.world; keeps = last.keeps; starting = last.starting; none = last.none; once = last.once; leads = last.leads }

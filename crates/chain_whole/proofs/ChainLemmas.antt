@@ -19,19 +19,19 @@ use Rattle.chain_whole.specs.Chained.{chained}
 use Rattle.chain_whole.proofs.ItemLemmas.{items_are_kept}
 
 -- modules that are settled and have no facts keep what was settled
-pub settled_now : (m : Modules) → settled_of m ≡ parts_of m → m.ground.facts ≡ [] → settled_over m.ground.ctx m ≡ kept_of m
+pub settled_now : {E : Type 0} (m : Modules E) → settled_of m ≡ parts_of m → m.ground.facts ≡ [] → settled_over m.ground.ctx m ≡ kept_of m
 settled_now m e f = λ i. kept_over (e i) m.ground.ctx (sym f i)
 
 -- the same after settling, by what was kept before
-pub settled_then : (old new : Modules) → settled_of new ≡ parts_of old → kept_of new ≡ kept_of old → old.ground.facts ≡ [] → settled_over new.ground.ctx new ≡ kept_of old
+pub settled_then : {E : Type 0} (old new : Modules E) → settled_of new ≡ parts_of old → kept_of new ≡ kept_of old → old.ground.facts ≡ [] → settled_over new.ground.ctx new ≡ kept_of old
 settled_then old new e same f = λ i. kept_over (e i) (same i).view.ctx (sym f i)
 
 -- what was settled stays over its context
-pub settled_same : (old new : Modules) (c : Ctx) → settled_of new ≡ settled_of old → settled_over c new ≡ settled_over c old
+pub settled_same : {E : Type 0} (old new : Modules E) (c : Ctx) → settled_of new ≡ settled_of old → settled_over c new ≡ settled_over c old
 settled_same old new c e = ap (λ (p : Parts). kept_over p c []) e
 
 -- after a fault that is not for memory nothing has changed
-pub leaves_same : (old new : Modules) (c : Ctx) (fault : BlockFault) → (fault ≡ block.NoMemory → ⊥) → kept_of new ≡ kept_of old → settled_of new ≡ settled_of old → LeavesChain (chained old c false) (chained new c false) (Err fault)
+pub leaves_same : {E : Type 0} (old new : Modules E) (c : Ctx) (fault : BlockFault) → (fault ≡ block.NoMemory → ⊥) → kept_of new ≡ kept_of old → settled_of new ≡ settled_of old → LeavesChain (chained old c false) (chained new c false) (Err fault)
 leaves_same old new c fault other k s = by fault other
   where
     same : chained new c false ≡ chained old c false
@@ -48,7 +48,7 @@ leaves_same old new c fault other k s = by fault other
     by block.NoMemory n = absurd (n refl)
 
 -- the bank of modules at rest is in order
-pub backed : (m : Modules) → AreAtRest m → IsBacked m.ground.bank.holdings
+pub backed : {E : Type 0} (m : Modules E) → AreAtRest m → IsBacked m.ground.bank.holdings
 backed m s = subst (λ (v : View). IsBacked v.bank) s.stands.keeps.view s.stands.sound.ground.bank
 
 -- keys ascend in a state for which something stands

@@ -80,7 +80,7 @@ nothing_stands : KeepsShared nothing_kept nothing_shared
 nothing_stands = record { rewards = none-kept; purses = refl; withdraw = refl }
 
 -- Modules over the ground that a genesis starts on, of which none but the bank has records.
-module _ (g : Genesis) (ground : Ground Booked) (m : Modules) (n : IsNewOver ground m) where
+module _ {E : Type 0} (g : Genesis) (ground : Ground Booked) (m : Modules E) (n : IsNewOver ground m) where
   no_hooks : (window : ℕ) → hooks_hold m.hooks (held_as window (nothing_shared, []))
   no_hooks window = (
     subst (λ (d : Distributed). KeepsShared d.kept nothing_shared) (sym n.shared) nothing_stands,

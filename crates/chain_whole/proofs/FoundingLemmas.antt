@@ -67,7 +67,7 @@ goes_on (Err d) f b e = absurd cc
 -- ---- validators
 
 -- Modules while these validators are to come: the ground is as it was, and they lead to what all of them do.
-pub record AreEntering (g : Genesis) (vs : List GenesisValidator) (m : Modules) : Type 0 where
+pub record AreEntering {E : Type 0} (g : Genesis) (vs : List GenesisValidator) (m : Modules E) : Type 0 where
   pub scene : IsStakeScene m
   pub world : StakeWorld
   pub keeps : Keeps (kept_of m) (started_with g world)
@@ -75,7 +75,7 @@ pub record AreEntering (g : Genesis) (vs : List GenesisValidator) (m : Modules) 
   pub still : world.view ≡ ground_at_start g
   pub leads : each (validator_added chain_told) vs world ≡ each (validator_added chain_told) g.validators (staked_in (empty_over (ground_at_start g)))
 
-pub first_entering : (g : Genesis) (m : Modules) → start_condition g ≡ None → IsEmpty g m → AreEntering g g.validators m
+pub first_entering : {E : Type 0} (g : Genesis) (m : Modules E) → start_condition g ≡ None → IsEmpty g m → AreEntering g g.validators m
 first_entering g m e h = record {
   scene = h.scene;
   world = staked_in (empty_over (ground_at_start g));
@@ -86,10 +86,10 @@ first_entering g m e h = record {
 }
 
 -- the staking that modules keep is the state's
-same_staked : (g : Genesis) (m : Modules) (w : StakeWorld) → Keeps (kept_of m) (started_with g w) → m.stakes.staking.staked ≡ w.mine
+same_staked : {E : Type 0} (g : Genesis) (m : Modules E) (w : StakeWorld) → Keeps (kept_of m) (started_with g w) → m.stakes.staking.staked ≡ w.mine
 same_staked g m w k = sym (ap (λ (c : Stakes). c.staked) k.stakes)
 
-pub next_enters : (g : Genesis) (v : GenesisValidator) (vs : List GenesisValidator) (m : Modules) → AreEntering g (v ∷ vs) m → IsNextValidator v m
+pub next_enters : {E : Type 0} (g : Genesis) (v : GenesisValidator) (vs : List GenesisValidator) (m : Modules E) → AreEntering g (v ∷ vs) m → IsNextValidator v m
 next_enters g v vs m h =
     let one : Enters g.params v vs h.world.mine h.world.view = one_enters g.params v vs h.world.mine h.world.view h.entering in
     let same = same_staked g m h.world h.keeps in
@@ -103,7 +103,7 @@ next_enters g v vs m h =
       sure = (_, refl);
     }
 
-pub then_entering : (g : Genesis) (v : GenesisValidator) (vs : List GenesisValidator) (old new : Modules) → AreEntering g (v ∷ vs) old → IsStakeScene new
+pub then_entering : {E : Type 0} (g : Genesis) (v : GenesisValidator) (vs : List GenesisValidator) (old new : Modules E) → AreEntering g (v ∷ vs) old → IsStakeScene new
     → ((p : State) → Keeps (kept_of old) p → IsAdded p.mine (validator_added chain_told v (staked_in p)) (kept_of new)) → AreEntering g vs new
 then_entering g v vs old new h scene added =
     let one : Enters g.params v vs h.world.mine h.world.view = one_enters g.params v vs h.world.mine h.world.view h.entering in
@@ -123,7 +123,7 @@ then_entering g v vs old new h scene added =
     stored_as : (s : StakeWorld) (x : GenesisValidator) (w : StakeWorld) → validator_added chain_told x s ≡ Ok w → (w.mine ≡ put_validator (entrant s.view x) s.mine) × (w.view ≡ s.view)
     stored_as s x w e = from_if (λ u. (u.mine ≡ put_validator (entrant s.view x) s.mine) × (u.view ≡ s.view)) (validator_added chain_told x s) w e (refl, refl)
 
-pub all_entered : (g : Genesis) (m : Modules) → start_condition g ≡ None → AreEntering g [] m → AreAdding g g.delegations (delegations_left g.delegations) m
+pub all_entered : {E : Type 0} (g : Genesis) (m : Modules E) → start_condition g ≡ None → AreEntering g [] m → AreAdding g g.delegations (delegations_left g.delegations) m
 all_entered g m e h =
     let half : IsHalfway g.delegations (ground_at_start g) h.world
     = from_if (IsHalfway g.delegations (ground_at_start g)) (each (validator_added chain_told) g.validators (staked_in (empty_over (ground_at_start g)))) h.world (sym h.leads) (all_to_come g e) in
@@ -139,14 +139,14 @@ all_entered g m e h =
 
 -- ---- delegations
 
-halfway_of : (g : Genesis) (ds : List GenesisDelegation) (left : StakeWorld → Result StakeWorld Refusal) (m : Modules) (h : AreAdding g ds left m) → IsHalfway ds h.world.view h.world
+halfway_of : {E : Type 0} (g : Genesis) (ds : List GenesisDelegation) (left : StakeWorld → Result StakeWorld Refusal) (m : Modules E) (h : AreAdding g ds left m) → IsHalfway ds h.world.view h.world
 halfway_of g ds left m h = record {
   starting = h.starting;
   new = record { none = recursion_from_All (λ d. delegation h.world.mine d.delegator d.validator ≡ None) ds h.none; once = h.once };
   still = record { bank = refl; ctx = refl };
 }
 
-pub next_joins : (g : Genesis) (d : GenesisDelegation) (ds : List GenesisDelegation) (m : Modules) → IsGoodGenesis g → AreAdding g (d ∷ ds) (delegations_left (d ∷ ds)) m → IsNextDelegation d m
+pub next_joins : {E : Type 0} (g : Genesis) (d : GenesisDelegation) (ds : List GenesisDelegation) (m : Modules E) → IsGoodGenesis g → AreAdding g (d ∷ ds) (delegations_left (d ∷ ds)) m → IsNextDelegation d m
 next_joins g d ds m good h =
     let one : Added d ds tt h.world.mine h.world.view = one_added d ds tt h.world.mine h.world.view (plainly (d ∷ ds) h.world h.starting) in
     let same = same_staked g m h.world h.keeps in
@@ -162,7 +162,7 @@ next_joins g d ds m good h =
       sure = goes_on (delegation_added chain_told d h.world) (λ t. each (delegation_added chain_told) ds t) joined.0 joined.1;
     }
 
-pub then_adding : (g : Genesis) (d : GenesisDelegation) (ds : List GenesisDelegation) (old new : Modules) → AreAdding g (d ∷ ds) (delegations_left (d ∷ ds)) old → IsStakeScene new
+pub then_adding : {E : Type 0} (g : Genesis) (d : GenesisDelegation) (ds : List GenesisDelegation) (old new : Modules E) → AreAdding g (d ∷ ds) (delegations_left (d ∷ ds)) old → IsStakeScene new
     → ((p : State) → Keeps (kept_of old) p → IsAdded p.mine (delegation_added chain_told d (staked_in p)) (kept_of new)) → AreAdding g ds (delegations_left ds) new
 then_adding g d ds old new h scene added =
     let z = added (started_with g h.world) h.keeps in
@@ -181,7 +181,7 @@ then_adding g d ds old new h scene added =
 
 -- ---- the bonded set
 
-pub set_made : (g : Genesis) (old new : Modules) → AreAdding g [] set_left old → AreSet new → ((p : State) → Keeps (kept_of old) p → Leads Keeps (set_step p) (kept_of new) (Ok tt)) → HaveStarted g new
+pub set_made : {E : Type 0} (g : Genesis) (old new : Modules E) → AreAdding g [] set_left old → AreSet new → ((p : State) → Keeps (kept_of old) p → Leads Keeps (set_step p) (kept_of new) (Ok tt)) → HaveStarted g new
 set_made g old new h power leads = by (set_updated chain_told h.world) h.leads (leads (started_with g h.world) h.keeps)
   where
     by : (r : Result StakeWorld Over) → stopping Overflow r ≡ whole g → Leads Keeps (r >>= λ s. Ok (started_with g s)) (kept_of new) (Ok tt) → HaveStarted g new
@@ -189,7 +189,7 @@ set_made g old new h power leads = by (set_updated chain_told h.world) h.leads (
     by (Err over) e k = absurd k
 
 -- making it wants memory at most
-pub set_sure : (g : Genesis) (old : Modules) (k2 : KeptState) (fault : HookFault) → IsGoodGenesis g → AreAdding g [] set_left old → ((p : State) → Keeps (kept_of old) p → Leads Keeps (set_step p) k2 (Err fault)) → WantsMemory fault
+pub set_sure : {E : Type 0} (g : Genesis) (old : Modules E) (k2 : KeptState) (fault : HookFault) → IsGoodGenesis g → AreAdding g [] set_left old → ((p : State) → Keeps (kept_of old) p → Leads Keeps (set_step p) k2 (Err fault)) → WantsMemory fault
 set_sure g old k2 fault good h leads = by (set_updated chain_told h.world) (h.leads ∙ (founded g good).1.gives) (leads (started_with g h.world) h.keeps)
   where
     by : (r : Result StakeWorld Over) → stopping Overflow r ≡ Ok (founded g good).0 → Leads Keeps (r >>= λ s. Ok (started_with g s)) k2 (Err fault) → WantsMemory fault

@@ -52,7 +52,7 @@ filtered : (own : Pending → Bool) (f : Item → List Pending) (items : List It
 filtered own f [] = refl
 filtered own f (i ∷ items) = ap (λ (l : List Pending). filter own (f i) ++ l) (filtered own f items) ∙ sym (filter-append own (f i) (flat_map f items))
 
-pub all_own : (m : Modules) (p : State) (who : List ℕ) → StandsFor (kept_of m) p → (items : List Item) (i : ℕ) (list : List Pending) → items ≡ items_of m.stakes.staking.staked → length items ≤ i
+pub all_own : {E : Type 0} (m : Modules E) (p : State) (who : List ℕ) → StandsFor (kept_of m) p → (items : List Item) (i : ℕ) (list : List Pending) → items ≡ items_of m.stakes.staking.staked → length items ≤ i
     → list ≡ flat_map (own_of_item p who) (take i items) → list ≡ filter (is_pending_to who) (pending_in p)
 all_own m p who s items i list e most so =
     so ∙ ap (λ (l : List Item). flat_map (own_of_item p who) l) (take_all i items most ∙ e ∙ ap (λ (k : Stakes). items_of k.staked) (sym s.keeps.stakes))

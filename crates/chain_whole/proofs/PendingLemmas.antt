@@ -139,7 +139,7 @@ all_stand s o =
     (All-map (IsStanding s) (λ e. item.Delegation e.0.0 e.0.1 e.1) s.delegations (to_all pair_cmp pair_total (λ e. delegation s e.0.1 e.0.0 ≡ Some e.1) s.delegations o (λ k n h. h)))
 
 -- so is the one at a place of those of modules at rest
-pub one_stands : (m : Modules) → AreAtRest m → (items : List Item) (i : ℕ) (x : Item) → items ≡ items_of m.stakes.staking.staked → i < length items → x ≡ get_or items i x → IsStanding m.stakes.staking.staked x
+pub one_stands : {E : Type 0} (m : Modules E) → AreAtRest m → (items : List Item) (i : ℕ) (x : Item) → items ≡ items_of m.stakes.staking.staked → i < length items → x ≡ get_or items i x → IsStanding m.stakes.staking.staked x
 one_stands m rest items i x e lt is =
     let s : Staked = m.stakes.staking.staked in
     let ascend : IsStrictlySortedBy pair_cmp (keys_of s.delegations) = subst (λ (k : Stakes). IsStrictlySortedBy pair_cmp (keys_of k.staked.delegations)) rest.stands.keeps.stakes rest.stands.sound.staked.delegations_ascend in
@@ -155,7 +155,7 @@ pending_more p items i x list list2 lt is so e =
     more xs j d l = grind (arith, common_steps, flat_map-append)
 
 -- and all items those of all delegations
-pub all_pending : (m : Modules) (p : State) → StandsFor (kept_of m) p → (items : List Item) (i : ℕ) (list : List Pending) → items ≡ items_of m.stakes.staking.staked → length items ≤ i
+pub all_pending : {E : Type 0} (m : Modules E) (p : State) → StandsFor (kept_of m) p → (items : List Item) (i : ℕ) (list : List Pending) → items ≡ items_of m.stakes.staking.staked → length items ≤ i
     → list ≡ flat_map (pending_of_item p) (take i items) → list ≡ pending_in p
 all_pending m p s items i list e most so =
     so ∙ ap (λ (l : List Item). flat_map (pending_of_item p) l) (take_all i items most ∙ e ∙ ap (λ (k : Stakes). items_of k.staked) (sym s.keeps.stakes)) ∙ pending_of_items p

@@ -24,7 +24,7 @@ pub good_start : (g : Genesis) (ds : List GenesisDelegation) → start_condition
 good_start g ds none same few = record { no_condition = none; few = subst (λ (l : List GenesisDelegation). length l < 10 ^ 18) same few }
 
 -- what is kept once no facts are left
-pub once_cleared : (m : Modules) (facts : List Fact) → facts ≡ [] → kept_over (parts_of m) m.ground.ctx facts ≡ cleared (kept_of m)
+pub once_cleared : {E : Type 0} (m : Modules E) (facts : List Fact) → facts ≡ [] → kept_over (parts_of m) m.ground.ctx facts ≡ cleared (kept_of m)
 once_cleared m facts none = ap (kept_over (parts_of m) m.ground.ctx) none
 
 same_world : (a b : StakeWorld) → ◌≡◌ {A = Result StakeWorld Refusal} (Ok a) (Ok b) → a ≡ b
@@ -34,7 +34,7 @@ same_world a b e = cc
 abbrev started_as : State → List Fact → Result Start Refusal
 started_as p facts = Ok (record { facts = facts; state = p })
 
-module _ (g : Genesis) (good : IsGoodGenesis g) (m : Modules) (h : HaveStarted g m) where
+module _ {E : Type 0} (g : Genesis) (good : IsGoodGenesis g) (m : Modules E) (h : HaveStarted g m) where
   -- what the genesis leads to is what the modules represent
   led : Founded g h.world
   led = let f = founded g good in subst (Founded g) (same_world f.0 h.world (sym f.1.gives ∙ h.leads)) f.1
@@ -52,7 +52,7 @@ module _ (g : Genesis) (good : IsGoodGenesis g) (m : Modules) (h : HaveStarted g
     stands_started k e,
   )
 
-  pub at_rest : (last : Modules) → kept_of last ≡ cleared (kept_of m) → last.stakes.staking.power_reduction ≡ m.stakes.staking.power_reduction → marks_of last ≡ no_marks → AreAtRest last
+  pub at_rest : (last : Modules E) → kept_of last ≡ cleared (kept_of m) → last.stakes.staking.power_reduction ≡ m.stakes.staking.power_reduction → marks_of last ≡ no_marks → AreAtRest last
   at_rest last same power unmarked = record {
     power = power ∙ h.power ∙ ap (λ (k : KeptState). k.view.ctx.params.power_reduction) (sym same);
     state = without_facts (started_with g h.world);
@@ -63,12 +63,12 @@ module _ (g : Genesis) (good : IsGoodGenesis g) (m : Modules) (h : HaveStarted g
 
 -- ---- what founding told, beside the modules
 
-pub founded_ok : (Q : Modules → List Fact → Type 0) (first : Result (Modules × List Fact) ChainFault) (told : Result (List Fact) ChainFault) (m : Modules)
+pub founded_ok : {E : Type 0} (Q : Modules E → List Fact → Type 0) (first : Result (Modules E × List Fact) ChainFault) (told : Result (List Fact) ChainFault) (m : Modules E)
     → IfOk first (λ f. f.0 ≡ m) → IfOk first (λ f. told ≡ Ok f.1) → IfOk told (λ facts. Q m facts) → IfOk first (λ f. Q f.0 f.1)
 founded_ok Q (Ok f) told m same from holds = subst (λ x. Q x f.1) (sym same) (subst (λ r. IfOk r (λ facts. Q m facts)) from holds)
 founded_ok Q (Err fault) told m same from holds = tt
 
-pub founded_err : (P : ChainFault → Type 0) (first : Result (Modules × List Fact) ChainFault) (told : Result (List Fact) ChainFault)
+pub founded_err : {E : Type 0} (P : ChainFault → Type 0) (first : Result (Modules E × List Fact) ChainFault) (told : Result (List Fact) ChainFault)
     → IfErr first (λ f. told ≡ Err f) → IfErr told P → IfErr first P
 founded_err P (Ok f) told from holds = tt
 founded_err P (Err fault) told from holds = subst (λ r. IfErr r P) from holds

@@ -15,7 +15,7 @@ pub record Chained : Type 0 where
   pub spent : Bool
 
 -- the same of its modules, which were settled over a context
-abbrev pub chained : Modules → Ctx → Bool → Chained
+abbrev pub chained : {E : Type 0} → Modules E → Ctx → Bool → Chained
 chained m settled spent = record { kept = kept_of m; settled = settled_over settled m; spent = spent }
 
 -- the coin of a supply

@@ -40,7 +40,7 @@ whole g = stake_added chain_told g (staked_in (empty_over (ground_at_start g))) 
 -- ---- half way
 
 -- Modules before the first validator of a genesis: they represent a state of its accounts alone.
-pub record IsEmpty (g : Genesis) (m : Modules) : Type 0 where
+pub record IsEmpty {E : Type 0} (g : Genesis) (m : Modules E) : Type 0 where
   pub scene : IsStakeScene m
   pub keeps : Keeps (kept_of m) (empty_over (ground_at_start g))
 
@@ -50,7 +50,7 @@ started_with g w = with_staked (empty_over (ground_at_start g)).mine w
 
 -- Modules half way through a genesis, while these delegations are to come, of pairs that are not there yet: they represent a state from which
 -- what is left leads to what the whole genesis does.
-pub record AreAdding (g : Genesis) (ds : List GenesisDelegation) (left : StakeWorld → Result StakeWorld Refusal) (m : Modules) : Type 0 where
+pub record AreAdding {E : Type 0} (g : Genesis) (ds : List GenesisDelegation) (left : StakeWorld → Result StakeWorld Refusal) (m : Modules E) : Type 0 where
   pub scene : IsStakeScene m
   pub world : StakeWorld
   pub keeps : Keeps (kept_of m) (started_with g world)
@@ -60,7 +60,7 @@ pub record AreAdding (g : Genesis) (ds : List GenesisDelegation) (left : StakeWo
   pub leads : left world ≡ whole g
 
 -- Modules behind all of a genesis: they represent what it leads to.
-pub record HaveStarted (g : Genesis) (m : Modules) : Type 0 where
+pub record HaveStarted {E : Type 0} (g : Genesis) (m : Modules E) : Type 0 where
   pub power : AreSet m
   pub world : StakeWorld
   pub keeps : Keeps (kept_of m) (started_with g world)
@@ -71,7 +71,7 @@ abbrev pub IsAdded : Stakes → Result StakeWorld Refusal → KeptState → Type
 IsAdded c due k = (w : StakeWorld) × (due ≡ Ok w) × Keeps k (with_staked c w)
 
 -- A validator may be added: its operator and its consensus address are new, and its rates are rates; and that is not refused.
-pub record IsNextValidator (v : GenesisValidator) (m : Modules) : Type 0 where
+pub record IsNextValidator {E : Type 0} (v : GenesisValidator) (m : Modules E) : Type 0 where
   pub scene : IsStakeScene m
   pub new : validator_at m.stakes.staking.staked v.operator ≡ None
   pub new_cons : validator_by_cons m.stakes.staking.staked v.cons ≡ None
@@ -82,7 +82,7 @@ pub record IsNextValidator (v : GenesisValidator) (m : Modules) : Type 0 where
 
 -- A delegation may be added: of something, to a validator that stands, of coins that the not-bonded account has besides; and that is not
 -- refused.
-pub record IsNextDelegation (d : GenesisDelegation) (m : Modules) : Type 0 where
+pub record IsNextDelegation {E : Type 0} (d : GenesisDelegation) (m : Modules E) : Type 0 where
   pub scene : IsStakeScene m
   pub known : IsSome (validator_at m.stakes.staking.staked d.validator)
   pub some : 0 < d.amount

@@ -3,7 +3,9 @@
 
 ghost use Rattle.std.specs.Prelude.{◌≡◌, ◌<◌, ◌^◌, All, None, false, IfOk, IfErr, OnOk};
 ghost use Rattle.std.specs.List.Sorted.{IsPermutation};
+ghost use Rattle.std.specs.Option.{option_copied};
 ghost use Rattle.base_roles.specs.Items.{AreChanges};
+ghost use Rattle.base_roles.specs.Staked.{validator_at};
 ghost use Rattle.rule_machine.specs.GenesisConditions.{start_condition};
 ghost use Rattle.rule_machine.specs.Items.{IsInKeyOrder, items_of};
 ghost use Rattle.rule_machine.specs.Promises.{TxHasCoins};
@@ -21,12 +23,12 @@ ghost use Rattle.chain_whole.specs.Pending.{ArePendingTo};
 
 use crate::conditions::condition;
 use crate::fault::ChainFault;
-use crate::listing::{changes_of, items_of, pool_of, settle_modules, supply_of};
+use crate::listing::{changes_of, items_of, pool_of, settle_modules, supply_of, validator_of};
 use crate::pending::{pending_of, pending_to};
 use crate::start::start;
 use base_coins::{Coins, DecCoins};
 use base_messages::{Block, BlockFault, BlockReport, Genesis, Pending};
-use base_roles::{Ctx, Facts, Item};
+use base_roles::{Ctx, Extra, Facts, Item, NoHooks, Validator};
 use base_types::Addr;
 use chain_blocks::apply;
 use chain_modules::{Modules, let_go};
@@ -34,16 +36,17 @@ use std::alloc::Global;
 use std::marker::{Brand, Model};
 use std::sync::ledger::Blank;
 
-/// A chain. Contracts see what it keeps and what was settled, which stand for states of the machine, and whether
-/// memory was wanting in a block.
-pub struct Chain {
-    modules: Modules,
+/// A chain, with a listener that hears what staking does and changes nothing of it; mostly there is none. Contracts
+/// see what it keeps and what was settled, which stand for states of the machine, and whether memory was wanting in
+/// a block. Of these nothing depends on the listener.
+pub struct Chain<E: Extra = NoHooks> {
+    modules: Modules<E>,
     /// The height, time and parameters at the last settling.
     settled: Ctx,
     spent: bool,
 }
 
-impl Drop for Chain {
+impl<E: Extra> Drop for Chain<E> {
     fn drop(self) {
         let Chain {
             modules,
@@ -54,7 +57,7 @@ impl Drop for Chain {
     }
 }
 
-impl Model for Chain {
+impl<E: Extra> Model for Chain<E> {
     ghost use Rattle.mod_distribution.specs.Items.{AreInOrder};
     ghost use Rattle.chain_modules.specs.Marks.{AreAtRest, settled_of};
     ghost use Rattle.chain_whole.specs.Chained.{Chained, chained};
@@ -67,15 +70,31 @@ impl Model for Chain {
 }
 
 /// The context in which modules stand.
-fn ctx_of(modules: &Modules) -> Ctx
+fn ctx_of<E: Extra>(modules: &Modules<E>) -> Ctx
     ensures { result ≡ modules.now.ground.ctx }
 {
     modules.ground.ctx
 }
 
-impl Chain {
+impl Chain<NoHooks> {
+    /// The chain that a genesis starts, which is settled, and the facts of its start.
+    ///
+    /// The errors are `BadGenesis`, exactly where a condition keeps the genesis from starting a chain, with
+    /// the smallest number of such, and `NoMemory`.
+    pub fn genesis(alloc: Global, genesis: &Genesis) -> Result<(Chain, Facts), ChainFault>
+        ensures starts { IfOk result (λ _. start_condition genesis.now ≡ None) }
+        ensures chain { IfOk result (λ first. Starts genesis.now first.1 first.0.kept) }
+        ensures settled { IfOk result (λ first. first.0.settled ≡ first.0.kept) }
+        ensures unspent { IfOk result (λ first. first.0.spent ≡ false) }
+        ensures fault { IfErr result (IsGenesisFault (start_condition genesis.now)) }
+    {
+        Chain::with(alloc, genesis, NoHooks::new())
+    }
+}
+
+impl<E: Extra> Chain<E> {
     /// The chain of modules that were settled as they stand.
-    pub fn over(modules: Modules) -> Chain
+    pub fn over(modules: Modules<E>) -> Chain<E>
         requires rest { AreAtRest modules }
         requires order { AreInOrder (settled_of modules).shared }
         ensures { result ≡ chained modules modules.ground.ctx false }
@@ -88,11 +107,13 @@ impl Chain {
         }
     }
 
-    /// The chain that a genesis starts, which is settled, and the facts of its start.
-    ///
-    /// The errors are `BadGenesis`, exactly where a condition keeps the genesis from starting a chain, with
-    /// the smallest number of such, and `NoMemory`.
-    pub fn genesis(alloc: Global, genesis: &Genesis) -> Result<(Chain, Facts), ChainFault>
+    /// The chain that a genesis starts, with a listener, and the facts of its start, as `genesis` tells of it. The
+    /// listener hears the hooks that the start calls.
+    pub fn with(
+        alloc: Global,
+        genesis: &Genesis,
+        listener: E,
+    ) -> Result<(Chain<E>, Facts), ChainFault>
         ensures starts { IfOk result (λ _. start_condition genesis.now ≡ None) }
         ensures chain { IfOk result (λ first. Starts genesis.now first.1 first.0.kept) }
         ensures settled { IfOk result (λ first. first.0.settled ≡ first.0.kept) }
@@ -102,8 +123,21 @@ impl Chain {
         if let Some(number) = condition(alloc, genesis)? {
             return Err(ChainFault::BadGenesis(number));
         }
-        let (modules, facts) = start::<Brand>(alloc, genesis, Blank::new(1))?;
+        let (modules, facts) = start::<E, Brand>(alloc, genesis, listener, Blank::new(1))?;
         Ok((Chain::over(modules), facts))
+    }
+
+    /// The listener. Takes no memory.
+    pub fn extra(&self) -> &E {
+        &self.modules.hooks.first.listener
+    }
+
+    /// The validator of an operator, or None exactly where none has it. Takes no memory.
+    pub fn validator(&self, operator: &Addr) -> Option<&Validator>
+        ensures { (p : State) → StandsFor self.now.kept p
+            → option_copied result ≡ validator_at p.mine.staked operator.now }
+    {
+        validator_of::<E, Brand>(&self.modules, operator, Blank::new(1))
     }
 
     /// Applies a block, and tells what it did.
@@ -130,7 +164,7 @@ impl Chain {
         if self.spent {
             return Err(BlockFault::NoMemory);
         }
-        match apply::<Brand>(alloc, &mut self.modules, block, Blank::new(1)) {
+        match apply::<E, Brand>(alloc, &mut self.modules, block, Blank::new(1)) {
             Ok(report) => Ok(report),
             Err(BlockFault::NoMemory) => {
                 self.spent = true;
@@ -154,7 +188,7 @@ impl Chain {
         if self.spent {
             return Err(ChainFault::NoMemory);
         }
-        Ok(items_of::<Brand>(alloc, &self.modules, Blank::new(1))?)
+        Ok(items_of::<E, Brand>(alloc, &self.modules, Blank::new(1))?)
     }
 
     /// The items by which the state differs from that at the last settling, each once: with true one that is new or
@@ -169,7 +203,7 @@ impl Chain {
             return Err(ChainFault::NoMemory);
         }
         let last = &self.settled;
-        Ok(changes_of::<Brand>(alloc, &self.modules, last, Blank::new(1))?)
+        Ok(changes_of::<E, Brand>(alloc, &self.modules, last, Blank::new(1))?)
     }
 
     /// From now on changes are told from here. Takes no memory.
@@ -178,7 +212,7 @@ impl Chain {
         ensures kept { self.new.kept ≡ self.old.kept }
         ensures spent { self.new.spent ≡ self.old.spent }
     {
-        settle_modules::<Brand>(&mut self.modules, Blank::new(1));
+        settle_modules::<E, Brand>(&mut self.modules, Blank::new(1));
         self.settled = self.modules.ground.ctx;
     }
 
@@ -194,7 +228,7 @@ impl Chain {
         if self.spent {
             return Err(ChainFault::NoMemory);
         }
-        Ok(pending_of::<Brand>(alloc, &self.modules, Blank::new(1))?)
+        Ok(pending_of::<E, Brand>(alloc, &self.modules, Blank::new(1))?)
     }
 
     /// What a withdrawal of each delegation of this delegator at the last height would be paid from, by operator; it
@@ -208,7 +242,7 @@ impl Chain {
         if self.spent {
             return Err(ChainFault::NoMemory);
         }
-        Ok(pending_to::<Brand>(alloc, &self.modules, who, Blank::new(1))?)
+        Ok(pending_to::<E, Brand>(alloc, &self.modules, who, Blank::new(1))?)
     }
 
     /// How much there is of each denomination. The only error is `NoMemory`.
@@ -234,6 +268,6 @@ impl Chain {
         if self.spent {
             return Err(ChainFault::NoMemory);
         }
-        Ok(pool_of::<Brand>(&self.modules.hooks.first, Blank::new(1))?)
+        Ok(pool_of::<Brand>(&self.modules.hooks.first.hooks, Blank::new(1))?)
     }
 }

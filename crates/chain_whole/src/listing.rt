@@ -3,20 +3,22 @@
 
 ghost use Rattle.std.specs.Prelude.{◌≡◌, ◌<◌, ◌++◌, IfOk, OnOk};
 ghost use Rattle.std.specs.List.{filter_map};
-ghost use Rattle.std.specs.Option.{option_to_list};
+ghost use Rattle.std.specs.Option.{option_copied, option_to_list};
 ghost use Rattle.mod_bank.specs.Items.{items_of};
 ghost use Rattle.base_roles.specs.Holdings.{IsBacked};
 ghost use Rattle.base_roles.specs.Items.{AreChanges};
+ghost use Rattle.base_roles.specs.Staked.{validator_at};
+ghost use Rattle.rule_modules.specs.Chain.{State};
 ghost use Rattle.mod_distribution.specs.Items.{AreInOrder};
-ghost use Rattle.chain_modules.specs.Kept.{kept_of, parts_of};
+ghost use Rattle.chain_modules.specs.Kept.{StandsFor, kept_of, parts_of};
 ghost use Rattle.chain_modules.specs.Marks.{AreAtRest, settled_of, settled_over};
 ghost use Rattle.chain_modules.specs.Items.{items_of as module_items};
 ghost use Rattle.chain_whole.specs.Chained.{coin_in};
 
 use base_coins::{Coin, Coins, DecCoins};
-use base_roles::{Ctx, Item, RecordFault, Records};
+use base_roles::{Ctx, Extra, Item, RecordFault, Records, Validator, ValidatorView};
 use base_table::TableFault;
-use base_types::{Copied, Steps};
+use base_types::{Addr, Copied, Steps};
 use chain_modules::Modules;
 use mod_bank::BankBalances;
 use mod_distribution::Distr;
@@ -24,9 +26,9 @@ use std::alloc::{AllocFailed, Global};
 use std::sync::ledger::{Blank, Ledger};
 
 /// The items of modules.
-pub(crate) fn items_of<L: Ledger>(
+pub(crate) fn items_of<E: Extra, L: Ledger>(
     alloc: Global,
-    modules: &Modules,
+    modules: &Modules<E>,
     blank: Blank,
 ) -> Result<Vec<Item>, RecordFault>
     requires name { blank.name ≡ L.name }
@@ -43,9 +45,9 @@ pub(crate) fn items_of<L: Ledger>(
 }
 
 /// The items by which modules differ from what was settled over a context.
-pub(crate) fn changes_of<L: Ledger>(
+pub(crate) fn changes_of<E: Extra, L: Ledger>(
     alloc: Global,
-    modules: &Modules,
+    modules: &Modules<E>,
     settled: &Ctx,
     blank: Blank,
 ) -> Result<Vec<(Item, bool)>, RecordFault>
@@ -65,7 +67,7 @@ pub(crate) fn changes_of<L: Ledger>(
 }
 
 /// From now on changes of modules are told from here.
-pub(crate) fn settle_modules<L: Ledger>(modules: &mut Modules, blank: Blank)
+pub(crate) fn settle_modules<E: Extra, L: Ledger>(modules: &mut Modules<E>, blank: Blank)
     requires name { blank.name ≡ L.name }
     requires parts { blank.parts ≡ L.parts }
     requires some { 0 < L.parts }
@@ -157,4 +159,20 @@ pub(crate) fn pool_of<L: Ledger>(distr: &Distr, blank: Blank) -> Result<DecCoins
 {
     let mut steps: Steps<L> = Steps::new(blank);
     distr.alloc.pool(&mut steps).copied()
+}
+
+/// The validator of an operator.
+pub(crate) fn validator_of<'a, E: Extra, L: Ledger>(
+    modules: &'a Modules<E>,
+    operator: &Addr,
+    blank: Blank,
+) -> Option<&'a Validator>
+    requires name { blank.name ≡ L.name }
+    requires parts { blank.parts ≡ L.parts }
+    requires some { 0 < L.parts }
+    ensures { (p : State) → StandsFor (kept_of modules.now) p
+        → option_copied result ≡ validator_at p.mine.staked operator.now }
+{
+    let mut steps: Steps<L> = Steps::new(blank);
+    modules.stakes.staking.validator(operator, &mut steps)
 }

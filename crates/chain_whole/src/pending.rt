@@ -14,7 +14,7 @@ ghost use Rattle.chain_whole.specs.Pending.{is_delegation_of, is_pending_to, own
 use base_coins::DecCoins;
 use base_decimals::Dec;
 use base_messages::Pending;
-use base_roles::{HookFault, Item, RecordFault, Records, ValidatorView};
+use base_roles::{Extra, HookFault, Item, RecordFault, Records, ValidatorView};
 use base_types::{Addr, Steps};
 use chain_modules::Modules;
 use std::alloc::Global;
@@ -22,9 +22,9 @@ use std::cmp::Ordering;
 use std::sync::ledger::{Blank, Ledger};
 
 /// The pending rewards of all delegations, by operator, then delegator. The only error is `NoMemory`.
-pub(crate) fn pending_of<L: Ledger>(
+pub(crate) fn pending_of<E: Extra, L: Ledger>(
     alloc: Global,
-    modules: &Modules,
+    modules: &Modules<E>,
     blank: Blank,
 ) -> Result<Vec<Pending>, RecordFault>
     requires name { blank.name ≡ L.name }
@@ -45,9 +45,9 @@ pub(crate) fn pending_of<L: Ledger>(
 }
 
 /// The pending rewards of one delegator, by operator. The only error is `NoMemory`.
-pub(crate) fn pending_to<L: Ledger>(
+pub(crate) fn pending_to<E: Extra, L: Ledger>(
     alloc: Global,
-    modules: &Modules,
+    modules: &Modules<E>,
     who: &Addr,
     blank: Blank,
 ) -> Result<Vec<Pending>, RecordFault>
@@ -79,9 +79,9 @@ fn is_delegation_of(who: &Addr, item: &Item) -> bool
 }
 
 /// Appends the pending reward of a delegation of this delegator; another item changes nothing.
-fn append_own<L: Ledger>(
+fn append_own<E: Extra, L: Ledger>(
     alloc: Global,
-    modules: &Modules,
+    modules: &Modules<E>,
     who: &Addr,
     list: &mut Vec<Pending>,
     item: &Item,
@@ -99,9 +99,9 @@ fn append_own<L: Ledger>(
 }
 
 /// Appends the pending reward of a delegation; another item changes nothing.
-fn append_pending<L: Ledger>(
+fn append_pending<E: Extra, L: Ledger>(
     alloc: Global,
-    modules: &Modules,
+    modules: &Modules<E>,
     list: &mut Vec<Pending>,
     item: &Item,
     steps: &mut Steps<L>,
@@ -127,9 +127,9 @@ fn append_pending<L: Ledger>(
 
 /// What a withdrawal of a delegation at the last height would be paid from, or that its computation meets the
 /// limit of decimals. The only error is `NoMemory`.
-fn pending_at<L: Ledger>(
+fn pending_at<E: Extra, L: Ledger>(
     alloc: Global,
-    modules: &Modules,
+    modules: &Modules<E>,
     operator: &Addr,
     delegator: &Addr,
     shares: Dec,
@@ -148,6 +148,7 @@ fn pending_at<L: Ledger>(
         modules
             .hooks
             .first
+            .hooks
             .pending(alloc, &v, delegator, shares, height, steps),
     )?;
     Ok(Pending {

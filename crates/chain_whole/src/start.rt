@@ -21,7 +21,7 @@ use crate::fault::ChainFault;
 use crate::supplies::delegated_coins;
 use base_coins::Coin;
 use base_messages::{Genesis, GenesisDelegation, GenesisValidator};
-use base_roles::{BankFault, CreateValidator, Ctx, Facts, Ground, HookFault, MessageFault};
+use base_roles::{BankFault, CreateValidator, Ctx, Extra, Facts, Ground, HookFault, MessageFault};
 use base_types::{Account, BondStatus, Denom, Module, Steps};
 use chain_blocks::update_set;
 use chain_modules::{Modules, let_go};
@@ -31,12 +31,14 @@ use std::alloc::Global;
 use std::mem;
 use std::sync::ledger::{Blank, Ledger};
 
-/// The modules that a genesis starts of which no condition holds, settled, and the facts of its start.
-pub(crate) fn start<L: Ledger>(
+/// The modules that a genesis starts of which no condition holds, settled, with a listener, and the facts of its
+/// start.
+pub(crate) fn start<E: Extra, L: Ledger>(
     alloc: Global,
     genesis: &Genesis,
+    listener: E,
     blank: Blank,
-) -> Result<(Modules, Facts), ChainFault>
+) -> Result<(Modules<E>, Facts), ChainFault>
     requires name { blank.name ≡ L.name }
     requires parts { blank.parts ≡ L.parts }
     requires some { 0 < L.parts }
@@ -48,16 +50,16 @@ pub(crate) fn start<L: Ledger>(
     ensures fault { IfErr result (λ fault. fault ≡ ChainFault.NoMemory) }
 {
     let mut steps: Steps<L> = Steps::new(blank);
-    let mut modules = empty_modules(alloc, genesis, &mut steps)?;
+    let mut modules = empty_modules(alloc, genesis, listener, &mut steps)?;
     let told = found(alloc, &mut modules, genesis, &mut steps);
     founded(modules, told)
 }
 
 /// The modules, with what founding them told; or why that failed.
-fn founded(
-    modules: Modules,
+fn founded<E: Extra>(
+    modules: Modules<E>,
     told: Result<Facts, ChainFault>,
-) -> Result<(Modules, Facts), ChainFault>
+) -> Result<(Modules<E>, Facts), ChainFault>
     ensures modules { IfOk result (λ first. first.0 ≡ modules) }
     ensures facts { IfOk result (λ first. told ≡ Ok first.1) }
     ensures fault { IfErr result (λ fault. told ≡ Err fault) }
@@ -72,11 +74,12 @@ fn founded(
 }
 
 /// The modules before the first validator of a genesis that starts a chain: the accounts hold their coins.
-fn empty_modules<L: Ledger>(
+fn empty_modules<E: Extra, L: Ledger>(
     alloc: Global,
     genesis: &Genesis,
+    listener: E,
     steps: &mut Steps<L>,
-) -> Result<Modules, ChainFault>
+) -> Result<Modules<E>, ChainFault>
     requires starts { start_condition genesis.now ≡ None }
     ensures empty { IfOk result (IsEmpty genesis.now) }
     ensures unmarked { IfOk result (λ modules. marks_of modules ≡ no_marks) }
@@ -92,13 +95,13 @@ fn empty_modules<L: Ledger>(
         },
         facts: Facts::new(alloc),
     };
-    Ok(Modules::over(alloc, ground))
+    Ok(Modules::over(alloc, ground, listener))
 }
 
 /// Adds what a genesis delegates, makes the bonded set, settles the modules, and takes the facts of all that.
-fn found<L: Ledger>(
+fn found<E: Extra, L: Ledger>(
     alloc: Global,
-    modules: &mut Modules,
+    modules: &mut Modules<E>,
     genesis: &Genesis,
     steps: &mut Steps<L>,
 ) -> Result<Facts, ChainFault>
@@ -190,9 +193,9 @@ fn never_over(fault: HookFault) -> ChainFault
 }
 
 /// Adds the validators and the delegations of a genesis that starts a chain, and makes the bonded set.
-fn add_stake<L: Ledger>(
+fn add_stake<E: Extra, L: Ledger>(
     alloc: Global,
-    modules: &mut Modules,
+    modules: &mut Modules<E>,
     genesis: &Genesis,
     steps: &mut Steps<L>,
 ) -> Result<(), ChainFault>
@@ -211,9 +214,9 @@ fn add_stake<L: Ledger>(
 }
 
 /// Adds the validators of a genesis that starts a chain, in their order.
-fn add_validators<L: Ledger>(
+fn add_validators<E: Extra, L: Ledger>(
     alloc: Global,
-    modules: &mut Modules,
+    modules: &mut Modules<E>,
     genesis: &Genesis,
     steps: &mut Steps<L>,
 ) -> Result<(), ChainFault>
@@ -232,9 +235,9 @@ fn add_validators<L: Ledger>(
 }
 
 /// Adds the next validator of a genesis.
-fn add_validator<L: Ledger>(
+fn add_validator<E: Extra, L: Ledger>(
     alloc: Global,
-    modules: &mut Modules,
+    modules: &mut Modules<E>,
     v: &GenesisValidator,
     steps: &mut Steps<L>,
 ) -> Result<(), ChainFault>
@@ -257,9 +260,9 @@ fn add_validator<L: Ledger>(
 }
 
 /// Adds the delegations of a genesis whose validators stand, in their order.
-fn add_delegations<L: Ledger>(
+fn add_delegations<E: Extra, L: Ledger>(
     alloc: Global,
-    modules: &mut Modules,
+    modules: &mut Modules<E>,
     genesis: &Genesis,
     steps: &mut Steps<L>,
 ) -> Result<(), ChainFault>
@@ -278,9 +281,9 @@ fn add_delegations<L: Ledger>(
 }
 
 /// Adds the next delegation of a genesis, of coins that the not-bonded account has already.
-fn add_delegation<L: Ledger>(
+fn add_delegation<E: Extra, L: Ledger>(
     alloc: Global,
-    modules: &mut Modules,
+    modules: &mut Modules<E>,
     d: &GenesisDelegation,
     steps: &mut Steps<L>,
 ) -> Result<(), ChainFault>

@@ -1,6 +1,7 @@
 pub mod HistoryRows
 pub mod LeavingRows
 pub mod LifeRows
+pub mod ListeningRows
 pub mod OutcomeRows
 pub mod ParameterRows
 pub mod RandomRows

@@ -4,6 +4,7 @@ ghost use Rattle.rule_histories.specs.Worked.{OneAccountStarts, OneSend, HeightM
 ghost use Rattle.rule_histories.specs.WholeRows.{MayStartChain, WrongBeginnings, ValidatorsTwice, WrongRates, WrongDelegations, TooMuchDelegated, FirstIsNamed, WrongPlaces, WrongVotes, WrongEvidence, VotesComeFirst, LimitsOfBeginnings, OutcomesOfMessages};
 ghost use Rattle.rule_histories.specs.HistoryRows.{FeesOfThirtyBlocks, AllWithdraw};
 ghost use Rattle.rule_histories.specs.LifeRows.{GenesisIsTold, BlocksAreTold, EndIsReported};
+ghost use Rattle.rule_histories.specs.ListeningRows.{GenesisIsHeard, BlocksAreHeard};
 ghost use Rattle.rule_histories.specs.LeavingRows.{LeavingIsTold, GoneAtOnce, HeldWhileUnbonded, GoneWithLastDelegation, BegunAnew, HeldWithoutShares, GoneAsItMatures};
 ghost use Rattle.rule_histories.specs.RandomRows.{RandomHistory, HoldsAfterHistory, BurnsAfterHistory};
 ghost use Rattle.rule_histories.specs.OutcomeRows.{CreationsAreRefused, RatesChangeDayByDay, TwoBlocksEnd};
@@ -107,4 +108,10 @@ pub fn changed_parameters_by_example()
     ensures refusals { ChangesAreRefused }
     ensures stays { ChangeStays }
     ensures tax { AllIsTaxed }
+{}
+
+/// What a listener hears of a genesis and of four blocks.
+pub fn listening_by_example()
+    ensures genesis { GenesisIsHeard }
+    ensures blocks { BlocksAreHeard }
 {}

@@ -4,6 +4,7 @@ pub mod Genesis
 pub mod GenesisConditions
 pub mod GenesisState
 pub mod Items
+pub mod Listening
 pub mod Machine
 pub mod Messages
 pub mod Orders

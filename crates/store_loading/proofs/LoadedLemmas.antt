@@ -19,11 +19,11 @@ pub own_keys : (r : PlainSeen) → AreAscending r.lists → HaveOwnKeys (listed 
 own_keys r up = once (map key_of (listed r)) (listed_once r up)
 
 -- modules are new over their own context
-pub new_here : (ctx : Ctx) (m : Modules) → IsNewOver (empty_ground ctx) m → IsNewOver (empty_ground m.ground.ctx) m
+pub new_here : {E : Type 0} (ctx : Ctx) (m : Modules E) → IsNewOver (empty_ground ctx) m → IsNewOver (empty_ground m.ground.ctx) m
 new_here ctx m new = subst (λ x. IsNewOver (empty_ground x) m) (sym (ap (λ g. g.ctx) new.ground)) new
 
 -- Modules that have just the items of records are loaded from them.
-pub are_loaded : (r : PlainSeen) (m : Modules) → AreAscending r.lists → AreAscending (plain_in (kept_of m)).lists → distr.AreInOrder (kept_of m).shared → HoldItems (listed r) (kept_of m)
+pub are_loaded : {E : Type 0} (r : PlainSeen) (m : Modules E) → AreAscending r.lists → AreAscending (plain_in (kept_of m)).lists → distr.AreInOrder (kept_of m).shared → HoldItems (listed r) (kept_of m)
     → m.ground.ctx ≡ r.ctx → m.ground.facts ≡ [] → settled_of m ≡ parts_of m → marks_of m ≡ no_marks → AreUnspent m → AreSet m → AreLoaded r m
 are_loaded r m up up2 order holds ctx facts settled unmarked unspent power = record {
   kept = keep_just r (kept_of m) up up2 holds ctx facts;
@@ -35,7 +35,7 @@ are_loaded r m up up2 order holds ctx facts settled unmarked unspent power = rec
 }
 
 -- what was filled is the answer
-pub answered : (r : PlainSeen) (m : Modules) (filled : Result ⊤ RecordFault) (answer : Result Modules RecordFault) → IfOk answer (λ same. same ≡ m) → IfOk answer (λ _. filled ≡ Ok tt)
+pub answered : {E : Type 0} (r : PlainSeen) (m : Modules E) (filled : Result ⊤ RecordFault) (answer : Result (Modules E) RecordFault) → IfOk answer (λ same. same ≡ m) → IfOk answer (λ _. filled ≡ Ok tt)
     → OnOk filled (AreLoaded r m) → IfOk answer (AreLoaded r)
 answered r m filled (Ok x) same ok loaded = subst (AreLoaded r) (sym same) (subst (λ f. OnOk f (AreLoaded r m)) ok loaded)
 answered r m filled (Err fault) same ok loaded = tt

@@ -25,7 +25,7 @@ pool_alone i c = by (member (distr.items_of distr_kept.nothing_kept) i c)
     by (inl e) = subst IsEmptyPool e tt
     by (inr m) = absurd m
 
-module _ (ctx : Ctx) (m : Modules) (new : IsNewOver (empty_ground ctx) m) where
+module _ {E : Type 0} (ctx : Ctx) (m : Modules E) (new : IsNewOver (empty_ground ctx) m) where
   pub bank_none : HasNone (bank.items_of m.ground.bank.holdings)
   bank_none = subst (λ g. HasNone (bank.items_of g.bank.holdings)) (sym new.ground) none
 
@@ -41,7 +41,7 @@ module _ (ctx : Ctx) (m : Modules) (new : IsNewOver (empty_ground ctx) m) where
   pub redelegations_none : HasNone (redelegate.items_of m.stakes.redelegations.lists)
   redelegations_none = subst (λ s. HasNone (redelegate.items_of s.lists)) (sym new.redelegations) none
 
-  pub shared_none : HasNone (distr.items_of m.hooks.first.kept)
+  pub shared_none : HasNone (distr.items_of m.hooks.first.hooks.kept)
   shared_none = subst (λ s. HasNone (distr.items_of s.kept)) (sym new.shared) pool_alone
 
   pub signings_none : HasNone (window.items_of m.hooks.second.kept)

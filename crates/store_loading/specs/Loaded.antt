@@ -112,16 +112,16 @@ abbrev pub empty_ground : Ctx → Ground Booked
 empty_ground ctx = record { bank = new_book; ctx = ctx; facts = [] }
 
 -- in no module was memory wanting
-pub record AreUnspent (m : Modules) : Type 0 where
+pub record AreUnspent {E : Type 0} (m : Modules E) : Type 0 where
   pub bank : m.ground.bank.spent ≡ false
   pub staking : m.stakes.staking.spent ≡ false
   pub unbondings : m.stakes.unbondings.spent ≡ false
   pub redelegations : m.stakes.redelegations.spent ≡ false
-  pub shared : m.hooks.first.spent ≡ false
+  pub shared : m.hooks.first.hooks.spent ≡ false
   pub signings : m.hooks.second.spent ≡ false
 
 -- Modules that were loaded from records: they keep just these, and are settled as they stand.
-pub record AreLoaded (r : PlainSeen) (m : Modules) : Type 0 where
+pub record AreLoaded {E : Type 0} (r : PlainSeen) (m : Modules E) : Type 0 where
   pub kept : kept_of m ≡ kept_in r
   pub power : AreSet m
   pub unmarked : marks_of m ≡ no_marks

@@ -9,7 +9,7 @@ ghost use Rattle.store_loading.specs.Loaded.{empty_ground, plain_in, AreLoaded, 
 
 use crate::listing::items_of;
 use crate::loading::{load_all, load_staking};
-use base_roles::{Ctx, Facts, Ground, Item, RecordFault, Records};
+use base_roles::{Ctx, Facts, Ground, Item, NoHooks, RecordFault, Records};
 use base_types::Steps;
 use chain_modules::{Modules, let_go};
 use mod_bank::BankBalances;
@@ -63,7 +63,7 @@ fn empty_modules(alloc: Global, ctx: Ctx) -> Modules
         ctx,
         facts: Facts::new(alloc),
     };
-    Modules::over(alloc, ground)
+    Modules::over(alloc, ground, NoHooks::new())
 }
 
 /// Puts records into modules that have none, and settles them.
@@ -94,7 +94,7 @@ fn ordered(modules: &Modules)
     modules.stakes.staking.keyed();
     modules.stakes.unbondings.ordered();
     modules.stakes.redelegations.ordered();
-    modules.hooks.first.ordered();
+    modules.hooks.first.hooks.ordered();
     modules.hooks.second.ordered();
 }
 
@@ -119,6 +119,6 @@ fn load_modules<L: Ledger>(
     load_staking(alloc, &mut modules.stakes.staking, items, steps)?;
     load_all(alloc, &mut modules.stakes.unbondings, items, steps)?;
     load_all(alloc, &mut modules.stakes.redelegations, items, steps)?;
-    load_all(alloc, &mut modules.hooks.first, items, steps)?;
+    load_all(alloc, &mut modules.hooks.first.hooks, items, steps)?;
     load_all(alloc, &mut modules.hooks.second, items, steps)
 }

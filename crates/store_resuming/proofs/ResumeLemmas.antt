@@ -75,7 +75,7 @@ module _ (r : PlainSeen) (ascending : AreAscending r.lists) (coins : AreCoins r)
   }
 
   -- modules that were loaded from them are at rest
-  pub at_rest : (m : Modules) → AreLoaded r m → AreAtRest m
+  pub at_rest : {E : Type 0} (m : Modules E) → AreLoaded r m → AreAtRest m
   at_rest m l = record {
     power = l.power;
     state = state_of r;
@@ -85,7 +85,7 @@ module _ (r : PlainSeen) (ascending : AreAscending r.lists) (coins : AreCoins r)
   }
 
 -- what a chain over them is
-pub is_resumed : (r : PlainSeen) (m : Modules) → AreLoaded r m → chained m m.ground.ctx false ≡ resumed r
+pub is_resumed : {E : Type 0} (r : PlainSeen) (m : Modules E) → AreLoaded r m → chained m m.ground.ctx false ≡ resumed r
 is_resumed r m l = λ i. record {
   kept = l.kept i;
   settled = (settled_now m l.settled (ap (λ (k : KeptState). k.view.facts) l.kept) ∙ l.kept) i;

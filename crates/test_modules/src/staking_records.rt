@@ -40,7 +40,7 @@ fn unbond_first<L: Ledger>(
     scene.staking.unbond(
         rt.alloc(),
         &mut scene.g,
-        &mut NoHooks,
+        &mut NoHooks::new(),
         &operator,
         &operator,
         held,

@@ -187,7 +187,7 @@ pub(crate) fn create<L: Ledger>(
 {
     scene
         .staking
-        .create_validator(rt.alloc(), &mut scene.g, &mut NoHooks, m, steps)
+        .create_validator(rt.alloc(), &mut scene.g, &mut NoHooks::new(), m, steps)
 }
 
 /// Whether the validator of a user has these tokens and shares.

@@ -180,7 +180,7 @@ fn create<L: Ledger>(
     let m = message(rt);
     scene
         .staking
-        .create_validator(rt.alloc(), &mut scene.g, &mut NoHooks, &m, steps)?;
+        .create_validator(rt.alloc(), &mut scene.g, &mut NoHooks::new(), &m, steps)?;
     Ok(())
 }
 
@@ -246,7 +246,7 @@ pub(crate) fn undelegate<L: Ledger>(
     scene.unbondings.undelegate(
         rt.alloc(),
         &mut scene.g,
-        &mut NoHooks,
+        &mut NoHooks::new(),
         &mut scene.staking,
         &user,
         &user,
@@ -273,7 +273,7 @@ pub(crate) fn cancel<L: Ledger>(
     scene.unbondings.cancel(
         rt.alloc(),
         &mut scene.g,
-        &mut NoHooks,
+        &mut NoHooks::new(),
         &mut scene.staking,
         &user,
         &user,

@@ -43,8 +43,8 @@ fn outcome_of_sending<L: Ledger>(
     let mut steps: Steps<L> = Steps::new(blank);
     let mut g = empty_ground(rt);
     let mut hooks = HookPair {
-        first: NoHooks,
-        second: NoHooks,
+        first: NoHooks::new(),
+        second: NoHooks::new(),
     };
     let v = validator(rt, 5);
     let shares = dec(rt, 1);

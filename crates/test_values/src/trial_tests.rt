@@ -66,7 +66,7 @@ fn redelegations_are_slashed<L: Ledger>(
     let slashed = NoEntries.slash_redelegations(
         rt.alloc(),
         &mut g,
-        &mut NoHooks,
+        &mut NoHooks::new(),
         &mut one,
         &mut NoEntries,
         &v.operator,
@@ -92,7 +92,7 @@ fn is_slashed<L: Ledger>(
     one.slash(
         rt.alloc(),
         &mut g,
-        &mut NoHooks,
+        &mut NoHooks::new(),
         &v.cons,
         1,
         1,
@@ -146,7 +146,7 @@ fn wants_memory<L: Ledger>(rt: &(impl Abort + AllocGlobal), blank: Blank) -> boo
         Some(shares) => one.unbond(
             rt.alloc(),
             &mut g,
-            &mut NoHooks,
+            &mut NoHooks::new(),
             &delegator,
             &v.operator,
             shares,

@@ -1,5 +1,7 @@
+use Rattle.std.proofs.Common.{◌≡◌}
+use Rattle.chain_modules.specs.Kept.{listener_of}
 use Rattle.chain_blocks.proofs.LoopLemmas.{VotesCounted}
 use Rattle.chain_blocks.proofs.beginning.count_votes.Given as goal
 
 abbrev pub invariant-loop-vote : goal.invariant-loop-vote
-invariant-loop-vote g l = VotesCounted l.votes l.vote-index l.initial.modules l.modules
+invariant-loop-vote g l = VotesCounted l.votes l.vote-index l.initial.modules l.modules × (g.E.Records.marks (listener_of l.modules) ≡ g.E.Records.marks (listener_of l.initial.modules))

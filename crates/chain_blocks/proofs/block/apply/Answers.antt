@@ -4,6 +4,7 @@ use Rattle.base_roles.specs.World.{View}
 use Rattle.rule_machine.specs.Machine.{step}
 use Rattle.chain_modules.specs.declared.modules.Modules.{Modules}
 use Rattle.chain_modules.specs.Kept.{KeptState, kept_of, kept_over, parts_of}
+use Rattle.chain_modules.proofs.MarkLemmas.{one_more_some}
 use Rattle.chain_blocks.specs.Answers.{AnswersStep, Applies, parts_stepped}
 use Rattle.chain_blocks.proofs.ApplyLemmas.{back_kept, back_marks, begins, begun_kept, rest_closed, rest_same, settled_behind, still_open}
 use Rattle.chain_blocks.proofs.BlockLemmas.{applies_parts, faults, has_begun, opened, record_stops, same_fault}
@@ -32,10 +33,10 @@ returns-in-Err-clause-rest g c = rest_same c.args.modules.now c.mark.new.self c.
 
 pub apply_parts-requires-clause-begins : goal.apply_parts-requires-clause-begins
 apply_parts-requires-clause-begins g c =
-    let old : Modules = c.args.modules.now in
-    let marked : Modules = c.mark.new.self in
+    let old : Modules g.row.E.Denot = c.args.modules.now in
+    let marked : Modules g.row.E.Denot = c.mark.new.self in
     let b = c.args.block.now in
-    let begun : Modules = record { ground = record { bank = marked.ground.bank; ctx = record { height = b.height; time = b.time; params = old.ground.ctx.params }; facts = marked.ground.facts }; stakes = marked.stakes; hooks = marked.hooks } in
+    let begun : Modules g.row.E.Denot = record { ground = record { bank = marked.ground.bank; ctx = record { height = b.height; time = b.time; params = old.ground.ctx.params }; facts = marked.ground.facts }; stakes = marked.stakes; hooks = marked.hooks } in
     begins b old begun c.requires.rest (begun_kept b old marked c.requires.rest c.mark.ensures.same) (c.in_ok-check_block.ensures.checked c.requires.rest.state c.requires.rest.stands) c.requires.height c.mark.ensures.power
 
 pub apply_parts-requires-clause-none : goal.apply_parts-requires-clause-none
@@ -43,28 +44,34 @@ apply_parts-requires-clause-none g c = ap (λ (k : KeptState). k.view.facts) c.m
 
 pub forget-requires : goal.forget-requires
 forget-requires g c =
-    let old : Modules = c.args.modules.now in
-    let marked : Modules = c.mark.new.self in
+    let old : Modules g.row.E.Denot = c.args.modules.now in
+    let marked : Modules g.row.E.Denot = c.mark.new.self in
     let b = c.args.block.now in
-    let begun : Modules = record { ground = record { bank = marked.ground.bank; ctx = record { height = b.height; time = b.time; params = old.ground.ctx.params }; facts = marked.ground.facts }; stakes = marked.stakes; hooks = marked.hooks } in
-    let applied : Modules = c.apply_parts.new.modules in
-    record { «open» = still_open old begun applied applied c.requires.rest c.in_default.ensures.opened c.apply_parts.ensures.behind }
+    let begun : Modules g.row.E.Denot = record { ground = record { bank = marked.ground.bank; ctx = record { height = b.height; time = b.time; params = old.ground.ctx.params }; facts = marked.ground.facts }; stakes = marked.stakes; hooks = marked.hooks } in
+    let applied : Modules g.row.E.Denot = c.apply_parts.new.modules in
+    record {
+      «open» = still_open old begun applied applied c.requires.rest c.in_default.ensures.opened c.apply_parts.ensures.behind;
+      listener = one_more_some _ _ _ (c.apply_parts.ensures.listener ∙ c.in_default.ensures.listener_opened);
+    }
 
 pub back-requires : goal.back-requires
 back-requires g c =
-    let old : Modules = c.args.modules.now in
-    let marked : Modules = c.mark.new.self in
+    let old : Modules g.row.E.Denot = c.args.modules.now in
+    let marked : Modules g.row.E.Denot = c.mark.new.self in
     let b = c.args.block.now in
-    let begun : Modules = record { ground = record { bank = marked.ground.bank; ctx = record { height = b.height; time = b.time; params = old.ground.ctx.params }; facts = marked.ground.facts }; stakes = marked.stakes; hooks = marked.hooks } in
-    let applied : Modules = c.apply_parts.new.modules in
-    record { «open» = still_open old begun applied applied c.requires.rest c.in_default.ensures.opened c.apply_parts.ensures.behind }
+    let begun : Modules g.row.E.Denot = record { ground = record { bank = marked.ground.bank; ctx = record { height = b.height; time = b.time; params = old.ground.ctx.params }; facts = marked.ground.facts }; stakes = marked.stakes; hooks = marked.hooks } in
+    let applied : Modules g.row.E.Denot = c.apply_parts.new.modules in
+    record {
+      «open» = still_open old begun applied applied c.requires.rest c.in_default.ensures.opened c.apply_parts.ensures.behind;
+      listener = one_more_some _ _ _ (c.apply_parts.ensures.listener ∙ c.in_default.ensures.listener_opened);
+    }
 
 pub returns-in-Ok-clause-applies : goal.returns-in-Ok-clause-applies
 returns-in-Ok-clause-applies g c = λ p s.
-    let old : Modules = c.args.modules.now in
-    let marked : Modules = c.mark.new.self in
+    let old : Modules g.row.E.Denot = c.args.modules.now in
+    let marked : Modules g.row.E.Denot = c.mark.new.self in
     let b = c.args.block.now in
-    let begun : Modules = record { ground = record { bank = marked.ground.bank; ctx = record { height = b.height; time = b.time; params = old.ground.ctx.params }; facts = marked.ground.facts }; stakes = marked.stakes; hooks = marked.hooks } in
+    let begun : Modules g.row.E.Denot = record { ground = record { bank = marked.ground.bank; ctx = record { height = b.height; time = b.time; params = old.ground.ctx.params }; facts = marked.ground.facts }; stakes = marked.stakes; hooks = marked.hooks } in
     let checked = c.in_ok-check_block.ensures.checked p s in
     subst (λ k. Applies b p k (Ok c.in-Ok.report)) (sym c.forget.ensures.same)
     (applies_parts b p (kept_of c.apply_parts.new.modules) (Ok c.in-Ok.report) checked
@@ -72,26 +79,26 @@ returns-in-Ok-clause-applies g c = λ p s.
 
 pub returns-in-Ok-clause-rest : goal.returns-in-Ok-clause-rest
 returns-in-Ok-clause-rest g c =
-    let old : Modules = c.args.modules.now in
-    let marked : Modules = c.mark.new.self in
+    let old : Modules g.row.E.Denot = c.args.modules.now in
+    let marked : Modules g.row.E.Denot = c.mark.new.self in
     let b = c.args.block.now in
-    let begun : Modules = record { ground = record { bank = marked.ground.bank; ctx = record { height = b.height; time = b.time; params = old.ground.ctx.params }; facts = marked.ground.facts }; stakes = marked.stakes; hooks = marked.hooks } in
+    let begun : Modules g.row.E.Denot = record { ground = record { bank = marked.ground.bank; ctx = record { height = b.height; time = b.time; params = old.ground.ctx.params }; facts = marked.ground.facts }; stakes = marked.stakes; hooks = marked.hooks } in
     rest_closed old begun c.apply_parts.new.modules c.forget.new.self c.requires.rest c.in_default.ensures.opened c.apply_parts.ensures.behind c.in-Ok.ensures.steady c.in-Ok.ensures.none
     c.forget.ensures.closed c.forget.ensures.same c.forget.ensures.power
 
 pub returns-in-Ok-clause-settled : goal.returns-in-Ok-clause-settled
 returns-in-Ok-clause-settled g c =
-    let marked : Modules = c.mark.new.self in
+    let marked : Modules g.row.E.Denot = c.mark.new.self in
     let b = c.args.block.now in
-    let begun : Modules = record { ground = record { bank = marked.ground.bank; ctx = record { height = b.height; time = b.time; params = c.args.modules.now.ground.ctx.params }; facts = marked.ground.facts }; stakes = marked.stakes; hooks = marked.hooks } in
+    let begun : Modules g.row.E.Denot = record { ground = record { bank = marked.ground.bank; ctx = record { height = b.height; time = b.time; params = c.args.modules.now.ground.ctx.params }; facts = marked.ground.facts }; stakes = marked.stakes; hooks = marked.hooks } in
     c.forget.ensures.settled ∙ settled_behind begun c.apply_parts.new.modules c.apply_parts.ensures.behind ∙ c.mark.ensures.settled
 
 pub returns-clause-applies : goal.returns-clause-applies
 returns-clause-applies g c = λ p s.
-    let old : Modules = c.args.modules.now in
-    let marked : Modules = c.mark.new.self in
+    let old : Modules g.row.E.Denot = c.args.modules.now in
+    let marked : Modules g.row.E.Denot = c.mark.new.self in
     let b = c.args.block.now in
-    let begun : Modules = record { ground = record { bank = marked.ground.bank; ctx = record { height = b.height; time = b.time; params = old.ground.ctx.params }; facts = marked.ground.facts }; stakes = marked.stakes; hooks = marked.hooks } in
+    let begun : Modules g.row.E.Denot = record { ground = record { bank = marked.ground.bank; ctx = record { height = b.height; time = b.time; params = old.ground.ctx.params }; facts = marked.ground.facts }; stakes = marked.stakes; hooks = marked.hooks } in
     let left : KeptState = kept_over (parts_of c.back.new.self) old.ground.ctx c.new.result in
     let checked = c.in_ok-check_block.ensures.checked p s in
     applies_parts b p left (Err c.in-Err-apply_parts.fault) checked
@@ -100,20 +107,20 @@ returns-clause-applies g c = λ p s.
 
 pub returns-clause-unchanged : goal.returns-clause-unchanged
 returns-clause-unchanged g c =
-    let old : Modules = c.args.modules.now in
-    let marked : Modules = c.mark.new.self in
+    let old : Modules g.row.E.Denot = c.args.modules.now in
+    let marked : Modules g.row.E.Denot = c.mark.new.self in
     let b = c.args.block.now in
-    let begun : Modules = record { ground = record { bank = marked.ground.bank; ctx = record { height = b.height; time = b.time; params = old.ground.ctx.params }; facts = marked.ground.facts }; stakes = marked.stakes; hooks = marked.hooks } in
+    let begun : Modules g.row.E.Denot = record { ground = record { bank = marked.ground.bank; ctx = record { height = b.height; time = b.time; params = old.ground.ctx.params }; facts = marked.ground.facts }; stakes = marked.stakes; hooks = marked.hooks } in
     back_kept old begun c.apply_parts.new.modules c.back.new.self c.requires.rest c.in_default.ensures.opened c.apply_parts.ensures.behind c.back.ensures.back old.ground.ctx c.new.result refl c.new.ensures
 
 pub returns-clause-rest : goal.returns-clause-rest
 returns-clause-rest g c =
-    let old : Modules = c.args.modules.now in
-    let marked : Modules = c.mark.new.self in
+    let old : Modules g.row.E.Denot = c.args.modules.now in
+    let marked : Modules g.row.E.Denot = c.mark.new.self in
     let b = c.args.block.now in
-    let begun : Modules = record { ground = record { bank = marked.ground.bank; ctx = record { height = b.height; time = b.time; params = old.ground.ctx.params }; facts = marked.ground.facts }; stakes = marked.stakes; hooks = marked.hooks } in
-    let back : Modules = c.back.new.self in
-    let left : Modules = record { ground = record { bank = back.ground.bank; ctx = old.ground.ctx; facts = c.new.result }; stakes = back.stakes; hooks = back.hooks } in
+    let begun : Modules g.row.E.Denot = record { ground = record { bank = marked.ground.bank; ctx = record { height = b.height; time = b.time; params = old.ground.ctx.params }; facts = marked.ground.facts }; stakes = marked.stakes; hooks = marked.hooks } in
+    let back : Modules g.row.E.Denot = c.back.new.self in
+    let left : Modules g.row.E.Denot = record { ground = record { bank = back.ground.bank; ctx = old.ground.ctx; facts = c.new.result }; stakes = back.stakes; hooks = back.hooks } in
     rest_same old left c.requires.rest
     (back_kept old begun c.apply_parts.new.modules back c.requires.rest c.in_default.ensures.opened c.apply_parts.ensures.behind c.back.ensures.back old.ground.ctx c.new.result refl c.new.ensures)
     (back_marks old begun c.apply_parts.new.modules back c.requires.rest c.in_default.ensures.opened c.apply_parts.ensures.behind c.back.ensures.back)
@@ -121,7 +128,7 @@ returns-clause-rest g c =
 
 pub returns-clause-settled : goal.returns-clause-settled
 returns-clause-settled g c =
-    let marked : Modules = c.mark.new.self in
+    let marked : Modules g.row.E.Denot = c.mark.new.self in
     let b = c.args.block.now in
-    let begun : Modules = record { ground = record { bank = marked.ground.bank; ctx = record { height = b.height; time = b.time; params = c.args.modules.now.ground.ctx.params }; facts = marked.ground.facts }; stakes = marked.stakes; hooks = marked.hooks } in
+    let begun : Modules g.row.E.Denot = record { ground = record { bank = marked.ground.bank; ctx = record { height = b.height; time = b.time; params = c.args.modules.now.ground.ctx.params }; facts = marked.ground.facts }; stakes = marked.stakes; hooks = marked.hooks } in
     c.back.ensures.settled ∙ settled_behind begun c.apply_parts.new.modules c.apply_parts.ensures.behind ∙ c.mark.ensures.settled

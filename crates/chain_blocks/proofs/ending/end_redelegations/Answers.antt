@@ -13,22 +13,22 @@ complete-requires g c = let s = c.requires.steady in record { entries = (redeleg
 
 pub returns-clause-leads : goal.returns-clause-leads
 returns-clause-leads g c = λ p s.
-    let old : Modules = c.args.modules.now in
+    let old : Modules g.row.E.Denot = c.args.modules.now in
     let after = c.complete.new in
-    let new : Modules = record { ground = old.ground; stakes = record { staking = old.stakes.staking; unbondings = old.stakes.unbondings; redelegations = after.self }; hooks = old.hooks } in
+    let new : Modules g.row.E.Denot = record { ground = old.ground; stakes = record { staking = old.stakes.staking; unbondings = old.stakes.unbondings; redelegations = after.self }; hooks = old.hooks } in
     step_leads redelegations_step p (kept_of new) c.complete.result (redelegations_next p s.sound s.whole) (redelegations_lead old new p s.keeps refl refl refl refl c.complete.result refl refl c.complete.ensures.lists c.complete.ensures.fault)
 
 pub returns-clause-steady : goal.returns-clause-steady
 returns-clause-steady g c =
-    let old : Modules = c.args.modules.now in
+    let old : Modules g.row.E.Denot = c.args.modules.now in
     let after = c.complete.new in
-    let new : Modules = record { ground = old.ground; stakes = record { staking = old.stakes.staking; unbondings = old.stakes.unbondings; redelegations = after.self }; hooks = old.hooks } in
+    let new : Modules g.row.E.Denot = record { ground = old.ground; stakes = record { staking = old.stakes.staking; unbondings = old.stakes.unbondings; redelegations = after.self }; hooks = old.hooks } in
     steady_on redelegations_step old new c.complete.result c.requires.steady (all_on old new (ground_stays old new refl) refl refl c.complete.ensures.behind refl)
     (λ p s. step_leads redelegations_step p (kept_of new) c.complete.result (redelegations_next p s.sound s.whole) (redelegations_lead old new p s.keeps refl refl refl refl c.complete.result refl refl c.complete.ensures.lists c.complete.ensures.fault))
 
 pub returns-clause-go_on : goal.returns-clause-go_on
 returns-clause-go_on g c =
-    let old : Modules = c.args.modules.now in
+    let old : Modules g.row.E.Denot = c.args.modules.now in
     let after = c.complete.new in
-    let new : Modules = record { ground = old.ground; stakes = record { staking = old.stakes.staking; unbondings = old.stakes.unbondings; redelegations = after.self }; hooks = old.hooks } in
+    let new : Modules g.row.E.Denot = record { ground = old.ground; stakes = record { staking = old.stakes.staking; unbondings = old.stakes.unbondings; redelegations = after.self }; hooks = old.hooks } in
     (all_on old new (ground_stays old new refl) refl refl c.complete.ensures.behind refl)

@@ -2,7 +2,7 @@ use Rattle.std.proofs.Common.{[], refl}
 use Rattle.chain_modules.specs.declared.modules.Modules.{Modules}
 use Rattle.chain_modules.specs.Kept.{kept_of}
 use Rattle.rule_modules.specs.Chain.{maturing_step}
-use Rattle.chain_transactions.proofs.GoLemmas.{all_on}
+use Rattle.chain_transactions.proofs.GoLemmas.{all_on, listener_behind, unheard}
 use Rattle.chain_modules.proofs.HookLemmas.{held_as}
 use Rattle.chain_modules.proofs.SceneLemmas.{hooked_kept}
 use Rattle.chain_blocks.proofs.EndLemmas.{matured_leads, maturing_next, step_leads, steady_on}
@@ -13,22 +13,25 @@ mature_validators-requires g c = let s = c.requires.steady in record { hooked = 
 
 pub returns-clause-leads : goal.returns-clause-leads
 returns-clause-leads g c = λ p s.
-    let old : Modules = c.args.modules.now in
+    let old : Modules g.row.E.Denot = c.args.modules.now in
     let after = c.mature_validators.new in
-    let new : Modules = record { ground = after.g; stakes = record { staking = after.staking; unbondings = old.stakes.unbondings; redelegations = old.stakes.redelegations }; hooks = after.hooks } in
+    let new : Modules g.row.E.Denot = record { ground = after.g; stakes = record { staking = after.staking; unbondings = old.stakes.unbondings; redelegations = old.stakes.redelegations }; hooks = after.hooks } in
     step_leads maturing_step p (kept_of new) c.mature_validators.result (maturing_next p s.sound s.whole) (matured_leads old new p s.keeps c.mature_validators.ensures.undone.ctx refl refl c.mature_validators.result (c.mature_validators.ensures.told (held_as old.ground.ctx.params.signed_blocks_window p.hooks) (s.keeps.shared, s.keeps.signings) []))
 
 pub returns-clause-steady : goal.returns-clause-steady
 returns-clause-steady g c =
-    let old : Modules = c.args.modules.now in
+    let old : Modules g.row.E.Denot = c.args.modules.now in
     let after = c.mature_validators.new in
-    let new : Modules = record { ground = after.g; stakes = record { staking = after.staking; unbondings = old.stakes.unbondings; redelegations = old.stakes.redelegations }; hooks = after.hooks } in
-    steady_on maturing_step old new c.mature_validators.result c.requires.steady (all_on old new c.mature_validators.ensures.undone c.mature_validators.ensures.behind refl refl c.mature_validators.ensures.hook_marks)
+    let new : Modules g.row.E.Denot = record { ground = after.g; stakes = record { staking = after.staking; unbondings = old.stakes.unbondings; redelegations = old.stakes.redelegations }; hooks = after.hooks } in
+    steady_on maturing_step old new c.mature_validators.result c.requires.steady (all_on old new c.mature_validators.ensures.undone c.mature_validators.ensures.behind refl refl (unheard g.E.StakingHooks.marks old.hooks new.hooks c.mature_validators.ensures.hook_marks))
     (λ p s. step_leads maturing_step p (kept_of new) c.mature_validators.result (maturing_next p s.sound s.whole) (matured_leads old new p s.keeps c.mature_validators.ensures.undone.ctx refl refl c.mature_validators.result (c.mature_validators.ensures.told (held_as old.ground.ctx.params.signed_blocks_window p.hooks) (s.keeps.shared, s.keeps.signings) [])))
 
 pub returns-clause-go_on : goal.returns-clause-go_on
 returns-clause-go_on g c =
-    let old : Modules = c.args.modules.now in
+    let old : Modules g.row.E.Denot = c.args.modules.now in
     let after = c.mature_validators.new in
-    let new : Modules = record { ground = after.g; stakes = record { staking = after.staking; unbondings = old.stakes.unbondings; redelegations = old.stakes.redelegations }; hooks = after.hooks } in
-    (all_on old new c.mature_validators.ensures.undone c.mature_validators.ensures.behind refl refl c.mature_validators.ensures.hook_marks)
+    let new : Modules g.row.E.Denot = record { ground = after.g; stakes = record { staking = after.staking; unbondings = old.stakes.unbondings; redelegations = old.stakes.redelegations }; hooks = after.hooks } in
+    (all_on old new c.mature_validators.ensures.undone c.mature_validators.ensures.behind refl refl (unheard g.E.StakingHooks.marks old.hooks new.hooks c.mature_validators.ensures.hook_marks))
+
+pub returns-clause-listener : goal.returns-clause-listener
+returns-clause-listener g c = g.met.E.Extra.listens.same_marks _ _ (listener_behind g.E.StakingHooks.marks c.args.modules.now.hooks c.mature_validators.new.hooks c.mature_validators.ensures.hook_marks)

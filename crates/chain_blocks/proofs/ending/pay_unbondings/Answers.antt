@@ -18,22 +18,22 @@ complete-requires-clause-account g c = let s = c.requires.steady in entries_acco
 
 pub returns-clause-leads : goal.returns-clause-leads
 returns-clause-leads g c = λ p s.
-    let old : Modules = c.args.modules.now in
+    let old : Modules g.row.E.Denot = c.args.modules.now in
     let after = c.complete.new in
-    let new : Modules = record { ground = after.g; stakes = record { staking = old.stakes.staking; unbondings = after.self; redelegations = old.stakes.redelegations }; hooks = old.hooks } in
+    let new : Modules g.row.E.Denot = record { ground = after.g; stakes = record { staking = old.stakes.staking; unbondings = after.self; redelegations = old.stakes.redelegations }; hooks = old.hooks } in
     step_leads unbondings_step p (kept_of new) c.complete.result (unbondings_next p s.sound s.whole) (unbondings_lead old new p s.keeps c.complete.ensures.undone.ctx refl refl refl c.complete.result refl c.complete.ensures.lists c.complete.ensures.ground c.complete.ensures.fault)
 
 pub returns-clause-steady : goal.returns-clause-steady
 returns-clause-steady g c =
-    let old : Modules = c.args.modules.now in
+    let old : Modules g.row.E.Denot = c.args.modules.now in
     let after = c.complete.new in
-    let new : Modules = record { ground = after.g; stakes = record { staking = old.stakes.staking; unbondings = after.self; redelegations = old.stakes.redelegations }; hooks = old.hooks } in
+    let new : Modules g.row.E.Denot = record { ground = after.g; stakes = record { staking = old.stakes.staking; unbondings = after.self; redelegations = old.stakes.redelegations }; hooks = old.hooks } in
     steady_on unbondings_step old new c.complete.result c.requires.steady (all_on old new c.complete.ensures.undone refl c.complete.ensures.behind refl refl)
     (λ p s. step_leads unbondings_step p (kept_of new) c.complete.result (unbondings_next p s.sound s.whole) (unbondings_lead old new p s.keeps c.complete.ensures.undone.ctx refl refl refl c.complete.result refl c.complete.ensures.lists c.complete.ensures.ground c.complete.ensures.fault))
 
 pub returns-clause-go_on : goal.returns-clause-go_on
 returns-clause-go_on g c =
-    let old : Modules = c.args.modules.now in
+    let old : Modules g.row.E.Denot = c.args.modules.now in
     let after = c.complete.new in
-    let new : Modules = record { ground = after.g; stakes = record { staking = old.stakes.staking; unbondings = after.self; redelegations = old.stakes.redelegations }; hooks = old.hooks } in
+    let new : Modules g.row.E.Denot = record { ground = after.g; stakes = record { staking = old.stakes.staking; unbondings = after.self; redelegations = old.stakes.redelegations }; hooks = old.hooks } in
     (all_on old new c.complete.ensures.undone refl c.complete.ensures.behind refl refl)

@@ -1,7 +1,7 @@
 use Rattle.std.proofs.Common.{[], refl}
 use Rattle.chain_modules.specs.declared.modules.Modules.{Modules}
 use Rattle.chain_modules.proofs.HookLemmas.{held_as}
-use Rattle.chain_transactions.proofs.GoLemmas.{all_on}
+use Rattle.chain_transactions.proofs.GoLemmas.{all_on, listener_behind, unheard}
 use Rattle.chain_blocks.proofs.EndLemmas.{set_leads}
 use Rattle.chain_blocks.proofs.ending.update_set.Goals as goal
 
@@ -13,14 +13,17 @@ update-requires-clause-power g c = c.requires.scene.power
 
 pub returns-clause-leads : goal.returns-clause-leads
 returns-clause-leads g c = λ p k.
-    let old : Modules = c.args.modules.now in
+    let old : Modules g.row.E.Denot = c.args.modules.now in
     let after = c.update.new in
-    let new : Modules = record { ground = after.g; stakes = record { staking = after.staking; unbondings = old.stakes.unbondings; redelegations = old.stakes.redelegations }; hooks = after.hooks } in
+    let new : Modules g.row.E.Denot = record { ground = after.g; stakes = record { staking = after.staking; unbondings = old.stakes.unbondings; redelegations = old.stakes.redelegations }; hooks = after.hooks } in
     set_leads old new p k c.update.ensures.undone.ctx refl refl c.update.result (c.update.ensures.told (held_as old.ground.ctx.params.signed_blocks_window p.hooks) (k.shared, k.signings) [])
 
 pub returns-clause-go_on : goal.returns-clause-go_on
 returns-clause-go_on g c =
-    let old : Modules = c.args.modules.now in
+    let old : Modules g.row.E.Denot = c.args.modules.now in
     let after = c.update.new in
-    let new : Modules = record { ground = after.g; stakes = record { staking = after.staking; unbondings = old.stakes.unbondings; redelegations = old.stakes.redelegations }; hooks = after.hooks } in
-    (all_on old new c.update.ensures.undone c.update.ensures.behind refl refl c.update.ensures.hook_marks)
+    let new : Modules g.row.E.Denot = record { ground = after.g; stakes = record { staking = after.staking; unbondings = old.stakes.unbondings; redelegations = old.stakes.redelegations }; hooks = after.hooks } in
+    (all_on old new c.update.ensures.undone c.update.ensures.behind refl refl (unheard g.E.StakingHooks.marks old.hooks new.hooks c.update.ensures.hook_marks))
+
+pub returns-clause-listener : goal.returns-clause-listener
+returns-clause-listener g c = g.met.E.Extra.listens.same_marks _ _ (listener_behind g.E.StakingHooks.marks c.args.modules.now.hooks c.update.new.hooks c.update.ensures.hook_marks)

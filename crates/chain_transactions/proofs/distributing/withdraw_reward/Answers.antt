@@ -1,34 +1,60 @@
-use Rattle.std.proofs.Common.{◌≡◌, Ok, refl, sym}
-use Rattle.chain_modules.specs.declared.modules.Modules.{Modules}
-use Rattle.chain_transactions.specs.Answers.{delegation_asked}
-use Rattle.chain_transactions.proofs.AskLemmas.{may_ask}
-use Rattle.chain_transactions.proofs.CallLemmas.{reward_well}
+use Rattle.std.proofs.Common.{◌∙◌, Ok, sym, ap, subst}
+use Rattle.std.proofs.lemmas.Result.{err_from_is_err_and}
+use Rattle.base_roles.specs.Stops.{stop_of_hook}
+use Rattle.rule_modules.specs.Effects.{withdraw_reward}
+use Rattle.chain_modules.specs.Kept.{kept_of}
+use Rattle.chain_modules.proofs.MarkLemmas.{then_on}
+use Rattle.chain_modules.proofs.SceneLemmas.{ground_kept}
+use Rattle.chain_modules.proofs.StandLemmas.{whole_same}
+use Rattle.chain_transactions.specs.Answers.{MessageEnds}
+use Rattle.chain_transactions.proofs.AskLemmas.{asked_fits}
+use Rattle.chain_transactions.proofs.FeeLemmas.{steady_then}
+use Rattle.chain_transactions.proofs.MessageLemmas.{wants_behind}
 use Rattle.chain_transactions.proofs.distributing.withdraw_reward.Goals as goal
 
-pub withdraw_reward-requires : goal.withdraw_reward-requires
-withdraw_reward-requires g c =
-    let old : Modules = c.args.modules.now in
-    let m = c.args.m.now in
-    let asked : delegation_asked m.delegator m.validator old.stakes.staking.staked ≡ Ok (c.in_ok-v.v, c.in_ok-v.shares) = sym c.in_ok-v.ensures in
+pub renew-requires-clause-asked : goal.renew-requires-clause-asked
+renew-requires-clause-asked g c = sym c.in_ok-v.ensures
+
+pub hear_start-requires-clause-in_order : goal.hear_start-requires-clause-in_order
+hear_start-requires-clause-in_order g c = let s = c.in_ok-renew.ensures.steady in ground_kept c.renew.new.modules s.state s.stands.keeps s.stands.sound
+
+pub hear_start-requires-clause-some : goal.hear_start-requires-clause-some
+hear_start-requires-clause-some g c =
     let s = c.requires.steady in
-    record { may = may_ask old s.state s.stands.keeps s.stands.sound m.delegator m.validator (c.in_ok-v.v, c.in_ok-v.shares) asked }
+    let m = c.args.m.now in
+    (asked_fits c.args.modules.now s.state s.stands.keeps s.stands.sound m.delegator m.validator (c.in_ok-v.v, c.in_ok-v.shares) (sym c.in_ok-v.ensures)).some
+
+pub hear_start-requires-clause-most : goal.hear_start-requires-clause-most
+hear_start-requires-clause-most g c =
+    let s = c.requires.steady in
+    let m = c.args.m.now in
+    (asked_fits c.args.modules.now s.state s.stands.keeps s.stands.sound m.delegator m.validator (c.in_ok-v.v, c.in_ok-v.shares) (sym c.in_ok-v.ensures)).most
+
+pub hear_start-requires-clause-tokens : goal.hear_start-requires-clause-tokens
+hear_start-requires-clause-tokens g c =
+    let s = c.requires.steady in
+    let m = c.args.m.now in
+    (asked_fits c.args.modules.now s.state s.stands.keeps s.stands.sound m.delegator m.validator (c.in_ok-v.v, c.in_ok-v.shares) (sym c.in_ok-v.ensures)).tokens
+
+pub returns-in_err-hear_start-clause-ends : goal.returns-in_err-hear_start-clause-ends
+returns-in_err-hear_start-clause-ends g c = λ p s.
+    let m = c.args.m.now in
+    let r = c.from_residual-in_err-hear_start in
+    let e = err_from_is_err_and r.result r.ensures.1 in
+    rw e.1 (wants_behind (withdraw_reward m.delegator m.validator p) (kept_of c.renew.new.modules) (kept_of c.hear_start.new.modules) e.0 (e.2 ∙ ap stop_of_hook c.in_err-hear_start.ensures.fault) (c.in_ok-renew.ensures.ends p s))
+
+pub returns-in_err-hear_start-clause-go_on : goal.returns-in_err-hear_start-clause-go_on
+returns-in_err-hear_start-clause-go_on g c = then_on c.args.modules.now c.renew.new.modules c.hear_start.new.modules c.renew.ensures.go_on c.hear_start.ensures.go_on
 
 pub returns-clause-ends : goal.returns-clause-ends
-returns-clause-ends g c =
-    let old : Modules = c.args.modules.now in
+returns-clause-ends g c = λ p s.
     let m = c.args.m.now in
-    let asked : delegation_asked m.delegator m.validator old.stakes.staking.staked ≡ Ok (c.in_ok-v.v, c.in_ok-v.shares) = sym c.in_ok-v.ensures in
-    let after = c.withdraw_reward.new in
-    let new : Modules = record { ground = after.g; stakes = old.stakes; hooks = record { first = after.self; second = old.hooks.second } } in
-    let done = c.in_ok-withdraw_reward in
-    (reward_well old new c.requires.steady refl refl c.withdraw_reward.ensures.undone m.delegator m.validator (c.in_ok-v.v, c.in_ok-v.shares) (Ok done.field-0) asked done.ensures.withdrawn done.ensures.goes_on).ends
+    subst (λ k. MessageEnds (withdraw_reward m.delegator m.validator p) k (Ok tt)) (sym c.in_ok-hear_start.ensures.kept) (c.in_ok-renew.ensures.ends p s)
 
 pub returns-clause-steady : goal.returns-clause-steady
 returns-clause-steady g c =
-    let old : Modules = c.args.modules.now in
-    let m = c.args.m.now in
-    let asked : delegation_asked m.delegator m.validator old.stakes.staking.staked ≡ Ok (c.in_ok-v.v, c.in_ok-v.shares) = sym c.in_ok-v.ensures in
-    let after = c.withdraw_reward.new in
-    let new : Modules = record { ground = after.g; stakes = old.stakes; hooks = record { first = after.self; second = old.hooks.second } } in
-    let done = c.in_ok-withdraw_reward in
-    (reward_well old new c.requires.steady refl refl c.withdraw_reward.ensures.undone m.delegator m.validator (c.in_ok-v.v, c.in_ok-v.shares) (Ok done.field-0) asked done.ensures.withdrawn done.ensures.goes_on).steady
+    let s = c.in_ok-renew.ensures.steady in
+    steady_then c.renew.new.modules c.hear_start.new.modules s c.hear_start.ensures.go_on s.state (whole_same (kept_of c.renew.new.modules) (kept_of c.hear_start.new.modules) s.state c.in_ok-hear_start.ensures.kept s.stands)
+
+pub returns-clause-go_on : goal.returns-clause-go_on
+returns-clause-go_on g c = then_on c.args.modules.now c.renew.new.modules c.hear_start.new.modules c.renew.ensures.go_on c.hear_start.ensures.go_on

@@ -1,6 +1,7 @@
 use Rattle.std.proofs.Common.{refl}
 use Rattle.chain_modules.specs.declared.modules.Modules.{Modules}
 use Rattle.chain_modules.proofs.SceneLemmas.{scene_kept}
+use Rattle.chain_transactions.proofs.GoLemmas.{listener_behind}
 use Rattle.chain_transactions.proofs.CallLemmas.{create_well}
 use Rattle.chain_transactions.proofs.staking.create_validator.Goals as goal
 
@@ -9,21 +10,24 @@ create_validator-requires g c = let s = c.requires.steady in record { scene = sc
 
 pub returns-clause-ends : goal.returns-clause-ends
 returns-clause-ends g c =
-    let old : Modules = c.args.modules.now in
+    let old : Modules g.row.E.Denot = c.args.modules.now in
     let after = c.create_validator.new in
-    let new : Modules = record { ground = after.g; stakes = record { staking = after.self; unbondings = old.stakes.unbondings; redelegations = old.stakes.redelegations }; hooks = after.hooks } in
-    (create_well old new c.requires.steady refl refl c.args.m.now c.create_validator.result c.create_validator.ensures.told c.create_validator.ensures.goes_on).ends
+    let new : Modules g.row.E.Denot = record { ground = after.g; stakes = record { staking = after.self; unbondings = old.stakes.unbondings; redelegations = old.stakes.redelegations }; hooks = after.hooks } in
+    (create_well g.E.StakingHooks.marks old new c.requires.steady refl refl c.args.m.now c.create_validator.result c.create_validator.ensures.told c.create_validator.ensures.goes_on).ends
 
 pub returns-clause-steady : goal.returns-clause-steady
 returns-clause-steady g c =
-    let old : Modules = c.args.modules.now in
+    let old : Modules g.row.E.Denot = c.args.modules.now in
     let after = c.create_validator.new in
-    let new : Modules = record { ground = after.g; stakes = record { staking = after.self; unbondings = old.stakes.unbondings; redelegations = old.stakes.redelegations }; hooks = after.hooks } in
-    (create_well old new c.requires.steady refl refl c.args.m.now c.create_validator.result c.create_validator.ensures.told c.create_validator.ensures.goes_on).steady
+    let new : Modules g.row.E.Denot = record { ground = after.g; stakes = record { staking = after.self; unbondings = old.stakes.unbondings; redelegations = old.stakes.redelegations }; hooks = after.hooks } in
+    (create_well g.E.StakingHooks.marks old new c.requires.steady refl refl c.args.m.now c.create_validator.result c.create_validator.ensures.told c.create_validator.ensures.goes_on).steady
 
 pub returns-clause-go_on : goal.returns-clause-go_on
 returns-clause-go_on g c =
-    let old : Modules = c.args.modules.now in
+    let old : Modules g.row.E.Denot = c.args.modules.now in
     let after = c.create_validator.new in
-    let new : Modules = record { ground = after.g; stakes = record { staking = after.self; unbondings = old.stakes.unbondings; redelegations = old.stakes.redelegations }; hooks = after.hooks } in
-    (create_well old new c.requires.steady refl refl c.args.m.now c.create_validator.result c.create_validator.ensures.told c.create_validator.ensures.goes_on).go_on
+    let new : Modules g.row.E.Denot = record { ground = after.g; stakes = record { staking = after.self; unbondings = old.stakes.unbondings; redelegations = old.stakes.redelegations }; hooks = after.hooks } in
+    (create_well g.E.StakingHooks.marks old new c.requires.steady refl refl c.args.m.now c.create_validator.result c.create_validator.ensures.told c.create_validator.ensures.goes_on).go_on
+
+pub returns-clause-listener : goal.returns-clause-listener
+returns-clause-listener g c = g.met.E.Extra.listens.same_marks _ _ (listener_behind g.E.StakingHooks.marks c.args.modules.now.hooks c.create_validator.new.hooks c.create_validator.ensures.goes_on.hook_marks)

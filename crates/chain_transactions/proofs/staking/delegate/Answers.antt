@@ -1,6 +1,7 @@
 use Rattle.std.proofs.Common.{Ok, Err, refl}
 use Rattle.chain_modules.specs.declared.modules.Modules.{Modules}
 use Rattle.chain_modules.proofs.SceneLemmas.{scene_kept}
+use Rattle.chain_transactions.proofs.GoLemmas.{listener_behind}
 use Rattle.chain_transactions.proofs.CallLemmas.{delegate_well}
 use Rattle.chain_transactions.proofs.staking.delegate.Goals as goal
 
@@ -9,48 +10,54 @@ delegate_coin-answer-requires g c = let s = c.requires.steady in record { scene 
 
 pub returns-in-Ok-clause-ends : goal.returns-in-Ok-clause-ends
 returns-in-Ok-clause-ends g c =
-    let old : Modules = c.args.modules.now in
+    let old : Modules g.row.E.Denot = c.args.modules.now in
     let after = c.delegate_coin-answer.new in
-    let new : Modules = record { ground = after.g; stakes = record { staking = after.self; unbondings = old.stakes.unbondings; redelegations = old.stakes.redelegations }; hooks = after.hooks } in
+    let new : Modules g.row.E.Denot = record { ground = after.g; stakes = record { staking = after.self; unbondings = old.stakes.unbondings; redelegations = old.stakes.redelegations }; hooks = after.hooks } in
     let m = c.args.m.now in
-    (delegate_well old new c.requires.steady refl refl m.delegator m.validator m.amount (Ok c.in-Ok.field-0) c.in-Ok.ensures.told c.in-Ok.ensures.goes_on).ends
+    (delegate_well g.E.StakingHooks.marks old new c.requires.steady refl refl m.delegator m.validator m.amount (Ok c.in-Ok.field-0) c.in-Ok.ensures.told c.in-Ok.ensures.goes_on).ends
 
 pub returns-in-Ok-clause-steady : goal.returns-in-Ok-clause-steady
 returns-in-Ok-clause-steady g c =
-    let old : Modules = c.args.modules.now in
+    let old : Modules g.row.E.Denot = c.args.modules.now in
     let after = c.delegate_coin-answer.new in
-    let new : Modules = record { ground = after.g; stakes = record { staking = after.self; unbondings = old.stakes.unbondings; redelegations = old.stakes.redelegations }; hooks = after.hooks } in
+    let new : Modules g.row.E.Denot = record { ground = after.g; stakes = record { staking = after.self; unbondings = old.stakes.unbondings; redelegations = old.stakes.redelegations }; hooks = after.hooks } in
     let m = c.args.m.now in
-    (delegate_well old new c.requires.steady refl refl m.delegator m.validator m.amount (Ok c.in-Ok.field-0) c.in-Ok.ensures.told c.in-Ok.ensures.goes_on).steady
+    (delegate_well g.E.StakingHooks.marks old new c.requires.steady refl refl m.delegator m.validator m.amount (Ok c.in-Ok.field-0) c.in-Ok.ensures.told c.in-Ok.ensures.goes_on).steady
 
 pub returns-in-Ok-clause-go_on : goal.returns-in-Ok-clause-go_on
 returns-in-Ok-clause-go_on g c =
-    let old : Modules = c.args.modules.now in
+    let old : Modules g.row.E.Denot = c.args.modules.now in
     let after = c.delegate_coin-answer.new in
-    let new : Modules = record { ground = after.g; stakes = record { staking = after.self; unbondings = old.stakes.unbondings; redelegations = old.stakes.redelegations }; hooks = after.hooks } in
+    let new : Modules g.row.E.Denot = record { ground = after.g; stakes = record { staking = after.self; unbondings = old.stakes.unbondings; redelegations = old.stakes.redelegations }; hooks = after.hooks } in
     let m = c.args.m.now in
-    (delegate_well old new c.requires.steady refl refl m.delegator m.validator m.amount (Ok c.in-Ok.field-0) c.in-Ok.ensures.told c.in-Ok.ensures.goes_on).go_on
+    (delegate_well g.E.StakingHooks.marks old new c.requires.steady refl refl m.delegator m.validator m.amount (Ok c.in-Ok.field-0) c.in-Ok.ensures.told c.in-Ok.ensures.goes_on).go_on
 
 pub returns-in-Err-clause-ends : goal.returns-in-Err-clause-ends
 returns-in-Err-clause-ends g c =
-    let old : Modules = c.args.modules.now in
+    let old : Modules g.row.E.Denot = c.args.modules.now in
     let after = c.delegate_coin-answer.new in
-    let new : Modules = record { ground = after.g; stakes = record { staking = after.self; unbondings = old.stakes.unbondings; redelegations = old.stakes.redelegations }; hooks = after.hooks } in
+    let new : Modules g.row.E.Denot = record { ground = after.g; stakes = record { staking = after.self; unbondings = old.stakes.unbondings; redelegations = old.stakes.redelegations }; hooks = after.hooks } in
     let m = c.args.m.now in
-    (delegate_well old new c.requires.steady refl refl m.delegator m.validator m.amount (Err c.in-Err.stop) c.in-Err.ensures.told c.in-Err.ensures.goes_on).ends
+    (delegate_well g.E.StakingHooks.marks old new c.requires.steady refl refl m.delegator m.validator m.amount (Err c.in-Err.stop) c.in-Err.ensures.told c.in-Err.ensures.goes_on).ends
 
 pub returns-in-Err-clause-steady : goal.returns-in-Err-clause-steady
 returns-in-Err-clause-steady g c =
-    let old : Modules = c.args.modules.now in
+    let old : Modules g.row.E.Denot = c.args.modules.now in
     let after = c.delegate_coin-answer.new in
-    let new : Modules = record { ground = after.g; stakes = record { staking = after.self; unbondings = old.stakes.unbondings; redelegations = old.stakes.redelegations }; hooks = after.hooks } in
+    let new : Modules g.row.E.Denot = record { ground = after.g; stakes = record { staking = after.self; unbondings = old.stakes.unbondings; redelegations = old.stakes.redelegations }; hooks = after.hooks } in
     let m = c.args.m.now in
-    (delegate_well old new c.requires.steady refl refl m.delegator m.validator m.amount (Err c.in-Err.stop) c.in-Err.ensures.told c.in-Err.ensures.goes_on).steady
+    (delegate_well g.E.StakingHooks.marks old new c.requires.steady refl refl m.delegator m.validator m.amount (Err c.in-Err.stop) c.in-Err.ensures.told c.in-Err.ensures.goes_on).steady
 
 pub returns-in-Err-clause-go_on : goal.returns-in-Err-clause-go_on
 returns-in-Err-clause-go_on g c =
-    let old : Modules = c.args.modules.now in
+    let old : Modules g.row.E.Denot = c.args.modules.now in
     let after = c.delegate_coin-answer.new in
-    let new : Modules = record { ground = after.g; stakes = record { staking = after.self; unbondings = old.stakes.unbondings; redelegations = old.stakes.redelegations }; hooks = after.hooks } in
+    let new : Modules g.row.E.Denot = record { ground = after.g; stakes = record { staking = after.self; unbondings = old.stakes.unbondings; redelegations = old.stakes.redelegations }; hooks = after.hooks } in
     let m = c.args.m.now in
-    (delegate_well old new c.requires.steady refl refl m.delegator m.validator m.amount (Err c.in-Err.stop) c.in-Err.ensures.told c.in-Err.ensures.goes_on).go_on
+    (delegate_well g.E.StakingHooks.marks old new c.requires.steady refl refl m.delegator m.validator m.amount (Err c.in-Err.stop) c.in-Err.ensures.told c.in-Err.ensures.goes_on).go_on
+
+pub returns-in-Ok-clause-listener : goal.returns-in-Ok-clause-listener
+returns-in-Ok-clause-listener g c = g.met.E.Extra.listens.same_marks _ _ (listener_behind g.E.StakingHooks.marks c.args.modules.now.hooks c.delegate_coin-answer.new.hooks c.in-Ok.ensures.goes_on.hook_marks)
+
+pub returns-in-Err-clause-listener : goal.returns-in-Err-clause-listener
+returns-in-Err-clause-listener g c = g.met.E.Extra.listens.same_marks _ _ (listener_behind g.E.StakingHooks.marks c.args.modules.now.hooks c.delegate_coin-answer.new.hooks c.in-Err.ensures.goes_on.hook_marks)

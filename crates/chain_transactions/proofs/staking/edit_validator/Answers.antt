@@ -6,14 +6,14 @@ use Rattle.chain_transactions.proofs.staking.edit_validator.Goals as goal
 
 pub returns-clause-ends : goal.returns-clause-ends
 returns-clause-ends g c =
-    let old : Modules = c.args.modules.now in
+    let old : Modules g.row.E.Denot = c.args.modules.now in
     let after = c.edit_validator.new in
-    let new : Modules = record { ground = after.g; stakes = record { staking = after.self; unbondings = old.stakes.unbondings; redelegations = old.stakes.redelegations }; hooks = old.hooks } in
-    (edit_well old new c.requires.steady refl refl refl (ground_stays old new c.edit_validator.ensures.ground) c.args.m.now c.edit_validator.result c.edit_validator.ensures.told c.edit_validator.ensures.register).ends
+    let new : Modules g.row.E.Denot = record { ground = after.g; stakes = record { staking = after.self; unbondings = old.stakes.unbondings; redelegations = old.stakes.redelegations }; hooks = old.hooks } in
+    (edit_well g.E.StakingHooks.marks old new c.requires.steady refl refl refl (ground_stays old new c.edit_validator.ensures.ground) c.args.m.now c.edit_validator.result c.edit_validator.ensures.told c.edit_validator.ensures.register).ends
 
 pub returns-clause-steady : goal.returns-clause-steady
 returns-clause-steady g c =
-    let old : Modules = c.args.modules.now in
+    let old : Modules g.row.E.Denot = c.args.modules.now in
     let after = c.edit_validator.new in
-    let new : Modules = record { ground = after.g; stakes = record { staking = after.self; unbondings = old.stakes.unbondings; redelegations = old.stakes.redelegations }; hooks = old.hooks } in
-    (edit_well old new c.requires.steady refl refl refl (ground_stays old new c.edit_validator.ensures.ground) c.args.m.now c.edit_validator.result c.edit_validator.ensures.told c.edit_validator.ensures.register).steady
+    let new : Modules g.row.E.Denot = record { ground = after.g; stakes = record { staking = after.self; unbondings = old.stakes.unbondings; redelegations = old.stakes.redelegations }; hooks = old.hooks } in
+    (edit_well g.E.StakingHooks.marks old new c.requires.steady refl refl refl (ground_stays old new c.edit_validator.ensures.ground) c.args.m.now c.edit_validator.result c.edit_validator.ensures.told c.edit_validator.ensures.register).steady

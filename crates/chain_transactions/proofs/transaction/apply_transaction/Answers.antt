@@ -10,8 +10,8 @@ use Rattle.chain_transactions.proofs.transaction.apply_transaction.Goals as goal
 pub returns-clause-state : goal.returns-clause-state
 returns-clause-state g c = λ p s.
     let tx = c.args.tx.now in
-    let old : Modules = c.args.modules.now in
-    let after : Modules = c.pay_and_apply.new.modules in
+    let old : Modules g.row.E.Denot = c.args.modules.now in
+    let after : Modules g.row.E.Denot = c.pay_and_apply.new.modules in
     let left : KeptState = record { stakes = (kept_of after).stakes; shared = (kept_of after).shared; signings = (kept_of after).signings; view = record { bank = (kept_of after).view.bank; ctx = (kept_of after).view.ctx; facts = c.replace-facts.new.dest } } in
     let same : left ≡ cleared (kept_of after) = λ i. record { stakes = (kept_of after).stakes; shared = (kept_of after).shared; signings = (kept_of after).signings; view = record { bank = (kept_of after).view.bank; ctx = (kept_of after).view.ctx; facts = (c.replace-facts.ensures.after ∙ c.new.ensures) i } } in
     left_stands tx (kept_of old) (kept_of after) left p c.in_ok-outcome.outcome c.requires.none s (c.in_ok-outcome.ensures.ended p s) same
@@ -19,8 +19,8 @@ returns-clause-state g c = λ p s.
 pub returns-clause-steady : goal.returns-clause-steady
 returns-clause-steady g c =
     let tx = c.args.tx.now in
-    let old : Modules = c.args.modules.now in
-    let after : Modules = c.pay_and_apply.new.modules in
+    let old : Modules g.row.E.Denot = c.args.modules.now in
+    let after : Modules g.row.E.Denot = c.pay_and_apply.new.modules in
     let left : KeptState = record { stakes = (kept_of after).stakes; shared = (kept_of after).shared; signings = (kept_of after).signings; view = record { bank = (kept_of after).view.bank; ctx = (kept_of after).view.ctx; facts = c.replace-facts.new.dest } } in
     let same : left ≡ cleared (kept_of after) = λ i. record { stakes = (kept_of after).stakes; shared = (kept_of after).shared; signings = (kept_of after).signings; view = record { bank = (kept_of after).view.bank; ctx = (kept_of after).view.ctx; facts = (c.replace-facts.ensures.after ∙ c.new.ensures) i } } in
     let s = c.requires.steady in

@@ -23,7 +23,7 @@ resize-requires-clause-most g c = (in_range c.args.m.now.params (let_in c.args.m
 
 pub returns-in_err-may_update-clause-ends : goal.returns-in_err-may_update-clause-ends
 returns-in_err-may_update-clause-ends g c = λ p s.
-    let old : Modules = c.args.modules.now in
+    let old : Modules g.row.E.Denot = c.args.modules.now in
     let m = c.args.m.now in
     let why = c.in_err-may_update.field-0.0 in
     let given : c.from_residual.result ≡ Err (stop.Refused why) = search rules in
@@ -36,39 +36,39 @@ returns-in_err-may_update-clause-go_on g c = at_moment c.args.modules.now c.args
 
 pub returns-in_err-resize-clause-ends : goal.returns-in_err-resize-clause-ends
 returns-in_err-resize-clause-ends g c = λ p s.
-    let old : Modules = c.args.modules.now in
+    let old : Modules g.row.E.Denot = c.args.modules.now in
     let m = c.args.m.now in
-    let left : Modules = record { ground = old.ground; stakes = old.stakes; hooks = record { first = old.hooks.first; second = c.resize.new.self } } in
+    let left : Modules g.row.E.Denot = record { ground = old.ground; stakes = old.stakes; hooks = record { first = old.hooks.first; second = c.resize.new.self } } in
     let given : c.from_residual-in_err-resize.result ≡ Err stop.NoMemory = search rules in
     subst (MessageEnds (update_params m.authority m.params p) (kept_of left)) (sym given) (update_wants m.authority m.params old (kept_of left) (sym c.in_ok-may_update.ensures) p s)
 
 pub returns-in_err-resize-clause-go_on : goal.returns-in_err-resize-clause-go_on
 returns-in_err-resize-clause-go_on g c =
-    let old : Modules = c.args.modules.now in
-    let left : Modules = record { ground = old.ground; stakes = old.stakes; hooks = record { first = old.hooks.first; second = c.resize.new.self } } in
+    let old : Modules g.row.E.Denot = c.args.modules.now in
+    let left : Modules g.row.E.Denot = record { ground = old.ground; stakes = old.stakes; hooks = record { first = old.hooks.first; second = c.resize.new.self } } in
     window_on old left refl refl refl c.resize.ensures.goes_on.behind
 
 pub returns-in_err-push-clause-ends : goal.returns-in_err-push-clause-ends
 returns-in_err-push-clause-ends g c = λ p s.
-    let old : Modules = c.args.modules.now in
+    let old : Modules g.row.E.Denot = c.args.modules.now in
     let m = c.args.m.now in
-    let left : Modules = record { ground = record { bank = old.ground.bank; ctx = old.ground.ctx; facts = c.push.new.self }; stakes = old.stakes; hooks = record { first = old.hooks.first; second = c.resize.new.self } } in
+    let left : Modules g.row.E.Denot = record { ground = record { bank = old.ground.bank; ctx = old.ground.ctx; facts = c.push.new.self }; stakes = old.stakes; hooks = record { first = old.hooks.first; second = c.resize.new.self } } in
     let given : c.from_residual-in_err-push.result ≡ Err stop.NoMemory = search rules in
     subst (MessageEnds (update_params m.authority m.params p) (kept_of left)) (sym given) (update_wants m.authority m.params old (kept_of left) (sym c.in_ok-may_update.ensures) p s)
 
 pub returns-in_err-push-clause-go_on : goal.returns-in_err-push-clause-go_on
 returns-in_err-push-clause-go_on g c =
-    let old : Modules = c.args.modules.now in
-    let left : Modules = record { ground = record { bank = old.ground.bank; ctx = old.ground.ctx; facts = c.push.new.self }; stakes = old.stakes; hooks = record { first = old.hooks.first; second = c.resize.new.self } } in
+    let old : Modules g.row.E.Denot = c.args.modules.now in
+    let left : Modules g.row.E.Denot = record { ground = record { bank = old.ground.bank; ctx = old.ground.ctx; facts = c.push.new.self }; stakes = old.stakes; hooks = record { first = old.hooks.first; second = c.resize.new.self } } in
     window_on old left (λ i. record { bank = old.ground.bank; ctx = old.ground.ctx; facts = c.in_err-push.ensures.err i }) refl refl c.resize.ensures.goes_on.behind
 
 -- ---- it is carried out
 
 pub returns-clause-ends : goal.returns-clause-ends
 returns-clause-ends g c = λ p s.
-    let old : Modules = c.args.modules.now in
+    let old : Modules g.row.E.Denot = c.args.modules.now in
     let m = c.args.m.now in
-    let new : Modules = record {
+    let new : Modules g.row.E.Denot = record {
       ground = record { bank = old.ground.bank; ctx = record old.ground.ctx { params = m.params }; facts = c.push.new.self };
       stakes = old.stakes;
       hooks = record { first = old.hooks.first; second = c.resize.new.self };
@@ -85,9 +85,9 @@ returns-clause-ends g c = λ p s.
 
 pub returns-clause-steady : goal.returns-clause-steady
 returns-clause-steady g c =
-    let old : Modules = c.args.modules.now in
+    let old : Modules g.row.E.Denot = c.args.modules.now in
     let m = c.args.m.now in
-    let new : Modules = record {
+    let new : Modules g.row.E.Denot = record {
       ground = record { bank = old.ground.bank; ctx = record old.ground.ctx { params = m.params }; facts = c.push.new.self };
       stakes = old.stakes;
       hooks = record { first = old.hooks.first; second = c.resize.new.self };
@@ -104,9 +104,9 @@ returns-clause-steady g c =
 
 pub returns-clause-go_on : goal.returns-clause-go_on
 returns-clause-go_on g c =
-    let old : Modules = c.args.modules.now in
+    let old : Modules g.row.E.Denot = c.args.modules.now in
     let m = c.args.m.now in
-    let new : Modules = record {
+    let new : Modules g.row.E.Denot = record {
       ground = record { bank = old.ground.bank; ctx = record old.ground.ctx { params = m.params }; facts = c.push.new.self };
       stakes = old.stakes;
       hooks = record { first = old.hooks.first; second = c.resize.new.self };

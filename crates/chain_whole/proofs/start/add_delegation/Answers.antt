@@ -22,9 +22,9 @@ delegate-delegated-requires-clause-origin g c = c.requires.next.origin
 
 pub returns-in-Ok-clause-added : goal.returns-in-Ok-clause-added
 returns-in-Ok-clause-added g c = λ p k.
-    let old : Modules = c.args.modules.now in
+    let old : Modules g.row.E.Denot = c.args.modules.now in
     let after = c.delegate-delegated.new in
-    let new : Modules = record { ground = after.g; stakes = record { staking = after.self; unbondings = old.stakes.unbondings; redelegations = old.stakes.redelegations }; hooks = after.hooks } in
+    let new : Modules g.row.E.Denot = record { ground = after.g; stakes = record { staking = after.self; unbondings = old.stakes.unbondings; redelegations = old.stakes.redelegations }; hooks = after.hooks } in
     let here = the_validator (validator_at old.stakes.staking.staked c.args.d.now.validator) c.requires.next.known in
     let found : validator_at p.mine.staked c.args.d.now.validator ≡ Some here.0 = ap (λ (x : Stakes). validator_at x.staked c.args.d.now.validator) k.stakes ∙ here.1 in
     delegated_added old new p k c.in-Ok.ensures.goes_on.undone.ctx refl refl c.args.d.now here.0 c.in-Ok.field-0 found (c.in-Ok.ensures.told (held_as old.ground.ctx.params.signed_blocks_window p.hooks) (k.shared, k.signings) here.0 here.1)
@@ -39,16 +39,16 @@ returns-in-Ok-clause-scene g c =
 
 pub returns-in-Ok-clause-go_on : goal.returns-in-Ok-clause-go_on
 returns-in-Ok-clause-go_on g c =
-    let old : Modules = c.args.modules.now in
+    let old : Modules g.row.E.Denot = c.args.modules.now in
     let after = c.delegate-delegated.new in
-    let new : Modules = record { ground = after.g; stakes = record { staking = after.self; unbondings = old.stakes.unbondings; redelegations = old.stakes.redelegations }; hooks = after.hooks } in
-    hooked_on _ old new (Ok c.in-Ok.field-0) c.in-Ok.ensures.goes_on refl refl
+    let new : Modules g.row.E.Denot = record { ground = after.g; stakes = record { staking = after.self; unbondings = old.stakes.unbondings; redelegations = old.stakes.redelegations }; hooks = after.hooks } in
+    hooked_on g.E.StakingHooks.marks _ old new (Ok c.in-Ok.field-0) c.in-Ok.ensures.goes_on refl refl
 
 pub never_refused-requires : goal.never_refused-requires
 never_refused-requires g c =
-    let old : Modules = c.args.modules.now in
+    let old : Modules g.row.E.Denot = c.args.modules.now in
     let after = c.delegate-delegated.new in
-    let new : Modules = record { ground = after.g; stakes = record { staking = after.self; unbondings = old.stakes.unbondings; redelegations = old.stakes.redelegations }; hooks = after.hooks } in
+    let new : Modules g.row.E.Denot = record { ground = after.g; stakes = record { staking = after.self; unbondings = old.stakes.unbondings; redelegations = old.stakes.redelegations }; hooks = after.hooks } in
     let next = c.requires.next in
     let p = next.state in
     let k = next.keeps in
@@ -58,7 +58,7 @@ never_refused-requires g c =
 
 pub returns-in-Err-clause-go_on : goal.returns-in-Err-clause-go_on
 returns-in-Err-clause-go_on g c =
-    let old : Modules = c.args.modules.now in
+    let old : Modules g.row.E.Denot = c.args.modules.now in
     let after = c.delegate-delegated.new in
-    let new : Modules = record { ground = after.g; stakes = record { staking = after.self; unbondings = old.stakes.unbondings; redelegations = old.stakes.redelegations }; hooks = after.hooks } in
-    hooked_on _ old new (Err c.in-Err.why) c.in-Err.ensures.goes_on refl refl
+    let new : Modules g.row.E.Denot = record { ground = after.g; stakes = record { staking = after.self; unbondings = old.stakes.unbondings; redelegations = old.stakes.redelegations }; hooks = after.hooks } in
+    hooked_on g.E.StakingHooks.marks _ old new (Err c.in-Err.why) c.in-Err.ensures.goes_on refl refl

@@ -26,9 +26,9 @@ admit-admitted-requires-clause-scene g c = c.requires.next.scene.scene
 
 pub returns-in-Ok-clause-added : goal.returns-in-Ok-clause-added
 returns-in-Ok-clause-added g c = λ p k.
-    let old : Modules = c.args.modules.now in
+    let old : Modules g.row.E.Denot = c.args.modules.now in
     let after = c.admit-admitted.new in
-    let new : Modules = record { ground = after.g; stakes = record { staking = after.self; unbondings = old.stakes.unbondings; redelegations = old.stakes.redelegations }; hooks = after.hooks } in
+    let new : Modules g.row.E.Denot = record { ground = after.g; stakes = record { staking = after.self; unbondings = old.stakes.unbondings; redelegations = old.stakes.redelegations }; hooks = after.hooks } in
     admitted_added old new p k c.in-Ok.ensures.goes_on.undone.ctx refl refl c.args.v.now k.view
     (subst (λ (x : CreateValidator). Leaves (stored hooks_tell.told (new_validator x old.ground.ctx.time) (over old.stakes.staking.staked (held_as old.ground.ctx.params.signed_blocks_window p.hooks) (ground_of old))) new.stakes.staking.staked (hooks_hold new.hooks) (ground_of new) (Ok tt))
     c.creation_of-m.ensures (c.in-Ok.ensures.told (held_as old.ground.ctx.params.signed_blocks_window p.hooks) (k.shared, k.signings)))
@@ -43,16 +43,16 @@ returns-in-Ok-clause-scene g c =
 
 pub returns-in-Ok-clause-go_on : goal.returns-in-Ok-clause-go_on
 returns-in-Ok-clause-go_on g c =
-    let old : Modules = c.args.modules.now in
+    let old : Modules g.row.E.Denot = c.args.modules.now in
     let after = c.admit-admitted.new in
-    let new : Modules = record { ground = after.g; stakes = record { staking = after.self; unbondings = old.stakes.unbondings; redelegations = old.stakes.redelegations }; hooks = after.hooks } in
-    hooked_on _ old new (Ok tt) c.in-Ok.ensures.goes_on refl refl
+    let new : Modules g.row.E.Denot = record { ground = after.g; stakes = record { staking = after.self; unbondings = old.stakes.unbondings; redelegations = old.stakes.redelegations }; hooks = after.hooks } in
+    hooked_on g.E.StakingHooks.marks _ old new (Ok tt) c.in-Ok.ensures.goes_on refl refl
 
 pub never_over-requires : goal.never_over-requires
 never_over-requires g c =
-    let old : Modules = c.args.modules.now in
+    let old : Modules g.row.E.Denot = c.args.modules.now in
     let after = c.admit-admitted.new in
-    let new : Modules = record { ground = after.g; stakes = record { staking = after.self; unbondings = old.stakes.unbondings; redelegations = old.stakes.redelegations }; hooks = after.hooks } in
+    let new : Modules g.row.E.Denot = record { ground = after.g; stakes = record { staking = after.self; unbondings = old.stakes.unbondings; redelegations = old.stakes.redelegations }; hooks = after.hooks } in
     let next = c.requires.next in
     let p = next.state in
     let k = next.keeps in
@@ -62,7 +62,7 @@ never_over-requires g c =
 
 pub returns-in-Err-clause-go_on : goal.returns-in-Err-clause-go_on
 returns-in-Err-clause-go_on g c =
-    let old : Modules = c.args.modules.now in
+    let old : Modules g.row.E.Denot = c.args.modules.now in
     let after = c.admit-admitted.new in
-    let new : Modules = record { ground = after.g; stakes = record { staking = after.self; unbondings = old.stakes.unbondings; redelegations = old.stakes.redelegations }; hooks = after.hooks } in
-    hooked_on _ old new (Err c.in-Err.fault) c.in-Err.ensures.goes_on refl refl
+    let new : Modules g.row.E.Denot = record { ground = after.g; stakes = record { staking = after.self; unbondings = old.stakes.unbondings; redelegations = old.stakes.redelegations }; hooks = after.hooks } in
+    hooked_on g.E.StakingHooks.marks _ old new (Err c.in-Err.fault) c.in-Err.ensures.goes_on refl refl

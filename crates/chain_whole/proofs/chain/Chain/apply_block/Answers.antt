@@ -5,9 +5,9 @@ use Rattle.chain_whole.proofs.FairLemmas.{goes_on_fairly}
 use Rattle.chain_whole.proofs.chain.Chain.apply_block.Goals as goal
 
 pub apply-requires-clause-rest : goal.apply-requires-clause-rest
-apply-requires-clause-rest c = c.self.invariant.0
+apply-requires-clause-rest g c = c.self.invariant.0
 
 pub returns-in-Ok-clause-fairly : goal.returns-in-Ok-clause-fairly
-returns-in-Ok-clause-fairly c = λ p s reached started coins.
+returns-in-Ok-clause-fairly g c = λ p s reached started coins.
     goes_on_fairly c.args.block.now p (kept_of c.apply.new.modules) (Ok c.in-Ok.report) c.requires.height coins s.sound reached started
     (c.in-Ok.ensures.applies p (subst (λ (t : Chained). StandsFor t.kept p) (sym c.self.view_is) s))

@@ -5,5 +5,5 @@ use Rattle.chain_whole.specs.Chained.{Chained}
 use Rattle.chain_whole.proofs.chain.Chain.pool.Goals as goal
 
 pub returns-clause-coins : goal.returns-clause-coins
-returns-clause-coins c = λ p s.
+returns-clause-coins g c = λ p s.
     c.in_ok-pool_of.ensures ∙ ap (λ (q : Purses). q.pool) (subst (λ (t : Chained). StandsFor t.kept p) (sym c.self.view_is) s).keeps.shared.purses

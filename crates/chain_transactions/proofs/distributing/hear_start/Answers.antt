@@ -1,0 +1,45 @@
+use Rattle.std.proofs.Common.{true, false, refl}
+use Rattle.base_roles.specs.Owing.{Lists}
+use Rattle.base_roles.specs.World.{modified}
+use Rattle.base_roles.proofs.ListenLemmas.{quiet_may, quiet_leaves}
+use Rattle.chain_modules.specs.declared.modules.Modules.{Modules}
+use Rattle.chain_modules.specs.Kept.{ground_of}
+use Rattle.chain_transactions.proofs.GoLemmas.{all_on, heard_kept, heard_wants}
+use Rattle.chain_transactions.proofs.distributing.hear_start.Goals as goal
+
+pub after_delegation_modified-requires : goal.after_delegation_modified-requires
+after_delegation_modified-requires g c =
+    let l : Lists = record { operators = λ o. true; started = λ w o. false } in
+    let a = c.args in
+    quiet_may g.E.StakingHooks.tells g.met.E.StakingHooks.lawful g.met.E.Extra.listens.quiet _ (g.met.E.Extra.listens.some a.modules.now.hooks.first.listener) (modified a.v.now a.delegator.now a.shares) (ground_of a.modules.now) l
+    (refl, refl, c.requires.some, c.requires.most) c.requires.tokens c.requires.in_order
+
+pub returns-clause-kept : goal.returns-clause-kept
+returns-clause-kept g c =
+    let a = c.args in
+    let old : Modules g.row.E.Denot = a.modules.now in
+    let after = c.after_delegation_modified.new in
+    let new : Modules g.row.E.Denot = record { ground = after.g; stakes = old.stakes; hooks = record { first = record { hooks = old.hooks.first.hooks; listener = after.self }; second = old.hooks.second } } in
+    heard_kept old new refl refl refl c.after_delegation_modified.result
+    (quiet_leaves g.E.StakingHooks.tells g.met.E.StakingHooks.lawful g.met.E.Extra.listens.quiet _ _ (g.met.E.Extra.listens.some old.hooks.first.listener) (modified a.v.now a.delegator.now a.shares) (ground_of old) (ground_of new)
+    c.after_delegation_modified.result c.after_delegation_modified.ensures.told)
+
+pub returns-clause-fault : goal.returns-clause-fault
+returns-clause-fault g c =
+    let a = c.args in
+    let old : Modules g.row.E.Denot = a.modules.now in
+    let after = c.after_delegation_modified.new in
+    let new : Modules g.row.E.Denot = record { ground = after.g; stakes = old.stakes; hooks = record { first = record { hooks = old.hooks.first.hooks; listener = after.self }; second = old.hooks.second } } in
+    heard_wants (ground_of old) (ground_of new) c.after_delegation_modified.result
+    (quiet_leaves g.E.StakingHooks.tells g.met.E.StakingHooks.lawful g.met.E.Extra.listens.quiet _ _ (g.met.E.Extra.listens.some old.hooks.first.listener) (modified a.v.now a.delegator.now a.shares) (ground_of old) (ground_of new)
+    c.after_delegation_modified.result c.after_delegation_modified.ensures.told)
+
+pub returns-clause-go_on : goal.returns-clause-go_on
+returns-clause-go_on g c =
+    let old : Modules g.row.E.Denot = c.args.modules.now in
+    let after = c.after_delegation_modified.new in
+    let new : Modules g.row.E.Denot = record { ground = after.g; stakes = old.stakes; hooks = record { first = record { hooks = old.hooks.first.hooks; listener = after.self }; second = old.hooks.second } } in
+    all_on old new c.after_delegation_modified.ensures.undone refl refl refl refl
+
+pub returns-clause-listener : goal.returns-clause-listener
+returns-clause-listener g c = g.met.E.Extra.listens.same_marks _ _ c.after_delegation_modified.ensures.marks
