@@ -166,7 +166,7 @@ fn to_list<K: Ord + Copied, V: Copied>(
 ) -> Result<Option<(K, Option<V>)>, TableFault>
     ensures { IfOk result (λ pair. pair
         ≡ (if is_some (value_stamped K.cmp touched.now place.now.stamp key.now) then None
-            else Some (pair_of key.now (entry_of stored.now place.now.slot)))) }
+        else Some (pair_of key.now (entry_of stored.now place.now.slot)))) }
 {
     if listed_at(touched, place.stamp, key).is_some() {
         return Ok(None);

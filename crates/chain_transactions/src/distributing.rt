@@ -66,14 +66,11 @@ fn renew<E: Extra, L: Ledger>(
     ensures listener { E.Records.marks (listener_of modules.new)
         ≡ E.Records.marks (listener_of modules.old) }
 {
-    modules.hooks.first.hooks.withdraw_reward(
-        alloc,
-        &mut modules.ground,
-        v,
-        &m.delegator,
-        shares,
-        steps,
-    )?;
+    modules
+        .hooks
+        .first
+        .hooks
+        .withdraw_reward(alloc, &mut modules.ground, v, &m.delegator, shares, steps)?;
     Ok(())
 }
 
@@ -99,14 +96,11 @@ fn hear_start<E: Extra, L: Ledger>(
     ensures listener { E.Records.marks (listener_of modules.new)
         ≡ E.Records.marks (listener_of modules.old) }
 {
-    modules.hooks.first.listener.after_delegation_modified(
-        alloc,
-        &mut modules.ground,
-        v,
-        delegator,
-        shares,
-        steps,
-    )
+    modules
+        .hooks
+        .first
+        .listener
+        .after_delegation_modified(alloc, &mut modules.ground, v, delegator, shares, steps)
 }
 
 /// The validator whose delegator asks for a reward, and the shares of the delegation; or why there is none.

@@ -8,9 +8,7 @@ ghost use Rattle.mod_recorder.specs.Recorded.{new_recorded};
 
 use crate::note::{Note, burned_of};
 use base_decimals::Dec;
-use base_roles::{
-    Bank, Extra, Ground, HookFault, RecordFault, StakingHooks, Validator,
-};
+use base_roles::{Bank, Extra, Ground, HookFault, RecordFault, StakingHooks, Validator};
 use base_types::{Addr, Steps};
 use mod_statement::Entry;
 use std::alloc::Global;

@@ -30,11 +30,7 @@ fn is_start(note: Option<&Note>) -> bool {
 }
 
 /// What a chain tells of a block, and keeps behind it.
-fn told<E: Extra>(
-    rt: &(impl Abort + AllocGlobal),
-    chain: &mut Chain<E>,
-    block: &Block,
-) -> String
+fn told<E: Extra>(rt: &(impl Abort + AllocGlobal), chain: &mut Chain<E>, block: &Block) -> String
     requires { block.now.height < 2 ^ 63 }
 {
     let report = chain.apply_block(rt.alloc(), block).expect(rt, "a block");

@@ -45,9 +45,9 @@ loop-vote-preserved g c =
     let last : Modules g.row.E.Denot = record { ground = after.g; stakes = after.slasher; hooks = record { first = after.hooks; second = after.self } } in
     let e = c.vote.ensures in
     let so =
-        vote_counted c.args.votes.now c.loop-vote.vote-index c.vote-item.result c.args.modules.now new c.loop-vote-test.true c.vote-item.is c.loop-vote.invariant.0 last
-        (punishing_on new last e.ground.undone (ap (λ x. x.0) e.ground.hook_marks) e.ground.slasher_marks e.goes_on.behind)
-        (λ q b. vote_leads new last q e.ground.undone.ctx c.vote-item.result (drop (c.loop-vote.vote-index + 1) c.args.votes.now) b (Ok tt) (c.in_ok-vote.ensures.told (shared_in q) b.keeps.shared q.log (window_in q) b.keeps.signings)) in
+    vote_counted c.args.votes.now c.loop-vote.vote-index c.vote-item.result c.args.modules.now new c.loop-vote-test.true c.vote-item.is c.loop-vote.invariant.0 last
+    (punishing_on new last e.ground.undone (ap (λ x. x.0) e.ground.hook_marks) e.ground.slasher_marks e.goes_on.behind)
+    (λ q b. vote_leads new last q e.ground.undone.ctx c.vote-item.result (drop (c.loop-vote.vote-index + 1) c.args.votes.now) b (Ok tt) (c.in_ok-vote.ensures.told (shared_in q) b.keeps.shared q.log (window_in q) b.keeps.signings)) in
     (so, g.met.E.Extra.listens.same_marks _ _ (ap (λ x. x.1) e.ground.hook_marks) ∙ c.loop-vote.invariant.1)
 
 pub returns-in_err-vote-clause-leads : goal.returns-in_err-vote-clause-leads

@@ -37,9 +37,9 @@ loop-e-preserved g c =
     let last : Modules g.row.E.Denot = record { ground = after.g; stakes = after.slasher; hooks = record { first = after.hooks; second = after.signers } } in
     let e = c.equivocation.ensures in
     let so =
-        evidence_handled c.args.evidence.now c.loop-e.e-index c.e-item.result c.args.modules.now new c.loop-e-test.true c.e-item.is c.loop-e.invariant.0 last
-        (punishing_on new last e.undone (ap (λ x. x.0) e.hook_marks) e.marks e.signer_marks)
-        (λ q b. evidence_leads new last q b e.undone.ctx c.e-item.result (Ok c.in_ok-equivocation.field-0) (c.in_ok-equivocation.ensures.told (shared_in q) b.keeps.shared q.log)) in
+    evidence_handled c.args.evidence.now c.loop-e.e-index c.e-item.result c.args.modules.now new c.loop-e-test.true c.e-item.is c.loop-e.invariant.0 last
+    (punishing_on new last e.undone (ap (λ x. x.0) e.hook_marks) e.marks e.signer_marks)
+    (λ q b. evidence_leads new last q b e.undone.ctx c.e-item.result (Ok c.in_ok-equivocation.field-0) (c.in_ok-equivocation.ensures.told (shared_in q) b.keeps.shared q.log)) in
     (so, g.met.E.Extra.listens.same_marks _ _ (ap (λ x. x.1) e.hook_marks) ∙ c.loop-e.invariant.1)
 
 pub returns-in_err-equivocation-clause-leads : goal.returns-in_err-equivocation-clause-leads

@@ -8,8 +8,8 @@ loop-place-init g c = (none_yet c.args.messages.now c.args.modules.now c.require
 pub loop-place-preserved : goal.loop-place-preserved
 loop-place-preserved g c =
     let so =
-        one_more c.args.messages.now c.loop-place.place c.index-messages-place.result c.args.modules.now c.loop-place.modules c.loop-place-test.true c.index-messages-place.is c.loop-place.invariant.0
-        c.apply_message.new.modules c.in-Ok.ensures.ends c.in-Ok.ensures.steady c.apply_message.ensures.go_on in
+    one_more c.args.messages.now c.loop-place.place c.index-messages-place.result c.args.modules.now c.loop-place.modules c.loop-place-test.true c.index-messages-place.is c.loop-place.invariant.0
+    c.apply_message.new.modules c.in-Ok.ensures.ends c.in-Ok.ensures.steady c.apply_message.ensures.go_on in
     (so, c.apply_message.ensures.listener ∙ c.loop-place.invariant.1)
 
 pub returns-in-Err-Refused-clause-ends : goal.returns-in-Err-Refused-clause-ends

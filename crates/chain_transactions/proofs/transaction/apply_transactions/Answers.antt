@@ -6,8 +6,8 @@ use Rattle.chain_transactions.proofs.transaction.apply_transactions.Goals as goa
 pub loop-tx-preserved : goal.loop-tx-preserved
 loop-tx-preserved g c =
     let so =
-        applied_next c.args.txs.now c.loop-tx.tx-index c.tx-item.result c.args.modules.now c.loop-tx.modules c.apply_transaction.new.modules c.loop-tx.reports.items _ _ c.loop-tx-test.true c.tx-item.is c.loop-tx.invariant.0
-        c.in_ok-report.ensures.report c.in_ok-report.ensures.state c.in_ok-push.ensures.items c.in_ok-report.ensures.steady c.in_ok-report.ensures.none c.in_ok-report.ensures.moment c.apply_transaction.ensures.behind in
+    applied_next c.args.txs.now c.loop-tx.tx-index c.tx-item.result c.args.modules.now c.loop-tx.modules c.apply_transaction.new.modules c.loop-tx.reports.items _ _ c.loop-tx-test.true c.tx-item.is c.loop-tx.invariant.0
+    c.in_ok-report.ensures.report c.in_ok-report.ensures.state c.in_ok-push.ensures.items c.in_ok-report.ensures.steady c.in_ok-report.ensures.none c.in_ok-report.ensures.moment c.apply_transaction.ensures.behind in
     (so, c.apply_transaction.ensures.listener ∙ c.loop-tx.invariant.1)
 
 pub returns-clause-reports : goal.returns-clause-reports
