@@ -68,13 +68,3 @@ returns-in-Ok-None-clause-moment g c =
     let first = ap (λ (k : KeptState). k.view.ctx) c.mark.ensures.same in
     let last = ap (λ (k : KeptState). k.view.ctx) c.forget.ensures.same in
     subst (λ x. SameMoment x c.forget.new.self.ground.ctx) first (subst (SameMoment c.mark.new.self.ground.ctx) (sym last) c.apply_messages.ensures.go_on.moment)
-
-pub returns-in-Ok-None-clause-steady : goal.returns-in-Ok-None-clause-steady
-returns-in-Ok-None-clause-steady g c =
-    let steady = c.in-Ok-None.ensures.steady in
-    let same = c.forget.ensures.same in
-    record {
-      power = c.forget.ensures.power ∙ steady.power ∙ ap (λ (k : KeptState). k.view.ctx.params.power_reduction) (sym same);
-      state = steady.state;
-      stands = whole_same (kept_of c.apply_messages.new.modules) (kept_of c.forget.new.self) steady.state same steady.stands;
-    }
