@@ -1,5 +1,5 @@
 -- Like states give to each block what is alike: the same report and states that are so again, or the same fault.
-use Rattle.std.proofs.Common.{◌≡◌, ◌∙◌, ℕ, ◌+◌, ◌^◌, ◌<◌, ◌≤◌, Bool, true, false, List, [], ◌∷◌, ◌++◌, length, map, Option, Some, None, Result, Ok, Err, refl, sym, ap, subst, arith}
+use Rattle.std.proofs.Common.{◌≡◌, ◌∙◌, ℕ, suc, ◌+◌, ◌^◌, ◌<◌, ◌≤◌, Bool, true, false, List, [], ◌∷◌, ◌++◌, length, map, Option, Some, None, Result, Ok, Err, refl, sym, ap, subst, arith}
 use Rattle.std.specs.Prelude.{All, Contains, IfOk, nat_le, ⊤}
 use Rattle.std.specs.List.{AllByRecursion}
 use Rattle.std.proofs.lemmas.List.Elements.{All-head, All-tail}
@@ -225,7 +225,7 @@ module _ (P : List ℕ → Type 0) (T : List ℕ → ℕ) where
       weaker_if (redelegations_step z) (λ u. StateFits P T u × (u.view.ctx ≡ z.view.ctx)) Same (redelegations_fit P T z kz.0) (λ u ku. ku.1 ∙ kz.1 ∙ ky.ctx ∙ kx.ctx)))))
       (then_alike (LooseAlike window) (LooseAlike window) (set_step p) (set_step q) _ _ (set_alike window p q a) (λ x x2 kx.
       then_alike (LooseAlike window) (LooseAlike window) (maturing_step x) (maturing_step x2) _ _ (maturing_alike window x x2 kx) (λ y y2 ky.
-      then_alike (LooseAlike window) (LooseAlike window) (unbondings_step y) (unbondings_step y2) _ _ (unbondings_alike window y y2 ky) (λ z z2 kz. redelegations_alike window z z2 kz))))
+      then_alike (LooseAlike window) (LooseAlike window) (unbondings_step y) (unbondings_step y2) (λ z. redelegations_step z) (λ z. redelegations_step z) (unbondings_alike window y y2 ky) (λ z z2 kz. redelegations_alike window z z2 kz))))
 
   -- ---- the beginning of a block
 
@@ -290,13 +290,13 @@ module _ (P : List ℕ → Type 0) (T : List ℕ → ℕ) (b : Block) (p : State
 
   fits_next : StateFits P there w1
   fits_next =
-      without_facts_fits P T (next_block b.height b.time p) (next_fits P T b.height b.time p fits (at_least b.height p.view.ctx.height due.height) (at_height b.height p.view.ctx.height due.height) due.before_end)
+      without_facts_fits P T (next_block b.height b.time p) (next_fits P T b.height b.time p fits (at_least b.height p.view.ctx.height due.height) (at_height b.height p.view.ctx.height due.height room) due.before_end)
     where
-      at_least : (a n : ℕ) → a ≡ n + 1 → n < a
+      at_least : (a n : ℕ) → a ≡ n + 1 → n ≤ a
       at_least a n e = omega (arith, e)
 
-      at_height : (a n : ℕ) → a ≡ n + 1 → a < 2 ^ 63
-      at_height a n e = omega (arith, e, room)
+      at_height : (a n : ℕ) → a ≡ n + 1 → n + 1 < 2 ^ 63 → a < 2 ^ 63
+      at_height a n e l = omega (arith, e, l)
 
   below : (ts : List Vote) → CountBelow w1 ts
   below [] = tt
@@ -379,10 +379,10 @@ run_alike (b ∷ blocks) p q coins s few a =
     room : p.view.ctx.height + 1 < 2 ^ 63
     room = less (length blocks) few
       where
-        less : (n : ℕ) → p.view.ctx.height + (n + 1) < 2 ^ 63 → p.view.ctx.height + 1 < 2 ^ 63
+        less : (n : ℕ) → p.view.ctx.height + suc n < 2 ^ 63 → p.view.ctx.height + 1 < 2 ^ 63
         less n l = omega (arith, l)
 
-    fewer : (n x : ℕ) → p.view.ctx.height + (n + 1) < 2 ^ 63 → x ≡ p.view.ctx.height + 1 → x + n < 2 ^ 63
+    fewer : (n x : ℕ) → p.view.ctx.height + suc n < 2 ^ 63 → x ≡ p.view.ctx.height + 1 → x + n < 2 ^ 63
     fewer n x l e = omega (arith, l, e)
 
     by : (r t : Result Step BlockFault) → IfOk r (λ u. IsSound u.state × (u.state.view.ctx.height ≡ p.view.ctx.height + 1)) → AreAlike StepsAlike r t

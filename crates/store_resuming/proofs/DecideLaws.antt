@@ -82,13 +82,36 @@ kept_windows window (k ∷ ks) [] j a b = absurd a
 kept_windows window (k ∷ ks) (s ∷ ss) [] a b = absurd b
 kept_windows window (k ∷ ks) (s ∷ ss) (t ∷ ts) a b = (sym a.0 ∙ b.0, kept_votes window k.1 s.1 t.1 a.1 b.1, kept_windows window ks ss ts a.2 b.2)
 
+abbrev none_or : Bool → Money → ℕ → Option Historical
+none_or none ratio count = if none then None else Some (record { ratio = ratio; count = count })
+
 abbrev history : Money → ℕ → Option Historical
-history ratio count = if count == 0 then None else Some (record { ratio = ratio; count = count })
+history ratio count = none_or (count == 0) ratio count
 
 kept_ratio : (r q : Money) (c d : ℕ) → history r c ≡ history q d → 0 < c → r ≡ q
-kept_ratio r q zero d e some = absurd (omega (arith, some))
-kept_ratio r q (suc c) zero e some = absurd cc
-kept_ratio r q (suc c) (suc d) e some = ap (λ (o : Option Historical). (unwrap_or o (record { ratio = r; count = 0 })).ratio) e
+kept_ratio r q c d e some = by (c == 0) (d == 0) refl e
+  where
+    never : (c == 0) ≡ true → ⊥
+    never t = let none : c ≡ 0 = grind (arith, nat_tests) in omega (arith, none, some)
+
+    by : (a b : Bool) → (c == 0) ≡ a → none_or a r c ≡ none_or b q d → r ≡ q
+    by true b t h = absurd (never t)
+    by false true t h = absurd (apart h)
+      where
+        apart : Some (record { ratio = r; count = c }) ≡ None → ⊥
+        apart k = cc
+    by false false t h = ap (λ (o : Option Historical). (unwrap_or o (record { ratio = r; count = 0 })).ratio) h
+
+-- and the other way
+kept_one : (r q : Money) (c : ℕ) → (0 < c → r ≡ q) → history r c ≡ history q c
+kept_one r q c f = by (c == 0) refl
+  where
+    some : (c == 0) ≡ false → 0 < c
+    some t = grind (arith, nat_tests)
+
+    by : (b : Bool) → (c == 0) ≡ b → none_or b r c ≡ none_or b q c
+    by true t = refl
+    by false t = λ i. Some (record { ratio = f (some t) i; count = c })
 
 same_starts : (x y : Rewards) → x.starts ≡ y.starts → (o : List ℕ) → starts_of x o ≡ starts_of y o
 same_starts x y e o = ap (λ (es : List ((List ℕ × List ℕ) × StartingInfo)). map (λ (z : (List ℕ × List ℕ) × StartingInfo). z.1) (filter (λ (z : (List ℕ × List ℕ) × StartingInfo). same_addr z.0.0 o) es)) e
@@ -199,11 +222,8 @@ module _ (x : Rewards) (o : List ℕ) (p q : Periods) (h : PeriodsAlike x.starts
   same_kept =
       let references : references_of p (starts_of x o) n ≡ references_of q (starts_of x o) n =
       λ i. cond (h.current i == n + 1) 1 0 + (count_where (λ (s : StartingInfo). s.period == n) (starts_of x o) + count_where (λ (e : SlashEvent). e.period == n) (h.events i)) in
-      subst (λ d. history (ratio_at p.ratios n) (references_of p (starts_of x o) n) ≡ history (ratio_at q.ratios n) d) references (by (references_of p (starts_of x o) n) ratio_referred)
-    where
-      by : (c : ℕ) → (0 < c → SameRatio p q n) → history (ratio_at p.ratios n) c ≡ history (ratio_at q.ratios n) c
-      by zero f = refl
-      by (suc c) f = ap (λ (r : Money). Some (record { ratio = r; count = suc c })) (f (omega arith))
+      subst (λ d. history (ratio_at p.ratios n) (references_of p (starts_of x o) n) ≡ history (ratio_at q.ratios n) d) references
+      (kept_one (ratio_at p.ratios n) (ratio_at q.ratios n) (references_of p (starts_of x o) n) ratio_referred)
 
 kept_too : (k : f1.Kept) (x y : Rewards) → KeepsRewards k x → RewardsAlike x y → stands.IsSound y → KeepsRewards k y
 kept_too k x y a r sound = record {

@@ -72,7 +72,10 @@ same_ring : (window : ℕ) (s t : Signing) → SigningsAlike window s t → ring
 unfolding turned
 same_ring window s t a = λ i. turned (length (reverse (a.last i)) - a.counted i % window) (reverse (a.last i))
 
-pub same_infos : (window : ℕ) (i j : Window) → WindowsAlike window i j → map (λ (e : List ℕ × Signing). (e.0, info_of window e.1)) i ≡ map (λ (e : List ℕ × Signing). (e.0, info_of window e.1)) j
+abbrev pub infos_of : ℕ → Window → List (List ℕ × SigningInfo)
+infos_of window i = map (λ e. (e.0, info_of window e.1)) i
+
+pub same_infos : (window : ℕ) (i j : Window) → WindowsAlike window i j → infos_of window i ≡ infos_of window j
 same_infos window [] [] h = refl
 same_infos window [] (t ∷ ts) h = absurd h
 same_infos window (s ∷ ss) [] h = absurd h
@@ -234,7 +237,7 @@ module _ {S H : Type 0} (lent : Slashes S H) where
   weighed_alike window None t e i j w h = (refl, h, refl)
   weighed_alike window (Some v) None e i j w h = (refl, h, refl)
   weighed_alike window (Some v) (Some t) e i j w h =
-      let slash = lent.slash e.cons (w.view.ctx.height - 1) e.power w.view.ctx.params.slash_fraction_double_sign w in
+      let slash = lent.slash e.cons (e.height - 1) e.power w.view.ctx.params.slash_fraction_double_sign w in
       chosen_alike (BesideAlike window) (is_unbonded v.status || t || is_too_old w.view.ctx e) _ _ _ _ (refl, h, refl)
       (same_then_alike (BesideAlike window) slash slash _ _ refl (λ p. (refl, banned_alike window e.cons forever i j h, refl)))
 
