@@ -96,10 +96,7 @@ kept_ratio r q c d e some = by (c == 0) (d == 0) refl e
 
     by : (a b : Bool) → (c == 0) ≡ a → none_or a r c ≡ none_or b q d → r ≡ q
     by true b t h = absurd (never t)
-    by false true t h = absurd (apart h)
-      where
-        apart : Some (record { ratio = r; count = c }) ≡ None → ⊥
-        apart k = cc
+    by false true t h = absurd cc
     by false false t h = ap (λ (o : Option Historical). (unwrap_or o (record { ratio = r; count = 0 })).ratio) h
 
 -- and the other way
