@@ -90,7 +90,7 @@ BlocksAreHeard = all_heard two_powers (first ∷ second ∷ third ∷ fourth ∷
     ∷ part 3
     ∷ part 1
     ∷ block
-    ∷ part 3
+    ∷ part 2
     ∷ part 0
     ∷ part 2
     ∷ block
