@@ -1,6 +1,6 @@
 -- The rows of a store decide all later answers: from like states, as those of the same rows are, each line has the same answer, and
 -- leads to like states.
-use Rattle.std.proofs.Common.{◌≡◌, ◌∙◌, ℕ, ◌+◌, ◌^◌, ◌<◌, Bool, true, false, All, List, [], ◌∷◌, ◌++◌, length, nat_lt, if◌then◌else◌, Option, Some, None, Result, Ok, Err, refl, sym, ap, subst, arith}
+use Rattle.std.proofs.Common.{◌≡◌, ◌∙◌, ℕ, ◌+◌, ◌^◌, ◌<◌, Bool, true, false, List, [], ◌∷◌, ◌++◌, length, nat_lt, if◌then◌else◌, Some, Result, Ok, Err, refl, sym, ap, subst, arith}
 use Rattle.base_bech32.specs.declared.form.Form.{Form}
 use Rattle.base_messages.specs.declared.block.Block.{Block}
 use Rattle.base_messages.specs.declared.faults.BlockFault.{BlockFault}
@@ -10,7 +10,7 @@ use Rattle.line_json.specs.Block.{block_of}
 use Rattle.line_json.specs.Written.{text_of_block}
 use Rattle.rule_modules.specs.Chain.{Stakes, State}
 use Rattle.rule_modules.specs.Sound.{IsSound}
-use Rattle.rule_machine.specs.Machine.{Step, block_checked, step}
+use Rattle.rule_machine.specs.Machine.{Step, step}
 use Rattle.rule_machine.specs.Report as machine
 use Rattle.rule_machine.proofs.DueLemmas.{is_due}
 use Rattle.line_report.specs.Lines as report
@@ -24,7 +24,7 @@ use Rattle.run_app.specs.declared.status.LineStop.{LineStop}
 use Rattle.run_app.specs.declared.status.LineStop.TheVariants as stop
 use Rattle.run_app.specs.Laws.{RowsDecideAnswers}
 use Rattle.run_app.specs.Machine.{Answer, Standing, answer_within, applied_answer, block_answer, line_answer, longest, not_applied, report_of}
-use Rattle.run_app.specs.Runs.{AreAnswered, Ran, before, ran_after, ran_from, ran_report}
+use Rattle.run_app.specs.Runs.{AreAnswered, before, ran_after, ran_from, ran_report}
 use Rattle.run_app.proofs.OnwardLemmas.{step_sound}
 use Rattle.run_app.proofs.ReadLemmas.{AllHaveCoins, block_has_coins, height_is_low, its_coins}
 use Rattle.run_app.proofs.SoundLemmas.{next_height}
@@ -111,12 +111,15 @@ module _ (form : Form) where
   answered_alike [] n p q a s t text end h = (Some q, (h.0, refl), ap rows_at h.1 ∙ same_rows p q a s t)
   answered_alike (line ∷ lines) n p q a s t text end h =
       by (line_answer form n (Some q) line) refl (subst (λ (r : Result Answer LineStop). AreAlike AnswersAlike r (line_answer form n (Some q) line)) h.2 (line_alike p q a s t n line))
+      (λ x y k i j led. answered_alike lines (n + 1) x y k i j h.1 end led)
     where
-      by : (z : Result Answer LineStop) → line_answer form n (Some q) line ≡ z → AreAlike AnswersAlike (Ok h.0) z → (other : Standing) × AreAnswered form n (Some q) (line ∷ lines) text other × (rows_at end ≡ rows_at other)
-      by (Ok y) e k =
-          let next = answered_alike lines (n + 1) k.one k.other k.alike k.sound k.sound_too h.1 end (subst (λ (u : Standing). AreAnswered form (n + 1) u lines h.1 end) k.one_is h.4) in
+      by : (z : Result Answer LineStop) → line_answer form n (Some q) line ≡ z → AreAlike AnswersAlike (Ok h.0) z
+          → ((x y : State) → StatesAlike x y → IsSound x → IsSound y → AreAnswered form (n + 1) (Some x) lines h.1 end → (other : Standing) × AreAnswered form (n + 1) (Some y) lines h.1 other × (rows_at end ≡ rows_at other))
+          → (other : Standing) × AreAnswered form n (Some q) (line ∷ lines) text other × (rows_at end ≡ rows_at other)
+      by (Ok y) e k on =
+          let next = on k.one k.other k.alike k.sound k.sound_too (subst (λ (u : Standing). AreAnswered form (n + 1) u lines h.1 end) k.one_is h.4) in
           (next.0, (y, h.1, e, h.3 ∙ ap (λ (u : List ℕ). u ++ h.1) k.text, subst (λ (u : Standing). AreAnswered form (n + 1) u lines h.1 next.0) (sym k.other_is) next.1), next.2)
-      by (Err d) e k = absurd k
+      by (Err d) e k on = absurd k
 
   pub rows_decide : RowsDecideAnswers form
   rows_decide p q s t h =
