@@ -90,3 +90,7 @@ returns-in-Ok-commit_migration-clause-keep_cause g c = λ e. rose_later _ _ _ c.
 
 pub returns-in-Err-Failed-clause-keep_cause : goal.returns-in-Err-Failed-clause-keep_cause
 returns-in-Err-Failed-clause-keep_cause g c = λ e. rose_later _ _ _ c.restore_with_changes.ensures.later (c.in-Err-Failed.ensures.cause (ap Err c.in-Err-Failed.field-0-is))
+
+pub returns-in-Ok-commit_migration-clause-honest : goal.returns-in-Ok-commit_migration-clause-honest
+returns-in-Ok-commit_migration-clause-honest g c = λ h.
+    c.restore_with_changes.ensures.honest (c.commit_migration.ensures.honest (c.drive.ensures.keeps.honest h))
