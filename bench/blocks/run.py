@@ -1,5 +1,5 @@
 #!/usr/bin/env python3
-"""Times reading, writing and replaying blocks beside stock Rust: bench/blocks/run.py [RUNS]
+"""Times reading, writing and replaying blocks beside stock Rust: bench/blocks/run.py [RUNS] [--hexadecimal]
 
 Makes inputs of 1,000, 10,000 and 100,000 blocks, each with a transaction of four sends and a fee. Four programs go
 over them, alternately, and the least processor time of RUNS runs (3) counts, which other work on the machine changes less
@@ -10,17 +10,21 @@ than the time by the clock:
   lines    the same, and the lines of a report of its sends, without a chain
   replay   `stakeplay - replay`
 
-The last three go over the same input once more with addresses as explorers print them, behind the word `bech32`.
+The last three go over the same input once more with addresses as explorers print them, behind the word `bech32`, but
+under `--hexadecimal`.
 
 Of a replay it also tells the most memory, and when the first line is written where the input is piped in slowly. Then
 it tells what a replay takes, of sends and of blocks with 100 votes each: `read` is its reading, `lines` without `read`
 its writing, and the rest is applying; and, where `perf` is there, the functions in which most time goes by.
 
-Wants `rt`, `cargo` and Debian's librust-serde-json-dev (and linux-perf), and works in a temporary folder. `rt run`
-proves the crates where that was not done before."""
+The program is built with the others, or is the one that the variable STAKEPLAY names. Wants `rt`, `cargo` and Debian's
+librust-serde-json-dev (and linux-perf), and works in a temporary folder. `rt run` proves the crates where that was not
+done before; libraries that stand built beside their crates are taken along."""
 import functools, hashlib, os, pathlib, re, shutil, subprocess, sys, tempfile, time
 
-RUNS = int(sys.argv[1]) if len(sys.argv) > 1 else 3
+RUNS = next((int(word) for word in sys.argv[1:] if word.isdigit()), 3)
+HEXADECIMAL = "--hexadecimal" in sys.argv
+BUILT = os.environ.get("STAKEPLAY")
 TOP = pathlib.Path(__file__).resolve().parents[2]
 WORK = pathlib.Path(tempfile.mkdtemp(prefix="blocks-"))
 ACCOUNTS = 1000
@@ -263,7 +267,7 @@ def build_stock():
 
 def build_rattle():
     top = WORK / "rattle"
-    shutil.copytree(TOP / "crates", top / "crates", symlinks=True, ignore=shutil.ignore_patterns("must-fail", "out"))
+    shutil.copytree(TOP / "crates", top / "crates", symlinks=True, ignore=shutil.ignore_patterns("must-fail"))
     lines = [(TOP / "crates.txt").read_text().rstrip()]
     for name, body, form in (("read_bench", READ, "Hex"), ("line_bench", LINES, "Hex"),
                              ("spelled_read_bench", READ, "Bech32"), ("spelled_line_bench", LINES, "Bech32")):
@@ -275,7 +279,8 @@ def build_rattle():
         lines.append(f"{name}: base_types base_bech32 base_coins base_roles base_messages line_json json memchr anyhow")
     (top / "crates.txt").write_text("\n".join(lines) + "\n")
     programs = []
-    for name in ("read_bench", "line_bench", "spelled_read_bench", "spelled_line_bench", "stakeplay"):
+    spelled = [] if HEXADECIMAL else ["spelled_read_bench", "spelled_line_bench"]
+    for name in ["read_bench", "line_bench", *spelled, *([] if BUILT else ["stakeplay"])]:
         ran = subprocess.run(
             ["rt", "run"], cwd=top / "crates" / name, stdin=subprocess.DEVNULL, capture_output=True, text=True
         )
@@ -283,9 +288,11 @@ def build_rattle():
         if not found:
             sys.exit(ran.stdout + ran.stderr)
         programs.append(str(found[0]))
-    hexadecimal = {"read": [programs[0]], "lines": [programs[1]], "replay": [programs[4], "-", "replay"]}
-    in_bech32 = {"read": [programs[2]], "lines": [programs[3]], "replay": [programs[4], "-", "bech32", "replay"]}
-    return hexadecimal, in_bech32
+    program = BUILT or programs[-1]
+    hexadecimal = {"read": [programs[0]], "lines": [programs[1]], "replay": [program, "-", "replay"]}
+    if HEXADECIMAL:
+        return hexadecimal, {}
+    return hexadecimal, {"read": [programs[2]], "lines": [programs[3]], "replay": [program, "-", "bech32", "replay"]}
 
 
 def timed(command, path):
@@ -308,7 +315,7 @@ def memory(command, path):
             except OSError:
                 break
             # Before it is the program, the process is a copy of this one.
-            if lines[0].split()[1] == pathlib.Path(command[0]).name:
+            if lines[0].split()[1] == pathlib.Path(command[0]).name[:15]:
                 most = max([most] + [int(line.split()[1]) for line in lines if line.startswith("VmHWM")])
             time.sleep(0.001)
         process.wait()
@@ -384,7 +391,7 @@ def main():
         for name, seconds in sends.items():
             most = memory(programs[name], path)
             print(f"{blocks:<11} {name:<9} {seconds:7.3f}   {seconds / sends['stock']:8.2f}   {most / 1024:8.1f} MB")
-        for name, seconds in least(in_bech32, spelled(path)).items():
+        for name, seconds in least(in_bech32, spelled(path)).items() if in_bech32 else ():
             print(f"{blocks:<11} {name:<9} {seconds:7.3f}   {seconds / sends[name]:8.2f} of the same without `bech32`")
     first = min(first_line(programs["replay"], WORK / "1000.jsonl") for _ in range(RUNS))
     print(f"first line of a piped replay after {first * 1000:.1f} ms")

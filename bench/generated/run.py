@@ -1,8 +1,8 @@
 #!/usr/bin/env python3
 """Times the generated input, its replay and its trial: bench/generated/run.py [RUNS]
 
-The program that `.ci/run` (or `rt run`) built runs over seed 7 with 1,000, 10,000 and 100,000 blocks, and the least
-processor time of RUNS runs (3) counts:
+The program that `.ci/run` (or `rt run`) built, or that the variable STAKEPLAY names, runs over seed 7 with 1,000, 10,000
+and 100,000 blocks, and the least processor time of RUNS runs (3) counts:
 
   gen        `stakeplay - gen 7 COUNT`
   replay     `stakeplay - replay` over what it writes
@@ -17,7 +17,7 @@ import os, pathlib, subprocess, sys, tempfile, time
 RUNS = int(sys.argv[1]) if len(sys.argv) > 1 else 3
 TOP = pathlib.Path(__file__).resolve().parents[2]
 WORK = pathlib.Path(tempfile.mkdtemp(prefix="generated-"))
-PROGRAM = str(TOP / "crates/stakeplay/out/stakeplay")
+PROGRAM = os.environ.get("STAKEPLAY", str(TOP / "crates/stakeplay/out/stakeplay"))
 SEED = "7"
 
 # Input and output are taken in pieces of 200 blocks, of which the output's lines become values before the time counts.
@@ -97,7 +97,7 @@ def ran(words, source, target):
                 lines = pathlib.Path(f"/proc/{process.pid}/status").read_text().splitlines()
             except OSError:
                 lines = []
-            if lines and lines[0].split()[1] == "stakeplay":
+            if lines and lines[0].split()[1] == pathlib.Path(PROGRAM).name[:15]:
                 most = max([most] + [int(line.split()[1]) for line in lines if line.startswith("VmHWM")])
             done, status, used = os.wait4(process.pid, os.WNOHANG)
             if done:
