@@ -31,9 +31,5 @@ pub joined_more : (due : Result Money Over) (out grown : Money) (d : List ℕ) (
 joined_more due out grown d n r rest here g e =
     e ∙ ap (λ (s : Result ℕ Over). joined out (s >>= λ n. rest >>= λ z. Ok (coin_then d n z))) here ∙ rest_joined out d n rest ∙ ap (λ l. joined l rest) (sym g)
 
-pub joined_over : (due : Result Money Over) (out : Money) (d : List ℕ) (over : Over) (r : Result ℕ Over) (rest : Result Money Over)
-    → r ≡ Err over → due ≡ joined out (r >>= λ n. rest >>= λ z. Ok (coin_then d n z)) → due ≡ Err over
-joined_over due out d over r rest here e = e ∙ ap (λ (s : Result ℕ Over). joined out (s >>= λ n. rest >>= λ z. Ok (coin_then d n z))) here
-
 pub put_more : (due out grown : Money) (d : List ℕ) (n : ℕ) (rest : Money) → grown ≡ out ++ coin_then d n [] → due ≡ out ++ coin_then d n rest → due ≡ grown ++ rest
 put_more due out grown d n rest g e = e ∙ append-then out d n rest ∙ ap (λ l. l ++ rest) (sym g)

@@ -1,6 +1,6 @@
 -- Lists of coins by recursion: denominations that rise, amounts above 0 and below the limit.
 use Rattle.std.proofs.Common.{◌≡◌, ℕ, ◌^◌, ◌<◌, cond, List, [], ◌∷◌, refl, ap, ◌∙◌, subst}
-use Rattle.std.specs.Prelude.{All, Some, None, unwrap_or}
+use Rattle.std.specs.Prelude.{All, Some, unwrap_or}
 use Rattle.std.specs.List.{AllByRecursion}
 use Rattle.std.specs.List.Sorted.{IsStrictlySortedBy}
 use Rattle.std.specs.Map.{lookup, keys_of}
@@ -49,11 +49,6 @@ Rises (c ∷ cs) = Above c.0 cs × (0 < c.1) × (c.1 < 10 ^ 38) × Rises cs
 pub above_lower : (d e : List ℕ) (c : Money) → denom_cmp d e ≡ Less → Above e c → Above d c
 above_lower d e [] h a = tt
 above_lower d e (c ∷ cs) h a = (total.trans d e c.0 h a.0, above_lower d e cs h a.1)
-
--- what is not there has no amount
-pub lookup-above : (d : List ℕ) (c : Money) → Above d c → lookup (is_at (denom_cmp d)) c ≡ None
-lookup-above d [] a = refl
-lookup-above d (c ∷ cs) a = ap (λ r. cond (is_eq r) (Some c.1) (lookup (is_at (denom_cmp d)) cs)) a.0 ∙ lookup-above d cs a.1
 
 pub amount-first_less : (d : List ℕ) (c : List ℕ × ℕ) (cs : Money) → denom_cmp d c.0 ≡ Less → amount_of (c ∷ cs) d ≡ amount_of cs d
 amount-first_less d c cs h = ap (λ r. unwrap_or (cond (is_eq r) (Some c.1) (lookup (is_at (denom_cmp d)) cs)) 0) h

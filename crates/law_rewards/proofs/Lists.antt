@@ -38,14 +38,6 @@ all_within f (x ∷ xs) =
     let more : sum (map f (x ∷ xs)) ≡ f x + sum (map f xs) = sum_more (f x) (map f xs) in
     (omega arith, all_map (λ y. f y ≤ sum (map f xs)) (λ y. f y ≤ sum (map f (x ∷ xs))) (λ y h. omega arith) xs (all_within f xs))
 
-pub same_by : {A : Type 0} (f g : A → ℕ) (xs : List A) → AllByRecursion (λ x. f x ≡ g x) xs → sum (map f xs) ≡ sum (map g xs)
-same_by f g [] e = refl
-same_by f g (x ∷ xs) e = omega (arith, sum_more (f x) (map f xs), sum_more (g x) (map g xs), e.0, same_by f g xs e.1)
-
-pub map_behind : {A B : Type 0} (f : A → B) (xs : List A) (y : A) → map f (xs ++ y ∷ []) ≡ map f xs ++ f y ∷ []
-map_behind f [] y = refl
-map_behind f (x ∷ xs) y = ap (λ zs. f x ∷ zs) (map_behind f xs y)
-
 pub all_at : {A : Type 0} (P : A → Type 0) (k : ℕ) (x : A) (xs : List A) → slice_get xs k ≡ Some x → AllByRecursion P xs → P x
 all_at P k x [] is e = absurd cc
 all_at P zero x (y ∷ xs) is e = let same : y ≡ x = cc in subst P same e.0

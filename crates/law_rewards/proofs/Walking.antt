@@ -81,10 +81,6 @@ earned_is d p s last value =
 
 -- ---- the walk, as the records change
 
-pub walk_from : (n : ℕ) (ratio : ℕ → ℕ) (w : Walk) (es : List SlashEvent) → w.from < n → AllByRecursion (λ e. e.period < n) es → (walk ratio w es).from < n
-walk_from n ratio w [] early each = early
-walk_from n ratio w (e ∷ es) early each = walk_from n ratio (crossed ratio w e) es each.0 each.1
-
 -- ratios that are the same below a period give the same walk there
 pub walk_same : (n : ℕ) (f g : ℕ → ℕ) (w : Walk) (es : List SlashEvent) → ((q : ℕ) → q < n → f q ≡ g q) → w.from < n → AllByRecursion (λ e. e.period < n) es
     → walk f w es ≡ walk g w es

@@ -123,12 +123,6 @@ module _ (P : List ℕ → Type 0) (T : List ℕ → ℕ) where
 
   -- ---- commission
 
-  -- what is due is a list of coins within the commission and what is outstanding
-  pub record IsDue (p : Purse) : Type 0 where
-    pub known : IsKnown P (commission_due p)
-    pub within : (d : List ℕ) → amount_of (commission_due p) d * 10 ^ 18 ≤ amount_of p.outstanding d
-    pub each : AllByRecursion (λ c. c.1 ≤ 10 ^ 18) (commission_due p)
-
   floor_low : (a : ℕ) → a / 10 ^ 18 * 10 ^ 18 ≤ a
   floor_low a = omega (arith, div-add-mod' a (10 ^ 18))
 

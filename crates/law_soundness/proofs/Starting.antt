@@ -112,9 +112,6 @@ module _ (P : List ℕ → Type 0) (T : List ℕ → ℕ) where
   unfolding IsStrictlySortedBy
   empty_window = record { ascend = tt; records = All-nil (λ (e : List ℕ × Signing). SigningIsSound 0 e.1) }
 
-  amounts : List GenesisDelegation → ℕ
-  amounts ds = sum (map (λ d. d.amount) ds)
-
   pub start_fits : (g : Genesis) → start_condition g ≡ None → AreHeld P (held_at_start (accounts_at_start g)).balances → ((d : List ℕ) → total_in (ground_at_start g) d ≡ T d) → StakeFits P T 0 (sum (map (λ d. d.amount) g.delegations)) (lists_of no_stake) (staked_in (empty_over (ground_at_start g)))
   start_fits g e held all =
       let v = ground_at_start g in

@@ -73,8 +73,3 @@ line_pushed line xs place x old new all lt is pushed before =
     let rest : List ℕ = text_of (map line (drop (place + 1) xs)) in
     let next : text_of (map line (drop place xs)) ≡ line_of (line x) ++ rest = ap (λ ys. text_of (map line ys)) (drop_next xs place x lt is) in
     grown old new (line_of (line x)) rest pushed ∙ (ap (λ l. old ++ l) (sym next) ∙ before)
-
--- where nothing is written there is no line
-not_empty : (text rest : List ℕ) (byte : ℕ) → (text ++ byte ∷ []) ++ rest ≡ [] → ⊥
-not_empty [] rest byte h = absurd cc
-not_empty (c ∷ text) rest byte h = absurd cc

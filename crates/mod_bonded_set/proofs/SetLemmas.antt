@@ -23,10 +23,6 @@ use Rattle.mod_bonded_set.specs.Sets.{place, last_place, is_not_behind}
 
 -- ---- numbers and tests
 
-first_true : (a b : Bool) → a ≡ true → (a || b) ≡ true
-first_true true b e = refl
-first_true false b e = absurd cc
-
 -- the test of two places is that of the order
 either_order : (p q : ℕ) (r : Ordering) → (nat_lt p q || ((q == p) && is_lt r)) ≡ is_lt (ordering_then (nat_cmp p q) r)
 either_order p q r = by (nat_lt p q) (p == q) (q == p) refl refl refl

@@ -41,11 +41,6 @@ module _ {A : Type 0} (k : KeptShared) (v : View) where
   exceeds_as r (hook.Over over) h = subst (λ x. CarriesOut x k v (Err (hook.Over over))) (sym h) refl
   exceeds_as r hook.NoMemory h = wants_memory r
 
-  pub excess_from : (r : Ruled A) (fault : HookFault) → CarriesOut r k v (Err fault) → IsExcessOf r fault
-  excess_from (Ok x) (hook.Over over) h = absurd h
-  excess_from (Err due) (hook.Over over) h = ap Err (sym h)
-  excess_from r hook.NoMemory h = tt
-
   -- the call does what the rule gives
   pub carried : (r : Ruled A) (a : A) (d : Shared) (u : View) (l : Log) → r ≡ Ok (a, d, u, l) → KeepsShared k d → v ≡ u → CarriesOut r k v (Ok a)
   carried r a d u l e s q = subst (λ x. CarriesOut x k v (Ok a)) (sym e) (refl, s, q)
@@ -116,9 +111,6 @@ module _ (k : KeptShared) (v : View) where
       by : (t : Told Shared) → Answers t (KeepsShared k) v (Err hook.NoMemory)
       by (gives d u l) = tt
       by (exceeds over) = tt
-
-  pub told_carried : (t : Told Shared) (d : Shared) (u : View) (l : Log) → t ≡ gives d u l → KeepsShared k d → v ≡ u → Answers t (KeepsShared k) v (Ok tt)
-  told_carried t d u l e s q = subst (λ x. Answers x (KeepsShared k) v (Ok tt)) (sym e) (s, q)
 
 -- a call of which something is told fails for want of memory alone
 pub given_wants : (k : KeptShared) (v : View) (d : Shared) (u : View) (l : Log) (fault : HookFault) → Answers (gives d u l) (KeepsShared k) v (Err fault) → fault ≡ hook.NoMemory

@@ -1,5 +1,5 @@
 -- Periods, purses and payees that are marked together, seen as one.
-use Rattle.std.proofs.Common.{◌≡◌, ◌∙◌, ℕ, Bool, true, false, List, [], ◌∷◌, ◌++◌, append-nil, append_assoc, length, Ok, Err, refl, sym, ap}
+use Rattle.std.proofs.Common.{◌≡◌, ◌∙◌, ℕ, Bool, true, false, List, [], ◌∷◌, ◌++◌, append-nil, length, Ok, Err, refl, sym, ap}
 use Rattle.std.specs.Prelude.{◌≢◌, ◌<◌, ◌||◌, if◌then◌else◌, Result, OnOk, OnErr}
 use Rattle.base_coins.specs.Coins.{Money}
 use Rattle.base_roles.specs.declared.facts.Fact.TheVariants as fact
@@ -133,13 +133,6 @@ goes_on-then a b c first second g u h = record { behind = h.behind ∙ g.behind;
 module _ {B M : Type 0} (marks : B → M) where
   pub undone-none : (g : Ground B) → CanBeUndone marks g g
   undone-none g = record { marks = refl; ctx = refl; facts = ([], sym (append-nil g.facts)) }
-
-  pub undone-then : (g g2 g3 : Ground B) → CanBeUndone marks g g2 → CanBeUndone marks g2 g3 → CanBeUndone marks g g3
-  undone-then g g2 g3 a b = record {
-    marks = b.marks ∙ a.marks;
-    ctx = b.ctx ∙ a.ctx;
-    facts = (a.facts.0 ++ b.facts.0, b.facts.1 ∙ ap (λ l. l ++ b.facts.0) a.facts.1 ∙ append_assoc g.facts a.facts.0 b.facts.0);
-  }
 
 -- a commission is told where there is some
 pub commission_behind : (operator to : List ℕ) (coins : Money) (facts : List Fact) → (more : List Fact) × (commission_told operator to coins facts ≡ facts ++ more)

@@ -1,5 +1,5 @@
 -- Taking out the entries of an operator, one by one.
-use Rattle.std.specs.Prelude.{◌≡◌, ℕ, suc, ◌&&◌, not, Bool, true, false, cond, if◌then◌else◌, List, [], ◌∷◌, length, filter, Option, Some, None, is_some, unwrap_or, refl}
+use Rattle.std.specs.Prelude.{◌≡◌, ℕ, suc, ◌&&◌, not, Bool, true, false, cond, if◌then◌else◌, List, [], ◌∷◌, length, filter, Option, Some, is_some, unwrap_or, refl}
 use Rattle.std.specs.declared.cmp.Ordering.{Ordering}
 use Rattle.std.specs.declared.cmp.Ordering.TheVariants.{Less, Equal, Greater}
 use Rattle.std.specs.declared.ops.Bound.TheVariants.{Included, Unbounded}
@@ -17,9 +17,6 @@ use Rattle.base_table.specs.Tabled.{first_of, entry_from, value_at}
 use Rattle.mod_periods.specs.Grouped.{IsGrouped}
 use Rattle.mod_periods.specs.Kept.{others}
 use Rattle.mod_periods.proofs.TallyLemmas.{passing-removed}
-
-none_first : {A : Type 0} (x : A) → Some x ≡ None → ⊥
-none_first x h = cc
 
 differ : (b : Bool) → (b ≡ true → ⊥) → b ≡ false
 differ true h = absurd (h refl)

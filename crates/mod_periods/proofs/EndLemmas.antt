@@ -46,9 +46,6 @@ pub record IsGrown (p : Periods) (ratio : Money) : Type 0 where
 
 -- ---- references at the end of a period
 
-test : ℕ → ℕ → ℕ
-test a b = cond (a == b) 1 0
-
 yes : (a b : ℕ) → a ≡ b → cond {A = ℕ} (a == b) 1 0 ≡ 1
 yes a b h = by (a == b) (grind (arith, nat_tests))
   where

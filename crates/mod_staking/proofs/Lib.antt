@@ -1,5 +1,4 @@
 pub mod BackLemmas
-pub mod BurntLemmas
 pub mod CreateLemmas
 pub mod DelegateLemmas
 pub mod EditLemmas

@@ -82,9 +82,6 @@ maturing_placed = record { exact = time_exact; apart = λ reduction v w p e f. m
 
 -- ---- marks
 
-some_is : {A : Type 0} (a b : A) → Some a ≡ Some b → a ≡ b
-some_is a b e = cc
-
 -- of two lists that end alike, all before the end is alike
 pub last_apart : {A : Type 0} (xs ys : List A) (x y : A) → xs ++ x ∷ [] ≡ ys ++ y ∷ [] → (xs ≡ ys) × (x ≡ y)
 last_apart [] [] x y e = let one : x ≡ y = cc in (refl, one)

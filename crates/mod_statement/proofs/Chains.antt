@@ -1,6 +1,6 @@
 -- One step after another of a stretch's factor and of a slack.
-use Rattle.std.proofs.Common.{◌≡◌, ℕ, ◌+◌, ◌^◌, List, sym, ap}
-use Rattle.std.specs.Prelude.{Result, Ok, Err, count_by}
+use Rattle.std.proofs.Common.{ℕ, ◌+◌, ◌^◌, List}
+use Rattle.std.specs.Prelude.{Result, Ok, count_by}
 use Rattle.base_decimals.specs.declared.over.Over.{Over}
 use Rattle.base_decimals.specs.Decimals.{add_of}
 use Rattle.base_decimals.specs.Rounding.{up}
@@ -11,12 +11,6 @@ use Rattle.mod_statement.specs.declared.slack.Factor.{Factor}
 use Rattle.mod_statement.specs.Entries.{is_touch}
 use Rattle.mod_statement.specs.Rounding.{product_of, quotient_up_of}
 use Rattle.mod_statement.specs.Slack.{rate_of}
-
-pub passed : {A B : Type 0} (r : Result A Over) (k : A → Result B Over) (a : A) → Ok a ≡ r → (r >>= k) ≡ k a
-passed r k a h = ap (λ q. q >>= k) (sym h)
-
-pub failed : {A B : Type 0} (r : Result A Over) (k : A → Result B Over) (o : Over) → Err o ≡ r → (r >>= k) ≡ Err o
-failed r k o h = ap (λ q. q >>= k) (sym h)
 
 abbrev pub one : ℕ
 one = 10 ^ 18

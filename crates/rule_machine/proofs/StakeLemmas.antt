@@ -58,19 +58,6 @@ module _ (test : BondStatus → Bool) where
       by true z = z
       by false z = refl
 
--- no tokens of bonded validators where all are unbonded
-pub none-bonded : (es : Validators) → All (λ e. is_unbonded e.1.status ≡ true) es → tokens_where is_bonded es ≡ 0
-none-bonded [] h = refl
-none-bonded (e ∷ es) h =
-    let first = unbonded_is e.1.status e.1.tokens (All-head (λ (x : List ℕ × Validator). is_unbonded x.1.status ≡ true) e es h) in
-    let others = none-bonded es (All-tail (λ (x : List ℕ × Validator). is_unbonded x.1.status ≡ true) e es h) in
-    omega (arith, first, others)
-  where
-    unbonded_is : (status : BondStatus) (n : ℕ) → is_unbonded status ≡ true → cond (is_bonded status) n 0 ≡ 0
-    unbonded_is Bonded n e = absurd cc
-    unbonded_is Unbonding n e = refl
-    unbonded_is Unbonded n e = refl
-
 -- tokens of an unbonded validator count among the others
 pub other-counted : (status : BondStatus) (n : ℕ) → is_unbonded status ≡ true → cond (cond (is_bonded status) false true) n 0 ≡ n
 other-counted Bonded n e = absurd cc

@@ -32,9 +32,6 @@ drop_end (r ∷ rows) (suc i) le = drop_end rows i (omega (arith, le))
 abbrev putting : Pair → Seen
 putting p = (p.0, Some p.1)
 
-put_of : Option (List ℕ) → Option (Option (List ℕ))
-put_of o = option_map (λ v. Some v) o
-
 puts_at : (ps : List Pair) (key : List ℕ) → Rises ps → change_at key (map putting ps) ≡ option_map (λ v. Some v) (value_of key ps)
 puts_at [] key up = refl
 puts_at (p ∷ ps) key up = elim (same_or_other p.0 key) [

@@ -40,9 +40,6 @@ pub tells : (f : List Pair → List Pair) (old new : State) → (HasCleanDisk ne
     → (HasCleanDisk new → IsTrue new.is_open → map_of (new.now.trees 0) ≡ f (map_of (old.now.trees 0))) → Makes f (told old) (told new)
 tells f old new clean opens same = where_told new _ (λ c o. (map_of (old.now.trees 0), told_is old (clean c) (opens c o), same c o))
 
-pub stays : (old new : State) → HasCleanDisk new → Survives old new (λ _. ⊥) → (left : List Pair) → Leaves new left → Leaves old left
-stays old new clean s left (db, may, is) = elim (s.crash clean db may) [ inl was ↦ (db, was, is) | inr none ↦ absurd none ]
-
 pub stops : (f : List Pair → List Pair) (old new : State) → IsKept old → HasCleanDisk new → Survives old new (λ db. IsHeld old.now → map_of (db 0) ≡ f (map_of (old.now.trees 0)))
     → IfSome (told old) (λ pairs. (left : List Pair) → Leaves new left → Leaves old left ⊎ (left ≡ f pairs))
 stops f old new kept clean s = where_told old _ (λ c o left it. elim (s.crash clean it.0 it.1) [ inl was ↦ inl (it.0, was, it.2) | inr made ↦ inr (it.2 ∙ made (kept.held c o).0) ])
