@@ -115,10 +115,6 @@ module _ {K V : Type 0} (cmp : K → K → Ordering) (o : IsTotalOrder cmp)
   abbrev change : K → V → Bool → Item × Bool
   change k n b = (of k n, b)
 
-  -- the change of a key whose values these are
-  abbrev pub IsChange : List (K × Option V) → List (K × V) → Item × Bool → Type 0
-  IsChange ts es p = (k : K) × (was : Option V) × (value_at cmp ts k ≡ Some was) × (change_of of gone same k was (value_at cmp es k) ≡ Some p)
-
   change_entry : (es : List (K × V)) (ts : List (K × Option V)) (p : Item × Bool) → Member (changes_of cmp of gone same ts es) p
       → (k : K) × (was : Option V) × Member ts (k, was) × (change_of of gone same k was (value_at cmp es k) ≡ Some p)
   change_entry es [] p m = absurd m

@@ -2,7 +2,6 @@
 use Rattle.std.proofs.Common.{◌≡◌, ◌∙◌, ℕ, ◌+◌, Bool, List, [], ◌∷◌, ◌++◌, length, refl, sym, ap, arith}
 use Rattle.std.specs.Prelude.{suc, zero}
 use Rattle.std.specs.List.{range_with_len}
-use Rattle.std.proofs.lemmas.List.{length_push}
 use Rattle.base_table.specs.Tabled.{Tabled}
 use Rattle.base_table.specs.Tabled as table
 use Rattle.base_roles.specs.declared.entities.Historical.{Historical}
@@ -50,15 +49,6 @@ side-push (x ∷ cs) (y ∷ hs) (z ∷ ss) [] c b s e h = let x = h.events in ab
 side-push (x ∷ cs) (y ∷ hs) (z ∷ ss) (w ∷ es) c b s e h =
     ap (λ l. record { current = x; historical = y; starts = z; events = w } ∷ l) (side-push cs hs ss es c b s e (in_rest x y z w cs hs ss es h))
 
-step-push : {A B C D : Type 0} (ps : List A) (bs : List B) (cs : List C) (ds : List D) (a : A) (b : B) (c : C) (d : D) → HaveSameMarks ps bs cs ds → HaveSameMarks (ps ++ a ∷ []) (bs ++ b ∷ []) (cs ++ c ∷ []) (ds ++ d ∷ [])
-step-push ps bs cs ds a b c d h =
-    let n = length_push ps a in
-    record {
-      historical = length_push bs b ∙ ap (λ n. n + 1) h.historical ∙ sym n;
-      starts = length_push cs c ∙ ap (λ n. n + 1) h.starts ∙ sym n;
-      events = length_push ds d ∙ ap (λ n. n + 1) h.events ∙ sym n;
-    }
-
 step-pop : {A B C D : Type 0} (ps ps2 : List A) (bs bs2 : List B) (cs cs2 : List C) (ds ds2 : List D) (a : A) (b : B) (c : C) (d : D) → HaveSameMarks ps bs cs ds
     → ps2 ++ a ∷ [] ≡ ps → bs2 ++ b ∷ [] ≡ bs → cs2 ++ c ∷ [] ≡ cs → ds2 ++ d ∷ [] ≡ ds → HaveSameMarks ps2 bs2 cs2 ds2
 step-pop ps ps2 bs bs2 cs cs2 ds ds2 a b c d h p q r s = record {
@@ -80,9 +70,6 @@ module _ (c : Tabled (List ℕ) ℕ) (h : Tabled (List ℕ × ℕ) Historical) (
 
 module _ (c : Tabled (List ℕ) ℕ) (h : Tabled (List ℕ × ℕ) Historical) (s : Tabled (List ℕ × List ℕ) StartingInfo) (e : Tabled (List ℕ × ℕ × ℕ) ℕ)
     (step : HaveSameMarks c.marks h.marks s.marks e.marks) where
-  pub in_step-marked : HaveSameMarks (table.with_mark c).marks (table.with_mark h).marks (table.with_mark s).marks (table.with_mark e).marks
-  in_step-marked = step-push c.marks h.marks s.marks e.marks c.entries h.entries s.entries e.entries step
-
   pub recorded-marked : (spent : Bool) → recorded (table.with_mark c) (table.with_mark h) (table.with_mark s) (table.with_mark e) spent ≡ with_mark (recorded c h s e spent)
   recorded-marked spent = λ i. record {
     kept = record { current = c.entries; historical = h.entries; starts = s.entries; events = e.entries };

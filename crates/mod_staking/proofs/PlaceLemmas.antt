@@ -130,9 +130,6 @@ module _ {K : Type 0} (cmp : K → K → Ordering) where
 
 -- ---- validators in the order of their places
 
-none_is : {A : Type 0} (a : A) → None ≡ Some a → ⊥
-none_is a e = cc
-
 module _ {K : Type 0} (cmp : K → K → Ordering) (o : IsTotalOrder cmp) (exact : (p q : K) → cmp p q ≡ Equal → p ≡ q) (place_of : Validator → Option K)
     (apart : (v w : Validator) (p : K) → place_of v ≡ Some p → place_of w ≡ Some p → v.operator ≡ w.operator) where
   -- the places ascend

@@ -1,11 +1,11 @@
 -- What is told of the rows, and what a stop leaves.
-use Rattle.std.proofs.Common.{◌≡◌, ◌∙◌, ◌⊎◌, inl, inr, Bool, true, false, ◌&&◌, cond, List, Some, None, IfSome, IsTrue, Result, Ok, Err, OnOk, OnErr, refl, sym, ap, subst, arith}
+use Rattle.std.proofs.Common.{◌≡◌, ◌∙◌, Bool, true, false, ◌&&◌, cond, List, Some, None, IfSome, IsTrue, Result, Ok, Err, OnOk, OnErr, refl, sym, ap, subst, arith}
 use Rattle.std.specs.Prelude.{IsSome}
 use Rattle.sqlite_trees.specs.Tree.{Trees}
 use Rattle.sqlite_trees.specs.View.{doubt}
 use Rattle.sqlite_trees.proofs.Doubt.{no_doubt}
 use Rattle.sqlite.specs.Effect.{Database}
-use Rattle.sqlite.specs.State.{State, HasCleanDisk, Survives, Opens, IsLive}
+use Rattle.sqlite.specs.State.{State, HasCleanDisk, Opens, IsLive}
 use Rattle.base_io.specs.Rows.{Pair, Makes}
 use Rattle.store_sqlite.specs.Kept.{IsHeld, IsKept, kept_schema, map_of, told, Leaves}
 use Rattle.store_sqlite.proofs.Numbers.{IsNumbered}
@@ -39,10 +39,6 @@ where_told s P holds = go s.is_clean refl s.is_open refl
 pub tells : (f : List Pair → List Pair) (old new : State) → (HasCleanDisk new → HasCleanDisk old) → (HasCleanDisk new → IsTrue new.is_open → IsTrue old.is_open)
     → (HasCleanDisk new → IsTrue new.is_open → map_of (new.now.trees 0) ≡ f (map_of (old.now.trees 0))) → Makes f (told old) (told new)
 tells f old new clean opens same = where_told new _ (λ c o. (map_of (old.now.trees 0), told_is old (clean c) (opens c o), same c o))
-
-pub stops : (f : List Pair → List Pair) (old new : State) → IsKept old → HasCleanDisk new → Survives old new (λ db. IsHeld old.now → map_of (db 0) ≡ f (map_of (old.now.trees 0)))
-    → IfSome (told old) (λ pairs. (left : List Pair) → Leaves new left → Leaves old left ⊎ (left ≡ f pairs))
-stops f old new kept clean s = where_told old _ (λ c o left it. elim (s.crash clean it.0 it.1) [ inl was ↦ inl (it.0, was, it.2) | inr made ↦ inr (it.2 ∙ made (kept.held c o).0) ])
 
 -- while the connection is open, a stop leaves the rows
 pub settles : (s : State) → IsKept s → ((db : Trees) → IsTrue s.is_open → s.may_leave db → db ≡ s.committed.trees) → IfSome (told s) (λ pairs. (left : List Pair) → Leaves s left → left ≡ pairs)
